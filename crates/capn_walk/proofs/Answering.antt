@@ -1,4 +1,4 @@
--- The laws of walks. (For `values` and `verdicts`.)
+-- Lemmas for the laws of walks. (For `values` and `verdicts`.)
 use Rattle.std.proofs.Common.{◌≡◌, inl, inr, ℕ, List, Result, Ok, Err, ap, sym, ◌∙◌, arith}
 use Rattle.capn_words.specs.declared.space.Place.{Place}
 use Rattle.capn_value.specs.Cost.{base}

@@ -1,5 +1,5 @@
--- The depth of a survey under way: of the visits that were made, and of those to come. (For `survey_in_room` and
--- `survey_root`.)
+-- The depth that a survey under way has found, over the visits that were made and those to come. (For `survey_in_room`
+-- and `survey_root`.)
 use Rattle.std.proofs.Common.{◌≡◌, ℕ, zero, suc, ◌+◌, ◌-◌, ◌<◌, ◌≤◌, max, List, [], ◌∷◌, ◌++◌, Result, Ok, Err, Option}
 use Rattle.std.proofs.Common.{refl, ap, sym, ◌∙◌, arith}
 use Rattle.capn_words.specs.declared.space.Place.{Place}
@@ -19,10 +19,10 @@ use Rattle.capn_target.proofs.shared.NeverNull.{IsThere}
 use Rattle.capn_walk.proofs.UnderWay.{IsKept, kept, dropped}
 use Rattle.capn_walk.proofs.shared.Walks.{visits-deep, visits-fault}
 
--- ---- of one slot
+-- ---- the depth of one slot
 
 module _ (m : List (List ℕ)) (at : Place) where
-  -- where no object may be visited
+  -- if no object may be visited, the depth is 0
   pub reach-zero : reach m 0 at ≡ 0
   unfolding reach
   reach-zero = refl
@@ -50,7 +50,7 @@ module _ (m : List (List ℕ)) (at : Place) where
       let f : suc d - 1 ≡ d = omega arith in
       ap (reached (reach m d)) e ∙ ap (λ (c : ℕ). 1 + reach_of m c (slots s start shape)) (sym f)
 
-  -- by what it names and the slots below that
+  -- the depth of a slot is that of its target and of the slots below it
   pub reach-named : (d : ℕ) (t : Target) (ps : List Place) → 0 < d → target m at ≡ Ok t → below_of (target m at) ≡ ps
       → reach m d at ≡ level t + reach_of m (d - 1) ps
   reach-named d targets.Nil ps z e b = rw (reach-null d e, ← b, e) (omega arith)
@@ -60,7 +60,7 @@ module _ (m : List (List ℕ)) (at : Place) where
 
 -- ---- levels, counted from the first object of a survey
 
--- that of the lowest of n objects that are one below another, k levels down
+-- the level of the lowest of n objects one below another, of which the first is k levels down
 abbrev pub raised : ℕ → ℕ → ℕ
 raised k zero = 0
 raised k (suc n) = k + suc n
@@ -76,7 +76,7 @@ raised-none : (k n : ℕ) → k ≡ 0 → raised k n ≡ n
 raised-none k zero e = refl
 raised-none k (suc n) e = omega arith
 
--- an object, and those below it
+-- the level of an object and those below it
 raised-more : (limit d n : ℕ) → 0 < d → d ≤ limit
     → raised (limit - d) (1 + n) ≡ max (limit + 1 - d) (raised (limit - (d - 1)) n)
 raised-more limit d zero z h = omega arith
@@ -85,7 +85,7 @@ raised-more limit d (suc n) z h = let e : 1 + suc n ≡ suc (suc n) = omega arit
 -- ---- a survey under way
 
 module _ (m : List (List ℕ)) (base limit : ℕ) where
-  -- the level of a visit, and of those below it
+  -- the level of a visit, and of the visits below it
   module _ (d : ℕ) (at : Place) (p : ℕ) (vs : List Visit) (k : Option ℕ) (ps : List Place) (low : d ≤ limit)
       (here : visits m base d at ≡ pays at p ∷ vs) where
     by-target : (r : Result Target Fault) → target m at ≡ r → IsThere r → cap_of r ≡ k → below_of r ≡ ps
@@ -114,7 +114,7 @@ module _ (m : List (List ℕ)) (base limit : ℕ) where
   abbrev pub lowest : ℕ → SlotsLeft → ℕ
   lowest d f = raised (limit - d) (reach_of m d (places_of f))
 
-  -- in those of the objects that wait
+  -- the level of the lowest object in the slots that are left of the objects that wait
   abbrev pub lowest_waiting : List Waiting → ℕ
   lowest_waiting [] = 0
   lowest_waiting (w ∷ ws) = max (lowest w.depth w.frame) (lowest_waiting ws)
@@ -134,7 +134,8 @@ module _ (m : List (List ℕ)) (base limit : ℕ) where
       ∙ raised-max (limit - d) (reach m d at) (reach_of m d (places_of rest))
 
   module _ (n : ℕ) where
-    -- n levels in all: down to the least depth that was left where content was met, or in what is to come
+    -- a survey under way finds n levels in all: those down to the least depth that was left where content was met, or
+    -- those that are to come
     pub record IsDeep (least d : ℕ) (ws : List Waiting) (f : SlotsLeft) : Type 0 where
       pub is : n ≡ max (limit + 1 - least) (max (lowest d f) (lowest_waiting ws))
 
@@ -159,7 +160,7 @@ module _ (m : List (List ℕ)) (base limit : ℕ) where
         let c : raised (limit - d) (reach m d at) ≡ 0 = ap (raised (limit - d)) (reach-null m at d none) in
         record { is = omega arith }
 
-    -- a visit
+    -- a survey under way visits the slot at `at`
     module _ (least less d : ℕ) (ws : List Waiting) (f rest below : SlotsLeft) (at : Place) (p : ℕ) (vs : List Visit)
         (k : Option ℕ) (i : IsDeep least d ws f) (low : d ≤ limit) (next : places_of f ≡ at ∷ places_of rest)
         (here : visits m base d at ≡ pays at p ∷ vs) (there : IsThere (target m at)) (c : cap_of (target m at) ≡ k)
@@ -172,14 +173,14 @@ module _ (m : List (List ℕ)) (base limit : ℕ) where
           let v = visited d at p vs k (places_of below) low here there c b in
           omega arith
 
-      -- the slot has no slots below it
+      -- if the slot has no slots below it, the survey continues with the next slot
       pub deep-passed : HasRows below → owed below ≡ 0 → IsDeep less d ws rest
       deep-passed h z =
           let a = deep-next in
           let e = lowest-done (d - 1) below h z in
           record { is = omega arith }
 
-      -- it has some
+      -- if the slot has slots below it, the survey continues with these
       pub deep-entered : (new : List Waiting) → HasRows rest → IsKept m base d ws rest new
           → IsDeep less (d - 1) new below
       deep-entered new h (dropped z e) =
@@ -192,7 +193,7 @@ module _ (m : List (List ℕ)) (base limit : ℕ) where
           let w = ap lowest_waiting e ∙ waiting-push ws (record { frame = rest; depth = d }) in
           record { is = omega arith }
 
-    -- nothing is to come
+    -- if nothing is to come, the survey has found all levels
     pub deep-end : (least d : ℕ) (ws : List Waiting) (f : SlotsLeft) → ws ≡ [] → HasRows f → owed f ≡ 0
         → IsDeep least d ws f → limit + 1 - least ≡ n
     deep-end least d ws f e h z i =
@@ -201,7 +202,7 @@ module _ (m : List (List ℕ)) (base limit : ℕ) where
         let c = lowest-done d f h z in
         omega arith
 
-  -- a survey begins
+  -- a survey that begins has all levels to come
   pub deep-start : (f : SlotsLeft) → IsDeep (reach_of m limit (places_of f)) (limit + 1) limit [] f
   deep-start f =
       let z : limit - limit ≡ 0 = omega arith in

@@ -18,9 +18,9 @@ use Rattle.capn_walk.proofs.shared.Costs.{all-front, all-back}
 use Rattle.capn_walk.proofs.shared.Walks.{visits-null, visits-cap, visits-fault, visits-deep, visits-object}
 
 module _ (m : List (List ℕ)) (base : ℕ) where
-  -- ---- where the visits all pay, no more objects are one below another than may be
+  -- ---- if the visits all pay, the number of objects one below another is within the limit
 
-  -- of slots, where it is so of each
+  -- the claim holds of slots if it holds of each
   reach-slots : (d n : ℕ) (ps : List Place) → ((at : Place) → AllPay (visits m base n at) → reach m d at ≤ n)
       → AllPay (visits_of m base n ps) → reach_of m d ps ≤ n
   reach-slots d n [] each h = omega arith
@@ -29,7 +29,7 @@ module _ (m : List (List ℕ)) (base : ℕ) where
       let b = reach-slots d n ps each (all-back (visits m base n p) (visits_of m base n ps) h) in
       omega arith
 
-  -- of one slot, where it is so of each one below it
+  -- the claim holds of a slot if it holds of each slot below it
   module _ (d : ℕ) (at : Place)
       (each : (n : ℕ) (to : Place) → AllPay (visits m base n to) → reach m d to ≤ n) where
     reach-next : (r : Result Target Fault) → target m at ≡ r → (n : ℕ) → AllPay (visits m base n at)
@@ -52,7 +52,7 @@ module _ (m : List (List ℕ)) (base : ℕ) where
   reach-within zero n at h = let z = reach-zero m at in omega arith
   reach-within (suc d) n at h = reach-next d at (λ k to g. reach-within d k to g) (target m at) refl n h
 
-  -- ---- where no more are than may be, the visits are the same under another depth
+  -- ---- if the objects one below another are within another depth, the visits under it are the same
 
   same-slots : (d n : ℕ) (ps : List Place)
       → ((at : Place) → AllPay (visits m base d at) → reach m d at ≤ n → visits m base n at ≡ visits m base d at)
@@ -97,7 +97,7 @@ module _ (m : List (List ℕ)) (base : ℕ) where
   same-visits (suc d) n at h low =
       same-next d at h (λ k to g l. same-visits d k to g l) (target m at) refl n low
 
--- ---- of a whole message
+-- ---- the claims for a whole message
 
 module _ (m : List (List ℕ)) (limits : Bounds) (t : Target) (e : target m root ≡ Ok t)
     (kind : may_be_root t ≡ true) (is : IsAccepted m limits) where

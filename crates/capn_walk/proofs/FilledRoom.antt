@@ -21,7 +21,7 @@ use Rattle.capn_walk.proofs.shared.Judge.{judge-more, judge-stops, judge-pays, a
 
 -- ---- a room
 
--- entries after entries
+-- the entries xs and then ys are laid as one list
 pub laid-append : {A : Type 0} (f : Entry → A) (i : ℕ) (xs ys : List Entry) (room : List A)
     → laid f i (xs ++ ys) room ≡ laid f (i + length xs) ys (laid f i xs room)
 laid-append f i [] ys room = let z : i + 0 ≡ i = omega arith in rw z refl
@@ -29,7 +29,7 @@ laid-append f i (x ∷ xs) ys room =
     let e : i + suc (length xs) ≡ suc i + length xs = omega arith in
     rw e (laid-append f (suc i) xs ys (set room i (f x)))
 
--- an entry may be put before those after it, or after them
+-- writing an item before the entries can be done before or after they are laid
 set-laid : {A : Type 0} (f : Entry → A) (es : List Entry) (i k : ℕ) (a : A) (room : List A) → k < i
     → set (laid f i es room) k a ≡ laid f i es (set room k a)
 set-laid f [] i k a room h = refl
@@ -45,7 +45,7 @@ respanned (targets.Content s start (shapes.Node a b) pads) k n = refl
 respanned (targets.Content s start (shapes.Many width c) pads) k n = refl
 respanned (targets.Content s start (shapes.Rows c a b span) pads) k n = refl
 
--- an entry, and then those after it: it is still there, and another one in its place is as if put at first
+-- an item that is written before the entries behind it stays, and another one in its place is as if written first
 module _ {A : Type 0} (f : Entry → A) (es : List Entry) (i : ℕ) (room : List A) (x : A) where
   put-again : (y : A) → set (laid f (i + 1) es (set room i x)) i y ≡ laid f (suc i) es (set room i y)
   put-again y =
@@ -59,7 +59,7 @@ module _ {A : Type 0} (f : Entry → A) (es : List Entry) (i : ℕ) (room : List
       let s : i + 1 ≡ suc i = omega arith in
       ap (λ (c : ℕ). laid f c es (set room i x)) s ∙ sym (put-again x)
 
--- ---- the entries of a slot by its target
+-- ---- the entries of a slot, given its target
 
 abbrev nothing : Place → List Entry
 nothing p = []
@@ -134,7 +134,7 @@ module _ (left : ℕ) (vs : List Visit) (n : ℕ) where
         few = let h = u.few in omega arith;
       }
 
-  -- one more slot is accepted
+  -- the next slot is accepted
   way-next : (here rest : List Visit) (o p k q j : ℕ) → IsOnWay (here ++ rest) (o + 1) p k
       → Gives (left - p) here 1 q j → IsOnWay rest o (p + q) (k + j)
   way-next here rest o p k q j u g =
@@ -153,7 +153,7 @@ module _ (left : ℕ) (vs : List Visit) (n : ℕ) where
       let v = rw (e, f) at u in
       way-next here rest o p k q j v g
 
-  -- one is refused
+  -- the next slot is refused
   way-stops : (here rest : List Visit) (o p k : ℕ) (t : Stopped) → IsOnWay (here ++ rest) (o + 1) p k
       → Refuses (left - p) here 1 t
       → Refuses left vs n (record { fault = t.fault; place = t.place; paid = p + t.paid; visits = k + t.visits })
@@ -186,7 +186,7 @@ way-begins left vs n =
 -- ---- an object
 
 module _ (left p : ℕ) (at : Place) (vs : List Visit) (n : ℕ) (fits : p ≤ left) (few : n ≤ p) where
-  -- it is accepted where its slots are
+  -- an object is accepted if its slots are
   pub object-gives : (q j : ℕ) → Gives (left - p) vs n q j → Gives left (pays at p ∷ vs) 1 (p + q) (1 + j)
   object-gives q j g = record {
     is = judge-pays left p at vs fits ∙ ap (after p 1) g.is;
@@ -194,7 +194,7 @@ module _ (left p : ℕ) (at : Place) (vs : List Visit) (n : ℕ) (fits : p ≤ l
     few = let a = g.few in omega arith;
   }
 
-  -- and refused where one of them is
+  -- an object is refused if one of its slots is
   pub object-refuses : (t : Stopped) → Refuses (left - p) vs n t
       → Refuses left (pays at p ∷ vs) 1 (record t { paid = p + t.paid; visits = 1 + t.visits })
   object-refuses t r = record {
@@ -207,7 +207,7 @@ module _ (left p : ℕ) (at : Place) (vs : List Visit) (n : ℕ) (fits : p ≤ l
     few = let a = r.few in omega arith;
   }
 
--- one with no slots
+-- an object without slots is accepted
 pub leaf-gives : (left p : ℕ) (at : Place) → p ≤ left → Gives left (pays at p ∷ []) 1 p 1
 leaf-gives left p at fits =
     let z : p + 0 ≡ p = omega arith in
@@ -217,7 +217,7 @@ leaf-gives left p at fits =
       few = omega arith;
     }
 
--- ---- entries under way: of all, some are put, and the others are to come
+-- ---- entries under way: some of all entries are written, and the others are to come
 
 module _ {A : Type 0} (f : Entry → A) (whole here rest : List Entry) (e : whole ≡ here ++ rest) (i k j : ℕ)
     (old new : List A) (h : IsLaid f here (i + k) old new j) where
@@ -234,7 +234,7 @@ module _ {A : Type 0} (f : Entry → A) (whole here rest : List Entry) (e : whol
       let n = ap length e ∙ length-append here rest in
       omega arith
 
--- an object's entry is put before those of its slots, and has its span once these are there
+-- an object's entry is written before those of its slots, and gets its span after them
 module _ {A : Type 0} (f : Entry → A) (es : List Entry) (t : Target) (below : List Entry) (e : es ≡ entered t below)
     (i j : ℕ) (old first mid new : List A) (q : first ≡ set old i (f (entry_of t 1)))
     (h : IsLaid f below (i + 1) first mid j)

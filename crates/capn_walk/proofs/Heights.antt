@@ -34,7 +34,7 @@ greatest_of-append f [] qs = omega arith
 greatest_of-append f (p ∷ ps) qs = let e = greatest_of-append f ps qs in omega arith
 
 module _ (m : List (List ℕ)) (base : ℕ) where
-  -- an object, and what is below it
+  -- an object: its visits below pay, and its depth is one more than theirs
   record Object (at : Place) (d s start : ℕ) (shape : Shape) : Type 0 where
     below : AllPay (flat_map (visits m base (d - 1)) (slots s start shape))
     is : reach m d at ≡ 1 + reach_of m (d - 1) (slots s start shape)
@@ -96,9 +96,9 @@ module _ (m : List (List ℕ)) (base : ℕ) where
         let first = rw lb at one in
         g ∙ ap₂ max first two
 
--- ---- of a whole message
+-- ---- the depth of a whole message
 
--- what the root of an accepted message names
+-- the target of the root pointer of an accepted message
 record Root (m : List (List ℕ)) : Type 0 where
   found : Target
   is : target m root ≡ Ok found

@@ -30,7 +30,7 @@ use Rattle.capn_target.proofs.shared.Inside.{found-inside}
 
 -- ---- what an entry keeps of a target
 
--- an entry says what it keeps
+-- the target that an entry gives is the part that it keeps
 keeps : (t : Target) (n : ℕ) → entry_target (entry_of t n) ≡ kept t
 keeps targets.Nil n = refl
 keeps (targets.Cap k) n = refl
@@ -56,7 +56,7 @@ no-row-places : (s w c : ℕ) → row_places s w 0 0 c ≡ []
 no-row-places s w zero = refl
 no-row-places s w (suc c) = no-row-places s (w + 0 + 0) c
 
--- it has the same slots
+-- the kept part of a target has the same slots
 slots-kept : (t : Target) → slots_below (kept t) ≡ slots_below t
 slots-kept targets.Nil = refl
 slots-kept (targets.Cap k) = refl
@@ -71,7 +71,7 @@ slots-kept (targets.Content s start (shapes.Many Link c) pads) = refl
 slots-kept (targets.Content s start (shapes.Many Rows c) pads) = no-row-places s (start + 1) c
 slots-kept (targets.Content s start (shapes.Rows c a b span) pads) = refl
 
--- and lies inside its segment, too
+-- the kept part of a target lies inside its segment, too
 inside-kept : (m : List (List ℕ)) (t : Target) → IsInMessage m t → IsInMessage m (kept t)
 inside-kept m targets.Nil h = tt
 inside-kept m (targets.Cap k) h = tt
@@ -142,7 +142,7 @@ module _ (m : List (List ℕ)) where
   -- ---- what a visit that pays says
 
   module _ (base : ℕ) (at : Place) where
-    -- its target, its entries, and that the slots below it pay
+    -- a visit that pays: its target, its entries, and that the slots below it pay
     record Paid (d : ℕ) : Type 0 where
       t : Target
       is : target m at ≡ Ok t
@@ -210,7 +210,7 @@ module _ (m : List (List ℕ)) where
         let e : i + length xs + k ≡ i + (length xs + k) = omega arith in
         ap (entry_at all) e ∙ h (length xs + k) (omega arith) ∙ get_or-append-add xs ys k _
 
-    -- what is said of the entry at an index, by its target and its span, which ends before a bound
+    -- `IsReadable` for an entry at index i with a target and a span, which ends at most at `end`
     record ReadsBy (t : Target) (n end i : ℕ) : Type 0 where
       inside : IsInMessage m t
       below : (j : ℕ) → j < length (slots_below t) → (beside all (i + 1) j < i + n)
@@ -230,14 +230,14 @@ module _ (m : List (List ℕ)) where
       within = let w = r.within in omega arith;
     }
 
-    -- of a slot
+    -- the entries of a slot, from index i on
     record Slot (at : Place) (i n : ℕ) : Type 0 where
       is : kept_of (target m at) ≡ Ok (entry_target (entry_at all i))
       span : (entry_at all i).span ≡ n
       some : 0 < n
       each : (k : ℕ) → k < n → Reads (i + n) (i + k)
 
-    -- of slots
+    -- the entries of slots, from index i on
     record Slots (ps : List Place) (i n : ℕ) : Type 0 where
       below : (j : ℕ) → j < length ps → (beside all i j < i + n)
           × (kept_of (target m (get_or ps j root)) ≡ Ok (entry_target (entry_at all (beside all i j))))
@@ -298,7 +298,7 @@ module _ (m : List (List ℕ)) where
               → ((k : ℕ) → k < b → Reads (i + a + b) (i + a + k)) → (k : ℕ) → k < n → Reads (i + n) (i + k)
           each-by i a n b e one more k l = each-or i a n b e one more k l (below-or k a)
 
-    -- an entry in front of those of its slots
+    -- an entry is followed by those of its slots
     module _ (i n : ℕ) (t : Target) (is : entry_at all i ≡ entry_of t (1 + n)) (inside : IsInMessage m t)
         (s : Slots (slots_below t) (i + 1) n) where
       reads-here : Reads (i + suc n) i

@@ -1,4 +1,4 @@
--- The part of a room that is behind entries. (For the cycle `index_slots`.)
+-- The part of a room after the entries that are written. (For the cycle `index_slots`.)
 use Rattle.std.proofs.Common.{◌≡◌, ℕ, suc, ◌+◌, ◌-◌, ◌<◌, ◌≤◌, List, [], ◌∷◌, length, set, drop, refl, ap, sym}
 use Rattle.std.proofs.Common.{◌∙◌, arith}
 use Rattle.std.proofs.lemmas.List.{drop-drop, drop-set-lt}
@@ -6,14 +6,14 @@ use Rattle.capn_walk.specs.declared.entry.Entry.{Entry}
 use Rattle.capn_walk.specs.inner.IndexRoom.{laid, IsLaid, IsKept}
 
 module _ {A : Type 0} where
-  -- entries that are put there leave what is behind them
+  -- entries that are written before index n leave the room from n on as it was
   behind-laid : (f : Entry → A) (es : List Entry) (i n : ℕ) (room : List A) → i + length es ≤ n
       → drop n (laid f i es room) ≡ drop n room
   behind-laid f [] i n room h = refl
   behind-laid f (e ∷ es) i n room h =
       behind-laid f es (suc i) n (set room i (f e)) (omega arith) ∙ drop-set-lt n room i (f e) (omega arith)
 
-  -- two lists that are the same from an index on are so from a later one on
+  -- two lists that are the same from an index on are the same from each later index on
   from-later : (k n : ℕ) (xs ys : List A) → drop k xs ≡ drop k ys → k ≤ n → drop n xs ≡ drop n ys
   from-later k n xs ys e h =
       let z : k + (n - k) ≡ n = omega arith in
@@ -21,7 +21,7 @@ module _ {A : Type 0} where
       ∙ drop-drop (n - k) k ys ∙ ap (λ (c : ℕ). drop c ys) z
 
   module _ (first k : ℕ) (all old : List A) (e : drop (first + k) old ≡ drop (first + k) all) where
-    -- entries are put there after k others
+    -- entries are written after k others
     pub kept-takes : (f : Entry → A) (es : List Entry) (j : ℕ) (new : List A) → IsLaid f es (first + k) old new j
         → drop (first + (k + j)) new ≡ drop (first + (k + j)) all
     kept-takes f es j new h =
@@ -41,7 +41,7 @@ module _ {A : Type 0} where
               ∙ ap (λ (c : ℕ). drop c all) (sym z);
         }
 
-  -- an object is refused at a slot below it, after its own entry was put there
+  -- an object is refused at a slot below it, after its own entry was written
   pub kept-object : (first j : ℕ) (x : A) (old put new : List A) → put ≡ set old first x
       → IsKept (first + 1) put new j → IsKept first old new (1 + j)
   kept-object first j x old put new e h =
@@ -55,7 +55,7 @@ module _ {A : Type 0} where
             ∙ ap (λ (c : ℕ). drop c old) z;
       }
 
-  -- from the front of the room on
+  -- the claim for the front of the room
   pub kept-first : (k : ℕ) (old new : List A) → IsKept 0 old new k → drop (k - 1) new ≡ drop (k - 1) old
   kept-first k old new h =
       let z : 0 + k - 1 ≡ k - 1 = omega arith in

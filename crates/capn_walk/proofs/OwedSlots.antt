@@ -1,26 +1,26 @@
--- The slots of a frame, one by one. (For `index_visits.rt`, `slots_left.rt` and `survey_loop.rt`.)
+-- The slots of a frame, one after the other. (For `index_visits.rt`, `slots_left.rt` and `survey_loop.rt`.)
 use Rattle.std.proofs.Common.{Bool, true, false, IsTrue, ◌↔◌, ◌≡◌, ℕ, zero, suc, ◌+◌, ◌-◌, ◌*◌, ◌<◌, [], ◌∷◌, ◌++◌}
 use Rattle.std.proofs.Common.{refl, arith}
 use Rattle.capn_walk.specs.Visits.{places, row_places}
 use Rattle.capn_walk.specs.declared.slots_left.SlotsLeft.{SlotsLeft}
 use Rattle.capn_walk.specs.inner.SlotsLeft.{places_of, owed, HasRows}
 
--- rows of no slots have none
+-- rows with no slots give no places
 pub no-slots : (s w a n : ℕ) → row_places s w a 0 n ≡ []
 no-slots s w a zero = refl
 no-slots s w a (suc n) = no-slots s (w + a + 0) a n
 
--- n rows with slots, and none of these, are no rows
+-- if n rows have slots, and their slots are none, then n is 0
 pub no-rows : (n b : ℕ) → (0 < n → 0 < b) → n * b ≡ 0 → n ≡ 0
 no-rows zero b h e = refl
 no-rows (suc n) b h e = let k = h (omega arith) in let p : suc n * b ≡ b + n * b = omega arith in absurd (omega arith)
 
--- the next place of a row
+-- the places of n slots begin with the next one
 pub next-place : (s w n : ℕ) → 0 < n → places s w n ≡ record { segment = s; word = w } ∷ places s (w + 1) (n - 1)
 next-place s w zero h = absurd (omega arith)
 next-place s w (suc n) h = let e : suc n - 1 ≡ n = omega arith in rw e refl
 
--- of a frame whose row in hand has a slot left
+-- the places of a frame begin with its next slot, if the current row has a slot left
 pub taken : (f : SlotsLeft) → 0 < f.left →
     places_of f ≡ record {
       segment = f.segment;
@@ -32,11 +32,11 @@ taken f h =
     let e : f.next + 1 + (f.left - 1) ≡ f.next + f.left = omega arith in
     rw (e, next-place f.segment f.next f.left h) refl
 
--- rows are left exactly where slots are
+-- if the current row has no slot left, rows are left exactly if slots are
 pub done-rows : (l r b : ℕ) → (0 < r → 0 < b) → l ≡ 0 → (r ≡ 0 → l + r * b ≡ 0) × (l + r * b ≡ 0 → r ≡ 0)
 done-rows l r b h e = (λ z. rw (e, z) (omega arith), λ z. no-rows r b h (omega arith))
 
--- no slot is left where none is owed
+-- no slot is left if none is owed
 pub nothing-left : (f : SlotsLeft) → HasRows f → owed f ≡ 0 → places_of f ≡ []
 nothing-left f h e =
     let l : f.left ≡ 0 = omega arith in
@@ -51,6 +51,6 @@ pub not-done : (b : Bool) (n : ℕ) → IsTrue b ↔ (n ≡ 0) → b ≡ false �
 not-done b zero h e = let t = h.1 refl in absurd cc
 not-done b (suc n) h e = omega arith
 
--- if it holds, none is left
+-- if the test for the end holds, no slot is left
 pub done : (b : Bool) (n : ℕ) → IsTrue b ↔ (n ≡ 0) → b ≡ true → n ≡ 0
 done b n h e = h.0 e

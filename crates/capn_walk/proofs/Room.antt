@@ -1,9 +1,9 @@
--- The greatest length of a segment. (For the cycle `walk`.)
+-- The bound on the length of a segment. (For the cycle `walk`.)
 use Rattle.std.proofs.Common.{◌≡◌, ℕ, zero, suc, ◌+◌, ◌^◌, ◌≤◌, List, [], ◌∷◌, length, arith}
 use Rattle.std.proofs.lemmas.List.Sums.{sum_by-cons}
 use Rattle.capn_words.specs.Message.{IsMessage, segment_at, total}
 
--- no segment is longer than all together
+-- no segment is longer than all segments together
 within-total : (m : List (List ℕ)) (s : ℕ) → length (segment_at m s) ≤ total m
 within-total [] s = omega arith
 within-total (ws ∷ m) zero = let all : total (ws ∷ m) ≡ length ws + total m = sum_by-cons length ws m in omega arith
@@ -12,6 +12,6 @@ within-total (ws ∷ m) (suc s) =
     let below = within-total m s in
     omega arith
 
--- also where there is no such segment
+-- each segment number has this bound, even if there is no such segment
 pub room-of : (m : List (List ℕ)) (s : ℕ) → IsMessage m → length (segment_at m s) ≤ 2 ^ 28 + 1
 room-of m s is = let all = is.room in let one = within-total m s in omega arith

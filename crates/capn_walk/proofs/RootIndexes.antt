@@ -1,4 +1,4 @@
--- An index of a whole message. (For `index_into_counted`.)
+-- Lemmas for an index of a whole message. (For `index_into_counted`.)
 use Rattle.std.proofs.Common.{◌≡◌, ◌⊎◌, inl, inr, true, ℕ, suc, ◌<◌, List, [], ◌∷◌, length, map, set}
 use Rattle.std.proofs.Common.{Ok, Err, refl, ap, sym, ◌∙◌}
 use Rattle.capn_words.specs.Message.{segment_at}
@@ -19,7 +19,7 @@ use Rattle.capn_walk.proofs.shared.Stops.{accepted-within}
 use Rattle.capn_walk.proofs.RootWalks.{from-root, refused-below}
 use Rattle.capn_walk.proofs.FilledRoom.{as-many-entries}
 
--- ---- a room that is filled from its front
+-- ---- a room that is filled from its beginning
 
 laid-nothing : {A : Type 0} (f : Entry → A) (i : ℕ) (es : List Entry) → laid f i es [] ≡ []
 laid-nothing f i [] = refl

@@ -1,4 +1,4 @@
--- A survey of a whole message. (For `survey_counted`, `survey_depth_counted` and `survey_root`.)
+-- Lemmas for a survey of a whole message. (For `survey_counted`, `survey_depth_counted` and `survey_root`.)
 use Rattle.std.proofs.Common.{◌≡◌, true, ℕ, ◌+◌, ◌-◌, ◌<◌, ◌≤◌, List, [], ◌∷◌, length, Option, Ok}
 use Rattle.std.proofs.Common.{ap, ap₂, sym, ◌∙◌, arith}
 use Rattle.std.specs.Option.{option_or}
@@ -27,7 +27,7 @@ use Rattle.capn_walk.proofs.shared.CapsMet.{caps-at}
 use Rattle.capn_walk.proofs.Exists.{exists-at}
 
 module _ (m : List (List ℕ)) (base : ℕ) where
-  -- that of a slot that pays, with what the visits below it come to
+  -- the survey of a slot that pays, from that of the slots below it
   module _ (budget depth : ℕ) (at : Place) (p : ℕ) (below : SlotsLeft) (k : Option ℕ)
       (here : visits m base depth at ≡ pays at p ∷ visits_of m base (depth - 1) (places_of below)) (fits : p ≤ budget)
       (few : owed below ≤ p) (c : cap_of (target m at) ≡ k) where
@@ -37,7 +37,7 @@ module _ (m : List (List ℕ)) (base : ℕ) where
     both : judge budget (visits m base depth at) ≡ after p 1 (judge (budget - p) others)
     both = ap (judge budget) here ∙ judge-pays budget p at others fits
 
-    -- nothing is below it
+    -- if no slot is below it, there are no other visits
     none-below : HasRows below → owed below ≡ 0 → others ≡ []
     none-below h z = ap (visits_of m base (depth - 1)) (nothing-left below h z)
 

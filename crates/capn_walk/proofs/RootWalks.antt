@@ -1,4 +1,5 @@
--- The state of a walk from the root. (For `message_index.rt`, `message_survey.rt` and `message_walk.rt`.)
+-- A walk from the root: its refusals before the price of the root, and its verdict on the whole message. (For
+-- `message_index.rt`, `message_survey.rt` and `message_walk.rt`.)
 use Rattle.std.proofs.Common.{◌≡◌, ◌⊎◌, inl, inr, Bool, true, false, if◌then◌else◌, ℕ, ◌^◌, ◌<◌, ◌≤◌, List, [], ◌∷◌}
 use Rattle.std.proofs.Common.{length, Ok, Err, refl, ap, ◌∙◌, arith}
 use Rattle.capn_words.specs.Message.{segment_at}
@@ -37,7 +38,7 @@ stops-at-once b at e vs h = record {
 }
 
 module _ (m : List (List ℕ)) where
-  -- the root's visits are those of its slot, where it may be the root
+  -- the root's visits are those of its slot, if its target may be that of the root
   pub from-root : (base d : ℕ) (t : Target) → target m root ≡ Ok t → may_be_root t ≡ true
       → root_visits m base d ≡ visits m base d root
   unfolding root_visits
@@ -81,7 +82,7 @@ module _ (m : List (List ℕ)) where
 
   module _ (limits : Bounds) (some : 0 < length (segment_at m 0)) (t : Target) (e : target m root ≡ Ok t)
       (kind : may_be_root t ≡ true) where
-    -- what a value that was found at the root is
+    -- a value that was found at the root, with the words paid and the number of visits
     pub record IsAnswer (v : Tree) (p k : ℕ) : Type 0 where
       pub value : IsValueOf m limits v
       pub sum : p ≡ paid m limits
@@ -128,7 +129,7 @@ module _ (m : List (List ℕ)) where
   not-refused limits f at p k a (inl r) = let some = a.some in let none = r.0 in omega arith
   not-refused limits f at p k a (inr r) = never-both limits.budget (visits_within m limits) f at p k a.within r.1
 
-  -- so if one is refused, memory ran out
+  -- if an accepted message gives a refusal, memory ran out
   pub only-memory : (limits : Bounds) (t : Stopped) (v : Tree) → IsValueOf m limits v →
       (t.fault ≡ faults.Memory) ⊎ IsWalkRefused m limits t.fault t.place t.paid t.visits → t.fault ≡ faults.Memory
   only-memory limits t v is (inl x) = x

@@ -31,7 +31,8 @@ use Rattle.capn_walk.proofs.shared.Judge.{judge-over}
 use Rattle.capn_walk.proofs.shared.Walks.{visits-null, visits-cap, visits-fault, visits-deep, visits-object}
 
 module _ (m : List (List ℕ)) (base : ℕ) (at : Place) (depth budget : ℕ) where
-  -- what a step that answers a target says of the visits of its slot
+  -- a step that returns the target `t` pays the first visit of its slot, and the other visits are those of the slots
+  -- below
   pub record IsPaid (t : Target) : Type 0 where
     pub is : visits m base depth at ≡ pays at (toll base t) ∷ visits_of m base (depth - 1) (slots_below t)
     pub within : toll base t ≤ budget
@@ -72,7 +73,7 @@ stepped-memory base depth budget (targets.Content s start shape pads) e =
     (λ over f. absurd cc)
     (λ within f. absurd cc)) e
 
--- a step to content is taken where the content isn't too deep and its price is within what is left
+-- if a step to content succeeds, the content isn't too deep, and its price is at most what is left
 pub content-taken : (base depth budget s start pads : ℕ) (shape : Shape) →
     stepped base depth budget (Ok (targets.Content s start shape pads)) ≡ Ok (targets.Content s start shape pads) →
     (0 < depth) × (price base shape + pads ≤ budget)
@@ -86,7 +87,7 @@ content-taken base depth budget s start pads shape =
     (λ over e. absurd cc)
     (λ within e. (grind (arith, nat_tests), grind (arith, nat_tests))))
 
--- what a refused step says of the visits of its slot
+-- if a step is refused, the visits of its slot are refused in the same way
 pub step-refuses : (m : List (List ℕ)) (base : ℕ) (at : Place) (depth budget : ℕ) (t : Target) (e : Fault) (s : Stopped)
     → target m at ≡ Ok t
     → stepped base depth budget (Ok t) ≡ Err e → s ≡ record { fault = e; place = at; paid = 0; visits = 1 }
@@ -97,7 +98,7 @@ step-refuses m base at depth budget t e s is h k = rw k (record {
   few = omega arith;
 })
 
--- the step to a root that may be one is the step to what it names
+-- the step to a root that may be one is the step to its target
 pub step-to-root : (m : List (List ℕ)) (base depth budget : ℕ) (t : Target) → 0 < length (segment_at m 0)
     → target m root ≡ Ok t → may_be_root t ≡ true
     → stepped base depth budget (Ok t) ≡ stepped_to_root m base depth budget
@@ -107,7 +108,7 @@ step-to-root m base depth budget t some is kind =
     (λ z. absurd (grind (arith, nat_tests)))
     (λ z. ap (stepped base depth budget) (sym r))
 
--- so one is taken that leads to content, if the other is
+-- if the step to the target leads to content, the step to the root does
 pub entered-root : (m : List (List ℕ)) (b d l base depth budget : ℕ) (t : Target) → b ≡ base → d ≡ depth → l ≡ budget
     → 0 < length (segment_at m 0) → target m root ≡ Ok t → may_be_root t ≡ true
     → IsEntered (stepped b d l (Ok t)) → IsEntered (stepped_to_root m base depth budget)
@@ -117,9 +118,9 @@ entered-root m b d l base depth budget t e f g some is kind h =
     (subst (λ (x : ℕ). IsEntered (stepped base x l (Ok t))) f
     (subst (λ (x : ℕ). IsEntered (stepped x d l (Ok t))) e h)))
 
--- what is near
+-- the targets of near pointers
 module _ (m : List (List ℕ)) where
-  -- it is no capability
+  -- the target is no capability
   capless : (r : Result Target Fault) → Told m (λ s start shape pads. ⊤) (λ k. ⊥) r → cap_of r ≡ None
   capless (Ok targets.Nil) h = refl
   capless (Ok (targets.Cap k)) h = absurd h
@@ -162,12 +163,12 @@ module _ (m : List (List ℕ)) where
   none-of at p h (Ok t) e = numbers-below at.segment at.word 0 p t h e
   none-of at p h (Err f) e = refl
 
-  -- nothing is below such a list
+  -- no slots are below a list of numbers
   pub numbers-none : (at : Place) (p : Pointer) → AreNumbers p → target_from m at.segment at.word 0 p ≡ target m at
       → below_of (target m at) ≡ []
   numbers-none at p h e = none-of at p h (target m at) e
 
-  -- a visit of such a list, where its target is known
+  -- a visit of a list of numbers, if its target is known
   module _ (base : ℕ) (at : Place) (depth left : ℕ) (p : Pointer) where
     pub numbers-paid : (t : Target) → AreNumbers p → target_from m at.segment at.word 0 p ≡ Ok t
         → target_from m at.segment at.word 0 p ≡ target m at →

@@ -59,7 +59,7 @@ module _ (m : List (List ℕ)) where
       let h = r.1 in
       ((a.0, r.0), omega arith)
 
-  -- what is left of the last object comes first
+  -- the slots left of the last object of the stack are visited first
   pub left-push : (base : ℕ) (ws : List Waiting) (w : Waiting) →
       visits_left m base (ws ++ w ∷ []) ≡ visits_of m base w.depth (places_of w.frame) ++ visits_left m base ws
   left-push base [] w = sym (append-nil (visits_of m base w.depth (places_of w.frame)))
@@ -76,7 +76,7 @@ module _ (m : List (List ℕ)) (budget : ℕ) (vs : List Visit) (n : ℕ) where
     pub few : visits + owed ≤ paid + n
     pub first : first_cap_of m vs ≡ option_or cap (first_cap_of m coming)
 
-  -- a visit that pays, with b slots below it
+  -- the next visit pays, and has b slots below it
   pub goes-on : (at : Place) (p : ℕ) (below rest : List Visit) (o b paid visits : ℕ) (cap k : Option ℕ) →
       IsUnderWay (pays at p ∷ (below ++ rest)) (o + 1) paid visits cap → p ≤ budget - paid → b ≤ p
       → cap_of (target m at) ≡ k →
@@ -94,7 +94,7 @@ module _ (m : List (List ℕ)) (budget : ℕ) (vs : List Visit) (n : ℕ) where
         ∙ option_or-assoc cap k (first_cap_of m (below ++ rest));
   }
 
-  -- a visit that is refused
+  -- the next visit is refused
   pub stops : (here rest : List Visit) (o paid visits : ℕ) (cap : Option ℕ) (e : Fault) (at : Place) →
       IsUnderWay (here ++ rest) o paid visits cap → judge (budget - paid) here ≡ refused e at 0 1 →
       judge budget vs ≡ refused e at paid (visits + 1)
@@ -103,7 +103,7 @@ module _ (m : List (List ℕ)) (budget : ℕ) (vs : List Visit) (n : ℕ) where
       u.is ∙ ap (after paid visits) (judge-stops (budget - paid) here rest e at 0 1 h)
       ∙ ap (λ (c : ℕ). refused e at c (visits + 1)) z
 
--- ---- a survey with an object in hand and a stack of those above it
+-- ---- a survey with a current object, and a stack of objects that wait
 
 abbrev pub no_frame : SlotsLeft
 no_frame = record { segment = 0; next = 0; left = 0; rows = 0; words = 0; slots = 0 }
@@ -119,7 +119,7 @@ null-target m at h = ap (λ (w : ℕ). target_of_pointer m at.segment at.word (p
     ∙ ap (target_of_pointer m at.segment at.word) null_pointer
 
 module _ (m : List (List ℕ)) (base : ℕ) where
-  -- the visits to come: of the object in hand, then of those that wait
+  -- the visits to come: those of the current object, then those of the objects that wait
   abbrev pub coming : ℕ → List Waiting → SlotsLeft → List Visit
   coming d ws f = visits_of m base d (places_of f) ++ visits_left m base ws
 
@@ -133,7 +133,7 @@ module _ (m : List (List ℕ)) (base : ℕ) where
       coming d ws f ≡ pays at p ∷ (visits_of m base (d - 1) (places_of below) ++ coming d ws rest)
   coming-take d ws f rest below at p h e = rw (h, e) (rw append_assoc refl)
 
-  -- the same with a visit that is refused
+  -- the visits to come begin with those of the next slot
   pub coming-stop : (d : ℕ) (ws : List Waiting) (f rest : SlotsLeft) (at : Place) → places_of f ≡ at ∷ places_of rest →
       coming d ws f ≡ visits m base d at ++ coming d ws rest
   coming-stop d ws f rest at h = rw h (rw append_assoc refl)
@@ -143,7 +143,8 @@ module _ (m : List (List ℕ)) (base : ℕ) where
   coming-leaf d ws rest below h e =
       ap (λ (ps : List Place). visits_of m base (d - 1) ps ++ coming d ws rest) (nothing-left below h e)
 
-  -- what waits once a slot of the object in hand is gone into: nothing more where no other slot of it is left
+  -- the stack once the survey enters a slot of the current object; nothing is pushed if that object has no other slot
+  -- left
   pub data IsKept (d : ℕ) (ws : List Waiting) (rest : SlotsLeft) (new : List Waiting) : Type 0 where
     dropped : owed rest ≡ 0 → new ≡ ws → IsKept d ws rest new
     kept : new ≡ ws ++ record { frame = rest; depth = d } ∷ [] → IsKept d ws rest new
@@ -195,7 +196,7 @@ module _ (m : List (List ℕ)) (base : ℕ) where
       pub shallow : AreShallow limit ws
       pub depth : d + length ws ≤ limit
 
-    -- the object in hand is done, and the one that waits last is taken from the stack
+    -- the current object is done, and the last object of the stack is popped
     pub popped : (d : ℕ) (old ws : List Waiting) (f : SlotsLeft) (w : Waiting) (paid visits : ℕ) (cap : Option ℕ)
         → old ≡ ws ++ w ∷ [] → owed f ≡ 0 →
         Surveys d old f paid visits cap → Surveys w.depth ws w.frame paid visits cap
@@ -217,7 +218,7 @@ module _ (m : List (List ℕ)) (base : ℕ) where
           depth = omega arith;
         }
 
-    -- the next row of the object is in hand
+    -- the next row of the object becomes the current one
     pub next-row : (d : ℕ) (ws : List Waiting) (f row : SlotsLeft) (paid visits : ℕ) (cap : Option ℕ)
         → places_of row ≡ places_of f → owed row ≡ owed f →
         Lies m row → Surveys d ws f paid visits cap → Surveys d ws row paid visits cap
@@ -252,7 +253,7 @@ module _ (m : List (List ℕ)) (base : ℕ) where
               goes-on m budget vs n at p (visits_of m base (d - 1) (places_of below)) (coming d ws rest)
               (owed rest + owed_by ws) (owed below) paid made cap k u fits few c
 
-          -- the slot has an object with slots, which is now the object in hand
+          -- the slot names an object with slots, which becomes the current object
           pub entered : (new : List Waiting) → IsKept d ws rest new → Lies m rest → Lies m below → 0 < d →
               Surveys (d - 1) new below (paid + p) (made + 1) (option_or cap k)
           entered new e lr lb deep =
@@ -268,7 +269,7 @@ module _ (m : List (List ℕ)) (base : ℕ) where
                 depth = omega arith;
               }
 
-          -- the slot has none
+          -- the slot names nothing with slots
           pub passed : Lies m rest → HasRows below → owed below ≡ 0
               → Surveys d ws rest (paid + p) (made + 1) (option_or cap k)
           passed lr hb z =
@@ -294,7 +295,7 @@ module _ (m : List (List ℕ)) (base : ℕ) where
               few = let w = u.few in omega arith;
             }
 
-    -- ---- the visits to come grow fewer
+    -- ---- the number of visits to come decreases
 
     pub as-many : (d : ℕ) (old ws : List Waiting) (f : SlotsLeft) (w : Waiting) (paid made : ℕ) (cap : Option ℕ)
         → old ≡ ws ++ w ∷ [] → owed f ≡ 0 → f.left ≡ 0 →
@@ -329,7 +330,7 @@ module _ (m : List (List ℕ)) (base : ℕ) where
           let n = ap length (coming-leaf d ws rest below hb z) in
           omega arith
 
-    -- a null slot
+    -- the slot is null
     module _ (d : ℕ) (ws : List Waiting) (f rest : SlotsLeft) (at : Place) (paid made : ℕ) (cap : Option ℕ)
         (s : Surveys d ws f paid made cap) (next : places_of f ≡ at ∷ places_of rest)
         (none : target m at ≡ Ok targets.Nil) where

@@ -5,7 +5,7 @@ use Rattle.capn_target.specs.Target.{target}
 use Rattle.capn_walk.specs.Accepted.{root}
 use Rattle.capn_walk.specs.inner.Reach.{reach}
 
--- as far as the usual limits go
+-- the depth of a message under the usual limits
 abbrev usual : List (List ℕ) → ℕ
 usual message = reach message 64 root
 

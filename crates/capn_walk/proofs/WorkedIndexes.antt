@@ -15,11 +15,11 @@ use Rattle.capn_walk.specs.IndexValues.{IsReadAt}
 abbrev usual : Bounds
 usual = record { message_words = 8388608; budget = 8388608; depth = 64; tariff = Strict }
 
--- null, with nothing below it
+-- the entry of a null slot
 abbrev null : Entry
 null = record { start = 0; segment = 0; count = 0; span = 1; words = 0; slots = 0; kind = kinds.Nil }
 
--- a struct in segment 0
+-- the entry of a struct in segment 0
 abbrev struct : ℕ → ℕ → ℕ → ℕ → Entry
 struct start words slots span =
     record { start = start; segment = 0; count = 0; span = span; words = words; slots = slots; kind = kinds.Node }
@@ -28,7 +28,7 @@ null_root : index_of ((0 ∷ []) ∷ []) usual ≡ null ∷ []
 unfolding entries target pointer_of
 null_root = refl
 
--- a struct of one slot, in which there is a list of three bytes
+-- a struct of one slot, which names a list of three bytes
 abbrev text : List (List ℕ)
 text = (0x1000000000000 ∷ 0x1a00000001 ∷ 0xffffffffff636261 ∷ []) ∷ []
 
@@ -41,7 +41,7 @@ text_index : index_of text usual ≡ text_entries
 unfolding entries target pointer_of
 text_index = refl
 
--- its value, by these entries and the words
+-- the value of the list, given by the entries and the words
 letters : AreElements 8 8 (0xffffffffff636261 ∷ []) (0x61 ∷ 0x62 ∷ 0x63 ∷ [])
 letters zero h = refl
 letters (suc zero) h = refl

@@ -1,4 +1,4 @@
--- Worked rows: which value is at the root.
+-- Worked examples of the value at the root.
 use Rattle.std.proofs.Common.{ℕ, suc, zero, [], ◌∷◌, refl, arith}
 use Rattle.capn_words.specs.declared.space.Place.{Place}
 use Rattle.capn_value.specs.NumberWidth.{byte}
@@ -19,7 +19,7 @@ one_word : IsAt ((0x100000000 ∷ 5 ∷ []) ∷ []) (at 0 0) (node (5 ∷ []) no
 unfolding target pointer_of
 one_word = record { segment = 0; start = 1; pads = 0; is = refl; inside = (refl, tt) }
 
--- named through two landing pads
+-- a struct named through two landing pads
 far : IsAt ((0x100000006 ∷ []) ∷ (0x200000002 ∷ 0x100000000 ∷ []) ∷ (5 ∷ []) ∷ []) (at 0 0) (node (5 ∷ []) no_trees)
 unfolding target pointer_of
 far = record { segment = 2; start = 0; pads = 2; is = refl; inside = (refl, tt) }
@@ -42,7 +42,7 @@ shared = record {
   );
 }
 
--- rows of one word
+-- a list of rows of one word
 two_rows : IsAt ((0x1000000000000 ∷ 0x1700000001 ∷ 0x100000008 ∷ 7 ∷ 0 ∷ []) ∷ []) (at 0 0)
     (node [] (tree (rows (body (7 ∷ []) no_trees (body (0 ∷ []) no_trees no_bodies))) no_trees))
 unfolding target pointer_of

@@ -13,11 +13,11 @@ use Rattle.capn_walk.specs.inner.Verdict.{Verdict, accepted, refused, verdict}
 abbrev at : ℕ → ℕ → Place
 at s w = record { segment = s; word = w }
 
--- under the strict tariff and the usual limits
+-- the verdict under the strict tariff and the usual limits
 abbrev usual : List (List ℕ) → Verdict
 usual message = verdict message (base Strict) 8388608 64
 
--- under the plain tariff and the usual limits
+-- the verdict under the plain tariff and the usual limits
 abbrev plain : List (List ℕ) → Verdict
 plain message = verdict message (base Plain) 8388608 64
 
@@ -185,7 +185,7 @@ no_slack : usual ((0x1000000000000 ∷ 0xf00000001 ∷ 0x100000004 ∷ 7 ∷ [])
 unfolding verdict root_visits visits target pointer_of
 no_slack = refl
 
--- ---- the same messages by the plain tariff
+-- ---- the same messages under the plain tariff
 
 plain-null_root : plain ((0 ∷ []) ∷ []) ≡ accepted 0 1
 unfolding verdict root_visits visits target pointer_of

@@ -1,5 +1,5 @@
--- The messages that are accepted within limits, the values that they denote and the words that they pay, and the
--- refusals of the others. (Page: security considerations; own.)
+-- The messages that are accepted within limits, with their values and prices, and the refusals of all others. (Page:
+-- security considerations; own.)
 use Rattle.std.specs.Prelude.{◌≡◌, ℕ, ◌+◌, ◌<◌, ◌≤◌, List, [], ◌∷◌, ◌++◌, length, Bool, true, false, Result, Ok, Err}
 use Rattle.std.specs.Prelude.{if◌then◌else◌, ⊤, ◌⊎◌}
 use Rattle.capn_words.specs.declared.space.Place.{Place}
@@ -18,7 +18,7 @@ use Rattle.capn_walk.specs.ValueAt.{IsAt}
 -- ---- the visits that are accepted within a budget, and the visit that ends a walk. (Page: security considerations;
 -- own.)
 
--- the sum of the prices
+-- the sum of the prices of visits
 abbrev pub paid_of : List Visit → ℕ
 paid_of [] = 0
 paid_of (pays at n ∷ vs) = n + paid_of vs
@@ -35,12 +35,12 @@ pub record IsWithin (budget : ℕ) (vs : List Visit) : Type 0 where
   pub all : AllPay vs
   pub paid : paid_of vs ≤ budget
 
--- a visit at a place that is a fault, or that brings the sum above the budget, after visits that paid `before` words
+-- the visit at `at` is a fault, or it brings the sum above the budget after visits that paid `before` words
 abbrev pub IsStopHere : (budget before : ℕ) → Visit → Place → Fault → Type 0
 IsStopHere budget before (fails p e) at fault = (p ≡ at) × (e ≡ fault)
 IsStopHere budget before (pays p n) at fault = (p ≡ at) × (faults.OverBudget ≡ fault) × (budget < before + n)
 
--- the first such visit: its place, the sum before it, and its number, counted from 1
+-- the first visit that is a fault or above the budget: its place, the sum before it, and its number, counted from 1
 pub record IsStop (budget : ℕ) (vs : List Visit) (fault : Fault) (at : Place) (paid visits : ℕ) : Type 0 where
   pub before : List Visit
   pub stop : Visit
@@ -55,13 +55,13 @@ pub record IsStop (budget : ℕ) (vs : List Visit) (fault : Fault) (at : Place) 
 abbrev pub root : Place
 root = record { segment = 0; word = 0 }
 
--- true if the root of a message may be this: anything but a capability (Own.)
+-- true if the root pointer may have this target, which is any but a capability (Own.)
 abbrev pub may_be_root : Target → Bool
 may_be_root (targets.Cap index) = false
 may_be_root _ = true
 
 module _ (message : List (List ℕ)) (base : ℕ) where
-  -- if the root's pointer is good but names a capability, the only visit is the fault RootKind
+  -- the visits of the root, where a root pointer that is valid but names a capability gives only the fault RootKind
   abbrev pub visits_at_root : Result Target Fault → List Visit → List Visit
   visits_at_root (Ok found) vs = if may_be_root found then vs else fails root faults.RootKind ∷ []
   visits_at_root (Err e) vs = vs
@@ -85,16 +85,16 @@ pub record IsAccepted (message : List (List ℕ)) (limits : Bounds) : Type 0 whe
 abbrev pub paid : List (List ℕ) → Bounds → ℕ
 paid message limits = paid_of (visits_within message limits)
 
--- the number of visits that it makes
+-- the number of visits that the walk of an accepted message makes
 abbrev pub number_of_visits : List (List ℕ) → Bounds → ℕ
 number_of_visits message limits = length (visits_within message limits)
 
--- the message is accepted, and this value is at its root
+-- the message is accepted, and `v` is the value at its root
 pub record IsValueOf (message : List (List ℕ)) (limits : Bounds) (v : Tree) : Type 0 where
   pub accepted : IsAccepted message limits
   pub is : IsAt message root v
 
--- the message isn't accepted: it has no root, or the walk stops at the first visit that is a fault or above the budget
+-- the message isn't accepted: it has no root, or its walk stops at the first visit that is a fault or above the budget
 abbrev pub IsWalkRefused : List (List ℕ) → Bounds → Fault → Place → (paid visits : ℕ) → Type 0
 IsWalkRefused message limits fault at paid visits =
     ((length (segment_at message 0) ≡ 0) × (fault ≡ faults.NoRoot) × (at ≡ root) × (paid ≡ 0) × (visits ≡ 0))

@@ -20,7 +20,7 @@ use Rattle.capn_walk.specs.Limits.{Bounds}
 use Rattle.capn_walk.specs.View.{slots_below, kind_of_list}
 use Rattle.capn_target.specs.Shapes.{IsInMessage}
 
--- the entry of a slot by its target, with the number of entries that the slot takes
+-- the entry of a slot, given its target and the number of entries that the slot takes
 abbrev pub entry_of : Target → ℕ → Entry
 entry_of targets.Nil n =
     record { start = 0; segment = 0; count = 0; span = n; words = 0; slots = 0; kind = kinds.Nil }
@@ -33,17 +33,17 @@ entry_of (targets.Content s start (shapes.Many width c) pads) n =
 entry_of (targets.Content s start (shapes.Rows c a b span) pads) n =
     record { start = start; segment = s; count = c; span = n; words = a; slots = b; kind = kinds.Rows }
 
--- the entry of a slot, in front of those of the slots below it
+-- the entry of a slot, followed by the entries of the slots below it
 abbrev pub entered : Target → List Entry → List Entry
 entered found below = entry_of found (1 + length below) ∷ below
 
 module _ (message : List (List ℕ)) where
-  -- the entries of a slot by its target, and of the slots below it (an accepted message has no slot without a target)
+  -- the entries of a slot, given its target, and of the slots below it (in an accepted message each slot has a target)
   abbrev pub entries_by : (Place → List Entry) → Result Target Fault → List Entry
   entries_by below (Ok found) = entered found (flat_map below (slots_below found))
   entries_by below (Err e) = entered targets.Nil []
 
-  -- at most d objects deep
+  -- the entries of the slot at a place and of all slots below it, at most d objects deep
   unfoldable pub entries : ℕ → Place → List Entry
   entries zero at = entries_by (λ p. []) (target message at)
   entries (suc d) at = entries_by (entries d) (target message at)
@@ -56,12 +56,12 @@ module _ (message : List (List ℕ)) where
 abbrev pub index_of : List (List ℕ) → Bounds → List Entry
 index_of message limits = entries message limits.depth root
 
--- the room has the first entries, as many as go into it, and after them its old ones
+-- the room after the entries are written: as many of the first entries as fit, and after them its old items
 abbrev pub filled : {A : Type 0} → List A → List A → List A
 filled es room = take (length room) es ++ drop (length es) room
 
--- the message is accepted, and the room has its index; the answer has the words that its walk pays and the number of
--- slots that it visits
+-- the message is accepted, and the room has its index; `t` has the words that its walk pays and the number of slots
+-- that it visits
 pub record IsIndexed (message : List (List ℕ)) (limits : Bounds) (old new : List Entry) (t : Indexed) : Type 0 where
   pub accepted : IsAccepted message limits
   pub entries : new ≡ filled (index_of message limits) old
@@ -69,7 +69,7 @@ pub record IsIndexed (message : List (List ℕ)) (limits : Bounds) (old new : Li
   pub counts : t.visits ≡ number_of_visits message limits
   pub each : length (index_of message limits) ≡ number_of_visits message limits
 
--- the room has the index, with each entry in a form
+-- the message is accepted, and the room has its index with each entry in a form; `t` is as for `IsIndexed`
 pub record IsIndexedAs {A : Type 0} (form : Entry → A) (message : List (List ℕ)) (limits : Bounds) (old new : List A)
     (t : Indexed) : Type 0 where
   pub accepted : IsAccepted message limits
@@ -84,7 +84,7 @@ pub record IsIndexedAs {A : Type 0} (form : Entry → A) (message : List (List �
 abbrev pub elements : Entry → Width → Target
 elements e width = targets.Content e.segment e.start (shapes.Many width e.count) 0
 
--- the target of a slot by its entry and its kind
+-- the target of a slot, given its entry and the entry's kind
 abbrev pub by_kind : Kind → Entry → Target
 by_kind kinds.Nil e = targets.Nil
 by_kind kinds.Cap e = targets.Cap e.count
@@ -102,9 +102,9 @@ by_kind kinds.Links e = elements e Link
 abbrev pub entry_target : Entry → Target
 entry_target e = by_kind e.kind e
 
--- the part of a target that an entry keeps: all except its landing pads and the length of a composite list. So spare
--- words after the list's last row can't be found through an index; no value has them. (No target is a list of the width
--- of rows.)
+-- the part of a target that an entry keeps, which is all except its landing pads and the length of a composite list. So
+-- spare words after the list's last row can't be found through an index, but no value has them. (No target is a list
+-- whose width is that of rows.)
 abbrev pub kept : Target → Target
 kept (targets.Content s start (shapes.Rows c a b span) pads) =
     targets.Content s start (shapes.Rows c a b (c * (a + b))) 0
@@ -112,7 +112,7 @@ kept (targets.Content s start (shapes.Many Rows c) pads) = targets.Content s sta
 kept (targets.Content s start shape pads) = targets.Content s start shape 0
 kept found = found
 
--- the part of the target of a slot, or of its fault, that an entry keeps
+-- the part that an entry keeps of the target of a slot; a fault stays as it is
 abbrev pub kept_of : Result Target Fault → Result Target Fault
 kept_of (Ok found) = Ok (kept found)
 kept_of (Err e) = Err e
@@ -125,13 +125,13 @@ entry_at es i = get_or es i (entry_of targets.Nil 1)
 abbrev pub slots_at : List Entry → ℕ → List Place
 slots_at es i = slots_below (entry_target (entry_at es i))
 
--- the entry of the slot that is j slots after that of entry i: each next one is a span on
+-- the index of the entry for the slot that is j slots after the slot of entry i, each one span after the one before
 abbrev pub beside : List Entry → ℕ → ℕ → ℕ
 beside es i zero = i
 beside es i (suc j) = beside es (i + (entry_at es i).span) j
 
--- an entry of an index: its content lies inside its segment; the entries of its slots are, from the next entry on, one
--- after the other, each with the target of that slot; and its own span ends with the last of them
+-- entry i can be read: its content lies inside its segment, the entries of its slots follow one after the other with
+-- the targets of those slots, and its span ends with the last of them
 pub record IsReadable (message : List (List ℕ)) (es : List Entry) (i : ℕ) : Type 0 where
   pub inside : IsInMessage message (entry_target (entry_at es i))
   pub below : (j : ℕ) → j < length (slots_at es i) → (beside es (i + 1) j < i + (entry_at es i).span)
@@ -151,7 +151,7 @@ abbrev pub place_of : Visit → Place
 place_of (pays at n) = at
 place_of (fails at e) = at
 
--- the entries of an accepted message are those of its visits, one for one: each has the target of its visit's place
+-- the entries of an accepted message belong to its visits one for one, and each has the target at its visit's place
 abbrev pub IndexesFollowVisits : Type 0
 IndexesFollowVisits = (message : List (List ℕ)) (limits : Bounds) → IsAccepted message limits
     → map (λ e. Ok (entry_target e)) (index_of message limits)

@@ -1,4 +1,4 @@
--- The value that an index and the words of its message give: no pointer is read again.
+-- The value that an index gives together with the words of its message, without reading a pointer again.
 use Rattle.std.specs.Prelude.{◌≡◌, ◌↔◌, ℕ, suc, ◌+◌, ◌*◌, ◌<◌, List, length, Ok, ⊤}
 use Rattle.capn_words.specs.Message.{IsPlace}
 use Rattle.capn_words.specs.declared.space.Place.{Place}
@@ -16,7 +16,7 @@ use Rattle.capn_walk.specs.ValueAt.{IsAt, AreWordsAt, AreNumbers, words_from}
 use Rattle.capn_walk.specs.Index.{index_of, entry_target, entry_at, beside, kept_of}
 
 module _ (message : List (List ℕ)) (es : List Entry) where
-  -- entry i says that its slot names an object of that shape, and the statement holds at the start of its content
+  -- entry i says that its slot names an object of `shape`, and `Inside` holds at the start of its content
   pub record EntryNames (i : ℕ) (shape : Shape) (Inside : ℕ → ℕ → Type 0) : Type 0 where
     pub segment : ℕ
     pub start : ℕ
@@ -37,23 +37,23 @@ module _ (message : List (List ℕ)) (es : List Entry) where
     IsReadAt i (rows bs) = (a b : ℕ) × EntryNames i (shapes.Rows (count_rows bs) a b (count_rows bs * (a + b)))
         (λ s w. RowsReadAt a b s (suc w) (i + 1) bs)
 
-    -- the values of slots: the first has entry i, and each of the others is a span on
+    -- the values of slots, the first of which has entry i, and each other one the entry a span further on
     pub AreReadAt : ℕ → Trees → Type 0
     AreReadAt i no_trees = ⊤
     AreReadAt i (tree t ts) = IsReadAt i t × AreReadAt (i + (entry_at es i).span) ts
 
-    -- rows of a words and b slots from a word on, one after the other; the first of all their slots has entry i
+    -- consecutive rows of a words and b slots, from word w on; the first of all their slots has entry i
     pub RowsReadAt : ℕ → ℕ → ℕ → ℕ → ℕ → Bodies → Type 0
     RowsReadAt a b s w i no_bodies = ⊤
     RowsReadAt a b s w i (body ws ss bs) = (length ws ≡ a) × (count ss ≡ b) × AreWordsAt message s w ws × AreReadAt i ss
         × RowsReadAt a b s (w + a + b) (beside es i b) bs
 
--- the value of an accepted message is the one that its index says
+-- the value of an accepted message is the one that its index gives
 abbrev pub IndexesSayValues : Type 0
 IndexesSayValues = (message : List (List ℕ)) (limits : Bounds) (v : Tree) → IsAccepted message limits
     → IsValueOf message limits v ↔ IsReadAt message (index_of message limits) 0 v
 
--- and so at each entry: the value at a place that names what the entry says is the one that the entry says
+-- at each place that names what entry i says, the value is the one that entry i gives
 abbrev pub EntriesSayValues : Type 0
 EntriesSayValues = (message : List (List ℕ)) (limits : Bounds) (i : ℕ) (at : Place) (v : Tree)
     → IsAccepted message limits → i < length (index_of message limits) → IsPlace message at

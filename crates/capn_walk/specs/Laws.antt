@@ -28,16 +28,16 @@ abbrev pub AcceptedAreReadable : Type 0
 AcceptedAreReadable = (message : List (List ℕ)) (limits : Bounds) → IsAccepted message limits → (v : Tree)
     × IsValueOf message limits v
 
--- one value at most is at a place
+-- there is at most one value at a place
 abbrev pub PlacesHaveOneValue : Type 0
 PlacesHaveOneValue = (message : List (List ℕ)) (at : Place) (v w : Tree) → IsAt message at v → IsAt message at w → v ≡ w
 
--- one row of values at most is in the slots from a word on
+-- there is at most one list of values in the slots from a word on, given their number
 abbrev pub SlotsHaveOneValue : Type 0
 SlotsHaveOneValue = (message : List (List ℕ)) (vs ws : Trees) (segment word : ℕ) → count vs ≡ count ws
     → AreAt message segment word vs → AreAt message segment word ws → vs ≡ ws
 
--- one row of bodies at most is in the rows from a word on
+-- there is at most one list of bodies in the rows from a word on, given their number and sizes
 abbrev pub RowsHaveOneValue : Type 0
 RowsHaveOneValue = (message : List (List ℕ)) (bs cs : Bodies) (words slots segment word : ℕ)
     → count_rows bs ≡ count_rows cs
@@ -47,12 +47,12 @@ RowsHaveOneValue = (message : List (List ℕ)) (bs cs : Bodies) (words slots seg
 abbrev pub ValuesAreInRange : Type 0
 ValuesAreInRange = (message : List (List ℕ)) (at : Place) (v : Tree) → IsMessage message → IsAt message at v → InRange v
 
--- the value of a message that is accepted fits, costs at most what its walk pays, and is no higher than the limit
+-- the value of an accepted message fits
 abbrev pub ValuesFit : Type 0
 ValuesFit = (message : List (List ℕ)) (limits : Bounds) (v : Tree) → limits.budget ≤ most_cost
     → limits.depth ≤ most_height → IsValueOf message limits v → Fits v
 
--- the value of a message that is accepted costs at most what its walk pays, and is no higher than the limit
+-- the value of an accepted message costs at most what its walk pays, and is no higher than the limit on depth
 abbrev pub ValuesAreCheap : Type 0
 ValuesAreCheap = (message : List (List ℕ)) (limits : Bounds) (v : Tree) → IsValueOf message limits v
     → (cost (base limits.tariff) v ≤ paid message limits) × (height v ≤ limits.depth)
@@ -82,12 +82,12 @@ abbrev pub Apart : Type 0
 Apart = (message : List (List ℕ)) (limits : Bounds) (fault : Fault) (at : Place) (paid visits : ℕ)
     → IsAccepted message limits → IsWalkRefused message limits fault at paid visits → ⊥
 
--- visits are within a budget, or there is a first one that isn't
+-- either all visits are within a budget, or one of them is the first that isn't
 abbrev pub Decided : Type 0
 Decided = (budget : ℕ) (vs : List Visit) → IsWithin budget vs
     ⊎ ((fault : Fault) × (at : Place) × (paid visits : ℕ) × IsStop budget vs fault at paid visits)
 
--- there is one such at most
+-- there is at most one first visit that isn't within a budget
 abbrev pub StopsAreOne : Type 0
 StopsAreOne = (budget : ℕ) (vs : List Visit) (e f : Fault) (at to : Place) (p q k j : ℕ)
     → IsStop budget vs e at p k → IsStop budget vs f to q j → (e ≡ f) × (at ≡ to) × (p ≡ q) × (k ≡ j)
@@ -97,7 +97,8 @@ abbrev pub RefusedForTheirWords : Type 0
 RefusedForTheirWords = (message : List (List ℕ)) (limits : Bounds) (fault : Fault) (at : Place) (paid visits : ℕ)
     → IsWalkRefused message limits fault at paid visits → fault ≢ faults.Memory
 
--- the pointer at a place names content exactly by one of three ways: near, by a pad of one word, by a pad of two
+-- the pointer at a place names content exactly if it does so in one of three ways: near, by a landing pad of one word,
+-- or by a landing pad of two words
 abbrev pub ContentByThreeWays : Type 0
 ContentByThreeWays = (message : List (List ℕ)) (at : Place) (segment start pads : ℕ) (shape : Shape)
     → (target message at ≡ Ok (targets.Content segment start shape pads))

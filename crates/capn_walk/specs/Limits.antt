@@ -4,8 +4,8 @@ use Rattle.capn_words.specs.Message.{most_message_words}
 use Rattle.capn_value.specs.Cost.{most_cost, most_height}
 use Rattle.capn_value.specs.declared.tariff.Tariff.{Tariff}
 
--- the most words of one framed message, the most words that a walk pays, how many objects deep it goes, and how it
--- prices a visit
+-- the greatest number of words of one framed message, the greatest number of words that a walk pays, the greatest depth
+-- of objects, and the tariff that prices visits
 pub record Bounds : Type 0 where
   pub message_words : ℕ
   pub budget : ℕ
@@ -14,7 +14,7 @@ pub record Bounds : Type 0 where
 
 -- ---- read to here for the theorem
 
--- each of the numbers is in its range
+-- each of the limits is in its range
 pub record AreLimits (words budget depth : ℕ) : Type 0 where
   pub some_words : 1 ≤ words
   pub few_words : words ≤ most_message_words

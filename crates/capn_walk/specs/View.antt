@@ -1,4 +1,4 @@
--- The view of a message: the target that a step found, and the most objects that may be below it.
+-- The view of a message: the target that a step found, and the limit on depth below it.
 use Rattle.std.specs.Prelude.{ℕ, ◌+◌, ◌*◌, ◌/◌, ◌%◌, ◌^◌, ◌==◌, nat_lt, List, [], length, slice_index, Result, Ok, Err}
 use Rattle.std.specs.Prelude.{Option, Some, None, if◌then◌else◌, ⊤}
 use Rattle.capn_words.specs.Message.{segment_at}
@@ -19,7 +19,7 @@ use Rattle.capn_walk.specs.Visits.{price, slots}
 use Rattle.capn_walk.specs.Accepted.{root, may_be_root}
 use Rattle.capn_walk.specs.ValueAt.{element, words_from}
 
--- a message, the target that was found in it, and the most objects that may be below that
+-- a message, the target that was found in it, and the greatest number of objects one below another from there on
 pub record Seen : Type 0 where
   pub message : List (List ℕ)
   pub found : Target
@@ -27,12 +27,12 @@ pub record Seen : Type 0 where
 
 -- ---- steps
 
--- the price of a step to a target
+-- the price of a step to a target, which is 0 without content
 abbrev pub toll : ℕ → Target → ℕ
 toll base (targets.Content s start shape pads) = price base shape + pads
 toll base _ = 0
 
--- a step to a slot with that target, at most `depth` objects deep, with `budget` words left to pay
+-- the result of a step to a slot with a target, where `depth` levels and `budget` words remain
 abbrev pub stepped : ℕ → ℕ → ℕ → Result Target Fault → Result Target Fault
 stepped base depth budget (Ok (targets.Content s start shape pads)) =
     if depth == 0 then Err faults.TooDeep
@@ -40,23 +40,23 @@ stepped base depth budget (Ok (targets.Content s start shape pads)) =
     else Ok (targets.Content s start shape pads)
 stepped base depth budget found = found
 
--- a step is taken, and leads to content
+-- a step succeeds and leads to content
 abbrev pub IsEntered : Result Target Fault → Type 0
 IsEntered (Ok (targets.Content s start shape pads)) = ⊤
 IsEntered _ = ⊥
 
--- the target of the root, if the root may be that
+-- the target of the root pointer, or RootKind if the root may not have this target
 abbrev pub rooted : Result Target Fault → Result Target Fault
 rooted (Ok found) = if may_be_root found then Ok found else Err faults.RootKind
 rooted (Err e) = Err e
 
--- a step to the root
+-- the result of a step to the root
 abbrev pub stepped_to_root : List (List ℕ) → ℕ → ℕ → ℕ → Result Target Fault
 stepped_to_root message base depth budget =
     if length (segment_at message 0) == 0 then Err faults.NoRoot else stepped base depth budget
     (rooted (target message root))
 
--- ---- the answers of a view
+-- ---- what a view returns
 
 -- the kind of a list, by the width of its elements
 abbrev pub kind_of_list : Width → Kind
@@ -77,18 +77,18 @@ kind_of (targets.Content s start (shapes.Node a b) pads) = kinds.Node
 kind_of (targets.Content s start (shapes.Many width n) pads) = kind_of_list width
 kind_of (targets.Content s start (shapes.Rows n a b span) pads) = kinds.Rows
 
--- the elements of a list
+-- the number of elements of a list, else 0
 abbrev pub len_of : Target → ℕ
 len_of (targets.Content s start (shapes.Many width n) pads) = n
 len_of (targets.Content s start (shapes.Rows n a b span) pads) = n
 len_of _ = 0
 
--- the data words and the slots of a struct
+-- the number of data words of a struct, else 0
 abbrev pub words_in : Target → ℕ
 words_in (targets.Content s start (shapes.Node a b) pads) = a
 words_in _ = 0
 
--- its slots
+-- the number of slots of a struct, else 0
 abbrev pub slots_in : Target → ℕ
 slots_in (targets.Content s start (shapes.Node a b) pads) = b
 slots_in _ = 0
@@ -98,22 +98,22 @@ abbrev pub cap_in : Target → Option ℕ
 cap_in (targets.Cap k) = Some k
 cap_in _ = None
 
--- the elements of a list of pointers
+-- the number of elements of a list of pointers, else 0
 abbrev pub links_in : Target → ℕ
 links_in (targets.Content s start (shapes.Many Link n) pads) = n
 links_in _ = 0
 
--- the slots of a struct, or the elements of a list of pointers
+-- the number of slots to which a step can lead: those of a struct, or the elements of a list of pointers
 abbrev pub steps_in : Target → ℕ
 steps_in t = slots_in t + links_in t
 
--- the place of one of these
+-- the place of slot i of a struct, or of element i of a list of pointers
 abbrev pub step_place : Target → ℕ → Place
 step_place (targets.Content s start (shapes.Node a b) pads) i = record { segment = s; word = start + a + i }
 step_place (targets.Content s start shape pads) i = record { segment = s; word = start + i }
 step_place _ i = root
 
--- the words from where the content starts
+-- the words of the segment from the start of the content on
 abbrev pub content_of : List (List ℕ) → Target → List ℕ
 content_of message (targets.Content s start shape pads) = words_from message s start
 content_of message _ = []
@@ -126,7 +126,7 @@ number_in W16 ws i = element 4 16 ws i
 number_in W32 ws i = element 2 32 ws i
 number_in _ ws i = slice_index ws i
 
--- the number of them that a word holds
+-- the number of elements of a width that a word holds
 abbrev pub per_word : Width → ℕ
 per_word W1 = widths.per_word bit
 per_word W8 = widths.per_word byte
@@ -134,7 +134,7 @@ per_word W16 = widths.per_word pair
 per_word W32 = widths.per_word quad
 per_word _ = 1
 
--- the one at a place of a word, counted from the least significant
+-- the element at a place of word w, counted from the least significant bits
 abbrev pub digit : Width → ℕ → ℕ → ℕ
 digit W1 w place = w / (2 ^ 1) ^ place % 2 ^ 1
 digit W8 w place = w / (2 ^ 8) ^ place % 2 ^ 8
@@ -142,13 +142,13 @@ digit W16 w place = w / (2 ^ 16) ^ place % 2 ^ 16
 digit W32 w place = w / (2 ^ 32) ^ place % 2 ^ 32
 digit _ w place = w
 
--- number i of the list that a pointer names
+-- number i of the list that a target is
 abbrev pub number_of : List (List ℕ) → Target → ℕ → ℕ
 number_of message (targets.Content s start (shapes.Many width n) pads) i =
     number_in width (words_from message s start) i
 number_of message _ i = 0
 
--- the length of a list of numbers
+-- the number of elements of a list of numbers, else 0
 abbrev pub numbers_in : Target → ℕ
 numbers_in (targets.Content s start (shapes.Many W0 n) pads) = 0
 numbers_in (targets.Content s start (shapes.Many Link n) pads) = 0
@@ -156,12 +156,12 @@ numbers_in (targets.Content s start (shapes.Many Rows n) pads) = 0
 numbers_in (targets.Content s start (shapes.Many width n) pads) = n
 numbers_in _ = 0
 
--- the rows of a composite list
+-- the number of rows of a composite list, else 0
 abbrev pub rows_in : Target → ℕ
 rows_in (targets.Content s start (shapes.Rows n a b span) pads) = n
 rows_in _ = 0
 
--- one of them, as a struct
+-- row i of a composite list, as a struct
 abbrev pub row_of : Target → ℕ → Target
 row_of (targets.Content s start (shapes.Rows n a b span) pads) i =
     targets.Content s (start + 1 + i * (a + b)) (shapes.Node a b) 0

@@ -16,20 +16,20 @@ pub data Visit : Type 0 where
   pays : Place → ℕ → Visit
   fails : Place → Fault → Visit
 
--- the cost of an object beside its pads: `base` and its size, where a void counts as a word, and so does a row that has
--- none (Own.)
+-- the cost of an object without its landing pads: `base` and its size, where an element without size counts as a word
+-- (Own.)
 abbrev pub price : (base : ℕ) → Shape → ℕ
 price base (shapes.Node data_words pointers) = base + data_words + pointers
 price base (shapes.Many W0 n) = base + n
 price base (shapes.Many width n) = base + content_words width n
 price base (shapes.Rows n data_words pointers span) = base + 1 + span + (if data_words + pointers == 0 then n else 0)
 
--- n places, one word after the other
+-- n consecutive places, from word w on
 abbrev pub places : (segment word n : ℕ) → List Place
 places s w zero = []
 places s w (suc n) = (record { segment = s; word = w }) ∷ places s (w + 1) n
 
--- the slots of n rows, each with sections of these sizes
+-- the places of the slots of n consecutive rows, each with sections of these sizes
 abbrev pub row_places : (segment word data_words pointers n : ℕ) → List Place
 row_places s w data_words pointers zero = []
 row_places s w data_words pointers (suc n) =
@@ -43,19 +43,19 @@ slots s start (shapes.Many width n) = []
 slots s start (shapes.Rows n data_words pointers span) = row_places s (start + 1) data_words pointers n
 
 module _ (message : List (List ℕ)) (base : ℕ) where
-  -- a visit of a slot, if none may have content
+  -- the visit of a slot at which no content is allowed any more
   abbrev pub last_visit : Place → Result Target Fault → List Visit
   last_visit at (Ok (targets.Content s start shape pads)) = fails at faults.TooDeep ∷ []
   last_visit at (Ok found) = pays at 0 ∷ []
   last_visit at (Err e) = fails at e ∷ []
 
-  -- a visit of a slot, and of the slots below it
+  -- the visit of a slot, followed by the visits of the slots below it
   abbrev pub visit : (Place → List Visit) → Place → Result Target Fault → List Visit
   visit below at (Ok (targets.Content s start shape pads)) =
       pays at (price base shape + pads) ∷ flat_map below (slots s start shape)
   visit below at found = last_visit at found
 
-  -- at most d objects deep
+  -- the visits of the slot at a place and of all slots below it, at most d objects deep
   unfoldable pub visits : ℕ → Place → List Visit
   visits zero at = last_visit at (target message at)
   visits (suc d) at = visit (visits d) at (target message at)

@@ -1,11 +1,11 @@
-//! The numbers in a word.
+//! The elements of a list of numbers, taken from the word that holds them.
 
 ghost use Rattle.std.specs.Prelude.{◌≡◌, ◌<◌};
 ghost use Rattle.capn_walk.specs.View as seen;
 
 use capn_words::Width;
 
-/// Returns the most numbers of `width` that a word holds.
+/// Returns the number of elements of `width` that fit in a word: 64, 8, 4 or 2, and 1 for any other width.
 #[inline(always)]
 pub fn per_word(width: Width) -> u32
     ensures value { result ≡ seen.per_word width }
@@ -20,7 +20,8 @@ pub fn per_word(width: Width) -> u32
     }
 }
 
-/// Returns the number of `width` at `place` of `word`, counted from the least significant.
+/// Returns element `place` of `word`, which holds elements of `width`. Elements are counted from the least significant
+/// bits.
 #[inline(always)]
 pub fn digit(width: Width, word: u64, place: u32) -> u64
     requires { place < seen.per_word width }

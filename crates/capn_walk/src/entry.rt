@@ -9,24 +9,25 @@ use capn_target::{Shape, Target};
 use std::alloc::{Allocator, Global};
 use std::mem::size_of;
 
-/// A slot of a message: the target of its pointer, and the number of entries that it takes with all below it. An entry
-/// is 24 bytes.
+/// The entry of a slot in an index: the target of its pointer, and the number of entries that it takes with all below
+/// it. An entry takes 24 bytes.
 #[derive(Clone, Copy, Debug, PartialEq, Eq)]
 pub struct Entry {
-    /// The index of the first word of the content in its segment; of a composite list that is its tag. Else 0.
+    /// The index of the content's first word in its segment, or 0 without content. The first word of a composite list
+    /// is its tag.
     pub start: u32,
-    /// The index of the segment of the content, else 0.
+    /// The index of the segment that has the content, or 0 without content.
     pub segment: u32,
-    /// The number of elements of a list, or of rows of a composite one; the index of a capability; else 0.
+    /// The number of elements of a list, the number of rows of a composite list, or the index of a capability, else 0.
     pub count: u32,
-    /// The number of entries that it takes: its own and those of all slots below it. The next slot beside it has the
-    /// entry that is this number further on.
+    /// The number of entries of the slot: its own and those of all slots below it. The entry of the next slot of the
+    /// same object is `span` entries further on.
     pub span: u32,
     /// The data words of a struct, or of each row of a composite list; else 0.
     pub words: u16,
     /// The pointers of a struct, or of each row of a composite list; else 0.
     pub slots: u16,
-    /// The kind of its target.
+    /// The kind of the slot's target.
     pub kind: Kind,
 }
 
@@ -45,7 +46,7 @@ impl Entry {
         Entry::of(Target::Nil, 1)
     }
 
-    /// Returns the entry of a slot with this `target`, which takes `span` entries.
+    /// Returns the entry of a slot that names `target` and takes `span` entries.
     #[inline(always)]
     pub(crate) fn of(target: Target, span: u32) -> Entry
         ensures { result ≡ entry_of target span }
@@ -112,16 +113,16 @@ impl Entry {
     }
 }
 
-/// The sums of an index: the words that the walk of the message pays, and the number of entries.
+/// The totals of an index: the words that the walk of the message pays, and the number of entries.
 #[derive(Clone, Copy, Debug, PartialEq, Eq)]
 pub struct Indexed {
     /// The words paid: the sum of the prices of all visits.
     pub paid: u32,
-    /// The number of visits, which is that of all entries, also if not all of them had room.
+    /// The number of visits. It equals the number of entries, even if the room was too small for all of them.
     pub visits: u32,
 }
 
-/// The index of a message.
+/// The index of a message, and the words that its walk pays.
 #[derive(Debug, Drop)]
 pub struct Index<A: Allocator = Global> {
     /// An entry for each slot that the walk visits, in preorder.

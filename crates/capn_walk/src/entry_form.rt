@@ -1,32 +1,32 @@
-//! The forms of index entries in a room.
+//! The forms in which a room holds index entries.
 
 ghost use Rattle.std.specs.Prelude.{◌≡◌, set};
 ghost use Rattle.capn_walk.specs.declared.entry.Entry.{Entry as Entries};
 
 use crate::entry::Entry;
 
-/// A form in which entries are written: the item that a room has of each.
+/// A form of index entries. It says which item a room holds for each entry.
 ///
-/// An index writes the entry of a slot before those of the slots below it, and sets its span after them. It reads none
-/// back, and writes beyond the end of no room.
+/// An index writes the entry of a slot before the entries of the slots below it, and sets the slot's span after them.
+/// It never reads an item, and writes nothing past the end of the room.
 pub trait EntryForm {
-    /// The item of an entry in a room.
+    /// The type of item that a room holds for an entry.
     type Item;
 
-    /// The item that is written of an entry.
+    /// The item that is stored for an entry.
     ghost written: { Self → Entries → Self.Item };
 
     /// Writes `entry` at index `at` of `room`, if the room has this index.
     fn put(&self, room: &mut [Self::Item], at: u32, entry: Entry)
         ensures { room.new ≡ set room.old at (written self.now entry) };
 
-    /// Gives the entry at index `at` of `room` this `span`, if the room has this index.
+    /// Sets the span of the entry at index `at` of `room` to `span`, if the room has this index.
     fn set_span(&self, room: &mut [Self::Item], at: u32, span: u32)
         ensures { (e : Entries) → room.old ≡ set room.old at (written self.now e)
             → room.new ≡ set room.old at (written self.now (record e { span = span })) };
 }
 
-/// The form of the entries themselves.
+/// The form whose items are the entries themselves.
 #[derive(Drop)]
 pub struct Plain;
 

@@ -1,4 +1,4 @@
-//! The findings of the visits of slots.
+//! The values that visits of slots find, with the words paid and the number of visits.
 
 ghost use Rattle.std.specs.Prelude.{◌≡◌};
 ghost use Rattle.capn_value.specs.Tree as trees;
@@ -7,7 +7,7 @@ ghost use Rattle.capn_value.specs.TreeOf.{tree_of, trees_of, rows_of};
 use capn_value::{Body, Items, Value};
 use std::alloc::Allocator;
 
-/// The value of a slot, the words that were paid for it, and the number of visits that were made.
+/// The value of a slot, the words that were paid for it, and the number of visits.
 #[derive(Drop)]
 pub struct Found<A: Allocator> {
     pub value: Value<A>,
@@ -16,7 +16,7 @@ pub struct Found<A: Allocator> {
 }
 
 impl<A: Allocator> Found<A> {
-    /// Returns the finding of a slot with a `value` that has no content, which costs nothing.
+    /// Returns the result of one visit of a slot without content. Its `value` costs nothing.
     pub fn without_content(value: Value<A>) -> Found<A>
         ensures value { result.value ≡ value }
         ensures paid { result.paid ≡ 0 }
@@ -29,7 +29,8 @@ impl<A: Allocator> Found<A> {
         }
     }
 
-    /// Returns the finding of an object with a `value` that has no slots, and whose own price has been paid.
+    /// Returns the result for an object with a `value` that has no slots. The visit of the object and its own price are
+    /// not counted here.
     #[inline(always)]
     pub fn without_slots(value: Value<A>) -> Found<A>
         ensures value { result.value ≡ value }
@@ -44,7 +45,7 @@ impl<A: Allocator> Found<A> {
     }
 }
 
-/// The values of slots, one after the other.
+/// The values of consecutive slots, the words that were paid for them, and the number of visits.
 #[derive(Drop)]
 pub struct FoundSlots<A: Allocator> {
     pub items: Items<Value<A>, A>,
@@ -54,7 +55,7 @@ pub struct FoundSlots<A: Allocator> {
 
 #[tactic(auto, using(capn_value::specs::Views::views))]
 impl<A: Allocator> FoundSlots<A> {
-    /// Makes a struct of these slots and the data `words`.
+    /// Makes a struct of these values and the data `words`.
     pub fn into_struct(self, words: Items<u64, A>) -> Found<A>
         ensures value { tree_of result.value ≡ trees.node words (trees_of self.items) }
         ensures paid { result.paid ≡ self.paid }
@@ -68,7 +69,7 @@ impl<A: Allocator> FoundSlots<A> {
         }
     }
 
-    /// Makes a list of these pointers.
+    /// Makes a list of pointers with these values.
     pub fn into_list(self) -> Found<A>
         ensures value { tree_of result.value ≡ trees.links (trees_of self.items) }
         ensures paid { result.paid ≡ self.paid }
@@ -82,7 +83,7 @@ impl<A: Allocator> FoundSlots<A> {
     }
 }
 
-/// The rows of a composite list.
+/// The rows of a composite list, the words that were paid for the slots of all rows, and the number of visits.
 #[derive(Drop)]
 pub struct FoundRows<A: Allocator> {
     pub rows: Items<Body<A>, A>,

@@ -1,7 +1,8 @@
-//! The entries of slots, in preorder, put into a room.
+//! The entries of slots, in preorder, written to a room.
 //!
-//! A slot costs at most thirteen reads and turns: its turn of the loop, and one before it that begins its row; its
-//! word; eight to find its target; the length of the segment below it, and the last turn there.
+//! A slot costs at most thirteen reads and turns of the loop. Its own turn and a turn that begins its row are two. Its
+//! word is one read, and its target takes at most eight. The length of the segment below it and the last turn there are
+//! two more.
 
 ghost use Rattle.std.specs.Prelude.{◌≡◌, ◌+◌, ◌*◌, ◌<◌, ◌≤◌, ◌^◌, length, IfErr, MatchResult};
 ghost use Rattle.capn_words.specs.Message.{segment_at, IsMessage, IsPlace};
@@ -22,7 +23,8 @@ use capn_target::{Fault, Target};
 use capn_words::{Place, Pointer, Space, split};
 use std::sync::ledger::Ledger;
 
-/// Writes the entries of the slot at `at`, whose target `found` is known, to `room` from index `first` on.
+/// Writes the entries of the slot at `at`, whose target `found` is known, and of all slots below it to `room`, from
+/// index `first` on.
 #[cycle(index_slots)]
 #[inline(always)]
 pub fn index_found<S: Space, L: Ledger, F: EntryForm>(
@@ -214,8 +216,7 @@ fn index_slot<S: Space, L: Ledger, F: EntryForm>(
     }
 }
 
-/// Writes the entries of the `slots` of a frame to `room` from index `first` on, one after the other, each with all
-/// below it.
+/// Writes the entries of the `slots` of a frame to `room` from index `first` on, in order, each with all below it.
 #[cycle(index_slots)]
 #[inline(never)]
 fn index_frame<S: Space, L: Ledger, F: EntryForm>(

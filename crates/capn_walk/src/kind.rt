@@ -6,7 +6,7 @@ ghost use Rattle.capn_walk.specs.View as seen;
 use capn_target::{Shape, Target};
 use capn_words::Width;
 
-/// The kinds of the values that a pointer denotes.
+/// The kinds of value that a pointer can denote.
 #[derive(Clone, Copy, Debug, PartialEq, Eq)]
 pub enum Kind {
     /// Null.
@@ -33,7 +33,7 @@ pub enum Kind {
     Cap,
 }
 
-/// Returns the kind of the value that `target` is.
+/// Returns the kind of the value that `target` denotes.
 #[inline(always)]
 pub fn kind_of(target: Target) -> Kind
     ensures { result ≡ seen.kind_of target }
@@ -54,7 +54,7 @@ pub fn kind_of(target: Target) -> Kind
     }
 }
 
-/// Returns the kind of a list of elements of this `width`.
+/// Returns the kind of a list of elements of `width`.
 #[inline(always)]
 pub fn kind_of_list(width: Width) -> Kind
     ensures { result ≡ seen.kind_of_list width }

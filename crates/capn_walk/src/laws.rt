@@ -1,5 +1,4 @@
-//! Laws of the definitions, as empty functions.
-//! They are for the crates above. The contract of each function is the law.
+//! Laws of the definitions for the crates above. Each law is the contract of an empty function.
 
 ghost use Rattle.std.specs.Prelude.{ℕ, List};
 ghost use Rattle.capn_words.specs.declared.space.Place.{Place};
@@ -10,14 +9,15 @@ ghost use Rattle.capn_walk.specs.ShownValue.{ViewsShow};
 ghost use Rattle.capn_walk.specs.Index.{IndexesAreReadable, IndexesFollowVisits};
 ghost use Rattle.capn_walk.specs.IndexValues.{IndexesSayValues, EntriesSayValues};
 
-/// States: a view of a slot shows the value that is there.
+/// States that a view of a slot shows the value that is there.
 pub fn views_show_values()
     ensures { (message : List (List ℕ)) (at : Place) (found : Target) (v : Tree) → ViewsShow message at found v }
 {}
 
-/// States: a message that is accepted has a value at its root. At most one value is at a place, one list of values in a
-/// number of slots, and one list of bodies in a number of rows; numbers are in range. The value of an accepted message
-/// fits, and costs at most what was paid. The least depth under which a message is accepted is the height of its value.
+/// States the laws of values. An accepted message has a value at its root. There is at most one value at a place, one
+/// list of values in consecutive slots, and one list of bodies in consecutive rows. Numbers are in range. The value of
+/// an accepted message fits, and costs at most what was paid. The least depth under which a message is accepted is the
+/// height of its value.
 pub fn values()
     ensures readable { laws.AcceptedAreReadable }
     ensures one { laws.PlacesHaveOneValue }
@@ -29,17 +29,17 @@ pub fn values()
     ensures deep { laws.DepthsAreHeights }
 {}
 
-/// States: the target of the pointer at a place of a message lies inside its segment, which exists; a value whose
-/// content is there is the value at that place. A pointer names content exactly by one of three ways: near, by a
-/// landing pad of one word, by one of two.
+/// States the laws of targets. The target of the pointer at a place of a message lies inside its segment, which exists.
+/// A value whose content is at the target is the value at that place. A pointer names content exactly if it does so in
+/// one of three ways: near, by a landing pad of one word, or by a landing pad of two words.
 pub fn targets()
     ensures inside { laws.TargetsLieInside }
     ensures content { laws.ContentIsValue }
     ensures ways { laws.ContentByThreeWays }
 {}
 
-/// States: no message is both accepted and refused. Either all visits are within a budget, or exactly one is the first
-/// that isn't. A message is refused for its own words, never because memory ran out.
+/// States the laws of verdicts. No message is both accepted and refused. Either all visits are within a budget, or
+/// exactly one is the first that isn't. A message is refused for its own words, never because memory ran out.
 pub fn verdicts()
     ensures apart { laws.Apart }
     ensures decided { laws.Decided }
@@ -47,10 +47,10 @@ pub fn verdicts()
     ensures their_words { laws.RefusedForTheirWords }
 {}
 
-/// States: the index of an accepted message begins with its root. Each entry's content lies inside its segment, and the
-/// entries of its slots come after it, each a span further on, with the target of that slot. There is one entry for
-/// each visit, in order. The value of the message is the one that its entries and its words give, and so is the value
-/// at each entry.
+/// States the laws of indexes. The index of an accepted message begins with the entry of its root. The content of each
+/// entry lies inside its segment. The entries of its slots come after it, each one span after the one before, with the
+/// target of that slot. There is one entry for each visit, in order. The entries and the words together give the value
+/// of the message, and the value at each entry.
 pub fn indexes()
     ensures readable { IndexesAreReadable }
     ensures visits { IndexesFollowVisits }

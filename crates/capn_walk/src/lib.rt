@@ -1,20 +1,22 @@
-//! The reading of a message from its root: the target of a pointer, and the value of the whole message.
+//! The walk over a message from its root, within limits: its value, a survey without the value, or an index of its
+//! slots.
 //!
-//! - [`resolve`] finds the target of the pointer at a place: null, a capability, or content that lies inside its
-//!   segment, after landing pads if need be; else the first fault of that slot.
-//! - [`walk`] answers the value that a message denotes within [`Limits`], with the words that reading it paid, or the
-//!   place and the reason at which it stopped. Each visit of a slot pays its price before its content is read, so a
+//! - [`resolve`] finds the target of the pointer at a place, or the first fault of that slot. A target is null, a
+//!   capability, or content that lies inside its segment. Landing pads are followed.
+//! - [`walk`] returns the value that a message denotes within [`Limits`], with the words that reading it paid, or the
+//!   place and the reason at which it stopped. Each visit of a slot pays its price before its content is read. So a
 //!   message that leads in circles or shares its objects costs at most the budget.
-//! - [`survey`] answers the same price and refusal and makes no tree, and [`survey_depth`] also the least depth that
-//!   admits the message. [`index`] and [`index_into`] add an entry for each slot that was visited, by which the message
-//!   can be read in place with no further test. [`index_into_form`] writes them in another [`EntryForm`].
-//! - [`survey_of`] and [`survey_depth_of`] answer what [`survey`] and [`survey_depth`] do, without an allocator, of a
-//!   message that is asked through a counter alone: the budget bounds how often.
+//! - [`survey`] pays and refuses as [`walk`] does and makes no tree. [`survey_depth`] also finds the least depth that
+//!   admits the message.
+//! - [`index`] and [`index_into`] add an entry for each slot that was visited. With the entries the message can be read
+//!   in place with no further test. [`index_into_form`] writes them in another [`EntryForm`].
+//! - [`survey_of`] and [`survey_depth_of`] make the surveys without an allocator, and read the message only through a
+//!   counter. The budget bounds the number of reads.
 //! - [`walk_counted`], [`survey_counted`], [`survey_depth_counted`] and [`index_into_counted`] do the same to a message
-//!   whose reads are counted: the budget bounds how often they read it.
-//! - [`View`] goes from one object to those below it, and pays from a [`Meter`] for each.
+//!   whose reads are counted. The budget bounds the number of reads.
+//! - [`View`] steps from one object to those below it, and pays from a [`Meter`] for each step.
 //!
-//! All take any `Space`: a bare segment, a framed message, one that owns its segments.
+//! All take any `Space`: a bare segment, a framed message, or one that owns its segments.
 //!
 //! ```text
 //! let bare = Bare::new(input)?;
@@ -65,6 +67,6 @@ pub use walk_answer::{Stopped, Walked};
 // The targets of pointers.
 pub use capn_target::{Fault, Shape, Target, resolve};
 
-// The parts of texts and explanations: the numbers in a word, and the price of an object.
+// For texts and explanations: the numbers in a word, and the price of an object.
 pub use digits::{digit, per_word};
 pub use price::price_of;

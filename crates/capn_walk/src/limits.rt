@@ -10,14 +10,14 @@ use capn_value::{MOST_COST, MOST_HEIGHT, Tariff};
 use capn_words::MOST_MESSAGE_WORDS;
 use std::marker::Model;
 
-/// The usual number of words, of a message and of a budget: 64 MiB.
+/// The usual limit on the words of a message, and the usual budget: 64 MiB.
 const USUAL_WORDS: u32 = 8_388_608;
 
-/// The usual depth.
+/// The usual limit on depth.
 const USUAL_DEPTH: u32 = 64;
 
-/// The limits of a reader: the words of one framed message, from 1 to 2^28; the words that a walk pays, at most 2^28;
-/// the depth of objects, from 1 to 256, where the root object has depth 1; and the tariff by which visits are priced.
+/// The limits of a reader: the words of one framed message (from 1 to 2^28), the words that a walk pays (at most 2^28),
+/// the depth of objects (from 1 to 256, where the root object has depth 1), and the tariff by which visits are priced.
 /// (Page: security considerations; the ranges are our own.)
 #[derive(Clone, Copy, Debug, PartialEq, Eq)]
 pub struct Limits {
@@ -42,8 +42,8 @@ impl Model for Limits {
 }
 
 impl Limits {
-    /// Returns limits of `message_words`, `budget` and `depth`, with the strict prices, or `None` exactly if one is out
-    /// of its range.
+    /// Returns limits of `message_words`, `budget` and `depth`, with the strict prices. Returns `None` exactly if one
+    /// of them is out of its range.
     pub fn new(message_words: u32, budget: u32, depth: u32) -> Option<Limits>
         ensures some { IsSome result ↔ AreLimits message_words budget depth }
         ensures message_words { IfSome result (λ l. l.message_words ≡ message_words) }
@@ -98,7 +98,7 @@ impl Limits {
         self.tariff
     }
 
-    /// Returns the most words of one framed message.
+    /// Returns the greatest number of words of one framed message.
     pub fn message_words(self) -> u32
         ensures value { result ≡ self.message_words }
         ensures some { 1 ≤ result }
@@ -107,7 +107,7 @@ impl Limits {
         self.message_words
     }
 
-    /// Returns the most words that a walk pays.
+    /// Returns the greatest number of words that a walk pays.
     pub fn budget(self) -> u32
         ensures value { result ≡ self.budget }
         ensures within { result ≤ most_cost }

@@ -1,4 +1,4 @@
-//! Lists of elements without pointers, read in one pass.
+//! Copies of lists of elements without pointers, each made in one pass.
 
 ghost use Rattle.std.specs.Prelude.{◌≡◌, ◌+◌, ◌*◌, ◌/◌, ◌%◌, ◌<◌, ◌≤◌, ◌^◌, ◌++◌, length, map, take};
 ghost use Rattle.std.specs.Prelude.{vec_capacity, IfOk};
@@ -18,7 +18,7 @@ use capn_words::{Place, Space, Width};
 use std::alloc::{AllocError, Allocator};
 use std::sync::ledger::Ledger;
 
-/// Copies the list of `count` elements of this `width` whose content starts at `at` to memory of `alloc`.
+/// Copies the list of `count` elements of `width` whose content starts at `at` into memory of `alloc`.
 #[tactic(auto, using(capn_value::specs::Views::views))]
 pub fn list_at<S: Space, A: Allocator + Copy, L: Ledger>(
     alloc: A,
@@ -160,8 +160,8 @@ fn bits_at<S: Space, A: Allocator, L: Ledger>(
     Ok(Items::from_vec(bits))
 }
 
-/// Appends the first `count` bits of `byte` to `bits`, the least significant first. Inlined, so that the loop over a
-/// whole byte is unrolled.
+/// Appends the first `count` bits of `byte` to `bits`, the least significant first. It is inlined, so that the loop
+/// over a whole byte is unrolled.
 #[inline(always)]
 fn push_bits<A: Allocator>(bits: &mut Vec<bool, A>, byte: u8, count: usize)
     requires within { count ≤ 8 }

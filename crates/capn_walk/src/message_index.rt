@@ -1,4 +1,4 @@
-//! The index of a message: its visited slots in preorder.
+//! The index of a message: an entry for each slot that its walk visits, in preorder.
 
 ghost use Rattle.std.specs.Prelude.{◌≡◌, ◌⊎◌, ◌<◌, ◌≤◌, ◌+◌, ◌-◌, ◌*◌, length, drop};
 ghost use Rattle.std.specs.Prelude.{IfOk, IfErr, IsOk, OnOk, MatchResult};
@@ -22,7 +22,7 @@ use capn_words::{Place, Space};
 use std::alloc::Allocator;
 use std::sync::ledger::Ledger;
 
-/// The index of a message within limits, each of its entries in a form.
+/// A task that writes the index of a message within `limits`, each entry in `form`.
 #[derive(Drop)]
 struct IndexTask<'f, F: EntryForm> {
     limits: Limits,
@@ -51,31 +51,31 @@ impl<'f, F: EntryForm> CountedWriter for IndexTask<'f, F> {
     }
 }
 
-/// Writes the index of the message `space`, if it is accepted within `limits`, to `room`, and returns the number of
+/// Writes the index of the message `space` to `room`, if the message is accepted within `limits`. Returns the number of
 /// entries and the words that the walk pays.
 ///
-/// The room gets the first entries, as many as go into it, and keeps what it had after them: nothing is refused if it
-/// is too small. There is an entry for each visit, so `budget + 1` entries are always enough, and a room of 0 counts
-/// them.
+/// A room that is too small gets the first entries, and nothing is refused for it. A room that is larger keeps what it
+/// had after the entries. There is an entry for each visit, so `budget + 1` entries are always enough. With an empty
+/// room the entries are only counted.
 ///
-/// It visits the slots as [`walk`](crate::walk) and [`survey`](crate::survey) do and refuses what they refuse, in the
-/// same way. After a refusal the entries of the visits before the refused one may have changed, and no others.
+/// It visits the slots as [`walk`](crate::walk) and [`survey`](crate::survey) do, and has the same refusals. After a
+/// refusal the entries of the visits before the refused one may have changed, and no others.
 ///
-/// Memory: none but the stack, which has one frame for each object on the way down, at most as many as the depth limit.
+/// Memory: only the stack, which has one frame for each object on the way down, at most as many as the depth limit.
 pub fn index_into<M: Asked>(
     space: M,
     limits: Limits,
     room: &mut [Entry],
 ) -> Result<Indexed, Stopped>
-    // It asks the message and turns its loop at most 13 * (budget + 1) + 1 times, and once more to open the count: it
-    // is done on any message that allows this, and a reference to a `Space` allows all.
+    // The index reads the message and turns its loop at most 13 * (budget + 1) + 1 times, and opens the count once. The
+    // message has to allow this number. A reference to a `Space` allows any number.
     requires work { M.allows space (13 * (limits.budget + 1) + 1 + 1) }
-    // An answer: the message is accepted, and the room has its index, as far as it goes.
+    // If `result` is `Ok`, the message is accepted, and the room has its index, or as much of it as fits.
     ensures found { IfOk result (λ t. IsIndexed (M.message space) limits room.old room.new t) }
-    // A message that is accepted is answered; any refusal is the first stop.
+    // An accepted message gives `Ok`. Any refusal is the first stop of the walk.
     ensures only { IsAccepted (M.message space) limits → IsOk result }
     ensures refused { IfErr result (λ s. IsWalkRefused (M.message space) limits s.fault s.place s.paid s.visits) }
-    // A refusal leaves all as it was but the entries of the visits before the refused one.
+    // After a refusal the room is as it was, except for the entries of the visits before the refused one.
     ensures kept { IfErr result (λ s. drop (s.visits - 1) room.new ≡ drop (s.visits - 1) room.old) }
     // No walk pays beyond its budget.
     ensures bounded { MatchResult result (λ t. IsBounded limits.budget t.paid t.visits)
@@ -90,25 +90,26 @@ pub fn index_into<M: Asked>(
     )
 }
 
-/// Writes the index of the message `space` to `room`, each of its entries in this `form`.
+/// Writes the index of the message `space` to `room`, each entry in `form`.
 ///
-/// It reads, answers, refuses under `limits` and pays as [`index_into`] does, and takes no memory but the stack.
+/// The reads, the results, the refusals under `limits` and the words paid are those of [`index_into`]. It takes no
+/// memory but the stack.
 pub fn index_into_form<M: Asked, F: EntryForm>(
     space: M,
     limits: Limits,
     form: &F,
     room: &mut [F::Item],
 ) -> Result<Indexed, Stopped>
-    // It asks the message and turns its loop at most 13 * (budget + 1) + 1 times, and once more to open the count: it
-    // is done on any message that allows this, and a reference to a `Space` allows all.
+    // The index reads the message and turns its loop at most 13 * (budget + 1) + 1 times, and opens the count once. The
+    // message has to allow this number. A reference to a `Space` allows any number.
     requires work { M.allows space (13 * (limits.budget + 1) + 1 + 1) }
-    // An answer: the message is accepted, and the room has its index in the form, as far as it goes.
+    // If `result` is `Ok`, the message is accepted, and the room has its index in the form, or as much of it as fits.
     ensures found { IfOk result (λ t.
         IsIndexedAs (F.written form.now) (M.message space) limits room.old room.new t) }
-    // A message that is accepted is answered; any refusal is the first stop.
+    // An accepted message gives `Ok`. Any refusal is the first stop of the walk.
     ensures only { IsAccepted (M.message space) limits → IsOk result }
     ensures refused { IfErr result (λ s. IsWalkRefused (M.message space) limits s.fault s.place s.paid s.visits) }
-    // A refusal leaves all as it was but the entries of the visits before the refused one.
+    // After a refusal the room is as it was, except for the entries of the visits before the refused one.
     ensures kept { IfErr result (λ s. drop (s.visits - 1) room.new ≡ drop (s.visits - 1) room.old) }
     // No walk pays beyond its budget.
     ensures bounded { MatchResult result (λ t. IsBounded limits.budget t.paid t.visits)
@@ -117,11 +118,11 @@ pub fn index_into_form<M: Asked, F: EntryForm>(
     space.ask_into(IndexTask { limits, form }, room)
 }
 
-/// Does what [`index_into_form`] does, by calls that count their reads in `reads`, as for
-/// [`survey_counted`](crate::survey_counted). With the reads it counts the turns of its one loop.
+/// Writes the index as [`index_into_form`] does, and counts its reads in `reads`, as
+/// [`survey_counted`](crate::survey_counted) does. Each turn of the loop counts as a read, too.
 ///
-/// It reads and turns at most thirteen times for each visit that it answers or refuses with, and once more. So the
-/// budget alone bounds its work, whatever the message says. It takes no memory but the stack.
+/// The count grows by at most thirteen for each visit, including the refused one, and by one more. So the budget alone
+/// bounds the work, whatever the message says. It takes no memory but the stack.
 pub fn index_into_counted<S: Space, L: Ledger, F: EntryForm>(
     space: &CountedSpace<'_, S, L>,
     limits: Limits,
@@ -129,20 +130,20 @@ pub fn index_into_counted<S: Space, L: Ledger, F: EntryForm>(
     room: &mut [F::Item],
     reads: &mut Reads<L>,
 ) -> Result<Indexed, Stopped>
-    // An answer: the message is accepted, and the room has its index in the form, as far as it goes.
+    // If `result` is `Ok`, the message is accepted, and the room has its index in the form, or as much of it as fits.
     ensures found { IfOk result (λ t. IsIndexedAs (F.written form.now) space.now limits room.old room.new t) }
-    // A message that is accepted is answered; any refusal is the first stop.
+    // An accepted message gives `Ok`. Any refusal is the first stop of the walk.
     ensures only { IsAccepted space.now limits → IsOk result }
     ensures refused { IfErr result (λ s. IsWalkRefused space.now limits s.fault s.place s.paid s.visits) }
-    // A refusal leaves all as it was but the entries of the visits before the refused one.
+    // After a refusal the room is as it was, except for the entries of the visits before the refused one.
     ensures kept { IfErr result (λ s. drop (s.visits - 1) room.new ≡ drop (s.visits - 1) room.old) }
     // No walk pays beyond its budget.
     ensures bounded { MatchResult result (λ t. IsBounded limits.budget t.paid t.visits)
         (λ s. IsBounded limits.budget s.paid s.visits) }
-    // At most thirteen reads of the message and turns of the loop for each visit, and one more.
+    // The count of reads and turns grows by at most thirteen for each visit, and by one more.
     ensures reads { MatchResult result (λ t. reads.new ≤ reads.old + 13 * t.visits + 1)
         (λ s. reads.new ≤ reads.old + 13 * s.visits + 1) }
-    // So the budget bounds them, whatever the message says and whatever is answered.
+    // So the budget bounds the count, whatever the message says and whatever is returned.
     ensures work { reads.new ≤ reads.old + 13 * (limits.budget + 1) + 1 }
 {
     space.bounds();
@@ -164,28 +165,28 @@ pub fn index_into_counted<S: Space, L: Ledger, F: EntryForm>(
     Ok(told)
 }
 
-/// Does what [`index`] does, by calls that count in `reads`, as for [`survey_counted`].
+/// Makes the index as [`index`] does, and counts its reads in `reads`, as [`survey_counted`] does.
 fn index_counted<S: Space, A: Allocator + Copy, L: Ledger>(
     alloc: A,
     space: &CountedSpace<'_, S, L>,
     limits: Limits,
     reads: &mut Reads<L>,
 ) -> Result<Index<A>, Stopped>
-    // An answer: the message is accepted, and these are its entries and the words that its walk pays.
+    // If `result` is `Ok`, the message is accepted, and `result` has its entries and the words that its walk pays.
     ensures accepted { OnOk result (IsAccepted space.now limits) }
     ensures entries { IfOk result (λ x. x.entries.items ≡ index_of space.now limits) }
     ensures pays { IfOk result (λ x. x.paid ≡ paid space.now limits) }
-    // A message that is accepted is answered, or a growth was refused; any other refusal is the first stop.
+    // An accepted message gives `Ok`, unless a growth was refused. Any other refusal is the first stop of the walk.
     ensures only { (v : Tree) → IsValueOf space.now limits v → IfErr result (λ s. s.fault ≡ Memory) }
     ensures refused { IfErr result (λ s.
         (s.fault ≡ Memory)
         ⊎ IsWalkRefused space.now limits s.fault s.place s.paid s.visits) }
-    // No growth is needed except for the entries: if it is refused, the message is accepted.
+    // Only the entries need a growth. If it is refused, the message is accepted.
     ensures no_memory { IfErr result (λ s. s.fault ≡ Memory → IsAccepted space.now limits) }
     // No walk pays beyond its budget.
     ensures bounded { MatchResult result (λ x. IsBounded limits.budget x.paid (length x.entries.items))
         (λ s. IsBounded limits.budget s.paid s.visits) }
-    // Fourteen reads of the message and turns of the loop for each visit, then thirteen.
+    // For each visit the survey adds at most fourteen reads and turns, and the index thirteen.
     ensures work { reads.new ≤ reads.old + 27 * (limits.budget + 1) + 2 }
 {
     let told = survey_counted(space, limits, reads)?;
@@ -201,7 +202,7 @@ fn index_counted<S: Space, A: Allocator + Copy, L: Ledger>(
     }
 }
 
-/// The index of a message within limits, in a collection of its own.
+/// A task that makes the index of a message within `limits`, in a vector of its own.
 #[derive(Drop)]
 struct EntriesTask<A: Allocator + Copy> {
     alloc: A,
@@ -229,28 +230,27 @@ impl<A: Allocator + Copy> CountedTask for EntriesTask<A> {
 
 /// Makes the index of the message `space`, if it is accepted within `limits`, with the words that its walk pays.
 ///
-/// It refuses what [`survey`](crate::survey) refuses, in the same way. `Memory` comes only if a growth on `alloc` was
-/// refused.
+/// It has the refusals of [`survey`](crate::survey). `Memory` is returned only if a growth on `alloc` was refused.
 ///
-/// Memory: the entries, 24 bytes each, for which it asks once the message is accepted.
+/// Memory: the entries, 24 bytes each, which are allocated once the message is accepted.
 pub fn index<M: Asked, A: Allocator + Copy>(
     alloc: A,
     space: M,
     limits: Limits,
 ) -> Result<Index<A>, Stopped>
-    // Both passes ask the message and turn their loops at most 27 * (budget + 1) + 2 times, and once more to open the
-    // count: it is done on any message that allows this, and a reference to a `Space` allows all.
+    // Both passes read the message and turn their loops at most 27 * (budget + 1) + 2 times, and open the count once.
+    // The message has to allow this number. A reference to a `Space` allows any number.
     requires work { M.allows space (27 * (limits.budget + 1) + 2 + 1) }
-    // An answer: the message is accepted, and these are its entries and the words that its walk pays.
+    // If `result` is `Ok`, the message is accepted, and `result` has its entries and the words that its walk pays.
     ensures accepted { OnOk result (IsAccepted (M.message space) limits) }
     ensures entries { IfOk result (λ x. x.entries.items ≡ index_of (M.message space) limits) }
     ensures pays { IfOk result (λ x. x.paid ≡ paid (M.message space) limits) }
-    // A message that is accepted is answered, or a growth was refused; any other refusal is the first stop.
+    // An accepted message gives `Ok`, unless a growth was refused. Any other refusal is the first stop of the walk.
     ensures only { (v : Tree) → IsValueOf (M.message space) limits v → IfErr result (λ s. s.fault ≡ Memory) }
     ensures refused { IfErr result (λ s.
         (s.fault ≡ Memory)
         ⊎ IsWalkRefused (M.message space) limits s.fault s.place s.paid s.visits) }
-    // No growth is needed except for the entries: if it is refused, the message is accepted.
+    // Only the entries need a growth. If it is refused, the message is accepted.
     ensures no_memory { IfErr result (λ s. s.fault ≡ Memory → IsAccepted (M.message space) limits) }
     // No walk pays beyond its budget.
     ensures bounded { MatchResult result (λ x. IsBounded limits.budget x.paid (length x.entries.items))

@@ -1,4 +1,4 @@
-//! The survey of a whole message, without its value.
+//! The survey of a whole message: its walk, without its value.
 
 ghost use Rattle.std.specs.Prelude.{◌≡◌, ◌≢◌, ◌<◌, ◌≤◌, ◌+◌, ◌*◌, ◌⊎◌, IfOk, IfErr, MatchResult};
 ghost use Rattle.capn_walk.specs.Accepted.{IsValueOf, IsWalkRefused, IsBounded};
@@ -19,7 +19,7 @@ use capn_words::Space;
 use std::alloc::Allocator;
 use std::sync::ledger::Ledger;
 
-/// The survey of a message within limits.
+/// A task that surveys a message within `limits`.
 #[derive(Drop)]
 struct SurveyTask {
     limits: Limits,
@@ -44,22 +44,22 @@ impl CountedTask for SurveyTask {
     }
 }
 
-/// Surveys the message `space` within `limits`, as [`survey`] does, by questions through a counter alone. It has no
-/// allocator, and so takes no memory.
+/// Surveys the message `space` within `limits`, as [`survey`] does, but reads it only through a counter. It has no
+/// allocator and takes no memory.
 pub fn survey_of<M: Asked>(space: M, limits: Limits) -> Result<Surveyed, Stopped>
-    // It asks the message and turns its loop at most 14 * (budget + 1) + 1 times, and once more to open the count: it
-    // is done on any message that allows this, and a reference to a `Space` allows all.
+    // The survey reads the message and turns its loop at most 14 * (budget + 1) + 1 times, and opens the count once.
+    // The message has to allow this number. A reference to a `Space` allows any number.
     requires work { M.allows space (14 * (limits.budget + 1) + 1 + 1) }
-    // An answer: the message is accepted, and the words that its walk pays, its visits, and the first capability of its
-    // value.
+    // If `result` is `Ok`, the message is accepted, and `result` has the words that its walk pays, its visits and the
+    // first capability of its value.
     ensures found { IfOk result (λ s. told.IsSurvey (M.message space) limits s) }
-    // A message that is accepted is answered, or a growth was refused; any other refusal is the first stop.
+    // An accepted message gives `Ok`, unless a growth was refused. Any other refusal is the first stop of the walk.
     ensures only { (v : Tree) → IsValueOf (M.message space) limits v →
         MatchResult result (λ s. s.capability ≡ first_cap v) (λ s. s.fault ≡ Memory) }
     ensures refused { IfErr result (λ s.
         (s.fault ≡ Memory)
         ⊎ IsWalkRefused (M.message space) limits s.fault s.place s.paid s.visits) }
-    // No growth is needed, whatever the depth.
+    // `Memory` is never the fault, since no depth needs a growth.
     ensures no_memory { IfErr result (λ s. s.fault ≢ Memory) }
     // No walk pays beyond its budget.
     ensures bounded { MatchResult result (λ s. IsBounded limits.budget s.paid s.visits)
@@ -68,26 +68,25 @@ pub fn survey_of<M: Asked>(space: M, limits: Limits) -> Result<Surveyed, Stopped
     space.ask(SurveyTask { limits })
 }
 
-/// Surveys the message `space` within `limits`: returns the words that its walk pays, the number of its visits and its
+/// Surveys the message `space` within `limits`. Returns the words that its walk pays, the number of its visits and its
 /// first capability, without its value.
 ///
-/// It visits the slots as [`walk`] does and refuses what that refuses, in the same way. It takes no memory, and doesn't
-/// use the allocator.
+/// It visits the slots as [`walk`] does, and has the same refusals. It takes no memory, and doesn't use the allocator.
 pub fn survey<S: Space, A: Allocator + Copy>(
     _alloc: A,
     space: &S,
     limits: Limits,
 ) -> Result<Surveyed, Stopped>
-    // An answer: the message is accepted, and the words that its walk pays, its visits, and the first capability of its
-    // value.
+    // If `result` is `Ok`, the message is accepted, and `result` has the words that its walk pays, its visits and the
+    // first capability of its value.
     ensures found { IfOk result (λ s. told.IsSurvey (S.message space.now) limits s) }
-    // A message that is accepted is answered, or a growth was refused; any other refusal is the first stop.
+    // An accepted message gives `Ok`, unless a growth was refused. Any other refusal is the first stop of the walk.
     ensures only { (v : Tree) → IsValueOf (S.message space.now) limits v →
         MatchResult result (λ s. s.capability ≡ first_cap v) (λ s. s.fault ≡ Memory) }
     ensures refused { IfErr result (λ s.
         (s.fault ≡ Memory)
         ⊎ IsWalkRefused (S.message space.now) limits s.fault s.place s.paid s.visits) }
-    // No growth is needed, whatever the depth.
+    // `Memory` is never the fault, since no depth needs a growth.
     ensures no_memory { IfErr result (λ s. s.fault ≢ Memory) }
     // No walk pays beyond its budget.
     ensures bounded { MatchResult result (λ s. IsBounded limits.budget s.paid s.visits)
@@ -96,35 +95,35 @@ pub fn survey<S: Space, A: Allocator + Copy>(
     survey_of(space, limits)
 }
 
-/// Surveys the message `space` within `limits`, as [`survey`] does, by calls that count in `reads` what they read: a
-/// word, the length of a segment, or the number of segments. It can read the message in no other way. With the reads it
-/// counts the turns of its one loop.
+/// Surveys the message `space` within `limits`, as [`survey`] does, and counts its reads in `reads`. A read is that of
+/// a word, of the length of a segment, or of the number of segments. The message can be read in no other way. Each turn
+/// of the one loop counts as a read, too.
 ///
-/// It reads and turns at most fourteen times for each visit that it answers or refuses with, and once more. So the
-/// budget alone bounds its work, whatever the message says. It takes no memory.
+/// The count grows by at most fourteen for each visit, including the refused one, and by one more. So the budget alone
+/// bounds the work, whatever the message says. It takes no memory.
 pub fn survey_counted<S: Space, L: Ledger>(
     space: &CountedSpace<'_, S, L>,
     limits: Limits,
     reads: &mut Reads<L>,
 ) -> Result<Surveyed, Stopped>
-    // An answer: the message is accepted, and the words that its walk pays, its visits, and the first capability of its
-    // value.
+    // If `result` is `Ok`, the message is accepted, and `result` has the words that its walk pays, its visits and the
+    // first capability of its value.
     ensures found { IfOk result (λ s. told.IsSurvey space.now limits s) }
-    // A message that is accepted is answered, or a growth was refused; any other refusal is the first stop.
+    // An accepted message gives `Ok`, unless a growth was refused. Any other refusal is the first stop of the walk.
     ensures only { (v : Tree) → IsValueOf space.now limits v →
         MatchResult result (λ s. s.capability ≡ first_cap v) (λ s. s.fault ≡ Memory) }
     ensures refused { IfErr result (λ s.
         (s.fault ≡ Memory)
         ⊎ IsWalkRefused space.now limits s.fault s.place s.paid s.visits) }
-    // No growth is needed, whatever the depth.
+    // `Memory` is never the fault, since no depth needs a growth.
     ensures no_memory { IfErr result (λ s. s.fault ≢ Memory) }
     // No walk pays beyond its budget.
     ensures bounded { MatchResult result (λ s. IsBounded limits.budget s.paid s.visits)
         (λ s. IsBounded limits.budget s.paid s.visits) }
-    // At most fourteen reads of the message and turns of the loop for each visit, and one more.
+    // The count of reads and turns grows by at most fourteen for each visit, and by one more.
     ensures reads { MatchResult result (λ s. reads.new ≤ reads.old + 14 * s.visits + 1)
         (λ s. reads.new ≤ reads.old + 14 * s.visits + 1) }
-    // So the budget bounds them, whatever the message says and whatever is answered.
+    // So the budget bounds the count, whatever the message says and whatever is returned.
     ensures work { reads.new ≤ reads.old + 14 * (limits.budget + 1) + 1 }
 {
     space.bounds();
@@ -141,7 +140,7 @@ pub fn survey_counted<S: Space, L: Ledger>(
     Ok(told.survey)
 }
 
-/// The survey of a message that learns its least depth, within limits.
+/// A task that surveys a message within `limits` and finds its least depth.
 #[derive(Drop)]
 struct DepthTask {
     limits: Limits,
@@ -166,25 +165,25 @@ impl CountedTask for DepthTask {
     }
 }
 
-/// Surveys the message `space` within `limits`, as [`survey_depth`] does, by questions through a counter alone. It has
-/// no allocator, and so takes no memory.
+/// Surveys the message `space` within `limits`, as [`survey_depth`] does, but reads it only through a counter. It has
+/// no allocator and takes no memory.
 pub fn survey_depth_of<M: Asked>(space: M, limits: Limits) -> Result<Measured, Stopped>
-    // It asks the message and turns its loop at most 14 * (budget + 1) + 1 times, and once more to open the count: it
-    // is done on any message that allows this, and a reference to a `Space` allows all.
+    // The survey reads the message and turns its loop at most 14 * (budget + 1) + 1 times, and opens the count once.
+    // The message has to allow this number. A reference to a `Space` allows any number.
     requires work { M.allows space (14 * (limits.budget + 1) + 1 + 1) }
-    // An answer: the message is accepted, and the words that its walk pays, its visits, and the first capability of its
-    // value.
+    // If `result` is `Ok`, the message is accepted, and `result` has the words that its walk pays, its visits and the
+    // first capability of its value.
     ensures found { IfOk result (λ m. told.IsSurvey (M.message space) limits m.survey) }
-    // Under this depth the message is accepted, and under no lower one.
+    // The message is accepted under the depth `m.depth`, and under no lower one.
     ensures depth { IfOk result (λ m. IsDepth (M.message space) limits m.depth) }
     ensures within { IfOk result (λ m. m.depth ≤ limits.depth) }
-    // A message that is accepted is answered, or a growth was refused; any other refusal is the first stop.
+    // An accepted message gives `Ok`, unless a growth was refused. Any other refusal is the first stop of the walk.
     ensures only { (v : Tree) → IsValueOf (M.message space) limits v →
         MatchResult result (λ m. m.survey.capability ≡ first_cap v) (λ s. s.fault ≡ Memory) }
     ensures refused { IfErr result (λ s.
         (s.fault ≡ Memory)
         ⊎ IsWalkRefused (M.message space) limits s.fault s.place s.paid s.visits) }
-    // No growth is needed, whatever the depth.
+    // `Memory` is never the fault, since no depth needs a growth.
     ensures no_memory { IfErr result (λ s. s.fault ≢ Memory) }
     // No walk pays beyond its budget.
     ensures bounded { MatchResult result (λ m. IsBounded limits.budget m.survey.paid m.survey.visits)
@@ -194,29 +193,28 @@ pub fn survey_depth_of<M: Asked>(space: M, limits: Limits) -> Result<Measured, S
 }
 
 /// Surveys the message `space` within `limits`, as [`survey`] does, and also finds the least depth under which it is
-/// accepted with the other limits as they are: 0 if its root is null, else the greatest number of objects one below
-/// another, the root's among them.
+/// accepted if the other limits stay as they are. This depth is 0 if the root is null, else the greatest number of
+/// objects one below another, including the root.
 ///
-/// It is one walk, as [`survey`] is, and refuses what that refuses, in the same way. It takes no memory, and doesn't
-/// use the allocator.
+/// It makes one walk, as [`survey`] does, and has the same refusals. It takes no memory, and doesn't use the allocator.
 pub fn survey_depth<S: Space, A: Allocator + Copy>(
     _alloc: A,
     space: &S,
     limits: Limits,
 ) -> Result<Measured, Stopped>
-    // An answer: the message is accepted, and the words that its walk pays, its visits, and the first capability of its
-    // value.
+    // If `result` is `Ok`, the message is accepted, and `result` has the words that its walk pays, its visits and the
+    // first capability of its value.
     ensures found { IfOk result (λ m. told.IsSurvey (S.message space.now) limits m.survey) }
-    // Under this depth the message is accepted, and under no lower one.
+    // The message is accepted under the depth `m.depth`, and under no lower one.
     ensures depth { IfOk result (λ m. IsDepth (S.message space.now) limits m.depth) }
     ensures within { IfOk result (λ m. m.depth ≤ limits.depth) }
-    // A message that is accepted is answered, or a growth was refused; any other refusal is the first stop.
+    // An accepted message gives `Ok`, unless a growth was refused. Any other refusal is the first stop of the walk.
     ensures only { (v : Tree) → IsValueOf (S.message space.now) limits v →
         MatchResult result (λ m. m.survey.capability ≡ first_cap v) (λ s. s.fault ≡ Memory) }
     ensures refused { IfErr result (λ s.
         (s.fault ≡ Memory)
         ⊎ IsWalkRefused (S.message space.now) limits s.fault s.place s.paid s.visits) }
-    // No growth is needed, whatever the depth.
+    // `Memory` is never the fault, since no depth needs a growth.
     ensures no_memory { IfErr result (λ s. s.fault ≢ Memory) }
     // No walk pays beyond its budget.
     ensures bounded { MatchResult result (λ m. IsBounded limits.budget m.survey.paid m.survey.visits)
@@ -225,34 +223,34 @@ pub fn survey_depth<S: Space, A: Allocator + Copy>(
     survey_depth_of(space, limits)
 }
 
-/// Surveys the message `space` within `limits`, as [`survey_depth`] does, by calls that count in `reads`, as for
-/// [`survey_counted`] and with its bounds. It takes no memory.
+/// Surveys the message `space` within `limits`, as [`survey_depth`] does, and counts its reads in `reads`. The count
+/// has the bounds of [`survey_counted`]. It takes no memory.
 pub fn survey_depth_counted<S: Space, L: Ledger>(
     space: &CountedSpace<'_, S, L>,
     limits: Limits,
     reads: &mut Reads<L>,
 ) -> Result<Measured, Stopped>
-    // An answer: the message is accepted, and the words that its walk pays, its visits, and the first capability of its
-    // value.
+    // If `result` is `Ok`, the message is accepted, and `result` has the words that its walk pays, its visits and the
+    // first capability of its value.
     ensures found { IfOk result (λ m. told.IsSurvey space.now limits m.survey) }
-    // Under this depth the message is accepted, and under no lower one.
+    // The message is accepted under the depth `m.depth`, and under no lower one.
     ensures depth { IfOk result (λ m. IsDepth space.now limits m.depth) }
     ensures within { IfOk result (λ m. m.depth ≤ limits.depth) }
-    // A message that is accepted is answered, or a growth was refused; any other refusal is the first stop.
+    // An accepted message gives `Ok`, unless a growth was refused. Any other refusal is the first stop of the walk.
     ensures only { (v : Tree) → IsValueOf space.now limits v →
         MatchResult result (λ m. m.survey.capability ≡ first_cap v) (λ s. s.fault ≡ Memory) }
     ensures refused { IfErr result (λ s.
         (s.fault ≡ Memory)
         ⊎ IsWalkRefused space.now limits s.fault s.place s.paid s.visits) }
-    // No growth is needed, whatever the depth.
+    // `Memory` is never the fault, since no depth needs a growth.
     ensures no_memory { IfErr result (λ s. s.fault ≢ Memory) }
     // No walk pays beyond its budget.
     ensures bounded { MatchResult result (λ m. IsBounded limits.budget m.survey.paid m.survey.visits)
         (λ s. IsBounded limits.budget s.paid s.visits) }
-    // At most fourteen reads of the message and turns of the loop for each visit, and one more.
+    // The count of reads and turns grows by at most fourteen for each visit, and by one more.
     ensures reads { MatchResult result (λ s. reads.new ≤ reads.old + 14 * s.survey.visits + 1)
         (λ s. reads.new ≤ reads.old + 14 * s.visits + 1) }
-    // So the budget bounds them, whatever the message says and whatever is answered.
+    // So the budget bounds the count, whatever the message says and whatever is returned.
     ensures work { reads.new ≤ reads.old + 14 * (limits.budget + 1) + 1 }
 {
     space.bounds();

@@ -22,7 +22,7 @@ use capn_words::{Place, Space};
 use std::alloc::Allocator;
 use std::sync::ledger::Ledger;
 
-/// The value of a message within limits.
+/// A task that reads the value of a message within `limits`.
 #[derive(Drop)]
 struct WalkTask<A: Allocator + Copy> {
     alloc: A,
@@ -48,18 +48,18 @@ impl<A: Allocator + Copy> CountedTask for WalkTask<A> {
     }
 }
 
-/// Reads the value that the message `space` denotes, from its root, within `limits`; returns it with the words that
-/// this paid and the number of visits.
+/// Reads the value that the message `space` denotes, from its root, within `limits`. Returns it with the words that
+/// were paid and the number of visits.
 ///
-/// Slots are visited in preorder, each as often as a pointer leads to it, and each visit pays its price before anything
-/// of its content is read or memory is taken for it. So a hostile message, with cycles or shared objects, costs at most
+/// Slots are visited in preorder, each as often as a pointer leads to it. Each visit pays its price before anything of
+/// its content is read or memory is taken for it. So a hostile message, with cycles or shared objects, costs at most
 /// the budget.
 ///
-/// Refused with `NoRoot` at 0:0, paid 0 and visits 0, if segment 0 has no word. Else with the first visit that is a
-/// fault or brings the sum above the budget: the place of its slot, the words paid before it, and its number. At one
-/// visit the faults of `resolve` come first, then `RootKind`, `TooDeep` and `OverBudget`. `Memory` comes only if a
-/// growth was refused, in place of any later answer; its `paid` is at most the budget, and its `visits` at most one
-/// more than that `paid`.
+/// If segment 0 has no word, the refusal is `NoRoot` at 0:0, with paid 0 and visits 0. Any other refusal is that of the
+/// first visit that is a fault or brings the sum above the budget. It has the place of the visited slot, the words paid
+/// before it, and the number of the visit. At one visit the faults of `resolve` come first, then `RootKind`, `TooDeep`
+/// and `OverBudget`. `Memory` is returned only if a growth was refused, in place of any later result. Its `paid` is at
+/// most the budget, and its `visits` at most one more than that `paid`.
 ///
 /// Memory: the tree's own, on `alloc`. The stack holds at most as many objects as the depth limit. (Page: security
 /// considerations; the tariffs and the order of the faults are our own.)
@@ -68,16 +68,17 @@ pub fn walk<M: Asked, A: Allocator + Copy>(
     space: M,
     limits: Limits,
 ) -> Result<Walked<A>, Stopped>
-    // It asks the message and turns its loops at most 12 * (budget + 1) times, and once more to open the count: it is
-    // done on any message that allows this, and a reference to a `Space` allows all.
+    // The walk reads the message and turns its loops at most 12 * (budget + 1) times, and opens the count once. The
+    // message has to allow this number. A reference to a `Space` allows any number.
     requires work { M.allows space (12 * (limits.budget + 1) + 1) }
 
-    // An answer is the value at the root of an accepted message, with the sum of the prices.
+    // If `result` is `Ok`, it has the value at the root of an accepted message, with the sum of the prices.
     ensures found { IfOk result (λ w. IsValueOf (M.message space) limits w.tree) }
     ensures pays { IfOk result (λ w. w.paid ≡ paid (M.message space) limits) }
     ensures counts { IfOk result (λ w. w.visits ≡ number_of_visits (M.message space) limits) }
 
-    // Such a value is answered, or a growth was refused; any other refusal is the first stop.
+    // If the message has a value within the limits, that is returned, unless a growth was refused. Any other refusal is
+    // the first stop of the walk.
     ensures only { (v : trees.Tree) → IsValueOf (M.message space) limits v →
         MatchResult result (λ w. w.tree ≡ v) (λ s. s.fault ≡ Memory) }
     ensures refused { IfErr result (λ s.
@@ -92,31 +93,32 @@ pub fn walk<M: Asked, A: Allocator + Copy>(
     ensures bounded { MatchResult result (λ w. IsBounded limits.budget w.paid w.visits)
         (λ s. IsBounded limits.budget s.paid s.visits) }
 
-    // The tree costs no more than what was paid, and is no higher than the limit.
+    // The tree costs no more than what was paid, and is no higher than the limit on depth.
     ensures thrifty { IfOk result (λ w. cost (base limits.tariff) w.tree ≤ w.paid) }
     ensures low { IfOk result (λ w. height w.tree ≤ limits.depth) }
 {
     space.ask(WalkTask { alloc, limits })
 }
 
-/// Reads the value that the message `space` denotes within `limits`, as [`walk`] does, by calls that count in `reads`,
-/// as for [`survey_counted`](crate::survey_counted). Bytes count as one read for each word that they take. With the
-/// reads it counts the turns of its loops over slots and over rows.
+/// Reads the value that the message `space` denotes within `limits`, as [`walk`] does, and counts its reads in `reads`,
+/// as [`survey_counted`](crate::survey_counted) does. Bytes count as one read for each word that they take. Each turn
+/// of the loops over slots and over rows counts as a read, too.
 ///
-/// It reads and turns at most ten times for each visit that it answers or refuses with, twice for each word paid, and
-/// once more. So the budget alone bounds its work, whatever the message says. Memory on `alloc`: as for [`walk`].
+/// The count grows by at most ten for each visit, including the refused one, by two for each word paid, and by one
+/// more. So the budget alone bounds the work, whatever the message says. Memory on `alloc`: as for [`walk`].
 pub fn walk_counted<S: Space, A: Allocator + Copy, L: Ledger>(
     alloc: A,
     space: &CountedSpace<'_, S, L>,
     limits: Limits,
     reads: &mut Reads<L>,
 ) -> Result<Walked<A>, Stopped>
-    // An answer is the value at the root of an accepted message, with the sum of the prices.
+    // If `result` is `Ok`, it has the value at the root of an accepted message, with the sum of the prices.
     ensures found { IfOk result (λ w. IsValueOf space.now limits w.tree) }
     ensures pays { IfOk result (λ w. w.paid ≡ paid space.now limits) }
     ensures counts { IfOk result (λ w. w.visits ≡ number_of_visits space.now limits) }
 
-    // Such a value is answered, or a growth was refused; any other refusal is the first stop.
+    // If the message has a value within the limits, that is returned, unless a growth was refused. Any other refusal is
+    // the first stop of the walk.
     ensures only { (v : trees.Tree) → IsValueOf space.now limits v →
         MatchResult result (λ w. w.tree ≡ v) (λ s. s.fault ≡ Memory) }
     ensures refused { IfErr result (λ s.
@@ -131,14 +133,14 @@ pub fn walk_counted<S: Space, A: Allocator + Copy, L: Ledger>(
     ensures bounded { MatchResult result (λ w. IsBounded limits.budget w.paid w.visits)
         (λ s. IsBounded limits.budget s.paid s.visits) }
 
-    // The tree costs no more than what was paid, and is no higher than the limit.
+    // The tree costs no more than what was paid, and is no higher than the limit on depth.
     ensures thrifty { IfOk result (λ w. cost (base limits.tariff) w.tree ≤ w.paid) }
     ensures low { IfOk result (λ w. height w.tree ≤ limits.depth) }
 
-    // At most ten reads of the message and turns of a loop for each visit, two for each word paid, and one more.
+    // The count of reads and turns grows by at most ten for each visit, by two for each word paid, and by one more.
     ensures reads { MatchResult result (λ w. reads.new ≤ reads.old + 10 * w.visits + 2 * w.paid + 1)
         (λ s. reads.new ≤ reads.old + 10 * s.visits + 2 * s.paid + 1) }
-    // So the budget bounds them, whatever the message says and whatever is answered.
+    // So the budget bounds the count, whatever the message says and whatever is returned.
     ensures work { reads.new ≤ reads.old + 12 * (limits.budget + 1) }
 {
     space.bounds();
@@ -160,8 +162,8 @@ pub fn walk_counted<S: Space, A: Allocator + Copy, L: Ledger>(
     })
 }
 
-/// Finds the target of the root pointer of the message `space`, or the first fault: `NoRoot`, if segment 0 has no word;
-/// `RootKind`, if it is a capability. It counts in `reads`.
+/// Finds the target of the root pointer of the message `space`, or the first fault. The fault is `NoRoot` if segment 0
+/// has no word, and `RootKind` if the target is a capability. Reads are counted in `reads`.
 #[inline(always)]
 pub fn root_target<S: Space, L: Ledger>(
     space: &CountedSpace<'_, S, L>,
@@ -196,7 +198,7 @@ pub fn root_target<S: Space, L: Ledger>(
     }
 }
 
-/// Returns `true` if `target` may be that of the root.
+/// Tests whether `target` may be that of the root pointer. A capability may not.
 pub fn may_be_root(target: Target) -> bool
     ensures { result ≡ accepted.may_be_root target }
 {

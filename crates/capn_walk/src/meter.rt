@@ -1,4 +1,4 @@
-//! The meter of a view's steps.
+//! The meter from which the steps of views are paid.
 
 ghost use Rattle.std.specs.Prelude.{◌≡◌, ◌+◌, ◌≤◌};
 ghost use Rattle.capn_value.specs.Cost.{most_cost};
@@ -8,7 +8,7 @@ ghost use Rattle.capn_walk.specs.Account.{with_paid, left_of};
 use capn_value::Tariff;
 use std::marker::Model;
 
-/// The words that the steps of views may pay together, those that they have paid, and the tariff of their prices.
+/// The budget that the steps of views share: the words paid so far, the words left, and the tariff of their prices.
 #[derive(Debug, Drop)]
 pub struct Meter {
     paid: u32,
@@ -53,7 +53,7 @@ impl Meter {
         }
     }
 
-    /// Returns the tariff by which its steps pay.
+    /// Returns the tariff by which steps are priced.
     #[inline(always)]
     pub fn tariff(&self) -> Tariff
         ensures { result ≡ self.now.tariff }
@@ -61,7 +61,7 @@ impl Meter {
         self.tariff
     }
 
-    /// Returns the words paid.
+    /// Returns the number of words paid.
     pub fn paid(&self) -> u32
         ensures value { result ≡ self.now.paid }
         ensures within { result ≤ self.now.budget }
@@ -69,7 +69,7 @@ impl Meter {
         self.paid
     }
 
-    /// Returns the words that may still be paid.
+    /// Returns the number of words that may still be paid.
     #[inline(always)]
     pub fn left(&self) -> u32
         ensures sum { self.now.paid + result ≡ self.now.budget }
@@ -79,7 +79,7 @@ impl Meter {
         self.left
     }
 
-    /// Pays `price`, for which enough is left.
+    /// Pays `price`, which is at most what is left.
     #[inline(always)]
     pub(crate) fn pay(&mut self, price: u32)
         requires { price ≤ left_of self.old }

@@ -6,8 +6,9 @@ ghost use Rattle.capn_walk.specs.Visits.{price};
 use capn_target::{Shape, content_words};
 use capn_words::Width;
 
-/// Returns the price of an object of `shape` after `pads` words of landing pad, in words: `base`, its words, and 1 for
-/// each element that has no size. A composite list pays all the words that its pointer gives.
+/// Returns the price, in words, of an object of `shape` behind `pads` words of landing pads. It is the sum of `base`,
+/// the words of the object, `pads`, and 1 for each element that has no size. A composite list pays for its tag and all
+/// the words that its pointer counts.
 #[inline(always)]
 pub fn price_of(shape: Shape, pads: u8, base: u32) -> u64
     ensures { result ≡ price base shape + pads }

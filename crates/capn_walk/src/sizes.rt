@@ -1,4 +1,4 @@
-//! The sizes of a target.
+//! The sizes of a target: its elements, data words and slots.
 
 ghost use Rattle.std.specs.Prelude.{◌≡◌};
 ghost use Rattle.capn_walk.specs.View as seen;
@@ -6,7 +6,7 @@ ghost use Rattle.capn_walk.specs.declared.kind.Kind.TheVariants as kinds;
 
 use capn_target::{Shape, Target};
 
-/// Returns the number of elements of a list `target`; else 0.
+/// Returns the number of elements if `target` is a list, else 0.
 #[inline(always)]
 pub fn len_of(target: Target) -> u32
     ensures value { result ≡ seen.len_of target }
@@ -27,7 +27,7 @@ pub fn len_of(target: Target) -> u32
     }
 }
 
-/// Returns the number of data words of a struct `target`; else 0.
+/// Returns the number of data words if `target` is a struct, else 0.
 #[inline(always)]
 pub fn words_in(target: Target) -> u16
     ensures { result ≡ seen.words_in target }
@@ -43,7 +43,7 @@ pub fn words_in(target: Target) -> u16
     }
 }
 
-/// Returns the number of slots of a struct `target`; else 0.
+/// Returns the number of slots if `target` is a struct, else 0.
 #[inline(always)]
 pub fn slots_in(target: Target) -> u16
     ensures { result ≡ seen.slots_in target }

@@ -1,4 +1,4 @@
-//! The slots of an object left to a survey.
+//! The slots of an object that a survey has still to visit.
 
 ghost use Rattle.std.specs.Prelude.{◌≡◌, ℕ, ◌-◌, ◌<◌, ◌≤◌, ◌+◌, ◌*◌, ◌^◌, [], ◌∷◌, ◌↔◌, IsTrue};
 ghost use Rattle.capn_walk.specs.Visits.{slots};
@@ -8,35 +8,35 @@ ghost use Rattle.capn_walk.specs.inner.SlotsLeft.{places_of, owed, end_of, HasRo
 use capn_target::Shape;
 use capn_words::{Place, Width};
 
-/// The slots of an object that are still to be visited, in order: those that are left of the row in hand, then
-/// those of the rows after it. A struct and a list of pointers are one row.
+/// The slots of an object that are still to be visited, in order: those left of the current row, then those of the rows
+/// after it. A struct and a list of pointers count as one row.
 #[derive(Clone, Copy, Default)]
 pub struct SlotsLeft {
     /// The segment of the object.
     pub segment: u32,
-    /// The word of the next slot, or of the next row if none is left of the row in hand.
+    /// The word of the next slot, or of the next row if the current row has no slot left.
     pub next: u32,
-    /// The slots that are left of the row in hand.
+    /// The number of slots left of the current row.
     pub left: u32,
-    /// The rows after it.
+    /// The number of rows after the current one.
     pub rows: u32,
-    /// The data words of each of these.
+    /// The number of data words of each row after the current one.
     pub words: u16,
-    /// The slots of each of these.
+    /// The number of slots of each row after the current one.
     pub slots: u16,
 }
 
-/// An object that waits until all below one of its slots is visited.
+/// An object that waits until everything below one of its slots is visited.
 #[derive(Clone, Copy, Default)]
 pub struct Waiting {
-    /// Its slots after that one.
+    /// The slots of the object that are visited after that one.
     pub frame: SlotsLeft,
-    /// The most objects that may be one below another, from each of these on.
+    /// The number of levels that remain under the limit on depth for what these slots name.
     pub depth: u32,
 }
 
 impl SlotsLeft {
-    /// Returns the slots of an object of this `shape` whose content starts at `start`.
+    /// Returns the slots of an object of `shape` whose content starts at `start`.
     #[inline(always)]
     pub fn of_object(start: Place, shape: Shape) -> SlotsLeft
         requires fits { RowsFit shape }
@@ -80,7 +80,7 @@ impl SlotsLeft {
         }
     }
 
-    /// Returns `true` if no slot is left.
+    /// Tests whether no slot is left.
     #[inline(always)]
     pub fn is_done(&self) -> bool
         requires { HasRows self.now }
@@ -89,7 +89,7 @@ impl SlotsLeft {
         self.left == 0 && self.rows == 0
     }
 
-    /// Returns these slots with the next row in hand.
+    /// Returns these slots with the next row as the current one.
     #[inline(always)]
     pub fn turned(self) -> SlotsLeft
         requires done { self.left ≡ 0 }
@@ -113,7 +113,7 @@ impl SlotsLeft {
         }
     }
 
-    /// Takes the next slot: returns its place, and the slots that are left after it.
+    /// Takes the next slot. Returns its place, and the slots that are left after it.
     #[inline(always)]
     pub fn take(self) -> (Place, SlotsLeft)
         requires some { 0 < self.left }

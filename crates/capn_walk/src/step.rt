@@ -1,4 +1,4 @@
-//! The price of a step, with the faults of depth and budget, and its target's slots.
+//! The price of a step to a target, the faults of depth and budget, and the slots below the target.
 
 ghost use Rattle.std.specs.Prelude.{◌≡◌, ◌<◌, ◌≤◌, ℕ, Ok, Err, IfOk, MatchResult};
 ghost use Rattle.capn_words.specs.Message.{IsMessage};
@@ -14,8 +14,9 @@ use capn_target::{Fault, Target};
 use capn_words::{Place, Space};
 use std::sync::ledger::Ledger;
 
-/// Returns the price of a step to `target`, at most `depth` objects deep and with `left` words left to pay, where each
-/// content costs `base` beside its size; `TooDeep` or `OverBudget`, if that is not allowed.
+/// Returns the price of a step to `target`. Under the limits `depth` levels and `left` words remain. Each content costs
+/// `base` in addition to its size. Content is refused with `TooDeep` if `depth` is 0, else with `OverBudget` if its
+/// price exceeds `left`. A target without content costs nothing.
 #[inline(always)]
 pub fn price_within(target: Target, depth: u32, left: u32, base: u32) -> Result<u32, Fault>
     ensures found { MatchResult result (λ p. seen.stepped base depth left (Ok target) ≡ Ok target)
@@ -44,7 +45,7 @@ pub fn price_within(target: Target, depth: u32, left: u32, base: u32) -> Result<
     }
 }
 
-/// Returns the depth of `target` by itself: 1 for content, else 0.
+/// Returns the number of levels that `target` itself adds to the depth: 1 for content, else 0.
 #[inline(always)]
 pub fn levels(target: Target) -> u32
     ensures { result ≡ level target }
@@ -55,7 +56,7 @@ pub fn levels(target: Target) -> u32
     }
 }
 
-/// Returns the index of a capability; `None` of any other `target`.
+/// Returns the index of the capability if `target` is one, else `None`.
 #[inline(always)]
 pub fn capability_of(target: Target) -> Option<u32>
     ensures { result ≡ seen.cap_in target }
@@ -66,7 +67,7 @@ pub fn capability_of(target: Target) -> Option<u32>
     }
 }
 
-/// Returns the slots below `target`.
+/// Returns the slots of the content that `target` names. Null and a capability have none.
 #[inline(always)]
 pub fn slots_below<S: Space, L: Ledger>(space: &CountedSpace<'_, S, L>, target: Target) -> SlotsLeft
     requires message { IsMessage space.now }

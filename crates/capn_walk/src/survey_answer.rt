@@ -1,4 +1,4 @@
-//! The answers of a survey.
+//! The results of a survey.
 
 /// The words that a walk pays, the number of its visits, and the first capability that it meets.
 #[derive(Clone, Copy, Debug, PartialEq, Eq)]
@@ -11,11 +11,11 @@ pub struct Surveyed {
     pub capability: Option<u32>,
 }
 
-/// The answer of a survey that also finds the depth of a message.
+/// The result of a survey that also finds the depth of a message.
 #[derive(Clone, Copy, Debug, PartialEq, Eq)]
 pub struct Measured {
-    /// The words that its walk pays, the number of its visits, and the first capability that it meets.
+    /// The words that the walk pays, the number of its visits, and the first capability that it meets.
     pub survey: Surveyed,
-    /// The least depth under which it is accepted, or 0 if its root is null.
+    /// The least depth under which the message is accepted, or 0 if its root is null.
     pub depth: u32,
 }

@@ -1,4 +1,4 @@
-//! The loop of a survey, from the root's slot on.
+//! The loop of a survey, which visits the root's slot and then all slots below it.
 
 ghost use Rattle.std.specs.Prelude.{◌≡◌, ◌≢◌, ◌<◌, ◌≤◌, ◌+◌, ◌*◌, Ok, IsTrue, IfOk, IfErr, MatchResult};
 ghost use Rattle.capn_words.specs.Message.{IsMessage, IsPlace};
@@ -25,8 +25,8 @@ use smallvec::SmallVec;
 use std::alloc::Allocator;
 use std::sync::ledger::Ledger;
 
-/// Visits the root's slot, whose `target` is known, and then those below it, if there are any: only these need a stack.
-/// If `DEEP`, it also finds how deep they are.
+/// Visits the root's slot, whose `target` is known, and then the slots below it, if there are any. Only these need a
+/// stack. If `DEEP`, it also finds how deep the objects are.
 #[inline(always)]
 pub fn survey_root<S: Space, A: Allocator + Copy, L: Ledger, const DEEP: bool>(
     alloc: A,
@@ -81,7 +81,8 @@ pub fn survey_root<S: Space, A: Allocator + Copy, L: Ledger, const DEEP: bool>(
     }
 }
 
-/// Returns a refusal of the slot at `place`: `fault`, with the words `paid` before it and its number, `visits`.
+/// Returns the refusal of the slot at `place` for `fault`. It is visit number `visits`, and `paid` words were paid
+/// before it.
 #[inline(always)]
 fn stopped(fault: Fault, place: Place, paid: u32, visits: u32) -> Stopped
     ensures { result ≡ record { fault = fault; place = place; paid = paid; visits = visits } }
@@ -94,10 +95,11 @@ fn stopped(fault: Fault, place: Place, paid: u32, visits: u32) -> Stopped
     }
 }
 
-/// Visits the slots of the frame `first`, with all below them. If `DEEP`, it also finds how deep they are: it keeps the
-/// least depth that was left at any content.
+/// Visits the slots of the frame `first`, with all below them. If `DEEP`, it also finds how deep the objects are, from
+/// the least depth that was left at any content.
 ///
-/// Each place of a stack is filled before the first visit, so for the usual limits there is one that is smaller.
+/// All places of the stack are filled before the first visit. So there is a smaller stack for low limits, among them
+/// the usual ones.
 #[inline(always)]
 fn survey_slots<S: Space, A: Allocator + Copy, L: Ledger, const DEEP: bool>(
     alloc: A,
@@ -137,8 +139,8 @@ fn survey_slots<S: Space, A: Allocator + Copy, L: Ledger, const DEEP: bool>(
     }
 }
 
-/// Visits the slots of the frame `first`, with all below them, with a stack for `ROOM` objects that wait. If `DEEP`, it
-/// also finds how deep they are: it keeps the least depth that was left at any content.
+/// Visits the slots of the frame `first`, with all below them. Its stack has places for `ROOM` objects that wait. If
+/// `DEEP`, it also finds how deep the objects are, from the least depth that was left at any content.
 #[inline(never)]
 fn survey_in_room<S: Space, A: Allocator + Copy, L: Ledger, const DEEP: bool, const ROOM: usize>(
     alloc: A,

@@ -1,4 +1,4 @@
-//! One visit of a slot, without its value.
+//! One visit of a slot: its price and the slots below it, without its value.
 
 ghost use Rattle.std.specs.Prelude.{◌≡◌, ◌≢◌, ℕ, ◌≤◌, ◌+◌, ◌-◌, ◌∷◌, ◌↔◌, [], length, IsTrue, IfOk, IfErr, false, max};
 ghost use Rattle.capn_words.specs.Message.{segment_at, word_at, IsMessage, IsPlace};
@@ -22,16 +22,16 @@ use std::sync::ledger::Ledger;
 /// The findings of one visit: its price, the capability that it meets, and the slots below it.
 #[derive(Clone, Copy)]
 pub struct Visited {
-    /// Its price.
+    /// The price of the visit.
     pub price: u32,
-    /// The capability that it meets.
+    /// The index of the capability that the slot names, if it names one.
     pub capability: Option<u32>,
-    /// The slots below it.
+    /// The slots below the visited one.
     pub below: SlotsLeft,
 }
 
-/// Visits the slot at `at`, whose `pointer` names a near struct, at most `depth` objects deep, with `left` words left
-/// to pay. Each content costs `base` beside its size.
+/// Visits the slot at `at`, whose `pointer` names a near struct, in a segment of `size` words. Under the limits `depth`
+/// levels and `left` words remain. Each content costs `base` in addition to its size.
 #[inline(always)]
 pub fn visit_struct<S: Space, L: Ledger>(
     space: &CountedSpace<'_, S, L>,
@@ -56,8 +56,8 @@ pub fn visit_struct<S: Space, L: Ledger>(
     visit_found(space, at, found, depth, left, base)
 }
 
-/// Returns the price of a visit of the slot at `at`, whose `pointer` names a near list of numbers, at most `depth`
-/// objects deep, with `left` words left to pay.
+/// Returns the price of a visit of the slot at `at`, whose `pointer` names a near list of numbers. Under the limits
+/// `depth` levels and `left` words remain.
 #[inline(always)]
 pub fn visit_numbers<S: Space, L: Ledger>(
     space: &CountedSpace<'_, S, L>,
@@ -85,7 +85,8 @@ pub fn visit_numbers<S: Space, L: Ledger>(
     }
 }
 
-/// Visits the slot at `at`, whose `word` may be any, at most `depth` objects deep, with `left` words left to pay.
+/// Visits the slot at `at`, whose `word` may be a pointer of any kind. Under the limits `depth` levels and `left` words
+/// remain.
 #[inline(never)]
 pub fn visit_elsewhere<S: Space, L: Ledger>(
     space: CountedSpace<'_, S, L>,
@@ -115,9 +116,9 @@ pub fn visit_elsewhere<S: Space, L: Ledger>(
     visit_found(&space, at, found, depth, left, base)
 }
 
-/// Visits the slot at `at`, whose pointer is a far one to the landing pad of one word at `word` of `segment`, at most
-/// `depth` objects deep, with `left` words left to pay. A pad of a struct has an arm for itself, so that its target
-/// doesn't come through memory.
+/// Visits the slot at `at`, which holds a far pointer to the landing pad of one word at `word` of `segment`. Under the
+/// limits `depth` levels and `left` words remain. A pad that names a struct has an arm of its own, so that its target
+/// doesn't pass through memory.
 #[inline(always)]
 fn visit_behind_pad<S: Space, L: Ledger>(
     space: &CountedSpace<'_, S, L>,
@@ -156,7 +157,7 @@ fn visit_behind_pad<S: Space, L: Ledger>(
     }
 }
 
-/// Visits the slot at `at`, whose target `found` is known, at most `depth` objects deep, with `left` words left to pay.
+/// Visits the slot at `at`, whose target `found` is known. Under the limits `depth` levels and `left` words remain.
 #[inline(always)]
 pub fn visit_found<S: Space, L: Ledger>(
     space: &CountedSpace<'_, S, L>,
@@ -186,7 +187,7 @@ pub fn visit_found<S: Space, L: Ledger>(
     }
 }
 
-/// Returns `true` if the elements of a list of this `width` are numbers.
+/// Tests whether the elements of a list of `width` are numbers.
 #[inline(always)]
 pub fn is_plain(width: Width) -> bool
     ensures { IsTrue result ↔ IsPlain width }
@@ -197,8 +198,8 @@ pub fn is_plain(width: Width) -> bool
     }
 }
 
-/// Returns the lesser of `least` and the `depth` of a visit, if depths are asked for (`DEEP`) and the visit is of
-/// content; else `least`.
+/// Returns the lesser of `least` and `depth`, if `DEEP` and the visit met no capability, else `least`. `depth` is the
+/// number of levels that remained at the visit.
 #[inline(always)]
 pub fn lowered<const DEEP: bool>(least: u32, depth: u32, capability: Option<u32>) -> u32
     ensures deep { (limit : ℕ) → IsTrue DEEP →

@@ -1,4 +1,4 @@
-//! A message read in place, step by step, and the faults of its root.
+//! The view of a message, which is read in place step by step, and the faults of its root.
 
 ghost use Rattle.std.specs.Prelude.{◌≡◌, ◌<◌, ◌-◌, Ok, Err, length, slice_index};
 ghost use Rattle.std.specs.Prelude.{IfOk, IfErr, IfSome, IsSome, OnErr, MatchResult, ◌↔◌};
@@ -41,8 +41,8 @@ impl<'s, S: Space> Model for View<'s, S> {
 }
 
 impl<'s, S: Space> View<'s, S> {
-    /// Steps to the root of the message `space`, at most `depth` objects deep. The step pays from `meter`, by its
-    /// tariff.
+    /// Steps to the root of the message `space`, where `depth` is the limit on depth. The price is paid from `meter`,
+    /// by its tariff.
     pub fn root(space: &'s S, meter: &mut Meter, depth: u32) -> Result<View<'s, S>, Fault>
         ensures found { MatchResult result
             (λ v. seen.stepped_to_root (S.message space.now) (base meter.old.tariff) depth (left_of meter.old)
@@ -78,7 +78,8 @@ impl<'s, S: Space> View<'s, S> {
         }
     }
 
-    /// Steps to slot `i` of a struct, or element `i` of a list of pointers. The step pays from `meter`, by its tariff.
+    /// Steps to slot `i` of a struct, or to element `i` of a list of pointers. The price is paid from `meter`, by its
+    /// tariff.
     pub fn slot(&self, i: u32, meter: &mut Meter) -> Result<View<'s, S>, Fault>
         requires { i < seen.steps_in self.now.found }
         ensures found { MatchResult result
@@ -117,7 +118,7 @@ impl<'s, S: Space> View<'s, S> {
         kind_of(self.target)
     }
 
-    /// Returns the number of elements of a list; else 0.
+    /// Returns the number of elements of a list, or 0 for any other value.
     pub fn len(&self) -> u32
         ensures value { result ≡ seen.len_of self.now.found }
         ensures links { seen.kind_of self.now.found ≡ kinds.Links → result ≡ seen.links_in self.now.found }
@@ -126,21 +127,21 @@ impl<'s, S: Space> View<'s, S> {
         len_of(self.target)
     }
 
-    /// Returns the number of data words of a struct; else 0.
+    /// Returns the number of data words of a struct, or 0 for any other value.
     pub fn words(&self) -> u16
         ensures { result ≡ seen.words_in self.now.found }
     {
         words_in(self.target)
     }
 
-    /// Returns the number of slots of a struct; else 0.
+    /// Returns the number of slots of a struct, or 0 for any other value.
     pub fn slots(&self) -> u16
         ensures { result ≡ seen.slots_in self.now.found }
     {
         slots_in(self.target)
     }
 
-    /// Returns the index of a capability; else `None`.
+    /// Returns the index of a capability, or `None` for any other value.
     pub fn cap(&self) -> Option<u32>
         ensures { result ≡ seen.cap_in self.now.found }
     {
@@ -194,7 +195,7 @@ impl<'s, S: Space> View<'s, S> {
         }
     }
 
-    /// Returns row `i` of a list of structs, which the list has paid.
+    /// Returns row `i` of a list of structs. Nothing is paid, since the step to the list has paid for its rows.
     #[inline]
     pub fn row(&self, i: u32) -> View<'s, S>
         requires { i < seen.rows_in self.now.found }
@@ -257,7 +258,7 @@ impl<'s, S: Space> View<'s, S> {
         }
     }
 
-    /// Returns the elements of a list of bytes; else `None`.
+    /// Returns the elements of a list of bytes, or `None` for any other value.
     #[inline]
     pub fn bytes(&self) -> Option<&'s [u8]>
         ensures some { IsSome result ↔ (seen.kind_of self.now.found ≡ kinds.Bytes) }

@@ -1,4 +1,4 @@
-//! The answers of a walk.
+//! The results of a walk: the value, or the place and the reason of a refusal.
 
 ghost use Rattle.std.specs.Prelude.{◌≡◌, ◌+◌, ◌<◌, ◌^◌};
 ghost use Rattle.capn_target.specs.declared.target.Fault.TheVariants.{Memory};
@@ -17,7 +17,7 @@ pub struct Walked<A: Allocator = Global> {
     pub tree: Tree<A>,
     /// The words paid: the sum of the prices of all visits.
     pub paid: u32,
-    /// The number of visits: one of the root, and one of each slot below it, as often as it is reached.
+    /// The number of visits: one of the root, and one of each slot below it for each time that it is reached.
     pub visits: u32,
 }
 
@@ -26,8 +26,8 @@ pub struct Walked<A: Allocator = Global> {
 pub struct Stopped {
     /// The fault.
     pub fault: Fault,
-    /// The slot that was visited, also where its landing pad is at fault. If the fault is `Memory`, no clause says
-    /// which place this is: it is near the object for which memory was refused.
+    /// The slot that was visited, even if the fault is in its landing pad. If the fault is `Memory`, no clause says
+    /// which place this is. It is near the object for which memory was refused.
     pub place: Place,
     /// The words paid for the visits before the refused one.
     pub paid: u32,
@@ -36,7 +36,7 @@ pub struct Stopped {
 }
 
 impl Stopped {
-    /// Returns this refusal as one after other visits, which paid `paid` words and were `visits`.
+    /// Returns this refusal as it is after `visits` earlier visits, which paid `paid` words.
     pub(crate) fn behind(self, paid: u32, visits: u32) -> Stopped
         requires paid { paid + self.paid < 2 ^ 32 }
         requires visits { visits + self.visits < 2 ^ 32 }
@@ -71,7 +71,7 @@ impl fmt::Display for Stopped {
 
 impl Error for Stopped {}
 
-/// Returns a refusal of the slot at `place` for `fault`, at the first visit.
+/// Returns the refusal of the slot at `place` for `fault`, as that of a first visit.
 pub(crate) fn stop(fault: Fault, place: Place) -> Stopped
     ensures { result ≡ record { fault = fault; place = place; paid = 0; visits = 1 } }
 {
@@ -83,7 +83,7 @@ pub(crate) fn stop(fault: Fault, place: Place) -> Stopped
     }
 }
 
-/// Returns the refusal of a growth before any further visit, at `place`.
+/// Returns the refusal of a growth at `place`, before any visit is counted.
 pub(crate) fn out_of_memory(place: Place) -> Stopped
     ensures { result ≡ record { fault = Memory; place = place; paid = 0; visits = 0 } }
 {

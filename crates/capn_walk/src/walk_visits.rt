@@ -1,7 +1,8 @@
 //! The visits of slots, in preorder: the value of each slot, the words that were paid, and the number of visits.
 //!
-//! A slot costs at most ten reads and turns: its turn, its word, and eight to find its target. The object that it names
-//! costs the words of its data, and a turn for each row, which is at most two for each word of its price.
+//! A slot costs at most ten reads and turns of a loop: one turn, one read of its word, and eight to find its target.
+//! The object that it names costs a read for each data word and a turn for each row. Both together are at most two for
+//! each word of its price.
 
 ghost use Rattle.std.specs.Prelude.{◌≡◌, ◌≤◌, ◌+◌, ◌*◌, Ok, length, IfErr, MatchResult};
 ghost use Rattle.capn_words.specs.Message.{segment_at, IsMessage, IsPlace};
@@ -24,8 +25,9 @@ use capn_words::{Place, Pointer, Space, Width};
 use std::alloc::Allocator;
 use std::sync::ledger::Ledger;
 
-/// Reads the value of the slot at `at`, at most `depth` objects deep, with `left` words left to pay; each content costs
-/// `base` beside its size. Near structs and near lists have an arm each, so that each is compiled for its form alone.
+/// Reads the value of the slot at `at`. Under the limits `depth` levels and `left` words remain. Each content costs
+/// `base` in addition to its size. Near structs and near lists have an arm each, so that each is compiled for its form
+/// alone.
 #[cycle(walk)]
 #[inline(always)]
 fn walk_slot<S: Space, A: Allocator + Copy, L: Ledger>(
@@ -49,7 +51,7 @@ fn walk_slot<S: Space, A: Allocator + Copy, L: Ledger>(
         Pointer::Nil => Ok(Found::without_content(Value::Nil)),
         Pointer::Node { .. } => walk_near(alloc, space, at, pointer, depth, left, base, reads),
         Pointer::Many { .. } => walk_near(alloc, space, at, pointer, depth, left, base, reads),
-        // Taken out and put in again: then only this arm's answer comes through memory.
+        // The result is unwrapped and wrapped again, so that only this arm's result passes through memory.
         _ => {
             let found = walk_elsewhere(alloc, space.again(), at, depth, left, base, reads)?;
             Ok(found)
@@ -111,8 +113,8 @@ fn walk_elsewhere<S: Space, A: Allocator + Copy, L: Ledger>(
     }
 }
 
-/// Reads the value of the slot at `at`, whose `target` is known, at most `depth` objects deep, with `left` words left
-/// to pay. Its price is paid before anything of its content is read.
+/// Reads the value of the slot at `at`, whose `target` is known. Under the limits `depth` levels and `left` words
+/// remain. The price is paid before anything of the content is read.
 #[cycle(walk)]
 #[inline(always)]
 pub fn walk_target<S: Space, A: Allocator + Copy, L: Ledger>(
@@ -130,7 +132,7 @@ pub fn walk_target<S: Space, A: Allocator + Copy, L: Ledger>(
     requires target { spec.target space.now at ≡ Ok target }
     requires left { left ≤ most_cost }
     ensures answer { Walks space.now base depth left at result }
-    // Memory is needed for content only, and only once its price is paid.
+    // Memory is needed only for content, and only once its price is paid.
     ensures memory { IfErr result (λ s. s.fault ≡ Memory → IsEntered (stepped base depth left (Ok target))) }
     ensures reads { MatchResult result (λ f. reads.new + 10 ≤ reads.old + 10 * f.visits + 2 * f.paid)
         (λ s. reads.new + 10 ≤ reads.old + 10 * s.visits + 2 * s.paid) }
@@ -162,8 +164,8 @@ pub fn walk_target<S: Space, A: Allocator + Copy, L: Ledger>(
     }
 }
 
-/// Reads the object of the slot at `at`, with all below it; its content, of this `shape`, starts at `start`. Its own
-/// price has been paid.
+/// Reads the object that the slot at `at` names, with all below it. Its content has the shape `shape` and starts at
+/// `start`. Its own price has been paid.
 #[cycle(walk)]
 #[inline(always)]
 fn object<S: Space, A: Allocator + Copy, L: Ledger>(
@@ -254,7 +256,7 @@ fn object<S: Space, A: Allocator + Copy, L: Ledger>(
     }
 }
 
-/// Reads the values of `count` slots from word `start` of `segment` on, one after the other.
+/// Reads the values of `count` consecutive slots, from word `start` of `segment` on.
 #[cycle(walk)]
 #[inline(never)]
 fn walk_slots<S: Space, A: Allocator + Copy, L: Ledger>(
@@ -299,7 +301,7 @@ fn walk_slots<S: Space, A: Allocator + Copy, L: Ledger>(
     })
 }
 
-/// Reads the bodies of `count` rows, of `words` and `slots` each, from `start` on, one after the other.
+/// Reads the bodies of `count` consecutive rows, from `start` on. Each row has `words` data words and `slots` slots.
 #[cycle(walk)]
 #[inline(never)]
 fn walk_rows<S: Space, A: Allocator + Copy, L: Ledger>(

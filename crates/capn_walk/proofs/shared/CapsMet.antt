@@ -1,5 +1,5 @@
--- The first capability of a value is that of the first visit of one, where no visit is a fault. (For `RootSurveys` and
--- capn_mismatch.)
+-- The first capability of a value is that of the first visit of a capability, if no visit is a fault. (For
+-- `RootSurveys` and capn_mismatch.)
 use Rattle.std.proofs.Common.{◌≡◌, ℕ, zero, suc, ◌+◌, ◌-◌, List, [], ◌∷◌, ◌++◌, length, Option, Some, None, Ok, refl}
 use Rattle.std.proofs.Common.{ap, ap₂, ◌∙◌, arith}
 use Rattle.std.specs.List.{flat_map}
@@ -35,7 +35,7 @@ module _ (m : List (List ℕ)) where
   caps-append (fails at e ∷ xs) ys = caps-append xs ys
 
   module _ (base : ℕ) where
-    -- an object's visits, and the capabilities below it
+    -- an object: its visits below pay, and its first capability is theirs
     record Object (at : Place) (d s start : ℕ) (shape : Shape) : Type 0 where
       below : AllPay (flat_map (visits m base (d - 1)) (slots s start shape))
       caps : first_cap_of m (visits m base d at)

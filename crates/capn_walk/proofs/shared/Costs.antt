@@ -19,19 +19,19 @@ use Rattle.capn_target.proofs.shared.Inside.{inside}
 use Rattle.capn_walk.proofs.shared.Numbers.{numbers-paid}
 use Rattle.capn_walk.proofs.shared.Walks.{slot, visits-deep, visits-object}
 
--- of visits, one after the other
+-- the first visits pay if all do
 pub all-front : (xs ys : List Visit) → AllPay (xs ++ ys) → AllPay xs
 all-front [] ys h = tt
 all-front (pays at n ∷ xs) ys h = all-front xs ys h
 all-front (fails at e ∷ xs) ys h = absurd h
 
--- visits after others pay where all do
+-- the last visits pay if all do
 pub all-back : (xs ys : List Visit) → AllPay (xs ++ ys) → AllPay ys
 all-back [] ys h = h
 all-back (pays at n ∷ xs) ys h = all-back xs ys h
 all-back (fails at e ∷ xs) ys h = absurd h
 
--- visits joined pay what both pay
+-- joined visits pay the sum of what both parts pay
 pub paid-append : (xs ys : List Visit) → paid_of (xs ++ ys) ≡ paid_of xs + paid_of ys
 paid-append [] ys = omega arith
 paid-append (pays at n ∷ xs) ys = omega (arith, paid-append xs ys)
@@ -56,7 +56,7 @@ rows-price bs a b span e f =
         omega arith in grind (arith, nat_tests)
 
 module _ (m : List (List ℕ)) (base : ℕ) where
-  -- an object's visits: its price, and those of its slots
+  -- an object: it may be visited, its visits below pay, and all pay its price and theirs
   record Object (at : Place) (d s start pads : ℕ) (shape : Shape) : Type 0 where
     deep : 0 < d
     below : AllPay (flat_map (visits m base (d - 1)) (slots s start shape))
@@ -71,13 +71,13 @@ module _ (m : List (List ℕ)) (base : ℕ) where
       let o = visits-object m base at i.segment i.start i.pads x i.is (suc d) (omega arith) in
       record { deep = omega arith; below = rw o at h; sum = ap paid_of o }
 
-  -- a value that costs no more than its object and its slots, and is one higher than these
+  -- the cost and the height of a value with slots are within what its visits pay and its depth
   with-slots : {at : Place} {d s start pads c q n : ℕ} {x : Shape} → Object at d s start pads x
       → (q ≤ paid_of (flat_map (visits m base (d - 1)) (slots s start x))) × (n ≤ d - 1) → c ≤ price base x + q
       → (c ≤ paid_of (visits m base d at)) × (1 + n ≤ d)
   with-slots o below cheap = let deep = o.deep in let sum = o.sum in (omega arith, omega arith)
 
-  -- a value that costs no more than its object, and is one high
+  -- the cost and the height of a value without slots are within what its visits pay and its depth
   without-slots : {c : ℕ} {x : Shape} {Inside : ℕ → ℕ → Type 0} (at : Place) (d : ℕ) → NamesObject m at x Inside
       → AllPay (visits m base d at) → c ≤ price base x → (c ≤ paid_of (visits m base d at)) × (1 ≤ d)
   without-slots at d i h cheap = with-slots {q = 0} {n = 0} (object at d i h) (omega arith, omega arith) (omega arith)

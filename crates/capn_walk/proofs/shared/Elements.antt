@@ -16,7 +16,7 @@ use Rattle.capn_words.specs.declared.space.Place.{Place}
 use Rattle.capn_words.proofs.shared.Words.{length-bytes, bytes-drop}
 use Rattle.capn_walk.specs.ValueAt.{element, AreElements, words_from}
 
--- a byte of a word
+-- byte i of a word
 byte-in_word : (w i : ℕ) (rest : List ℕ) → i < 8 → slice_index (word_bytes w ++ rest) i ≡ w / 256 ^ i % 256
 unfolding word_bytes
 byte-in_word w zero rest h = let same : w / 1 ≡ w = omega arith in ap (λ (x : ℕ). x % 256) (sym same)
@@ -37,7 +37,7 @@ byte-of ws q p inside below =
     ∙ ap (λ (bs : List ℕ). slice_index bs p) (bytes-drop q ws ∙ ap bytes (drop-cons ws q 0 inside))
     ∙ byte-in_word (slice_index ws q) p (bytes (drop (suc q) ws)) below
 
--- ---- elements of several bytes, by where they are in their word
+-- ---- elements of several bytes, given their place in their word
 
 two-bytes : (w r : ℕ) → r < 4
     → w / 256 ^ (2 * r) % 256 + 256 * (w / 256 ^ (2 * r + 1) % 256) ≡ w / (2 ^ 16) ^ r % 2 ^ 16
@@ -98,7 +98,7 @@ eight-bytes w h = omega arith
 abbrev pub first_bits : ℕ → ℕ → List ℕ
 first_bits count x = map (λ k. x / 2 ^ k % 2) (range_with_len 0 count)
 
--- one more of them
+-- one more bit of a number
 pub first_bits-more : (i x : ℕ) (zs xs ys : List Bool) (b : Bool) → ys ≡ xs ++ b ∷ []
     → map from_bool xs ≡ map from_bool zs ++ first_bits i x → from_bool b ≡ x / 2 ^ i % 2
     → map from_bool ys ≡ map from_bool zs ++ first_bits (i + 1) x
@@ -111,19 +111,19 @@ first_bits-more i x zs xs ys b e before is =
     ∙ ap (λ (l : List ℕ). map from_bool zs ++ l) (ap (λ (y : ℕ). first_bits i x ++ y ∷ []) is
     ∙ sym (map-range_with_len_more bit 0 i i (omega arith)))
 
--- elements, and the next ones after them
+-- elements, followed by the next ones
 elements-joined : (ws xs ys : List ℕ) → AreElements 64 1 ws xs
     → ((k : ℕ) → k < length ys → slice_index ys k ≡ element 64 1 ws (length xs + k)) → AreElements 64 1 ws (xs ++ ys)
 elements-joined ws xs ys before next i below = grind (arith, common_steps)
 
--- ---- bytes from a place of a message on
+-- ---- the bytes from a place of a message on
 
 module _ (m : List (List ℕ)) (at : Place) where
   -- the words from the place on
   abbrev ws : List ℕ
   ws = words_from m at.segment at.word
 
-  -- as many bytes are read as are asked for
+  -- the bytes from the place on are n, if they lie inside the segment
   pub length-bytes_at : (n : ℕ) → 8 * at.word + n ≤ 8 * length (segment_at m at.segment) → length (bytes_at m at n) ≡ n
   length-bytes_at n h =
       let whole = length-bytes (segment_at m at.segment) in
@@ -132,7 +132,7 @@ module _ (m : List (List ℕ)) (at : Place) where
 
   module _ (n : ℕ) (bs : List ℕ) (are : bs ≡ bytes_at m at n)
       (inside : 8 * at.word + n ≤ 8 * length (segment_at m at.segment)) where
-    -- as many bytes were read as were asked for
+    -- the bytes that were read are n
     pub length-read : length bs ≡ n
     length-read = ap length are ∙ length-bytes_at n inside
 
@@ -150,18 +150,18 @@ module _ (m : List (List ℕ)) (at : Place) where
         → slice_index (drop d bs) k ≡ slice_index ws q / 256 ^ p % 256
     byte-on d k q p e below h = get_or-drop d bs k 0 ∙ byte-at (d + k) q p e below h
 
-    -- they are the elements of a list of bytes
+    -- the bytes are the elements of a list of bytes
     pub are-bytes : AreElements 8 8 ws bs
     are-bytes i h = byte-at i (i / 8) (i % 8) (omega arith) (omega arith) (omega (arith, length-read))
 
-    -- their bits are the elements of a list of bits
+    -- the bits of the bytes are the elements of a list of bits
     bit-at : (q k : ℕ) → q < n → k < 8 → slice_index bs q / 2 ^ k % 2 ≡ element 64 1 ws (8 * q + k)
     bit-at q k h below =
         let i = 8 * q + k in
         ap (λ (x : ℕ). x / 2 ^ k % 2) (byte-at q (i / 64) (q % 8) (omega arith) (omega arith) h)
         ∙ bit-in_word (slice_index ws (i / 64)) (q % 8) k (i % 64) (omega arith) below (omega arith)
 
-    -- so are those that came before and the first of the next byte
+    -- the bits read so far and the first bits of the next byte are elements of a list of bits
     pub bits-more : (q count x : ℕ) (xs ys : List Bool) → x ≡ slice_index bs q → q < n → count ≤ 8 → length xs ≡ 8 * q
         → map from_bool ys ≡ map from_bool xs ++ first_bits count x
         → AreElements 64 1 ws (map from_bool xs) → AreElements 64 1 ws (map from_bool ys)
@@ -175,7 +175,7 @@ module _ (m : List (List ℕ)) (at : Place) where
         ∙ bit-at q k h (omega arith) ∙ ap (λ (i : ℕ). element 64 1 ws (i + k)) (sym so_far)))
 
     module _ (xs : List ℕ) where
-      -- the numbers in them are the elements of a list of 16 bits
+      -- the 16-bit numbers in the bytes are the elements of a list of pairs
       pub are-pairs : n ≡ 2 * length xs → IsRead little_number 2 bs xs → AreElements 4 16 ws xs
       are-pairs size read i h =
           let q = i / 4 in
@@ -184,7 +184,7 @@ module _ (m : List (List ℕ)) (at : Place) where
           let b = byte-on (2 * i) 1 q (p + 1) (omega arith) (omega arith) (omega arith) in
           read i h ∙ omega (arith, a, b) ∙ two-bytes (slice_index ws q) (i % 4) (omega arith)
 
-      -- or of 32 bits
+      -- the 32-bit numbers in the bytes are the elements of a list of quads
       pub are-quads : n ≡ 4 * length xs → IsRead little_number 4 bs xs → AreElements 2 32 ws xs
       are-quads size read i h =
           let q = i / 2 in
@@ -211,7 +211,7 @@ module _ (m : List (List ℕ)) (at : Place) where
           let below : slice_index ws i < 2 ^ 64 = omega (arith, whole, each (at.word + i)) in
           read i h ∙ omega (arith, a, b, c, d, e, f, g, o) ∙ eight-bytes (slice_index ws i) below
 
-      -- or the words themselves
+      -- the 64-bit numbers in the bytes are the words themselves
       pub are-words : ((k : ℕ) → slice_index (segment_at m at.segment) k < 2 ^ 64) → n ≡ 8 * length xs
           → IsRead little_number 8 bs xs → take (length xs) ws ≡ xs
       are-words each size read =

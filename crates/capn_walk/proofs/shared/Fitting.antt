@@ -24,7 +24,7 @@ use Rattle.capn_target.proofs.shared.Inside.{inside}
 use Rattle.capn_target.proofs.shared.Ranges.{room-of}
 use Rattle.capn_walk.proofs.shared.Costs.{cost-paid}
 
--- ---- the tests of one part
+-- ---- the tests of one part of a value's fitness
 
 not-wide : (ws : List ℕ) (ss : Trees) → length ws < 2 ^ 16 → count ss < 2 ^ 16 → is_wide_body ws ss ≡ false
 not-wide ws ss a b = or_from _ _ (le-ltb 65535 (length ws) (omega arith)) (le-ltb 65535 (count ss) (omega arith))
@@ -33,7 +33,7 @@ not-long : (t : Tree) → elements t < 2 ^ 29 → words_in_rows t < 2 ^ 29 → i
 not-long t a b =
     or_from _ _ (le-ltb 536870911 (elements t) (omega arith)) (le-ltb 536870911 (words_in_rows t) (omega arith))
 
--- what rows at a place are: narrow if their sizes are, even, and of a + b words each
+-- the rows at a place: narrow if their sizes are, all alike, and of a + b words each
 record Rows (a b : ℕ) (bs : Bodies) : Type 0 where
   narrow : has_wide_row bs ≡ false
   even : are_even a b bs ≡ true
@@ -67,16 +67,16 @@ module _ (m : List (List ℕ)) where
         words = omega arith;
       }
 
-  -- rows that cost few words are few, also where they have none
+  -- rows that cost few words are few, even if they have no words
   few-rows : (bs : Bodies) → is_ragged (rows bs) ≡ false → row_words bs < 2 ^ 29 → rows_price bs < 2 ^ 29
       → count_rows bs < 2 ^ 29
   few-rows bs e w p =
       elim (words-or_none bs e) as (λ _. count_rows bs < 2 ^ 29)
       [ inl z ↦ omega (arith, rows_price-none bs z) | inr l ↦ omega arith ]
 
-  -- ---- the parts that a value's fitness has at every level
+  -- ---- the parts of a value's fitness at every level
 
-  -- none of the three is found
+  -- no part is wide, long or ragged
   record Parts (wide long ragged : Bool) : Type 0 where
     narrow : wide ≡ false
     short : long ≡ false
@@ -138,7 +138,7 @@ module _ (m : List (List ℕ)) where
 
     -- ---- the root
 
-    -- a value at the root, where no visit is a fault, is no capability, and the root's visits are those of its slot
+    -- a value at the root, if no visit is a fault, is no capability, and the root's visits are those of its slot
     pub record Root (depth : ℕ) (v : Tree) : Type 0 where
       pub kind : is_root v ≡ true
       pub all : AllPay (visits m base depth root)
@@ -167,7 +167,7 @@ module _ (m : List (List ℕ)) where
       root-of (rows bs) h =
           as-it-is (rows bs) refl (ap (λ r. visits_at_root m base r (visits m base depth root)) h.3.is)
 
-      -- the cost of the value at the root is at most what its visits pay, its height at most the depth limit
+      -- the cost of the value at the root is at most what its visits pay, and its height at most the depth limit
       pub root-costs : (v : Tree) → IsAt m root v → AllPay (root_visits m base depth)
           → (cost base v ≤ paid_of (root_visits m base depth)) × (height v ≤ depth)
       root-costs v h a =

@@ -8,31 +8,31 @@ use Rattle.capn_walk.specs.Visits.{Visit, pays, fails}
 use Rattle.capn_walk.specs.inner.Verdict.{Verdict, accepted, refused, after, judge}
 use Rattle.capn_words.proofs.shared.Choices.{pick}
 
--- what comes after two parts comes after both together
+-- a verdict after two parts is a verdict after both together
 pub after-after : (p k q j : ℕ) (r : Verdict) → after p k (after q j r) ≡ after (p + q) (k + j) r
 after-after p k q j (accepted x y) = let a : p + (q + x) ≡ p + q + x = omega arith in let b : k + (j + y) ≡ k + j + y =
     omega arith in cc
 after-after p k q j (refused e at x y) = let a : p + (q + x) ≡ p + q + x = omega arith in
     let b : k + (j + y) ≡ k + j + y = omega arith in cc
 
--- nothing before it changes no verdict
+-- a verdict after nothing is the verdict itself
 pub after-none : (r : Verdict) → after 0 0 r ≡ r
 after-none (accepted x y) = let a : 0 + x ≡ x = omega arith in let b : 0 + y ≡ y = omega arith in cc
 after-none (refused e at x y) = let a : 0 + x ≡ x = omega arith in let b : 0 + y ≡ y = omega arith in cc
 
--- what a verdict after other visits came from
+-- if a verdict after a part is an acceptance, the verdict itself is one
 pub after-accepted : (n m p k : ℕ) (r : Verdict) → after n m r ≡ accepted p k → (q j : ℕ) × (r ≡ accepted q j)
     × (p ≡ n + q) × (k ≡ m + j)
 after-accepted n m p k (accepted q j) h = (q, j, refl, cc, cc)
 after-accepted n m p k (refused e at q j) h = absurd cc
 
--- a verdict after a part is a refusal where the verdict itself is one
+-- if a verdict after a part is a refusal, the verdict itself is one
 pub after-refused : (n m : ℕ) (e : Fault) (at : Place) (p k : ℕ) (r : Verdict) → after n m r ≡ refused e at p k
     → (q j : ℕ) × (r ≡ refused e at q j) × (p ≡ n + q) × (k ≡ m + j)
 after-refused n m e at p k (accepted q j) h = absurd cc
 after-refused n m e at p k (refused f x q j) h = (q, j, cc, cc, cc)
 
--- one visit that pays
+-- the verdict on a visit that pays, and those after it
 pub judge-pays : (b n : ℕ) (at : Place) (vs : List Visit) → n ≤ b
     → judge b (pays at n ∷ vs) ≡ after n 1 (judge (b - n) vs)
 judge-pays b n at vs h =
@@ -52,7 +52,7 @@ judge-fits b n at vs p k =
     pick (λ (r : Verdict). r ≡ accepted p k
     → n ≤ b) (nat_lt b n) _ _ (λ e. λ h. absurd cc) (λ e. λ h. grind (arith, nat_tests))
 
--- what is judged after visits that are within the budget
+-- the verdict on visits after others that are within the budget
 pub judge-more : (b : ℕ) (xs ys : List Visit) (p k : ℕ) → judge b xs ≡ accepted p k
     → judge b (xs ++ ys) ≡ after p k (judge (b - p) ys)
 judge-more b [] ys p k h =

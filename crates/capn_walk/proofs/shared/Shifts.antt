@@ -1,4 +1,4 @@
--- The number at a place of a word, by a shift and a mask. (For `digit`.)
+-- The number at a place of a word, found by a shift and a mask. (For `digit`.)
 use Rattle.std.proofs.Common.{◌≡◌, ℕ, zero, suc, ◌+◌, ◌-◌, ◌*◌, ◌/◌, ◌%◌, ◌^◌, refl, ap, sym, ◌∙◌, arith}
 use Rattle.std.specs.Int.Bits.{bit_and}
 use Rattle.std.proofs.lemmas.Nat.{and_mask, pow-add}

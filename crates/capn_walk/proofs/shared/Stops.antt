@@ -20,7 +20,7 @@ within-accepted b (pays at n ∷ vs) h l =
     let e : 1 + length vs ≡ suc (length vs) = omega arith in
     judge-pays b n at vs (omega arith) ∙ ap (after n 1) rest ∙ ap (accepted (n + paid_of vs)) e
 
--- the first visit that ends the walk is where it is refused
+-- a visit that ends the walk is refused there
 ends-refused : (b p : ℕ) (v : Visit) (vs : List Visit) (at : Place) (e : Fault) → p ≤ b → IsStopHere b p v at e
     → judge (b - p) (v ∷ vs) ≡ refused e at 0 1
 ends-refused b p (fails x f) vs at e l h = let a = h.0 in let c = h.1 in cc
@@ -38,7 +38,7 @@ stop-refused b vs e at p k h =
     let y : length h.before + 1 ≡ k = let s = h.number in omega arith in
     ap (judge b) h.split ∙ two ∙ ap (after (paid_of h.before) (length h.before)) three ∙ ap₂ (refused e at) x y
 
--- one of the two always holds
+-- visits after one that pays are within the budget if they are within what is left
 one-more : (b n : ℕ) (at : Place) (vs : List Visit) → n ≤ b → IsWithin (b - n) vs → IsWithin b (pays at n ∷ vs)
 one-more b n at vs l h = record { all = h.all; paid = let a = h.paid in omega arith }
 
@@ -106,7 +106,7 @@ decided b (pays x n ∷ vs) = fits (nat_lt b n) refl (decided (b - n) vs)
     fits false t (inr (e, at, p, k, h)) =
         inr (e, at, n + p, 1 + k, stop-more b n x vs e at p k (grind (arith, nat_tests)) h)
 
--- ---- what a verdict says
+-- ---- the meaning of a verdict
 
 -- visits that are accepted are within the budget, and pay the sum of their prices
 pub accepted-within : (b : ℕ) (vs : List Visit) (p k : ℕ) → judge b vs ≡ accepted p k → IsWithin b vs × (p ≡ paid_of vs)
@@ -118,7 +118,7 @@ accepted-within b vs p k h = from (decided b vs)
     from (inl w) = let is = within-accepted b vs w.all w.paid in (w, cc, cc)
     from (inr (e, at, q, j, s)) = let is = stop-refused b vs e at q j s in absurd cc
 
--- visits that are refused have their stop there
+-- visits that are refused have their stop where they are refused
 pub refused-stop : (b : ℕ) (vs : List Visit) (e : Fault) (at : Place) (p k : ℕ) → judge b vs ≡ refused e at p k
     → IsStop b vs e at p k
 refused-stop b vs e at p k h = from (decided b vs)

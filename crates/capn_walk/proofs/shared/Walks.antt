@@ -27,11 +27,11 @@ use Rattle.capn_target.proofs.shared.Inside.{inside}
 use Rattle.capn_walk.proofs.shared.SlotPrices.{slots-price}
 use Rattle.capn_walk.proofs.shared.Judge.{judge-more, judge-stops, judge-pays}
 
--- the place of a word
+-- the place of word w of segment s
 abbrev pub slot : ℕ → ℕ → Place
 slot s w = record { segment = s; word = w }
 
--- the places of slots, and of more after them
+-- the places of i slots and of n slots after them
 pub places-add : (s w i n : ℕ) → places s w (i + n) ≡ places s w i ++ places s (w + i) n
 places-add s w zero n = let a : 0 + n ≡ n = omega arith in let b : w + 0 ≡ w = omega arith in rw (a, b) refl
 places-add s w (suc i) n =
@@ -39,7 +39,7 @@ places-add s w (suc i) n =
     let b : w + 1 + i ≡ w + suc i = omega arith in
     rw a (ap (λ (ps : List Place). slot s w ∷ ps) (rw (← b) (places-add s (w + 1) i n)))
 
--- the places before slot i, its own, and those after it
+-- the places before slot i, the place of slot i, and those after it
 pub places-split : (s w i n : ℕ) → i < n
     → places s w n ≡ places s w i ++ slot s (w + i) ∷ places s (w + i + 1) (n - suc i)
 places-split s w i n h =
@@ -51,7 +51,7 @@ module _ (f : Place → List Visit) (s w : ℕ) where
   abbrev pub all : ℕ → List Visit
   all n = flat_map f (places s w n)
 
-  -- the visits before slot i, those of it, and those after it
+  -- the visits before slot i, those of slot i, and those after it
   pub all-split : (i n : ℕ) → i < n
       → all n ≡ all i ++ (f (slot s (w + i)) ++ flat_map f (places s (w + i + 1) (n - suc i)))
   all-split i n h = ap (flat_map f) (places-split s w i n h)
@@ -62,7 +62,7 @@ module _ (f : Place → List Visit) (s w : ℕ) where
       ap (flat_map f) (places-add s w i 1) ∙ flat_map-append f (places s w i) (slot s (w + i) ∷ [])
       ∙ ap (λ (vs : List Visit). all i ++ vs) (append-nil (f (slot s (w + i))))
 
-  -- one more slot that is accepted
+  -- the next slot is accepted
   pub gives-next : (left i p k q j : ℕ) → Gives left (all i) i p k → Gives (left - p) (f (slot s (w + i))) 1 q j
       → Gives left (all (i + 1)) (i + 1) (p + q) (k + j)
   gives-next left i p k q j g h = record {
@@ -71,7 +71,7 @@ module _ (f : Place → List Visit) (s w : ℕ) where
     few = let a = g.few in let b = h.few in omega arith;
   }
 
-  -- a refusal after the first i slots
+  -- the verdict, if slot i is refused after the first i slots
   refuses-is : (left i n p k : ℕ) (e : Fault) (at : Place) (q j : ℕ) → i < n → judge left (all i) ≡ accepted p k →
       judge (left - p) (f (slot s (w + i))) ≡ refused e at q j → judge left (all n) ≡ refused e at (p + q) (k + j)
   refuses-is left i n p k e at q j h g r =
@@ -80,7 +80,7 @@ module _ (f : Place → List Visit) (s w : ℕ) where
       ∙ judge-more left (all i) (f (slot s (w + i)) ++ rest) p k g
       ∙ ap (after p k) (judge-stops (left - p) (f (slot s (w + i))) rest e at q j r)
 
-  -- a slot that is refused, after slots that are accepted
+  -- slot i is refused, after slots that are accepted
   pub refuses-next : (left i n p k : ℕ) (t : Stopped) → i < n → Gives left (all i) i p k
       → Refuses (left - p) (f (slot s (w + i))) 1 t →
       Refuses left (all n) n (record { fault = t.fault; place = t.place; paid = p + t.paid; visits = k + t.visits })
@@ -95,7 +95,7 @@ module _ (f : Place → List Visit) (s w : ℕ) where
   }
 
 module _ (m : List (List ℕ)) where
-  -- one more slot
+  -- the values with that of the next slot are those of the slots
   pub at-next : {A : Type 0} (s w : ℕ) (vs : List (Value A)) (v : Value A) → AreAt m s w (trees_of vs)
       → IsAt m (slot s (w + count (trees_of vs))) (tree_of v) →
       AreAt m s w (trees_of (vs ++ v ∷ []))
@@ -105,40 +105,40 @@ module _ (m : List (List ℕ)) where
       let j = rw e at i in
       (h.0, at-next s (suc w) vs v h.1 j)
 
-  -- makes one more
+  -- the next slot makes the count one more
   pub count-next : {A : Type 0} (vs : List (Value A)) (v : Value A)
       → count (trees_of (vs ++ v ∷ [])) ≡ count (trees_of vs) + 1
   count-next [] v = refl
   count-next (u ∷ vs) v = let e = count-next vs v in omega arith
 
-  -- the visits of a slot by its target
+  -- the visits of a slot, given its target
   module _ (base : ℕ) (at : Place) where
-    -- the visit of a null pays nothing
+    -- the visit of a null pointer pays nothing
     pub visits-null : (d : ℕ) → target m at ≡ Ok targets.Nil → visits m base d at ≡ pays at 0 ∷ []
     unfolding visits
     visits-null zero e = ap (last_visit m base at) e
     visits-null (suc d) e = ap (visit m base (visits m base d) at) e
 
-    -- so does that of a capability
+    -- the visit of a capability pays nothing
     pub visits-cap : (d k : ℕ) → target m at ≡ Ok (targets.Cap k) → visits m base d at ≡ pays at 0 ∷ []
     unfolding visits
     visits-cap zero k e = ap (last_visit m base at) e
     visits-cap (suc d) k e = ap (visit m base (visits m base d) at) e
 
-    -- that of a pointer that names nothing fails
+    -- the visit of a pointer that is a fault fails
     pub visits-fault : (d : ℕ) (f : Fault) → target m at ≡ Err f → visits m base d at ≡ fails at f ∷ []
     unfolding visits
     visits-fault zero f e = ap (last_visit m base at) e
     visits-fault (suc d) f e = ap (visit m base (visits m base d) at) e
 
     module _ (s start pads : ℕ) (shape : Shape) (e : target m at ≡ Ok (targets.Content s start shape pads)) where
-      -- so does that of content where no depth is left
+      -- the visit of content fails if no depth is left
       pub visits-deep : (d : ℕ) → d ≡ 0 → visits m base d at ≡ fails at faults.TooDeep ∷ []
       unfolding visits
       visits-deep zero z = ap (last_visit m base at) e
       visits-deep (suc d) z = absurd (omega arith)
 
-      -- else it pays its price, and its slots are visited
+      -- the visit of content pays its price if depth is left, and its slots are visited
       pub visits-object : (d : ℕ) → 0 < d
           → visits m base d at
           ≡ pays at (price base shape + pads) ∷ flat_map (visits m base (d - 1)) (slots s start shape)
@@ -149,18 +149,18 @@ module _ (m : List (List ℕ)) where
           ∙ ap (λ (c : ℕ). pays at (price base shape + pads) ∷ flat_map (visits m base c) (slots s start shape))
           (sym f)
 
-  -- a slot with an object
+  -- a slot that names an object
   module _ (base : ℕ) (at : Place) (s start pads : ℕ) (shape : Shape)
       (e : target m at ≡ Ok (targets.Content s start shape pads))
       (left d : ℕ) (deep : 0 < d) (room : price base shape + pads ≤ left) where
-    -- the visits below it
+    -- the visits of the slots below the object
     abbrev pub below : List Visit
     below = flat_map (visits m base (d - 1)) (slots s start shape)
 
     few_slots : slot_count shape ≤ price base shape
     few_slots = slots-price base shape (inside m at s start pads shape e).1
 
-    -- an object is accepted where its slots are
+    -- an object is accepted if its slots are
     pub gives-object : (p k : ℕ)
         → Gives (left - (price base shape + pads)) below (slot_count shape) p k →
         Gives left (visits m base d at) 1 (price base shape + pads + p) (1 + k)
@@ -172,7 +172,7 @@ module _ (m : List (List ℕ)) where
       few = let a = g.few in let b = few_slots in omega arith;
     }
 
-    -- it is refused where one of them is
+    -- an object is refused if one of its slots is
     pub refuses-object : (t : Stopped)
         → Refuses (left - (price base shape + pads)) below (slot_count shape) t →
         Refuses left (visits m base d at) 1
@@ -190,7 +190,7 @@ module _ (m : List (List ℕ)) where
       few = let a = r.few in let b = few_slots in omega arith;
     }
 
-  -- a refusal at the slot itself
+  -- the slot itself is refused
   pub refuses-here : (base : ℕ) (at : Place) (left d : ℕ) (f : Fault) (t : Stopped)
       → visits m base d at ≡ fails at f ∷ [] →
       t ≡ record { fault = f; place = at; paid = 0; visits = 1 } → Refuses left (visits m base d at) 1 t
@@ -203,7 +203,7 @@ module _ (m : List (List ℕ)) where
   gives-nothing base at left d e =
       record { is = ap (judge left) e ∙ judge-pays left 0 at [] (omega arith); within = omega arith; few = omega arith }
 
-  -- what is said of the content that a pointer names, by an equal shape
+  -- the content that a pointer names, with a shape that equals another
   names : {at : Place} {s start pads : ℕ} {shape x : Shape} {Inside : ℕ → ℕ → Type 0}
       → target m at ≡ Ok (targets.Content s start shape pads) → shape ≡ x → Inside s start → NamesObject m at x Inside
   names {s = s} {start = start} {pads = pads} e h i = record {
@@ -226,20 +226,20 @@ module _ (m : List (List ℕ)) where
   is-inside at s start pads shape (rows bs) e h = (h.0, h.1, h.2, names e h.3 h.4)
   is-inside at s start pads shape (cap k) e h = absurd h
 
--- what is inside objects
+-- the values inside content
 module _ (m : List (List ℕ)) (s start : ℕ) (shape : Shape) where
-  -- words and slots that are inside a struct's content are the struct's
+  -- words and slots inside a struct's content are the struct's
   pub inside-struct : (a b : ℕ) (ws : List ℕ) (ts : Trees) → shape ≡ shapes.Node a b → length ws ≡ a
       → take a (words_from m s start) ≡ ws →
       count ts ≡ b → AreAt m s (start + a) ts → IsInside m shape s start (node ws ts)
   inside-struct a b ws ts e l w n h = (e ∙ ap₂ shapes.Node (sym l) (sym n), rw l w, rw l h)
 
-  -- slots that are inside a list's content are the list's
+  -- slots inside a list's content are the list's
   pub inside-links : (n : ℕ) (ts : Trees) → shape ≡ shapes.Many Link n → count ts ≡ n → AreAt m s start ts
       → IsInside m shape s start (links ts)
   inside-links n ts e l h = (e ∙ ap (shapes.Many Link) (sym l), h)
 
-  -- rows that come after a tag are the list's
+  -- rows behind a tag are the list's
   pub inside-rows : (n a b span : ℕ) (bs : Bodies) → shape ≡ shapes.Rows n a b span → count_rows bs ≡ n
       → RowsAt m a b s (suc start) bs →
       IsInside m shape s start (rows bs)

@@ -1,4 +1,4 @@
--- The answers of the inner functions of an index.
+-- What the inner functions of an index return and write.
 use Rattle.std.specs.Prelude.{◌≡◌, ◌≢◌, ℕ, suc, ◌+◌, ◌-◌, ◌<◌, List, [], ◌∷◌, length, set, drop}
 use Rattle.std.specs.Prelude.{Result, Ok, Err}
 use Rattle.capn_walk.specs.declared.entry.Entry.{Entry}
@@ -8,25 +8,25 @@ use Rattle.capn_walk.specs.declared.walk_answer.Stopped.{Stopped}
 use Rattle.capn_walk.specs.inner.Verdict.{Gives, Refuses}
 use Rattle.capn_walk.specs.Visits.{Visit}
 
--- entries put into a room in a form, from an index on, as far as it goes
+-- the room after the entries are written to it in a form, from index i on, as far as it goes
 abbrev pub laid : {A : Type 0} → (Entry → A) → ℕ → List Entry → List A → List A
 laid form i [] room = room
 laid form i (e ∷ es) room = laid form (suc i) es (set room i (form e))
 
--- these entries are put into the room from an index on, and this is how many they are
+-- the entries are written to the room from index `first` on, and `visits` is their number
 pub record IsLaid {A : Type 0} (form : Entry → A) (es : List Entry) (first : ℕ) (old new : List A) (visits : ℕ)
     : Type 0 where
   pub is : new ≡ laid form first es old
   pub count : length es ≡ visits
 
--- the visits of n slots are accepted, and their entries put there; or they are refused
+-- either the visits of n slots are accepted and their entries written, or they are refused
 abbrev pub Indexes : {A : Type 0} → ℕ → List Visit → ℕ → (Entry → A) → List Entry → ℕ → List A → List A
     → Result Indexed Stopped → Type 0
 Indexes left vs n form es first old new (Ok t) =
     Gives left vs n t.paid t.visits × IsLaid form es first old new t.visits
 Indexes left vs n form es first old new (Err s) = Refuses left vs n s × (s.fault ≢ faults.Memory)
 
--- a refusal at this visit leaves a room as it was, but for the entries of the visits before it, from an index on
+-- after a refusal at visit number `visits` the room is as it was, except for the entries of the visits before that one
 pub record IsKept {A : Type 0} (first : ℕ) (old new : List A) (visits : ℕ) : Type 0 where
   pub some : 0 < visits
   pub rest : drop (first + visits - 1) new ≡ drop (first + visits - 1) old

@@ -1,4 +1,4 @@
--- The answers of the inner functions of surveys and walks, by cases: their finding, with the words that it pays and its
+-- The outcomes of the inner functions of surveys and walks: what they find, with the words paid and the number of
 -- visits, or a refusal.
 use Rattle.std.specs.Prelude.{◌≡◌, ◌≢◌, ℕ, ◌-◌, ◌*◌, ◌<◌, ◌≤◌, List, ◌∷◌, Result, Ok, Err}
 use Rattle.capn_words.specs.declared.space.Place.{Place}
@@ -25,7 +25,7 @@ use Rattle.capn_walk.specs.Visits.{Visit, pays, places, row_places, slots, visit
 -- ---- a survey
 
 module _ (message : List (List ℕ)) (base depth left : ℕ) where
-  -- one visit that is paid: its price, the capability that it meets, and the slots below it
+  -- the visit of the slot at `at` is paid; `v` has its price, the capability that it meets, and the slots below it
   pub record IsVisit (at : Place) (v : Visited) : Type 0 where
     pub visits : visits message base depth at ≡ pays at v.price ∷ visits_of message base (depth - 1) (places_of v.below)
     pub price : v.price ≤ left
@@ -35,17 +35,18 @@ module _ (message : List (List ℕ)) (base depth left : ℕ) where
     pub deep : 0 < owed v.below → 0 < depth
     pub owed : owed v.below ≤ v.price
 
-  -- one that is refused
+  -- the visit of the slot at `at` is refused with the fault `e`
   pub record IsRefusal (at : Place) (e : Fault) : Type 0 where
     pub refused : judge left (visits message base depth at) ≡ refused e at 0 1
     pub memory : e ≢ faults.Memory
 
-  -- one visit of a slot, without its value
+  -- the outcome of one visit of a slot, without its value
   abbrev pub Visits : Place → Result Visited Fault → Type 0
   Visits at (Ok v) = IsVisit at v
   Visits at (Err e) = IsRefusal at e
 
--- the visits of n slots, with all below them: the words that they pay, their number, and the first capability
+-- the outcome of a survey of n slots with all below them: the words paid, the number of visits, and the first
+-- capability
 abbrev pub SurveysAs : List (List ℕ) → ℕ → ℕ → List Visit → Result Measured Stopped → Type 0
 SurveysAs message left n vs (Ok m) =
     Gives left vs n m.survey.paid m.survey.visits × (first_cap_of message vs ≡ m.survey.capability)
@@ -54,12 +55,12 @@ SurveysAs message left n vs (Err s) = Refuses left vs n s
 -- ---- a walk
 
 module _ {A : Type 0} (message : List (List ℕ)) (base depth left : ℕ) where
-  -- a slot: the value at its place
+  -- the outcome for a slot: the value at its place
   abbrev pub Walks : Place → Result (Found A) Stopped → Type 0
   Walks at (Ok f) = Gives left (visits message base depth at) 1 f.paid f.visits × IsAt message at (tree_of f.value)
   Walks at (Err s) = Refuses left (visits message base depth at) 1 s
 
-  -- an object of a shape, whose own price has been paid: the value inside it
+  -- the outcome for an object of `shape` whose own price has been paid: the value of its content
   abbrev pub WalksObject : Shape → Place → Result (Found A) Stopped → Type 0
   WalksObject shape start (Ok f) =
       Gives left (visits_of message base depth (slots start.segment start.word shape))
@@ -68,14 +69,14 @@ module _ {A : Type 0} (message : List (List ℕ)) (base depth left : ℕ) where
   WalksObject shape start (Err s) =
       Refuses left (visits_of message base depth (slots start.segment start.word shape)) (slot_count shape) s
 
-  -- n slots, one after the other: their values
+  -- the outcome for n consecutive slots: their values
   abbrev pub WalksSlots : ℕ → ℕ → ℕ → Result (FoundSlots A) Stopped → Type 0
   WalksSlots segment start n (Ok f) =
       Gives left (visits_of message base depth (places segment start n)) n f.paid f.visits
       × AreAt message segment start (trees_of f.items) × (count (trees_of f.items) ≡ n)
   WalksSlots segment start n (Err s) = Refuses left (visits_of message base depth (places segment start n)) n s
 
-  -- n rows of a words and b slots, one after the other: their bodies
+  -- the outcome for n consecutive rows of a words and b slots: their bodies
   abbrev pub WalksRows : Place → ℕ → ℕ → ℕ → Result (FoundRows A) Stopped → Type 0
   WalksRows start a b n (Ok f) =
       Gives left (visits_of message base depth (row_places start.segment start.word a b n)) (n * b) f.paid f.visits

@@ -1,11 +1,11 @@
--- The reads of a walk of an object's own words.
+-- The reads that a walk makes of an object's own words.
 use Rattle.std.specs.Prelude.{ℕ, ◌+◌, ◌*◌}
 use Rattle.capn_words.specs.declared.pointer.Width.TheVariants.{Link}
 use Rattle.capn_target.specs.declared.target.Shape.{Shape}
 use Rattle.capn_target.specs.declared.target.Shape.TheVariants as shapes
 use Rattle.capn_target.specs.Target.{content_words}
 
--- the words of an object that are no slots, and a turn for each of its rows
+-- the number of an object's words that are not slots, and one turn of a loop for each of its rows
 abbrev pub own_reads : Shape → ℕ
 own_reads (shapes.Node a b) = a
 own_reads (shapes.Many Link n) = 0

@@ -1,4 +1,4 @@
--- The slots that a survey has still to visit: of one object, and of a stack of objects.
+-- The slots that a survey has still to visit, in one object and in a stack of objects.
 use Rattle.std.specs.Prelude.{ℕ, ◌+◌, ◌-◌, ◌*◌, ◌<◌, ◌≤◌, List, [], ◌∷◌, ◌++◌, length, ⊤}
 use Rattle.capn_words.specs.declared.space.Place.{Place}
 use Rattle.capn_words.specs.Message.{segment_at}
@@ -10,15 +10,15 @@ use Rattle.capn_walk.specs.Visits.{Visit, places, row_places, visits_of}
 abbrev pub places_of : SlotsLeft → List Place
 places_of f = places f.segment f.next f.left ++ row_places f.segment (f.next + f.left) f.words f.slots f.rows
 
--- their number
+-- the number of an object's slots that are left
 abbrev pub owed : SlotsLeft → ℕ
 owed f = f.left + f.rows * f.slots
 
--- the word after the last of them
+-- the word after the last slot that is left
 abbrev pub end_of : SlotsLeft → ℕ
 end_of f = f.next + f.left + f.rows * (f.words + f.slots)
 
--- rows that are left have slots
+-- if rows are left, each has slots
 abbrev pub HasRows : SlotsLeft → Type 0
 HasRows f = 0 < f.rows → 0 < f.slots
 
@@ -27,25 +27,25 @@ pub record Lies (message : List (List ℕ)) (f : SlotsLeft) : Type 0 where
   pub within : end_of f ≤ length (segment_at message f.segment)
   pub rows : HasRows f
 
--- ---- a stack of objects that wait, the first one lowest
+-- ---- a stack of objects that wait, the lowest first
 
--- the number of slots that are left of all
+-- the number of slots that are left in all objects of a stack
 abbrev pub owed_by : List Waiting → ℕ
 owed_by [] = 0
 owed_by (w ∷ ws) = owed w.frame + owed_by ws
 
--- each may have as many objects below it as the limit leaves there, if each is below the one before it
+-- the depth left at each object of a stack is at most the limit, which is one lower for each next object
 abbrev pub AreShallow : ℕ → List Waiting → Type 0
 AreShallow limit [] = ⊤
 AreShallow limit (w ∷ ws) = (w.depth ≤ limit) × AreShallow (limit - 1) ws
 
 module _ (message : List (List ℕ)) where
-  -- the slots that are left of each lie inside their segment
+  -- the slots that are left of each object lie inside their segment
   abbrev pub AllLie : List Waiting → Type 0
   AllLie [] = ⊤
   AllLie (w ∷ ws) = Lies message w.frame × AllLie ws
 
-  -- the visits that are left, those of the last object first
+  -- the visits that are left, of the last object of the stack first
   abbrev pub visits_left : ℕ → List Waiting → List Visit
   visits_left base [] = []
   visits_left base (w ∷ ws) = visits_left base ws ++ visits_of message base w.depth (places_of w.frame)

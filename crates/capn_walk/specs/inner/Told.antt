@@ -1,4 +1,4 @@
--- The reports of walks, surveys and indexes of a message, whether they count or not.
+-- The results of walks, surveys and indexes of a message, for calls that count and those that don't.
 use Rattle.std.specs.Prelude.{◌≡◌, ◌≢◌, ◌-◌, ◌≤◌, ◌⊎◌, ℕ, List, length, drop, Result, IfOk, IfErr, IsOk, OnOk}
 use Rattle.std.specs.Prelude.{MatchResult}
 use Rattle.capn_value.specs.Tree.{Tree}
@@ -17,8 +17,8 @@ use Rattle.capn_walk.specs.Limits.{Bounds}
 use Rattle.capn_walk.specs.Surveyed.{IsSurvey}
 use Rattle.capn_walk.specs.View.{IsEntered, stepped_to_root}
 
--- the report of a walk: the value of an accepted message with what it pays, or the first stop, or that memory ran out
--- for content within the budget
+-- the result of a walk: the value of an accepted message with what it pays, or the first stop, or `Memory` if a growth
+-- was refused for content within the budget
 pub record IsWalkTold {W : Type 0} (message : List (List ℕ)) (limits : Bounds) (r : Result W Stopped) (tree : W → Tree)
     (price visits : W → ℕ) : Type 0 where
   pub found : IfOk r (λ w. IsValueOf message limits (tree w))
@@ -33,7 +33,7 @@ pub record IsWalkTold {W : Type 0} (message : List (List ℕ)) (limits : Bounds)
   pub thrifty : IfOk r (λ w. cost (base limits.tariff) (tree w) ≤ price w)
   pub low : IfOk r (λ w. height (tree w) ≤ limits.depth)
 
--- the report of a survey: the words that the walk of an accepted message pays, or the first stop, and never for memory
+-- the result of a survey: the words that the walk of an accepted message pays, or the first stop, but never `Memory`
 pub record IsSurveyTold (message : List (List ℕ)) (limits : Bounds) (r : Result Surveyed Stopped) : Type 0 where
   pub found : IfOk r (λ s. IsSurvey message limits s)
   pub only : (v : Tree) → IsValueOf message limits v
@@ -43,7 +43,7 @@ pub record IsSurveyTold (message : List (List ℕ)) (limits : Bounds) (r : Resul
   pub bounded : MatchResult r (λ s. IsBounded limits.budget s.paid s.visits)
       (λ s. IsBounded limits.budget s.paid s.visits)
 
--- the report of a survey that finds the least depth, too
+-- the result of a survey that also finds the least depth
 pub record IsDepthTold (message : List (List ℕ)) (limits : Bounds) (r : Result Measured Stopped) : Type 0 where
   pub found : IfOk r (λ m. IsSurvey message limits m.survey)
   pub depth : IfOk r (λ m. IsDepth message limits m.depth)
@@ -55,8 +55,8 @@ pub record IsDepthTold (message : List (List ℕ)) (limits : Bounds) (r : Result
   pub bounded : MatchResult r (λ m. IsBounded limits.budget m.survey.paid m.survey.visits)
       (λ s. IsBounded limits.budget s.paid s.visits)
 
--- the report of an index in a room: the sums of an accepted message, whose entries the room has, or the first stop,
--- which leaves all as it was but the entries of the visits before it
+-- the result of an index in a room: the totals of an accepted message, whose entries the room has, or the first stop,
+-- which leaves all of the room as it was but the entries of the visits before it
 pub record IsIndexTold {A : Type 0} (form : Entry → A) (message : List (List ℕ)) (limits : Bounds) (old new : List A)
     (r : Result Indexed Stopped) : Type 0 where
   pub found : IfOk r (λ t. IsIndexedAs form message limits old new t)
@@ -66,8 +66,8 @@ pub record IsIndexTold {A : Type 0} (form : Entry → A) (message : List (List �
   pub bounded : MatchResult r (λ t. IsBounded limits.budget t.paid t.visits)
       (λ s. IsBounded limits.budget s.paid s.visits)
 
--- the report of an index in memory of its own: the entries of an accepted message and what it pays, or the first stop,
--- or that memory ran out for the entries
+-- the result of an index in memory of its own: the entries of an accepted message and what it pays, or the first stop,
+-- or `Memory` if a growth for the entries was refused
 pub record IsIndexMade {X : Type 0} (message : List (List ℕ)) (limits : Bounds) (r : Result X Stopped)
     (entries : X → List Entry) (price : X → ℕ) : Type 0 where
   pub accepted : OnOk r (IsAccepted message limits)

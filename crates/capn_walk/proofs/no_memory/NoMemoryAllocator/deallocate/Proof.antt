@@ -1,4 +1,4 @@
--- It has given no block, so none comes back. Assumes `Logic`.
+-- The call gets back no block, since none was given. Assumes `Logic`.
 use Rattle.std.proofs.Common.{ℕ, ◌^◌, ◌<◌, T, List, [], ◌∷◌, refl, lit<, w64, Bor}
 use seplogic.Ra.Ura.{Ura}
 use mir.Syntax.{Ty, ty_ptr}
@@ -77,7 +77,7 @@ module _ {M : Type 1} {𝓤 : Ura M} (𝓛 : Logic 𝓤) (at_mem : Memory → SP
     abbrev Post : Val → SProp 𝓤
     Post = (walk_of 𝓛 F.ended stayed held).post bound
 
-    -- it does nothing
+    -- the call does nothing
     walk : n < 2 ^ 64 → a < 2 ^ 64
         → ent 𝓤 ((walk_of 𝓛 F.ended stayed held).pre bound) (WpFn 𝓤 H 𝓣.C 𝓣.Λ code.function vs Post)
     walk fn fa =
