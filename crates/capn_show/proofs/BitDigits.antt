@@ -1,4 +1,4 @@
--- The digits of the bits of a list, a word at a time. (For `push_bits` and `word_bits`.)
+-- Lemmas for `push_bits` and `word_bits`: the digits of a list of bits, written a word at a time.
 use Rattle.std.proofs.Common.{◌≡◌, ℕ, zero, suc, ◌+◌, ◌*◌, ◌/◌, ◌%◌, ◌^◌, ◌<◌, ◌≤◌, List, [], ◌∷◌, length, take, drop}
 use Rattle.std.proofs.Common.{inl, inr, set, get_or, map, refl, ap, ap₂, sym, ◌∙◌, arith, Bool, true, false}
 use Rattle.std.specs.Prelude.{slice_index}
@@ -29,7 +29,7 @@ bit-is ws j k h =
     let r : (64 * j + k) % 64 ≡ k = omega arith in
     ap₂ (λ (a b : ℕ). slice_index ws a / (2 ^ 1) ^ b % 2 ^ 1) q r
 
--- one digit more
+-- After digit `i` is set, the digits up to and including it are right.
 pub bit-set : (digits : List ℕ) (i v : ℕ) (f : ℕ → ℕ) → length digits ≡ 64 → i < 64
     → ((j : ℕ) → j < i → slice_index digits j ≡ f j) → v ≡ f i
     → (j : ℕ) → j < i + 1 → slice_index (set digits i v) j ≡ f j
@@ -40,7 +40,7 @@ bit-set digits i v f size below so_far e j h =
       | inr less ↦ get_or-set_other digits i j v 0 (omega arith) ∙ so_far j less
     ]
 
--- the first digits of a word are those of as many elements, from the first of the word on
+-- The first digits of a word are those of the elements from the first one in the word on.
 pub first-bits : (ws : List ℕ) (xs : List Bool) (i left w : ℕ) (digits : List ℕ)
     → ((k : ℕ) → k < length (map from_bool xs) → element 64 1 ws k ≡ slice_index (map from_bool xs) k)
     → length (map from_bool xs) ≡ length xs

@@ -1,4 +1,4 @@
--- The digits of the bytes of a list, a word at a time. (For `push_bytes`.)
+-- Lemmas for `push_bytes`: the digits of a list of bytes, written a word at a time.
 use Rattle.std.proofs.Common.{◌≡◌, ℕ, zero, suc, ◌+◌, ◌*◌, ◌/◌, ◌%◌, ◌^◌, ◌<◌, ◌≤◌, List, [], ◌∷◌, length}
 use Rattle.std.proofs.Common.{take, drop, get_or, refl, ap, ap₂, sym, ◌∙◌, arith}
 use Rattle.std.specs.Prelude.{slice_index}
@@ -8,7 +8,7 @@ use Rattle.std.proofs.lemmas.Grind.{same_number_lists}
 use Rattle.hex.specs.Hex.{encode_with, encode_lower, lower_digits}
 use Rattle.capn_walk.specs.ValueAt.{element}
 
--- two digits for each byte
+-- Each byte has two digits.
 pub halves : (n : ℕ) (bs : List ℕ) → take (2 * n) (encode_lower bs) ≡ encode_lower (take n bs)
 unfolding encode_with
 halves zero bs = refl
@@ -40,7 +40,7 @@ eight : (w : ℕ) → length (to_le_bytes w64 w) ≡ 8
 eight w = refl
 
 module _ (ws xs : List ℕ) (i : ℕ) (are : (k : ℕ) → k < length xs → element 8 8 ws k ≡ slice_index xs k) where
-  -- the first bytes of a word are as many elements, from the first of the word on
+  -- The first bytes of a word are the elements from the first one in the word on.
   same-bytes : (left w : ℕ) → w ≡ slice_index ws i → left ≤ 8 → 8 * i + left ≤ length xs
       → take left (to_le_bytes w64 w) ≡ take left (drop (8 * i) xs)
   same-bytes left w e few room =

@@ -1,4 +1,4 @@
--- The test of bytes for a text in JSON, one byte further. (For `is_json_text` and `is_well_formed`.)
+-- Lemmas for `is_json_text` and `is_well_formed`: the test of a text for JSON, byte by byte.
 use Rattle.std.proofs.Common.{◌≡◌, ℕ, zero, suc, ◌+◌, ◌<◌, ◌==◌, ◌&&◌, ◌||◌, List, [], ◌∷◌, Bool, true, false}
 use Rattle.std.proofs.Common.{length, drop, get_or, ap, refl, ◌∙◌, arith}
 use Rattle.std.specs.Str.{IsUtf8, is_utf8}
@@ -18,7 +18,7 @@ no-utf8 bs h = false-by bs (is_utf8 bs) refl h
 
 -- ---- control characters
 
--- the bytes from one on that is not the last
+-- The test of the bytes from `i` on, if `i` is not the last.
 control-from : (xs : List ℕ) (i : ℕ) → suc i < length xs → has_control (drop i xs)
     ≡ ((is_control (get_or xs i 0) || is_long_control (get_or xs i 0) (get_or xs (suc i) 0))
     || has_control (drop (suc i) xs))
@@ -27,7 +27,6 @@ control-from (b ∷ []) i h = absurd (omega arith)
 control-from (b ∷ c ∷ cs) zero h = refl
 control-from (b ∷ c ∷ cs) (suc i) h = control-from (c ∷ cs) i (omega arith)
 
--- the last byte
 control-last : (xs : List ℕ) (i : ℕ) → suc i ≡ length xs → has_control (drop i xs) ≡ is_control (get_or xs i 0)
 control-last [] i h = absurd (omega arith)
 control-last (b ∷ []) zero h = refl
@@ -36,7 +35,7 @@ control-last (b ∷ c ∷ cs) zero h = absurd (omega arith)
 control-last (b ∷ c ∷ cs) (suc i) h = control-last (c ∷ cs) i (omega arith)
 
 module _ (xs : List ℕ) (i : ℕ) (so_far : has_control xs ≡ has_control (drop i xs)) where
-  -- a byte, by whether it and the next are a control character
+  -- The loop decides on byte `i` by whether it and the next byte are a control character.
   module _ (h : suc i < length xs) (found : Bool)
       (e : (is_control (get_or xs i 0) || is_long_control (get_or xs i 0) (get_or xs (suc i) 0)) ≡ found) where
     found-here : has_control xs ≡ (found || has_control (drop (suc i) xs))
@@ -54,7 +53,6 @@ module _ (xs : List ℕ) (i : ℕ) (so_far : has_control xs ≡ has_control (dro
       let next : suc i ≡ i + 1 = omega arith in
       found-here h false e ∙ ap (λ (k : ℕ). has_control (drop k xs)) next
 
-  -- the last one decides
   pub at-last : suc i ≡ length xs → has_control xs ≡ is_control (get_or xs i 0)
   at-last h = so_far ∙ control-last xs i h
 
@@ -67,7 +65,7 @@ zero-at (b ∷ []) (suc i) h = absurd (omega arith)
 zero-at (b ∷ c ∷ cs) zero h = absurd (omega arith)
 zero-at (b ∷ c ∷ cs) (suc i) h = zero-at (c ∷ cs) i (omega arith)
 
--- by its last byte
+-- The test of a text is that of its last byte, and of the bytes before it.
 text-by : (xs : List ℕ) (i : ℕ) → suc i ≡ length xs
     → is_json_text xs ≡ ((get_or xs i 0 == 0) && is_clear (before_last xs))
 text-by xs i h = ap (λ (b : Bool). b && is_clear (before_last xs)) (zero-at xs i h)

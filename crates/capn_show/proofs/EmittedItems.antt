@@ -1,5 +1,5 @@
--- Words, numbers, slots and rows, as the texts of numbered items. (For the cycle `slots`, `show_numbers` and
--- `show_words`.)
+-- Lemmas for the cycle `slots`, `show_numbers` and `show_words`: words, numbers, slots and rows as texts of numbered
+-- items.
 use Rattle.std.proofs.Common.{◌≡◌, ℕ, zero, suc, ◌+◌, ◌*◌, List, [], ◌∷◌, ◌++◌, length, get_or}
 use Rattle.std.proofs.Common.{refl, sym, ap, ap₂, ◌∙◌, arith, append_assoc}
 use Rattle.capn_words.specs.declared.space.Place.{Place}
@@ -16,7 +16,7 @@ use Rattle.capn_show.proofs.ItemTexts.{texts}
 -- ---- words and numbers
 
 module _ (rule : Rule) (size : ℕ) (piece_of : ℕ → List ℕ) (end path : List ℕ) (first : ℕ) where
-  -- the piece of a number, by how many come before it
+  -- The mark and the piece of a number, by the number of items before it.
   abbrev pub number_item : ℕ → ℕ → List ℕ
   number_item i x = rule.mark i (first + i * size) path ++ piece_of x
 
@@ -38,7 +38,6 @@ module _ (rule : Rule) (size : ℕ) (piece_of : ℕ → List ℕ) (end path : Li
 
 -- ---- slots
 
--- trees as a list
 abbrev pub listed : Trees → List Tree
 listed no_trees = []
 listed (tree t ts) = t ∷ listed ts
@@ -52,17 +51,16 @@ listed-at no_trees i = refl
 listed-at (tree t ts) zero = refl
 listed-at (tree t ts) (suc i) = listed-at ts i
 
--- a row: its words and its slots
+-- A row, by its words and its slots.
 pub record Row : Type 0 where
   pub words : List ℕ
   pub slots : Trees
 
--- rows as a list
 abbrev pub rows_listed : Bodies → List Row
 rows_listed no_bodies = []
 rows_listed (body ws ss bs) = record { words = ws; slots = ss } ∷ rows_listed bs
 
--- no row
+-- The empty row, which stands for a row that is not there.
 abbrev pub no_row : Row
 no_row = record { words = []; slots = no_trees }
 
@@ -81,11 +79,9 @@ slots-listed (body ws ss bs) zero = refl
 slots-listed (body ws ss bs) (suc i) = slots-listed bs i
 
 module _ (m : List (List ℕ)) (rule : Rule) (level : ℕ) (path : List ℕ) where
-  -- the text in the slot of a number
   abbrev pub slot_item : (ℕ → Place) → ℕ → Tree → List ℕ
   slot_item place i t = emitted_slot m rule level i (rule.below path i) (place i) t
 
-  -- what closes slots, and rows
   abbrev pub end : List ℕ
   end = rule.piece level pieces.EndItems
 
@@ -96,7 +92,6 @@ module _ (m : List (List ℕ)) (rule : Rule) (level : ℕ) (path : List ℕ) whe
       append_assoc (slot_item place k t) (texts (slot_item place) (suc k) (listed ts)) end
       ∙ ap (λ (l : List ℕ). slot_item place k t ++ l) (slots-items place (suc k) ts)
 
-  -- the text of the row of a number
   abbrev pub row_item : (ℕ → Target) → ℕ → Row → List ℕ
   row_item row i r = rule.mark i (rule.lies m (begin (row i))) (rule.below path i)
       ++ emitted_body m rule level (rule.below path i) (row i) r.words r.slots
@@ -109,14 +104,14 @@ module _ (m : List (List ℕ)) (rule : Rule) (level : ℕ) (path : List ℕ) whe
       append_assoc here (texts (row_item row) (suc k) (rows_listed bs)) end
       ∙ ap (λ (l : List ℕ). here ++ l) (rows-items row (suc k) bs)
 
--- the place of slot k from the first on, and row k of a words and b slots
+-- The place of slot `k` after the first, and row `k` of rows with `a` words and `b` slots.
 abbrev pub nth : Place → ℕ → Place
 nth first k = record { segment = first.segment; word = first.word + k }
 
 abbrev pub nth_row : Place → ℕ → ℕ → ℕ → Target
 nth_row first a b k = struct_at first.segment (first.word + k * (a + b)) a b
 
--- the text of one of these, written by the rule and at the path as they are
+-- The text of one item is the same by an equal rule and at an equal path.
 module _ (m : List (List ℕ)) (rule : Rule) (level : ℕ) (path : List ℕ) (r : Rule) (here : List ℕ) (e : r ≡ rule)
     (f : here ≡ path) where
   pub item-is : (place : ℕ → Place) (ts : Trees) (i : ℕ)
@@ -142,6 +137,6 @@ module _ (m : List (List ℕ)) (rule : Rule) (level : ℕ) (path : List ℕ) (r 
       ++ emitted_body m rule level (rule.below path i) (nth_row first a b i) ws ss)
       (sym (words-listed bs i)) (sym (slots-listed bs i))
 
--- what closes them is the same by rules that are the same
+-- The piece that closes slots is the same by equal rules.
 pub closing : (level : ℕ) {r s : Rule} → r ≡ s → r.piece level pieces.EndItems ≡ s.piece level pieces.EndItems
 closing level e = ap (λ (x : Rule). x.piece level pieces.EndItems) e

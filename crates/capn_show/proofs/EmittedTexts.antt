@@ -1,5 +1,5 @@
--- The text of what a pointer names, with marks, from its parts. (For the cycle `slots`, `show_bits`, `show_bytes` and
--- `show_list`.)
+-- Lemmas for the cycle `slots`, `show_bits`, `show_bytes` and `show_list`: the text that an emitter writes, from its
+-- parts.
 use Rattle.std.proofs.Common.{◌≡◌, ℕ, zero, suc, ◌+◌, ◌/◌, ◌<◌, arith, List, ◌++◌, Bool, length}
 use Rattle.std.proofs.Common.{subst, sym, ap, ap₂, ◌∙◌, append_assoc}
 use Rattle.std.specs.Prelude.{Ok}
@@ -30,7 +30,7 @@ use Rattle.capn_show.specs.EmittedPlaces.{RowsEmitted, WordsEmitted}
 use Rattle.capn_show.proofs.shared.FoundKinds.{as-nil, as-cap, as-node, as-links, as-rows}
 use Rattle.capn_show.proofs.shared.FoundKinds.{as-voids, as-bits, as-numbers}
 
--- the digits of a list that isn't empty, with what stands before and behind them
+-- The digits of a list that is not empty, with the mark and the pieces before and behind them.
 pub digits-emitted : (rule : Rule) (level : ℕ) (path : List ℕ) (first n : ℕ) (digits : List ℕ) → 0 < n
     → (rule.mark 0 first path ++ rule.piece level pieces.Digits) ++ (digits ++ rule.piece level pieces.EndDigits)
     ≡ emitted_digits rule level path first n digits
@@ -127,7 +127,7 @@ module _ (m : List (List ℕ)) (rule : Rule) (level : ℕ) (path : List ℕ) whe
   -- ---- a list of elements without pointers
 
   module _ (s w n : ℕ) (width : Width) (Says : List ℕ → Type 0) where
-    -- whatever pads led to the list, this is said of its text
+    -- `Says` holds of the text of the list, whatever number of pads led to it.
     abbrev IsListEmitted : Type 0
     IsListEmitted = (pads : ℕ)
         → IsFoundEmitted m rule level path (targets.Content s w (shapes.Many width n) pads) Says
@@ -145,7 +145,7 @@ module _ (m : List (List ℕ)) (rule : Rule) (level : ℕ) (path : List ℕ) whe
         subst Says (sym (ap (emitted m rule level path (targets.Content s w (shapes.Many W0 n) pads))
         (as-voids m s w pads n v i))) h)
 
-    -- the byte at which it lies
+    -- The byte at which the content of the list lies.
     abbrev first : ℕ
     first = rule.lies m (record { segment = s; word = w })
 
@@ -196,7 +196,7 @@ module _ (m : List (List ℕ)) (rule : Rule) (level : ℕ) (path : List ℕ) whe
           ∙ sym (ap (emitted m rule level path t) x.is))
           (step rest (k x.digits x.are x.count)))
 
--- ---- the same by another rule and at another path, where they are the same
+-- ---- the same texts by an equal rule and at an equal path
 
 module _ (m : List (List ℕ)) (level : ℕ) (r s : Rule) (e : r ≡ s) (v w : List ℕ) (f : v ≡ w)
     (Says : List ℕ → Type 0) where

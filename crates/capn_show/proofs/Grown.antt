@@ -1,5 +1,4 @@
--- A loop that appends a text for each element of a list: one more, and all of them. (For `bits.rt`, `byte_digits.rt`
--- and `escapes.rt`.)
+-- Lemmas for `bits.rt`, `byte_digits.rt` and `escapes.rt`: a loop that appends a text for each element of a list.
 use Rattle.std.proofs.Common.{◌≡◌, ℕ, ◌+◌, ◌<◌, List, [], ◌∷◌, ◌++◌, Bool}
 use Rattle.std.proofs.Common.{length, take, drop}
 use Rattle.std.proofs.Common.{get_or, refl, sym, ap, ◌∙◌, arith, append_assoc}
@@ -16,7 +15,6 @@ use Rattle.capn_show.proofs.TextBytes.{escapes-joined}
 
 module _ {A : Type 0} (F : List A → List ℕ) (joins : (xs ys : List A) → F (xs ++ ys) ≡ F xs ++ F ys)
     (p q : Outgoing) (xs : List A) (i : ℕ) where
-  -- one element more
   more : (r : Outgoing) (d : A) → i < length xs → Adds p q (F (take i xs))
       → Adds q r (F (get_or xs i d ∷ [])) → Adds p r (F (take (i + 1) xs))
   more r d below h k =
@@ -24,7 +22,6 @@ module _ {A : Type 0} (F : List A → List ℕ) (joins : (xs ys : List A) → F 
       (sym (ap F (take_more xs i d below) ∙ joins (take i xs) (get_or xs i d ∷ [])))
       (both p q r (F (take i xs)) (F (get_or xs i d ∷ [])) h k)
 
-  -- a text that breaks off in it
   cut : (r : Outgoing) (e : Broken) (d : A) → i < length xs → Adds p q (F (take i xs))
       → BreaksOff q r e (F (get_or xs i d ∷ [])) → BreaksOff p r e (F xs)
   cut r e d below h k =
@@ -37,20 +34,17 @@ module _ {A : Type 0} (F : List A → List ℕ) (joins : (xs ys : List A) → F 
       ∙ ap F (take-append-drop (i + 1) xs))
       (broken-before p r e (front ++ here) rest (then-broken p q r e front here h k))
 
-  -- all of them
   all : i ≡ length xs → Adds p q (F (take i xs)) → Adds p q (F xs)
   all e h = otherwise p q (F (take i xs)) (F xs) (ap F (take_all i xs (omega arith))) h
 
 module _ {A : Type 0} (F : List A → List ℕ) (joins : (xs ys : List A) → F (xs ++ ys) ≡ F xs ++ F ys)
     (p q r : Outgoing) (xs : List A) (i k : ℕ) where
-  -- some elements more
   block-more : Adds p q (F (take i xs)) → Adds q r (F (take k (drop i xs))) → Adds p r (F (take (i + k) xs))
   block-more h j =
       otherwise p r (F (take i xs) ++ F (take k (drop i xs))) (F (take (i + k) xs))
       (sym (ap F (take-add i k xs) ∙ joins (take i xs) (take k (drop i xs))))
       (both p q r (F (take i xs)) (F (take k (drop i xs))) h j)
 
-  -- a text that breaks off in them
   block-cut : (e : Broken) → Adds p q (F (take i xs)) → BreaksOff q r e (F (take k (drop i xs)))
       → BreaksOff p r e (F xs)
   block-cut e h j =
@@ -94,7 +88,7 @@ module _ (by : ℕ → List ℕ) (p q : Outgoing) where
     pub escapes-all : i ≡ length xs → Adds p q (escapes_by by (take i xs)) → Adds p q (escapes_by by xs)
     escapes-all = all (escapes_by by) (escapes-joined by) p q xs i
 
-    -- bytes that are left as they are
+    -- The next `k` bytes need no escape.
     module _ (r : Outgoing) (k : ℕ) (rest : List ℕ) (left : rest ≡ drop i xs)
         (bare : escapes_by by (take k rest) ≡ take k rest) where
       run-is : take k rest ≡ escapes_by by (take k (drop i xs))

@@ -1,5 +1,4 @@
--- The texts of numbered items, one after the other: one more, and all of them. (For the cycle `slots`, `show_numbers`
--- and `show_words`.)
+-- Lemmas for the cycle `slots`, `show_numbers` and `show_words`: the texts of numbered items, one after the other.
 use Rattle.std.proofs.Common.{◌≡◌, ℕ, zero, suc, ◌+◌, ◌<◌, List, [], ◌∷◌, ◌++◌, length, take, get_or}
 use Rattle.std.proofs.Common.{sym, ap, ◌∙◌, arith, append_assoc}
 use Rattle.std.proofs.lemmas.List.{append-nil, take_all}
@@ -7,7 +6,7 @@ use Rattle.capn_show.specs.declared.fault.Broken.{Broken}
 use Rattle.capn_show.specs.Outgoing.{Outgoing, Adds, BreaksOff}
 use Rattle.capn_show.proofs.shared.Appended.{both, otherwise, otherwise-broken, then-broken, broken-before}
 
--- the texts of items, of which the first has a number
+-- The texts of items, numbered from `k` on.
 module _ {A : Type 0} (item : ℕ → A → List ℕ) where
   abbrev pub texts : ℕ → List A → List ℕ
   texts k [] = []
@@ -27,7 +26,7 @@ module _ {A : Type 0} (item : ℕ → A → List ℕ) where
       ∙ ap (λ (l : List ℕ). item k x ++ l)
       (ap (λ (n : ℕ). front ++ item n y) same ∙ texts-next d (suc k) i xs (omega arith))
 
-  -- what comes before item i, its own text, and what comes after it
+  -- The texts of all items are those before item `i`, its own, and those after it.
   texts-split : (d : A) (k i : ℕ) (xs : List A) → i < length xs → (rest : List ℕ)
       × ((texts k (take i xs) ++ item (k + i) (get_or xs i d)) ++ rest ≡ texts k xs)
   texts-split d k i [] below = absurd (omega arith)
@@ -47,7 +46,6 @@ module _ {A : Type 0} (item : ℕ → A → List ℕ) where
       )
 
   module _ (d : A) (p q : Outgoing) (xs : List A) (i : ℕ) where
-    -- one item more
     pub item-more : (r : Outgoing) → i < length xs → Adds p q (texts 0 (take i xs))
         → Adds q r (item i (get_or xs i d)) → Adds p r (texts 0 (take (i + 1) xs))
     item-more r below h k =
@@ -60,7 +58,6 @@ module _ {A : Type 0} (item : ℕ → A → List ℕ) where
         ∙ ap (λ (n : ℕ). texts 0 (take n xs)) next)
         (both p q r front (item i here) h k)
 
-    -- a text that breaks off in it
     pub item-cut : (r : Outgoing) (e : Broken) (end : List ℕ) → i < length xs → Adds p q (texts 0 (take i xs))
         → BreaksOff q r e (item i (get_or xs i d)) → BreaksOff p r e (texts 0 xs ++ end)
     item-cut r e end below h k =
@@ -73,11 +70,10 @@ module _ {A : Type 0} (item : ℕ → A → List ℕ) where
         (ap (λ (n : ℕ). (front ++ item n here) ++ x.0) number ∙ x.1)
         (broken-before p r e (front ++ item i here) x.0 (then-broken p q r e front (item i here) h k)))
 
-    -- all of them
     items-all : i ≡ length xs → Adds p q (texts 0 (take i xs)) → Adds p q (texts 0 xs)
     items-all e h = otherwise p q (texts 0 (take i xs)) (texts 0 xs) (ap (texts 0) (take_all i xs (omega arith))) h
 
-    -- and what closes them, whole or broken off
+    -- The piece that closes the items is added, or breaks off.
     pub items-end : (r : Outgoing) (end : List ℕ) → i ≡ length xs → Adds p q (texts 0 (take i xs)) → Adds q r end
         → Adds p r (texts 0 xs ++ end)
     items-end r end e h k = both p q r (texts 0 xs) end (items-all e h) k

@@ -1,4 +1,4 @@
--- The lines of a text, by their parts. (For `bytes.rt` and `lines.rt`.)
+-- Lemmas for `bytes.rt` and `lines.rt`: the lines of a text, from their parts.
 use Rattle.std.proofs.Common.{◌≡◌, ℕ, ◌+◌, ◌*◌, ◌≤◌, ◌-◌, List, [], ◌∷◌, ◌++◌, take, replicate}
 use Rattle.std.proofs.Common.{refl, ◌∙◌, sym, ap, arith, append_assoc, codes}
 use Rattle.std.specs.Fmt.{decimal}
@@ -9,7 +9,7 @@ use Rattle.capn_show.specs.declared.fault.Broken.{Broken}
 use Rattle.capn_show.specs.Outgoing.{Outgoing, Adds, BreaksOff}
 use Rattle.capn_show.proofs.shared.Appended.{both, otherwise, otherwise-broken, then-broken, broken-before}
 
--- the spaces of some levels, then those of others
+-- The spaces of `a` levels and of `b` levels are those of their sum.
 abbrev blanks : ℕ → List ℕ
 blanks n = replicate n 32
 
@@ -47,7 +47,7 @@ module _ (p q r : Outgoing) (done : ℕ) where
       (take-replicate (2 * (level - done)) 64 32 (omega arith)) ∙ spaces done (level - done) level (omega arith))
       (then-broken p q r e (blanks (2 * done)) (take (2 * (level - done)) (blanks 64)) h k)
 
--- a line with its end
+-- An indent, a text and a newline are a line.
 pub lined : (level : ℕ) (x : List ℕ) → replicate (2 * level) 32 ++ (x ++ 10 ∷ []) ≡ line level x
 unfolding line
 lined level x = refl

@@ -1,4 +1,4 @@
--- The list of bytes of a JSON. (For `json_texts`.)
+-- Lemmas for the law `json_texts`: a list of bytes can be found from its JSON.
 use Rattle.std.proofs.Common.{◌≡◌, ℕ, suc, ◌-◌, ◌==◌, List, [], ◌∷◌, ◌++◌, Bool, true, false, ◌&&◌}
 use Rattle.std.proofs.Common.{if◌then◌else◌, length, take, ap, sym, refl, ◌∙◌, arith, codes}
 use Rattle.std.proofs.lemmas.Bool.{eqb-true}
@@ -9,13 +9,13 @@ use Rattle.capn_show.specs.Json.{digits_json}
 use Rattle.capn_show.specs.JsonTexts.{json_escapes, before_last, ends_in_zero, is_clear, is_json_text, text_json}
 use Rattle.capn_show.specs.JsonTexts.{text_or_digits}
 
--- ---- what stands between quotes
+-- ---- the bytes between quotes
 
--- the byte that an escape stands for
+-- The byte for which the byte after a backslash stands.
 abbrev unescaped_as : ℕ → ℕ
 unescaped_as c = if c == 116 then 9 else if c == 110 then 10 else if c == 114 then 13 else c
 
--- the bytes of a text
+-- The bytes of a text, from those between quotes.
 abbrev unescaped : List ℕ → List ℕ
 unescaped [] = []
 unescaped (b ∷ []) = b ∷ []
@@ -72,12 +72,11 @@ digits-one xs ys h k e =
     let same = append_cancel_right x y (34 ∷ []) inner in
     decode_of-same x xs ys (decode_of-encode_lower xs h) (ap decode_of same ∙ decode_of-encode_lower ys k)
 
--- the third byte, where there is one
 abbrev third : List ℕ → ℕ
 third (a ∷ b ∷ c ∷ cs) = c
 third _ = 0
 
--- no text has the JSON of digits
+-- The JSON of a text is never that of digits.
 apart : (xs ys : List ℕ) → text_json xs ≡ digits_json ys → ⊥
 apart xs ys e = let bad : 116 ≡ 98 = ap third e in absurd (omega (arith, bad))
 

@@ -1,4 +1,4 @@
--- A step of a path: from what a pointer names to what is below it. (For `follow`, `named` and `step_down`.)
+-- Lemmas for `follow`, `named` and `step_down`: a step of a path, from a target to a value below it.
 use Rattle.std.proofs.Common.{◌≡◌, ℕ, zero, suc, ◌+◌, ◌*◌, ◌<◌, ◌≤◌, List, [], ◌∷◌, length, drop, get_or, Some, None}
 use Rattle.std.proofs.Common.{refl, subst, sym, ap, ◌∙◌, arith, Err}
 use Rattle.std.proofs.Math.Seq.{drop-cons}
@@ -26,7 +26,6 @@ use Rattle.capn_show.proofs.shared.FoundKinds.{as-node, as-links, as-rows}
 use Rattle.capn_show.proofs.SlotTexts.{low-at, row-low}
 use Rattle.capn_show.proofs.shared.Steps.{found}
 
--- what is there, by its shape
 pub here : (found : Target) (s w pads : ℕ) (shape other : Shape) → found ≡ targets.Content s w shape pads
     → shape ≡ other → found ≡ targets.Content s w other pads
 here found s w pads shape other e f = e ∙ ap (λ (x : Shape). targets.Content s w x pads) f
@@ -56,7 +55,6 @@ follow-none : (path : List ℕ) → follow path None ≡ None
 follow-none [] = refl
 follow-none (i ∷ path) = refl
 
--- the step of a number in a path
 pub follow-one : (path : List ℕ) (i n : ℕ) (t : Tree) → i < length path → n ≡ get_or path i 0
     → follow (drop i path) (Some t) ≡ follow (drop (i + 1) path) (step_down t n)
 follow-one path i n t below e =
@@ -65,18 +63,17 @@ follow-one path i n t below e =
     ∙ ap (λ (k : ℕ). follow (drop (suc i) path) (step_down t k)) (sym e)
     ∙ ap (λ (k : ℕ). follow (drop k path) (step_down t n)) next
 
--- a path that ends there
+-- A path ends early, if a step leads nowhere.
 pub follow-stop : (path : List ℕ) (i n : ℕ) (t : Tree) → i < length path → n ≡ get_or path i 0 → step_down t n ≡ None
     → follow (drop i path) (Some t) ≡ None
 follow-stop path i n t below e none =
     follow-one path i n t below e ∙ ap (follow (drop (i + 1) path)) none ∙ follow-none (drop (i + 1) path)
 
--- the end of a path
 pub follow-end : (path : List ℕ) (i : ℕ) (t : Tree) → length path ≤ i → follow (drop i path) (Some t) ≡ Some t
 follow-end path i t past = ap (λ (l : List ℕ). follow l (Some t)) (drop_of_length-le path past)
 
 module _ (m : List (List ℕ)) where
-  -- no fault is answered where a value is
+  -- A pointer with a value has no fault.
   pub no-fault-held : (at : Place) (e : Fault) → Holds m at → target m at ≡ Err e → ⊥
   no-fault-held at e h f = let g = (found m at h.0 h.1).1 in absurd (cc)
 
@@ -88,7 +85,7 @@ module _ (m : List (List ℕ)) where
   cap-none t k i e v h =
       ap (λ (u : Tree). step_down u i) (as-cap m k v (subst (λ (x : Target). Shows m x v) e h))
 
-  -- a list of elements without pointers
+  -- A list of elements without pointers has nothing below it.
   plain-none : (s w pads : ℕ) (width : Width) (n i : ℕ) (v : Tree) → (width ≡ Link → ⊥)
       → RowsFit (shapes.Many width n) → Shows m (targets.Content s w (shapes.Many width n) pads) v
       → step_down v i ≡ None
@@ -112,7 +109,7 @@ module _ (m : List (List ℕ)) where
     many-none width n i f other fit v h =
         plain-none s w pads width n i v other (subst RowsFit f fit) (named-by (shapes.Many width n) v f h)
 
-    -- a slot of a struct
+    -- A step to a slot of a struct.
     module _ (a b i : ℕ) (f : shape ≡ shapes.Node a b) where
       pub slot-held : i < b → HasValue m t → Holds m (record { segment = s; word = w + a + i })
       slot-held below h =
@@ -143,7 +140,7 @@ module _ (m : List (List ℕ)) where
           let number = x.are.slots in
           ap (λ (u : Tree). step_down u i) x.is ∙ nth-none x.slots i (omega arith)
 
-    -- an element of a list of pointers
+    -- A step to an element of a list of pointers.
     module _ (width : Width) (n i : ℕ) (f : shape ≡ shapes.Many width n) (g : width ≡ Link) where
       is-links : shape ≡ shapes.Many Link n
       is-links = f ∙ ap (λ (y : Width). shapes.Many y n) g
@@ -177,7 +174,7 @@ module _ (m : List (List ℕ)) where
           let number = x.number in
           ap (λ (u : Tree). step_down u i) x.is ∙ nth-none x.slots i (omega arith)
 
-    -- a row of a list of structs
+    -- A step to a row of a list of structs.
     module _ (n a b span i : ℕ) (f : shape ≡ shapes.Rows n a b span) where
       pub row-step : i < n → (v : Tree) → Shows m t v
           → LeadsTo m v (step_down v i) (struct_at s (w + 1 + i * (a + b)) a b)

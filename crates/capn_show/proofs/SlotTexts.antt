@@ -1,4 +1,4 @@
--- The height of the value in one of several slots, and of one of several rows. (For `PartSteps` and `Steps`.)
+-- Lemmas for `PartSteps` and `Steps`: one of several slots, or rows, has a value no higher than the highest.
 use Rattle.std.proofs.Common.{ℕ, zero, suc, ◌<◌, ◌≤◌, arith}
 use Rattle.capn_value.specs.Tree.{Trees, no_trees, tree, Bodies, no_bodies, body, count, count_rows, tree_at}
 use Rattle.capn_value.specs.Cost.{height, greatest, greatest_in_rows}

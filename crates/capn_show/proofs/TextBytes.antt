@@ -1,11 +1,11 @@
--- The test of bytes for a text, one byte further, and their form between quotes. (For `bare_run`.)
+-- Lemmas on the test of a text, byte by byte, and on its bytes between quotes. (For `bare_run`.)
 use Rattle.std.proofs.Common.{◌≡◌, ℕ, zero, suc, ◌+◌, ◌<◌, ◌==◌, ◌&&◌, ◌||◌, List, [], ◌∷◌, ◌++◌, Bool, true, false}
 use Rattle.std.proofs.Common.{if◌then◌else◌, length, take, drop, get_or, ap, ap₂, sym, refl, ◌∙◌, arith, append_assoc}
 use Rattle.std.proofs.lemmas.List.{append-nil, take_more}
 use Rattle.capn_show.specs.Quoting.{is_printable, is_text, escapes_by}
 use Rattle.capn_show.specs.ReadyPlaces.{escaped_of, is_escaped}
 
--- the bytes from one on that is not the last
+-- The test of the bytes from `i` on, if `i` is not the last.
 text-from : (xs : List ℕ) (i : ℕ) → suc i < length xs
     → is_text (drop i xs) ≡ (is_printable (get_or xs i 0) && is_text (drop (suc i) xs))
 text-from [] i h = absurd (omega arith)
@@ -13,7 +13,6 @@ text-from (b ∷ []) i h = absurd (omega arith)
 text-from (b ∷ c ∷ cs) zero h = refl
 text-from (b ∷ c ∷ cs) (suc i) h = text-from (c ∷ cs) i (omega arith)
 
--- the last byte
 text-last : (xs : List ℕ) (i : ℕ) → suc i ≡ length xs
     → is_text (drop i xs) ≡ (is_printable (get_or xs i 0) || get_or xs i 0 == 0)
 text-last [] i h = absurd (omega arith)
@@ -23,18 +22,17 @@ text-last (b ∷ c ∷ cs) zero h = absurd (omega arith)
 text-last (b ∷ c ∷ cs) (suc i) h = text-last (c ∷ cs) i (omega arith)
 
 module _ (xs : List ℕ) (i : ℕ) (so_far : is_text xs ≡ is_text (drop i xs)) where
-  -- a byte with which a text goes on
+  -- A printable byte leaves the test to the bytes after it.
   pub goes-on : suc i < length xs → is_printable (get_or xs i 0) ≡ true → is_text xs ≡ is_text (drop (i + 1) xs)
   goes-on h p =
       let next : suc i ≡ i + 1 = omega arith in
       so_far ∙ text-from xs i h ∙ ap (λ (x : Bool). x && is_text (drop (suc i) xs)) p
       ∙ ap (λ (k : ℕ). is_text (drop k xs)) next
 
-  -- one with which it doesn't
+  -- A byte that is not printable decides the test, unless it is the last.
   pub stops : suc i < length xs → is_printable (get_or xs i 0) ≡ false → is_text xs ≡ false
   stops h p = so_far ∙ text-from xs i h ∙ ap (λ (x : Bool). x && is_text (drop (suc i) xs)) p
 
-  -- the last one decides
   pub ends : suc i ≡ length xs → is_text xs ≡ (is_printable (get_or xs i 0) || get_or xs i 0 == 0)
   ends h = so_far ∙ text-last xs i h
 
@@ -68,7 +66,7 @@ bare-one : (json : Bool) (b : ℕ) → is_escaped json b ≡ false → escaped_o
 bare-one false b h = bare-by (b == 34) (b == 92) (b == 0) b h
 bare-one true b h = bare-json (b == 34) (b == 92) (b == 9) (b == 10) (b == 13) b h
 
--- bytes that are left as they are, and one more
+-- One more byte needs no escape.
 pub bare-more : (json : Bool) (xs : List ℕ) (i : ℕ) → i < length xs → is_escaped json (get_or xs i 0) ≡ false
     → escapes_by (escaped_of json) (take i xs) ≡ take i xs
     → escapes_by (escaped_of json) (take (i + 1) xs) ≡ take (i + 1) xs

@@ -1,4 +1,4 @@
--- The digits of the bytes of a list. (For `push_bytes`.)
+-- A lemma for `push_bytes`: the digits of the bytes of a list, one part after another.
 use Rattle.std.proofs.Common.{◌≡◌, ℕ, List, [], ◌∷◌, ◌++◌, refl}
 use Rattle.hex.specs.Hex.{encode_with, encode_lower}
 

@@ -1,4 +1,4 @@
--- The target of a step of a path. (Own.)
+-- The target to which one step of a path leads. (Own.)
 use Rattle.std.specs.Prelude.{ℕ, List, Result, Ok, Err}
 use Rattle.capn_words.specs.declared.space.Place.{Place}
 use Rattle.capn_target.specs.declared.target.Target.{Target}
@@ -9,23 +9,23 @@ use Rattle.capn_target.specs.Target.{target}
 use Rattle.capn_walk.specs.Accepted.{root}
 use Rattle.capn_walk.specs.View.{step_place, row_of}
 
--- the place at which the target of a pointer begins: in a list of structs that is its tag
+-- The place at which a target begins. In a list of structs, its tag is there.
 abbrev pub begin : Target → Place
 begin (targets.Content s w shape pads) = record { segment = s; word = w }
 begin _ = root
 
--- the target of a pointer, if it has one
+-- The target of a pointer, or null if it has none.
 abbrev pub named_by : Result Target Fault → Target
 named_by (Ok found) = found
 named_by (Err e) = targets.Nil
 
--- one step below the target of a pointer: the slot of a number, or the place at which the row begins
+-- The place one step below a target: of slot `i`, or of the beginning of row `i`.
 abbrev pub step_at : Target → ℕ → Place
 step_at (targets.Content s w (shapes.Rows n a b span) pads) i =
     begin (row_of (targets.Content s w (shapes.Rows n a b span) pads) i)
 step_at found i = step_place found i
 
--- the target there, in a message
+-- The target one step below a target.
 abbrev pub step_to : List (List ℕ) → Target → ℕ → Target
 step_to m (targets.Content s w (shapes.Rows n a b span) pads) i =
     row_of (targets.Content s w (shapes.Rows n a b span) pads) i

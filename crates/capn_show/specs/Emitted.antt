@@ -1,4 +1,5 @@
--- The text of a message's values by a rule: what stands before each item, and its pieces. (Own.)
+-- The text that an emitter writes for the values of a message, by its rule: a mark before each item, and the pieces.
+-- (Own.)
 use Rattle.std.specs.Prelude.{ℕ, zero, suc, ◌+◌, ◌*◌, Bool, false, List, [], ◌∷◌, ◌++◌, length, map, codes}
 use Rattle.std.specs.Prelude.{replicate, if◌then◌else◌}
 use Rattle.std.specs.Fmt.{decimal}
@@ -18,9 +19,10 @@ use Rattle.capn_show.specs.Quoting.{is_text, quoted_line}
 use Rattle.capn_show.specs.declared.piece.Piece.{Piece}
 use Rattle.capn_show.specs.declared.piece.Piece.TheVariants as pieces
 
--- true if a list of bytes is written as a text, and that text at a level; the byte at which a word of a message lies;
--- the path to the value of a number below another; what stands before an item, by how many come before it, the byte of
--- its subject and the path to it; and each other piece, at a level
+-- A rule of an emitter. `is_text` is true if a list of bytes is written as a text, and `text` is that text at a level.
+-- `lies` is the byte at which a word of a message lies, and `below` the path to an item of this number. `mark` is the
+-- text before an item: by the number of items before it, the byte of its subject, and the path to it. `piece` is the
+-- text of any other piece at a level.
 pub record Rule : Type 0 where
   pub is_text : List ℕ → Bool
   pub text : ℕ → List ℕ → List ℕ
@@ -31,7 +33,7 @@ pub record Rule : Type 0 where
 
 -- ---- lines
 
--- the pieces of lines: nothing stands between them
+-- The text of each piece in lines. Pieces that separate or close others are empty.
 abbrev pub line_piece : ℕ → Piece → List ℕ
 line_piece level pieces.Nil = line level (codes "null")
 line_piece level (pieces.Cap k) = line level (named (codes "capability") k)
@@ -50,11 +52,11 @@ line_piece level pieces.Digits = replicate (2 * level) 32
 line_piece level pieces.EndDigits = 10 ∷ []
 line_piece level _ = []
 
--- true if a list of bytes is a text that is written between quotes, if that is asked for
+-- True if a list of bytes is a text, and texts are written between quotes (`quoted`).
 abbrev pub is_quoted : Bool → List ℕ → Bool
 is_quoted quoted xs = if quoted then is_text xs else false
 
--- of lines, by whether texts are written between quotes, where words lie, the paths, and the marks
+-- The rule of lines. `quoted` says whether texts are written between quotes. The other arguments are parts of the rule.
 abbrev pub line_rule : Bool → (List (List ℕ) → Place → ℕ) → (List ℕ → ℕ → List ℕ) → (ℕ → List ℕ → List ℕ) → Rule
 line_rule quoted lies below mark = record {
   is_text = is_quoted quoted;
@@ -65,49 +67,49 @@ line_rule quoted lies below mark = record {
   piece = line_piece;
 }
 
--- of lines without marks
+-- The rule of lines without marks.
 abbrev pub plain_rule : Bool → Rule
 plain_rule quoted = line_rule quoted (λ m at. 0) (λ path i. path) (λ byte path. [])
 
 -- ---- lists without pointers
 
 module _ (rule : Rule) where
-  -- each item by its piece, from one number on: the first of them lies at a byte, and each takes this many bytes;
-  -- and what closes them
+  -- The mark and the piece of each item, from item `i` on, and the piece `end`. The first item lies at the byte
+  -- `first`, and each takes `size` bytes.
   abbrev pub emitted_items : ℕ → (ℕ → List ℕ) → List ℕ → List ℕ → ℕ → ℕ → List ℕ → List ℕ
   emitted_items size piece_of end path i first [] = end
   emitted_items size piece_of end path i first (x ∷ xs) =
       rule.mark i first path ++ (piece_of x ++ emitted_items size piece_of end path (suc i) (first + size) xs)
 
-  -- data words, of which the first lies at a byte
+  -- The data words from the byte `first` on.
   abbrev pub emitted_words : ℕ → List ℕ → ℕ → List ℕ → List ℕ
   emitted_words level path first =
       emitted_items 8 (λ w. rule.piece level (pieces.Word w)) (rule.piece level pieces.EndWords) path 0 first
 
-  -- numbers of a width, each of which takes this many bytes
+  -- Numbers of a width, each of `size` bytes.
   abbrev pub emitted_each : Width → ℕ → ℕ → List ℕ → ℕ → List ℕ → List ℕ
   emitted_each width size level path first =
       emitted_items size (λ n. rule.piece level (pieces.Number width n)) (rule.piece level pieces.EndItems) path 0 first
 
-  -- the digits of a list whose first element lies at a byte
+  -- The line of the digits of a list whose first element lies at the byte `first`.
   abbrev pub emitted_digits : ℕ → List ℕ → ℕ → ℕ → List ℕ → List ℕ
   emitted_digits level path first zero digits = rule.piece level pieces.NoDigits
   emitted_digits level path first (suc n) digits =
       rule.mark 0 first path
       ++ (rule.piece level pieces.Digits ++ (digits ++ rule.piece level pieces.EndDigits))
 
-  -- a list of bytes in digits
+  -- A list of bytes in digits.
   abbrev pub digit_lines : ℕ → List ℕ → ℕ → List ℕ → List ℕ
   digit_lines level path first xs =
       rule.piece level (pieces.Bytes (length xs))
       ++ emitted_digits (level + 1) path first (length xs) (encode_lower xs)
 
-  -- a text, or the digits of bytes that are none
+  -- A list of bytes: as a text if the rule says so, and in digits otherwise.
   abbrev pub text_or_digits : ℕ → List ℕ → ℕ → List ℕ → List ℕ
   text_or_digits level path first xs =
       if rule.is_text xs then rule.text level xs else digit_lines level path first xs
 
-  -- a list of numbers, behind its mark
+  -- A list of numbers, behind its mark.
   abbrev pub emitted_numbers : NumberWidth → ℕ → List ℕ → ℕ → List ℕ → List ℕ
   emitted_numbers bit level path first xs =
       rule.piece level (pieces.Bits (length xs))
@@ -124,7 +126,7 @@ module _ (rule : Rule) where
 
 module _ (m : List (List ℕ)) (rule : Rule) where
   abbrev mutual
-    -- the text of the target of a pointer, at a level and a path, behind its mark, with all below
+    -- The text of the value with the target `found`, behind its mark, with everything below.
     pub emitted : ℕ → List ℕ → Target → Tree → List ℕ
     emitted level path found nil = rule.piece level pieces.Nil
     emitted level path found (node ws ss) =
@@ -139,7 +141,8 @@ module _ (m : List (List ℕ)) (rule : Rule) where
         rule.piece level (pieces.Rows (count_rows bs)) ++ emitted_rows (level + 1) path (row_of found) 0 bs
     emitted level path found (cap k) = rule.piece level (pieces.Cap k)
 
-    -- slots at these places, from one number on, and what closes them: the mark is that of the slot
+    -- The texts of the values in slots, from item `i` on, and the piece that closes them. `place` gives the place of
+    -- each slot, which is where its mark says that it lies.
     pub emitted_slots : ℕ → List ℕ → (ℕ → Place) → ℕ → Trees → List ℕ
     emitted_slots level path place i no_trees = rule.piece level pieces.EndItems
     emitted_slots level path place i (tree t ts) =
@@ -147,7 +150,7 @@ module _ (m : List (List ℕ)) (rule : Rule) where
         ++ emitted level (rule.below path i) (named_by (target m (place i))) t)
         ++ emitted_slots level path place (suc i) ts
 
-    -- these rows, from one number on, and what closes them: the mark says where the row begins
+    -- The texts of rows, from item `i` on, and the piece that closes them. Each mark says where its row begins.
     pub emitted_rows : ℕ → List ℕ → (ℕ → Target) → ℕ → Bodies → List ℕ
     emitted_rows level path row i no_bodies = rule.piece level pieces.EndItems
     emitted_rows level path row i (body ws ss bs) =
@@ -157,11 +160,11 @@ module _ (m : List (List ℕ)) (rule : Rule) where
         ++ emitted_slots (level + 1) (rule.below path i) (step_place (row i)) 0 ss)))
         ++ emitted_rows level path row (suc i) bs
 
-  -- a struct, behind its mark
+  -- The text of a struct, behind its mark.
   abbrev pub emitted_body : ℕ → List ℕ → Target → List ℕ → Trees → List ℕ
   emitted_body level path found ws ss = emitted level path found (node ws ss)
 
-  -- the value in the slot of a number
+  -- The mark and the text of the value in the slot at `at`, which is item `i` of its object.
   abbrev pub emitted_slot : ℕ → ℕ → List ℕ → Place → Tree → List ℕ
   emitted_slot level i path at t =
       rule.mark i (rule.lies m at) path ++ emitted level path (named_by (target m at)) t

@@ -1,4 +1,4 @@
--- The places whose text an emitter writes, and the growth of a text by it.
+-- Statements `Says` on the text that an emitter writes for a place of a message, such as that it is added to a text.
 use Rattle.std.specs.Prelude.{◌≡◌, ℕ, ◌+◌, ◌*◌, List, ◌++◌, length}
 use Rattle.capn_words.specs.declared.space.Place.{Place}
 use Rattle.capn_value.specs.Tree.{Tree, Trees, Bodies, count, count_rows}
@@ -9,7 +9,7 @@ use Rattle.capn_show.specs.Descent.{begin}
 use Rattle.capn_show.specs.Emitted.{Rule, emitted, emitted_body, emitted_rows, emitted_slot, emitted_slots}
 use Rattle.capn_show.specs.ReadyPlaces.{struct_at, AreDataWords, AreSlots, AreRowsAt}
 
--- an emitter has the rule, the path and the messages of another
+-- The emitter `new` has the rule and the path of the emitter `old`, and is one for the same messages.
 module _ {E : Type 0} (rule_of : E → Rule) (path_of : E → List ℕ) (is_of : E → List (List ℕ) → Type 0) where
   pub record Keeps (old new : E) : Type 0 where
     pub rule : rule_of new ≡ rule_of old
@@ -17,15 +17,15 @@ module _ {E : Type 0} (rule_of : E → Rule) (path_of : E → List ℕ) (is_of :
     pub of : (m : List (List ℕ)) → is_of old m → is_of new m
 
 module _ (m : List (List ℕ)) where
-  -- of the text of data words, by how it is made
+  -- `Says` holds of the text that `text` makes of the `number` data words at word `w` of segment `s`.
   abbrev pub WordsEmitted : ℕ → ℕ → ℕ → (List ℕ → List ℕ) → (List ℕ → Type 0) → Type 0
   WordsEmitted s w number text Says = (ws : List ℕ) → AreDataWords m s w ws → length ws ≡ number → Says (text ws)
 
-  -- of the text of the value at a place, the item of a number
+  -- `Says` holds of the mark and the text of the value in the slot at `at`, which is item `i` of its object.
   abbrev pub IsEmitted : Rule → ℕ → ℕ → List ℕ → Place → (List ℕ → Type 0) → Type 0
   IsEmitted rule level i path at Says = (v : Tree) → IsAt m at v → Says (emitted_slot m rule level i path at v)
 
-  -- of that of a row, the item of a number
+  -- `Says` holds of the mark and the text of the row at word `w` of segment `s`, which is item `i` of its list.
   abbrev pub IsRowEmitted : Rule → ℕ → ℕ → List ℕ → ℕ → ℕ → ℕ → ℕ → (List ℕ → Type 0) → Type 0
   IsRowEmitted rule level i path s w a b Says =
       (ws : List ℕ) (ss : Trees) → ShowsStruct m (struct_at s w a b) ws ss
@@ -33,21 +33,21 @@ module _ (m : List (List ℕ)) where
       ++ emitted_body m rule level path (struct_at s w a b) ws ss)
 
   module _ (rule : Rule) (level : ℕ) (path : List ℕ) where
-    -- of the text of the value which a pointer names, behind its mark
+    -- `Says` holds of the text of the value with the target `found`, behind its mark.
     abbrev pub IsFoundEmitted : Target → (List ℕ → Type 0) → Type 0
     IsFoundEmitted found Says = (v : Tree) → Shows m found v → Says (emitted m rule level path found v)
 
-    -- of that of a struct, behind its mark
+    -- `Says` holds of the text of the struct at word `w` of segment `s`, behind its mark.
     abbrev pub IsBodyEmitted : ℕ → ℕ → ℕ → ℕ → (List ℕ → Type 0) → Type 0
     IsBodyEmitted s w a b Says = (ws : List ℕ) (ss : Trees) → ShowsStruct m (struct_at s w a b) ws ss
         → Says (emitted_body m rule level path (struct_at s w a b) ws ss)
 
-    -- of those of slots
+    -- `Says` holds of the texts of the values in the `number` slots that begin at word `w` of segment `s`.
     abbrev pub AreEmitted : ℕ → ℕ → ℕ → (List ℕ → Type 0) → Type 0
     AreEmitted s w number Says = (ts : Trees) → AreSlots m s w ts → count ts ≡ number
         → Says (emitted_slots m rule level path (λ i. record { segment = s; word = w + i }) 0 ts)
 
-    -- of those of rows
+    -- `Says` holds of the texts of the `number` rows that begin at word `w` of segment `s`.
     abbrev pub RowsEmitted : ℕ → ℕ → ℕ → ℕ → ℕ → (List ℕ → Type 0) → Type 0
     RowsEmitted s w number a b Says = (bs : Bodies) → AreRowsAt m s w a b bs → count_rows bs ≡ number
         → Says (emitted_rows m rule level path (λ i. struct_at s (w + i * (a + b)) a b) 0 bs)

@@ -7,51 +7,52 @@ use Rattle.capn_value.specs.Tree.{Tree, nil, node, voids, numbers, links, rows, 
 use Rattle.capn_value.specs.Tree.{no_trees, tree, Bodies, no_bodies, body}
 use Rattle.capn_value.specs.Text.{hex16, digits_of, numbers_name}
 
--- between quotes
+-- A text between quotes.
 abbrev pub quoted : List ℕ → List ℕ
 quoted text = 34 ∷ (text ++ 34 ∷ [])
 
--- each after a comma
+-- The texts one after the other, each behind a comma.
 abbrev pub after_commas : List (List ℕ) → List ℕ
 after_commas [] = []
 after_commas (x ∷ xs) = 44 ∷ (x ++ after_commas xs)
 
--- with commas between them
+-- The texts one after the other, with commas between them.
 abbrev pub with_commas : List (List ℕ) → List ℕ
 with_commas [] = []
 with_commas (x ∷ xs) = x ++ after_commas xs
 
--- an array, by the texts of its items
+-- An array with items of these texts.
 abbrev pub array : List (List ℕ) → List ℕ
 array xs = 91 ∷ (with_commas xs ++ 93 ∷ [])
 
--- an object of one member
+-- An object with one member.
 abbrev pub member : List ℕ → List ℕ → List ℕ
 member name value = 123 ∷ (quoted name ++ (58 ∷ (value ++ 125 ∷ [])))
 
--- a data word, and a number that a reader might round: as texts
+-- The string of a data word, and of a number that a reader of JSON might round.
 abbrev pub word_text : ℕ → List ℕ
 word_text w = quoted (hex16 w)
 
 abbrev pub number_text : ℕ → List ℕ
 number_text n = quoted (decimal n)
 
--- a struct, by its words and the texts of its slots
+-- A struct with the data words `ws` and slots of these texts.
 abbrev pub struct_text : List ℕ → List (List ℕ) → List ℕ
 struct_text ws slots =
     codes "{\"words\":" ++ (array (map word_text ws) ++ (codes ",\"slots\":" ++ (array slots ++ codes "}")))
 
--- the numbers of a list other than of bytes, by their width: digits for bits, else an array
+-- The numbers of a list other than one of bytes: a string of digits for bits, and an array for the others.
 abbrev pub numbers_text : NumberWidth → List ℕ → List ℕ
 numbers_text bit xs = quoted (digits_of (map is_set xs))
 numbers_text oct xs = array (map number_text xs)
 numbers_text _ xs = array (map decimal xs)
 
--- a list of bytes in digits
+-- A list of bytes as a string of digits.
 abbrev pub digits_json : List ℕ → List ℕ
 digits_json xs = member (codes "bytes") (quoted (encode_lower xs))
 
--- a value: null, or an object that is named after its kind; by how a list of bytes is written
+-- The JSON of a value, which is null or an object named after the kind of the value. `bytes_json` gives that of a list
+-- of bytes.
 module _ (bytes_json : List ℕ → List ℕ) where
   abbrev mutual
     pub json_by : Tree → List ℕ
@@ -64,21 +65,21 @@ module _ (bytes_json : List ℕ → List ℕ) where
     json_by (rows bs) = member (codes "rows") (array (each_row_by bs))
     json_by (cap k) = member (codes "capability") (decimal k)
 
-    -- the JSON of each tree
+    -- The JSON of each tree.
     pub each_json_by : Trees → List (List ℕ)
     each_json_by no_trees = []
     each_json_by (tree t ts) = json_by t ∷ each_json_by ts
 
-    -- the JSON of each row, as of a struct
+    -- The JSON of each row, which is that of a struct.
     pub each_row_by : Bodies → List (List ℕ)
     each_row_by no_bodies = []
     each_row_by (body ws ss bs) = struct_text ws (each_json_by ss) ∷ each_row_by bs
 
--- with each list of bytes in digits
+-- The JSON of a value in which each list of bytes is a string of digits.
 abbrev pub json_of : Tree → List ℕ
 json_of = json_by digits_json
 
--- a line, by how a list of bytes is written
+-- The JSON of a value as a line, where `bytes_json` gives the JSON of a list of bytes.
 abbrev pub json_line_by : (List ℕ → List ℕ) → Tree → List ℕ
 json_line_by bytes_json t = json_by bytes_json t ++ 10 ∷ []
 

@@ -1,4 +1,4 @@
--- Lists of bytes that are written as texts in JSON. (RFC 3629 for UTF-8, RFC 8259 for the bytes that are escaped.)
+-- Lists of bytes that are written as strings in JSON. (RFC 3629 for UTF-8, RFC 8259 for the bytes that are escaped.)
 use Rattle.std.specs.Prelude.{◌≡◌, ℕ, ◌-◌, List, [], ◌∷◌, ◌++◌, length, take, codes, Bool, true, false, not}
 use Rattle.std.specs.Prelude.{◌&&◌, ◌||◌, ◌==◌}
 use Rattle.std.specs.Prelude.{nat_le, if◌then◌else◌, refl}
@@ -7,15 +7,15 @@ use Rattle.hex.specs.Hex.{encode_with}
 use Rattle.capn_show.specs.Json.{member, quoted, digits_json}
 use Rattle.capn_show.specs.Quoting.{escapes_by}
 
--- a control character of one byte, but tab, newline and carriage return: U+0000 to U+001F, U+007F
+-- True if `b` is a control character other than tab, newline and carriage return: U+0000 to U+001F, or U+007F.
 abbrev pub is_control : ℕ → Bool
 is_control b = (nat_le b 31 && not (b == 9 || (b == 10 || b == 13))) || b == 127
 
--- one of two bytes: U+0080 to U+009F
+-- True if the bytes `b` and `c` of a UTF-8 text are a control character from U+0080 to U+009F.
 abbrev pub is_long_control : ℕ → ℕ → Bool
 is_long_control b c = b == 194 && nat_le c 159
 
--- true if such a character stands in a text in UTF-8
+-- True if a text in UTF-8 has a control character other than tab, newline and carriage return.
 abbrev pub has_control : List ℕ → Bool
 has_control [] = false
 has_control (b ∷ []) = is_control b
@@ -27,19 +27,19 @@ ends_in_zero [] = false
 ends_in_zero (b ∷ []) = b == 0
 ends_in_zero (b ∷ c ∷ bs) = ends_in_zero (c ∷ bs)
 
--- the bytes before the last one
+-- The bytes before the last one.
 abbrev pub before_last : List ℕ → List ℕ
 before_last xs = take (length xs - 1) xs
 
--- true if bytes are well-formed UTF-8 without control characters
+-- True if the bytes are well-formed UTF-8 without control characters other than tab, newline and carriage return.
 abbrev pub is_clear : List ℕ → Bool
 is_clear xs = is_utf8 xs && not (has_control xs)
 
--- a text: its last byte is zero, and those before it are so
+-- True if the bytes are a text: the last one is zero, and those before it are clear.
 abbrev pub is_json_text : List ℕ → Bool
 is_json_text xs = ends_in_zero xs && is_clear (before_last xs)
 
--- a byte of a text as it is written between quotes
+-- The bytes that stand between quotes for the byte `b` of a text.
 abbrev pub json_escaped : ℕ → List ℕ
 json_escaped b =
     if b == 34 then 92 ∷ 34 ∷ [] else if b == 92 then 92 ∷ 92 ∷ [] else if b == 9 then 92 ∷ 116 ∷ []
@@ -48,11 +48,11 @@ json_escaped b =
 abbrev pub json_escapes : List ℕ → List ℕ
 json_escapes = escapes_by json_escaped
 
--- a text without its zero
+-- The JSON of a text, which leaves out its last byte.
 abbrev pub text_json : List ℕ → List ℕ
 text_json xs = member (codes "text") (quoted (json_escapes (before_last xs)))
 
--- a list of bytes: a text, or the digits of bytes that are none
+-- The JSON of a list of bytes: a string if it is a text, and its digits otherwise.
 abbrev pub text_or_digits : List ℕ → List ℕ
 text_or_digits xs = if is_json_text xs then text_json xs else digits_json xs
 

@@ -1,4 +1,4 @@
--- The text of a tree by how lists of bytes are written: as digits, or those of printable bytes between quotes. (Own.)
+-- The text of a tree in lines, where lists of bytes are written as digits, or between quotes if they are texts. (Own.)
 use Rattle.std.specs.Prelude.{◌≡◌, ℕ, ◌+◌, List, [], ◌∷◌, ◌++◌, length, codes, Bool, true, false, ◌&&◌, ◌||◌, ◌==◌}
 use Rattle.std.specs.Prelude.{nat_le, if◌then◌else◌, refl}
 use Rattle.hex.specs.Hex.{encode_lower}
@@ -7,21 +7,21 @@ use Rattle.capn_value.specs.Tree.{Tree, nil, node, voids, numbers, links, rows, 
 use Rattle.capn_value.specs.Tree.{no_trees, tree, Bodies, no_bodies, body, count, count_rows}
 use Rattle.capn_value.specs.Text.{line, named, one_line, body_line, word_lines, numbers_name, numbers_lines}
 
--- a byte from 0x20 to 0x7e
+-- True if `b` is from 0x20 to 0x7e.
 abbrev pub is_printable : ℕ → Bool
 is_printable b = nat_le 32 b && nat_le b 126
 
--- bytes each of which is printable, except that the last may be zero
+-- True if the bytes are a text: there is at least one, and each is printable, except that the last may be zero.
 abbrev pub is_text : List ℕ → Bool
 is_text [] = false
 is_text (b ∷ []) = is_printable b || b == 0
 is_text (b ∷ c ∷ bs) = is_printable b && is_text (c ∷ bs)
 
--- a byte of a text as it is written between quotes
+-- The bytes that stand between quotes for the byte `b` of a text.
 abbrev pub escaped : ℕ → List ℕ
 escaped b = if b == 34 then 92 ∷ 34 ∷ [] else if b == 92 then 92 ∷ 92 ∷ [] else if b == 0 then 92 ∷ 48 ∷ [] else b ∷ []
 
--- bytes, by how one of them is written
+-- The bytes that stand between quotes for a text, where `escaped_as` gives those of one byte.
 module _ (escaped_as : ℕ → List ℕ) where
   abbrev pub escapes_by : List ℕ → List ℕ
   escapes_by [] = []
@@ -30,20 +30,20 @@ module _ (escaped_as : ℕ → List ℕ) where
 abbrev pub escapes : List ℕ → List ℕ
 escapes = escapes_by escaped
 
--- the lines of a list of bytes: digits below its first line
+-- The lines of a list of bytes in digits: its first line, and the digits below it.
 abbrev pub plain_bytes : ℕ → List ℕ → List ℕ
 plain_bytes level xs =
     line level (named (codes "bytes") (length xs)) ++ one_line (level + 1) (length xs) (encode_lower xs)
 
--- a text on one line
+-- The line of a list of bytes that is a text, with the text between quotes.
 abbrev pub quoted_line : ℕ → List ℕ → List ℕ
 quoted_line level xs = line level (named (codes "bytes") (length xs) ++ 32 ∷ 34 ∷ (escapes xs ++ 34 ∷ []))
 
--- a text on one line, or the digits of bytes that are none
+-- The lines of a list of bytes: between quotes if it is a text, and in digits otherwise.
 abbrev pub quoted_bytes : ℕ → List ℕ → List ℕ
 quoted_bytes level xs = if is_text xs then quoted_line level xs else plain_bytes level xs
 
--- the text of a tree, by how a list of bytes is written
+-- The lines of a tree, where `bytes_at` gives those of a list of bytes.
 module _ (bytes_at : ℕ → List ℕ → List ℕ) where
   abbrev mutual
     pub shown_by : ℕ → Tree → List ℕ

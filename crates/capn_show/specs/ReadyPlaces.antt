@@ -1,4 +1,4 @@
--- The values at places of a message whose text is written, and the growth of a text by it.
+-- The values at places of a message whose text is to be written, and statements on the text that is written for them.
 use Rattle.std.specs.Prelude.{◌≡◌, ℕ, ◌+◌, ◌*◌, ◌<◌, ◌≤◌, List, Bool, ◌++◌, length, map, slice_index, ⊤, Option}
 use Rattle.std.specs.Prelude.{Some, [], ◌∷◌, codes, replicate, true, false, ◌||◌, ◌==◌}
 use Rattle.std.specs.Fmt.{decimal}
@@ -25,136 +25,137 @@ use Rattle.capn_show.specs.declared.fault.ShowFault.TheVariants as ends
 use Rattle.capn_show.specs.declared.fault.Broken.{Broken}
 use Rattle.capn_show.specs.declared.fault.Broken.TheVariants as broken
 
--- the fault of a text that breaks off
+-- The fault of a text that breaks off for this reason.
 abbrev pub as_fault : Broken → ShowFault
 as_fault broken.Io = ends.Io
 as_fault broken.Memory = ends.Memory
 
--- elements that a word holds as numbers
+-- A word holds elements of this width as numbers.
 abbrev pub HasNumbers : Width → Type 0
 HasNumbers W0 = ⊥
 HasNumbers Link = ⊥
 HasNumbers Rows = ⊥
 HasNumbers _ = ⊤
 
--- a struct of a words and b slots whose content starts at a word
+-- The target of a struct of `a` data words and `b` slots that starts at word `w` of segment `s`.
 abbrev pub struct_at : ℕ → ℕ → ℕ → ℕ → Target
 struct_at s w a b = targets.Content s w (shapes.Node a b) 0
 
--- the text of a list of bytes, by whether a text is put between quotes
+-- The text of a list of bytes. The first argument says whether a text is written between quotes.
 abbrev pub bytes_of : Bool → ℕ → List ℕ → List ℕ
 bytes_of false = plain_bytes
 bytes_of true = quoted_bytes
 
--- the text of a byte between quotes, by whether that is in JSON
+-- The bytes that stand between quotes for a byte of a text, in JSON if the first argument is true, else in lines.
 abbrev pub escaped_of : Bool → ℕ → List ℕ
 escaped_of false = escaped
 escaped_of true = json_escaped
 
--- true if a byte of a text is escaped between quotes
+-- True if the byte `b` of a text is escaped between quotes, in JSON if the first argument is true, else in lines.
 abbrev pub is_escaped : Bool → ℕ → Bool
 is_escaped false b = b == 34 || (b == 92 || b == 0)
 is_escaped true b = b == 34 || (b == 92 || (b == 9 || (b == 10 || b == 13)))
 
--- JSON, by whether lists of bytes that are texts are written so
+-- The style of JSON. The argument says whether a list of bytes that is a text is written as a string.
 abbrev pub json_style : Bool → Style
 json_style false = styles.Json
 json_style true = styles.JsonText
 
--- the beginning of the line of this number of bytes, up to the first quote of their text
+-- The first part of the line of a list of `n` bytes, up to the first quote of their text.
 abbrev pub quoted_front : ℕ → ℕ → List ℕ
 quoted_front level n = replicate (2 * level) 32 ++ (codes "bytes " ++ ((decimal n ++ 32 ∷ []) ++ 34 ∷ []))
 
 module _ (m : List (List ℕ)) where
   -- ---- the values there
 
-  -- these words begin at a word
+  -- The data words at word `w` of segment `s` begin with `ws`.
   abbrev pub AreDataWords : ℕ → ℕ → List ℕ → Type 0
   AreDataWords s w ws = (i : ℕ) → i < length ws → slice_index (words_from m s w) i ≡ slice_index ws i
 
-  -- these are the first elements of a list whose content starts at a word
+  -- The list whose content starts at word `w` of segment `s` begins with the elements `xs`.
   abbrev pub AreNumbers : ℕ → ℕ → Width → List ℕ → Type 0
   AreNumbers s w width xs = (i : ℕ) → i < length xs → number_in width (words_from m s w) i ≡ slice_index xs i
 
-  -- these values are in slots, one after the other
+  -- The values `ts` are in the slots that begin at word `w` of segment `s`.
   abbrev pub AreSlots : ℕ → ℕ → Trees → Type 0
   AreSlots s w ts = (i : ℕ) → i < count ts → IsAt m (record { segment = s; word = w + i }) (tree_at ts i)
 
-  -- these rows of a words and b slots follow one another
+  -- The rows `bs`, of `a` data words and `b` slots each, begin at word `w` of segment `s`.
   abbrev pub AreRowsAt : ℕ → ℕ → ℕ → ℕ → Bodies → Type 0
   AreRowsAt s w a b bs = (i : ℕ) → i < count_rows bs
       → ShowsStruct m (struct_at s (w + i * (a + b)) a b) (words_of_row bs i) (slots_of_row bs i)
 
   -- ---- that there is something to show, at most this number of objects high
 
-  -- a value is at a place
+  -- A value of a height of at most `depth` is at `at`.
   pub record IsReady (at : Place) (depth : ℕ) : Type 0 where
     pub value : Tree
     pub is : IsAt m at value
     pub low : height value ≤ depth
 
-  -- a pointer names a value
+  -- The target `found` has a value of a height of at most `depth`.
   pub record IsFound (found : Target) (depth : ℕ) : Type 0 where
     pub value : Tree
     pub is : Shows m found value
     pub low : height value ≤ depth
 
-  -- a struct begins at a word
+  -- A struct of `a` data words and `b` slots is at word `w` of segment `s`, and its slots have values of a height of at
+  -- most `depth`.
   pub record IsBody (s w a b depth : ℕ) : Type 0 where
     pub words : List ℕ
     pub slots : Trees
     pub is : ShowsStruct m (struct_at s w a b) words slots
     pub low : greatest slots ≤ depth
 
-  -- values are in this number of slots
+  -- The `number` slots from word `w` of segment `s` on have values of a height of at most `depth`.
   pub record AreReady (s w number depth : ℕ) : Type 0 where
     pub values : Trees
     pub are : AreSlots s w values
     pub count : count values ≡ number
     pub low : greatest values ≤ depth
 
-  -- this number of rows follow one another
+  -- The `number` rows from word `w` of segment `s` on have values of a height of at most `depth` in their slots.
   pub record AreRows (s w number a b depth : ℕ) : Type 0 where
     pub values : Bodies
     pub are : AreRowsAt s w a b values
     pub count : count_rows values ≡ number
     pub low : greatest_in_rows values ≤ depth
 
-  -- a value is at a place
+  -- A value is at `at`.
   abbrev pub Holds : Place → Type 0
   Holds at = (v : Tree) × IsAt m at v
 
-  -- a pointer names a value
+  -- The target `found` has a value.
   abbrev pub HasValue : Target → Type 0
   HasValue found = (v : Tree) × Shows m found v
 
-  -- the value below another is that of the target of a pointer, and is no higher
+  -- The value `below` another, `v`, is there, is that of the target `found`, and is no higher than `v`.
   pub record LeadsTo (v : Tree) (below : Option Tree) (found : Target) : Type 0 where
     pub value : Tree
     pub is : below ≡ Some value
     pub shown : Shows m found value
     pub low : height value ≤ height v
 
-  -- ---- statements on the text, as that it is added, or breaks off, by the writing of lists of bytes
+  -- ---- statements `Says` on a text, such as that it is added, by the way in which lists of bytes are written
 
-  -- of that of the value which a pointer names
+  -- `Says` holds of the text of the value with the target `found`.
   abbrev pub IsFoundShown : (ℕ → List ℕ → List ℕ) → Target → ℕ → (List ℕ → Type 0) → Type 0
   IsFoundShown by found level Says = (v : Tree) → Shows m found v → Says (shown_by by level v)
 
-  -- of that of numbers, by how their text is made
+  -- `Says` holds of the text that `text` makes of the `number` numbers of the list at word `w` of segment `s`.
   abbrev pub NumbersShown : ℕ → ℕ → Width → ℕ → (List ℕ → List ℕ) → (List ℕ → Type 0) → Type 0
   NumbersShown s w width number text Says = (xs : List ℕ) → AreNumbers s w width xs → length xs ≡ number
       → Says (text xs)
 
-  -- of that of bits, by how their text is made
+  -- `Says` holds of the text that `text` makes of the `number` bits of the list at word `w` of segment `s`.
   abbrev pub BitsShown : ℕ → ℕ → ℕ → (List Bool → List ℕ) → (List ℕ → Type 0) → Type 0
   BitsShown s w number text Says = (xs : List Bool) → AreNumbers s w W1 (map from_bool xs) → length xs ≡ number
       → Says (text xs)
 
-  -- of that of the target of a pointer, in a style
+  -- `Says` holds of the text of the value with the target `found`, in a style.
   abbrev pub IsThereShown : Style → Target → (List ℕ → Type 0) → Type 0
   IsThereShown style found Says = (v : Tree) → Shows m found v → Says (part_in style (Some v))
 
-  -- of that of the part at a path from the root
+  -- `Says` holds of the text of the part at a path from the root, in a style.
   abbrev pub IsPartShown : Style → List ℕ → (List ℕ → Type 0) → Type 0
   IsPartShown style path Says = (v : Tree) → IsAt m root v → Says (styled style path v)

@@ -1,4 +1,4 @@
--- The text of the part at a path of numbers from a value, in a style. (Own.)
+-- The text of the part of a value at a path of numbers, in a style. (Own.)
 use Rattle.std.specs.Prelude.{◌≡◌, ℕ, List, [], ◌∷◌, ◌++◌, Option, Some, None, codes, refl}
 use Rattle.std.specs.Str.{chars, is_utf8}
 use Rattle.capn_value.specs.NumberWidth.{byte}
@@ -11,7 +11,7 @@ use Rattle.capn_show.specs.JsonTexts.{text_or_digits}
 use Rattle.capn_show.specs.declared.style.Style.{Style}
 use Rattle.capn_show.specs.declared.style.Style.TheVariants as styles
 
--- the text of a part, in a style: one line if nothing is there
+-- The text of a part in a style. If there is no part, it is one line.
 abbrev pub part_in : Style → Option Tree → List ℕ
 part_in styles.Lines part = part_text part
 part_in styles.Quoted None = line 0 (codes "none")
@@ -21,11 +21,11 @@ part_in styles.Json (Some t) = json_line t
 part_in styles.JsonText None = 10 ∷ []
 part_in styles.JsonText (Some t) = json_line_by text_or_digits t
 
--- the text of the part at a path from a value, in a style
+-- The text of the part of `t` at `path`, in a style.
 abbrev pub styled : Style → List ℕ → Tree → List ℕ
 styled style path t = part_in style (at_path t path)
 
--- a slot with the bytes of a text
+-- A struct with one slot, which has the bytes of a text.
 abbrev with_text : Tree
 with_text = node [] (tree (numbers byte (104 ∷ 34 ∷ 0 ∷ [])) no_trees)
 

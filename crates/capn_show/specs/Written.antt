@@ -1,4 +1,5 @@
--- The outcome for a message, of whose value a text is made. (Own.)
+-- The outcome of a call that adds the text of a message's value. `text_of` gives the text, which goes from `p` to `q`.
+-- (Own.)
 use Rattle.std.specs.Prelude.{◌≡◌, ◌⊎◌, ℕ, List}
 use Rattle.capn_value.specs.Tree.{Tree}
 use Rattle.capn_target.specs.declared.target.Fault.TheVariants as faults
@@ -11,19 +12,20 @@ use Rattle.capn_show.specs.declared.fault.Broken.{Broken}
 use Rattle.capn_show.specs.declared.fault.Broken.TheVariants as broken
 
 module _ (m : List (List ℕ)) (limits : Bounds) (text_of : Tree → List ℕ) where
-  -- it is accepted, and the text of its value is added
+  -- The message is accepted, and the text of its value was added.
   pub record IsWritten (p q : Outgoing) : Type 0 where
     pub value : Tree
     pub is : IsValueOf m limits value
     pub text : Adds p q (text_of value)
 
-  -- it is accepted, and the text of its value breaks off
+  -- The message is accepted, and the text of its value breaks off.
   pub record IsBegun (p q : Outgoing) (e : Broken) : Type 0 where
     pub value : Tree
     pub is : IsValueOf m limits value
     pub text : BreaksOff p q e (text_of value)
 
-  -- it is refused, or a survey was refused memory, and nothing is added; or the text of its value breaks off
+  -- The message is refused, or the survey was refused memory, and nothing was added. Or the message is accepted, and
+  -- the text of its value breaks off.
   abbrev pub IsUnwritten : ShowFault → Outgoing → Outgoing → Type 0
   IsUnwritten (ends.Stopped s) p q = (q ≡ p)
       × ((s.fault ≡ faults.Memory) ⊎ IsWalkRefused m limits s.fault s.place s.paid s.visits)

@@ -1,4 +1,4 @@
-//! Lists of bits: their digits on one line.
+//! Lists of bits, whose digits are written on one line.
 
 ghost use Rattle.std.specs.Prelude.{length, IfErr, OnOk};
 ghost use Rattle.capn_words.specs.Message.{IsMessage};
@@ -20,8 +20,8 @@ use capn_words::{Place, Space, Watched, Width};
 use std::alloc::Allocator;
 use std::io::Write;
 
-/// Appends the digits of the list of `count` bits at `start` to `text`, at this `level`, with their mark, and what
-/// stands before and behind them.
+/// Appends the digits of the list of `count` bits at `start` to `text`, at this `level`. The emitter's mark and its
+/// pieces before and behind the digits are written with them. An empty list gets the piece `NoDigits` alone.
 pub fn show_bits<S: Space, W: Write, A: Allocator, E: Emitter>(
     text: &mut Vec<u8, A>,
     writer: &mut Watched<W>,
@@ -52,7 +52,7 @@ pub fn show_bits<S: Space, W: Write, A: Allocator, E: Emitter>(
     emitter.put_piece(text, writer, level, Piece::EndDigits)
 }
 
-/// Appends the digits of the list of `count` bits at `start` to `text`, those of a word at a time.
+/// Appends the digits of the list of `count` bits at `start` to `text`, a word of the message at a time.
 pub fn push_bits<S: Space, W: Write, A: Allocator>(
     text: &mut Vec<u8, A>,
     writer: &mut Watched<W>,

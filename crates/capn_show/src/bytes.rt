@@ -1,4 +1,4 @@
-//! Lists of bytes: digits, or a text between quotes.
+//! The text of a list of bytes, which is its digits, or a text between quotes.
 
 ghost use Rattle.std.specs.Prelude.{◌≡◌, ◌<◌, ◌+◌, ◌^◌, ◌||◌, ◌==◌, IfErr, OnOk};
 ghost use Rattle.capn_words.specs.Message.{IsMessage};
@@ -30,15 +30,15 @@ fn is_printable(byte: u8) -> bool
     32 <= byte && byte <= 126
 }
 
-/// Returns `true` if a text can end with `byte`.
+/// Returns `true` if `byte` may be the last byte of a text: it is printable or zero.
 fn ends_text(byte: u8) -> bool
     ensures { result ≡ (quoting.is_printable byte || byte == 0) }
 {
     is_printable(byte) || byte == 0
 }
 
-/// Returns `true` if `bytes` are a text: there is one at least, and each is printable, except that the last may be
-/// zero.
+/// Returns `true` if `bytes` is a text. A text is not empty, and each of its bytes is printable, except that the last
+/// may be zero.
 pub fn is_text(bytes: &[u8]) -> bool
     ensures { result ≡ quoting.is_text bytes.now }
 {
@@ -54,7 +54,7 @@ pub fn is_text(bytes: &[u8]) -> bool
     ends_text(bytes[last])
 }
 
-/// Appends the beginning of the line of a text of `count` bytes to `text`, at this `level`, up to its first quote.
+/// Appends the first part of the line of a text of `count` bytes to `text`, at this `level`, up to its first quote.
 fn quoted_front<W: Write, A: Allocator>(
     text: &mut Vec<u8, A>,
     writer: &mut Watched<W>,
@@ -72,7 +72,7 @@ fn quoted_front<W: Write, A: Allocator>(
     put(text, writer, b"\"")
 }
 
-/// Appends the one line of the list `bytes`, which is a text, to `text`, at this `level`.
+/// Appends the line of the list `bytes` to `text`, at this `level`, with the bytes between quotes as a text.
 pub fn show_quoted<W: Write, A: Allocator>(
     text: &mut Vec<u8, A>,
     writer: &mut Watched<W>,
@@ -89,7 +89,8 @@ pub fn show_quoted<W: Write, A: Allocator>(
     put(text, writer, b"\"\n")
 }
 
-/// Appends the list of `count` bytes at `start` to `text`, at this `level`, in digits, behind the first mark.
+/// Appends the list of `count` bytes at `start` to `text` in digits, at this `level`. The mark of the list has been
+/// written.
 fn show_digits<S: Space, W: Write, A: Allocator, E: Emitter>(
     text: &mut Vec<u8, A>,
     writer: &mut Watched<W>,
@@ -116,8 +117,8 @@ fn show_digits<S: Space, W: Write, A: Allocator, E: Emitter>(
     show_bytes(text, writer, emitter, space, start, count, level + 1)
 }
 
-/// Appends the list of `count` bytes at `start` to `text`, at this `level`, behind the first mark: as a text, if
-/// `emitter` writes it so, else in digits.
+/// Appends the list of `count` bytes at `start` to `text`, at this `level`. It is written as a text if `emitter` does
+/// so with these bytes, and in digits otherwise. The mark of the list has been written.
 pub fn show_byte_list<S: Space, W: Write, A: Allocator, E: Emitter>(
     text: &mut Vec<u8, A>,
     writer: &mut Watched<W>,

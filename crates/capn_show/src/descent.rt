@@ -1,4 +1,4 @@
-//! A step of a path: from the target of a pointer to a value below it.
+//! One step of a path, from the target of a pointer to a value below it.
 
 ghost use Rattle.std.specs.Prelude.{◌≡◌, ℕ, IfNone, IfSome, None, Ok};
 ghost use Rattle.capn_words.specs.Message.{IsMessage, IsPlace};
@@ -15,16 +15,17 @@ use capn_walk::laws::views_show_values;
 use capn_walk::{Shape, Target, resolve};
 use capn_words::{Place, Space, Width};
 
-/// A value somewhere in a message.
+/// A value in a message, by its place and its target.
 #[derive(Clone, Copy, Debug, PartialEq, Eq)]
 pub struct Part {
-    /// The slot that names it; of a row, the place at which it begins.
+    /// The slot with the pointer to the value, or the first word of a row.
     pub at: Place,
-    /// Its target.
+    /// The target of the pointer, or the struct that is the row.
     pub found: Target,
 }
 
-/// Steps down from the target `found` to the value below it that has this `number`; `None`, if nothing is there.
+/// Steps down from the target `found` to the slot, element or row of this `number`. Returns `None` if the target has no
+/// such part.
 pub fn step_down<S: Space>(space: &S, found: Target, number: u64) -> Option<Part>
     requires message { IsMessage (S.message space.now) }
     requires inside { IsInMessage (S.message space.now) found }
@@ -97,7 +98,7 @@ pub fn step_down<S: Space>(space: &S, found: Target, number: u64) -> Option<Part
     }
 }
 
-/// Returns the target of the pointer at `at`. There has to be a value.
+/// Returns the target of the pointer at `at`. The caller has to know that a value is there.
 pub fn named<S: Space>(space: &S, at: Place) -> Target
     requires message { IsMessage (S.message space.now) }
     requires place { IsPlace (S.message space.now) at }
@@ -109,7 +110,7 @@ pub fn named<S: Space>(space: &S, at: Place) -> Target
     views_show_values();
     match resolve(space, at) {
         Ok(found) => found,
-        // A value is here, so the pointer has a target.
+        // The precondition says that a value is here, so the pointer has a target.
         Err(_) => unreachable!(),
     }
 }

@@ -1,4 +1,4 @@
-//! Emitters: what is written of each thing in a message.
+//! The trait of emitters, which decide how each item of a message is written, and the emitter of plain lines.
 
 ghost use Rattle.std.specs.Prelude.{◌≡◌, ℕ, ◌<◌, ◌≤◌, ◌^◌, List, [], length, take, ⊤, IfErr, OnOk};
 ghost use Rattle.capn_words.specs.Message.{IsMessage, segment_at};
@@ -14,19 +14,20 @@ use capn_words::{Place, Space, Watched};
 use std::alloc::Allocator;
 use std::io::Write;
 
-/// An emitter of a text: it puts a mark, or nothing, before each item, writes the pieces, and keeps the path to the
-/// value whose text is written.
+/// An emitter of a text. It puts a mark, or nothing, before each item, and writes the pieces. It also keeps the path to
+/// the value that is being written.
 pub trait Emitter {
-    /// The rule of the text.
+    /// The rule of the text: a mark for each item, and the bytes of each piece.
     ghost rule: { Self → Rule };
 
-    /// The path to the value whose text is written.
+    /// The path to the value that is being written, as bytes of text (`0.3.1`), not as a list of numbers. An emitter
+    /// whose marks show no path need not keep it up to date.
     ghost path: { Self → List ℕ };
 
-    /// The emitter is one for a message.
+    /// The emitter was made for this message, given by its segments.
     ghost is_of: { Self → List (List ℕ) → Type 0 };
 
-    /// Returns `true` if the list `bytes` is written as a text.
+    /// Returns `true` if the list `bytes` is to be written as a text.
     fn is_text(&self, bytes: &[u8]) -> bool
         ensures { result ≡ (rule self.now).is_text bytes.now };
 
@@ -43,7 +44,7 @@ pub trait Emitter {
         ensures cut { IfErr result (λ e. BreaksOff (outgoing W.contents writer.old text.old.items)
             (outgoing W.contents writer.new text.new.items) e ((rule self.now).text level bytes.now)) };
 
-    /// Appends a `piece` to `text`, at this `level`.
+    /// Appends `piece` to `text`, at this `level`.
     fn put_piece<W: Write, A: Allocator>(
         &self,
         text: &mut Vec<u8, A>,
@@ -56,7 +57,8 @@ pub trait Emitter {
         ensures cut { IfErr result (λ e. BreaksOff (outgoing W.contents writer.old text.old.items)
             (outgoing W.contents writer.new text.new.items) e ((rule self.now).piece level piece)) };
 
-    /// Returns the byte at which the word at `at`, or a segment's end, lies.
+    /// Returns the byte at which the word at `at` lies, which may also be the end of a segment. An emitter whose marks
+    /// show no offsets may return 0.
     fn byte_of<S: Space>(&self, space: &S, at: Place) -> u128
         requires message { IsMessage (S.message space.now) }
         requires of { is_of self.now (S.message space.now) }
@@ -65,8 +67,8 @@ pub trait Emitter {
         ensures is { result ≡ (rule self.now).lies (S.message space.now) at }
         ensures small { result < 2 ^ 66 };
 
-    /// Appends what stands before the item of this `number`, whose subject lies at `byte`, at the path that is kept, to
-    /// `text`.
+    /// Appends the mark of an item to `text`. `number` counts the items before it in its object, and `byte` is where it
+    /// lies. The mark may also show the path that the emitter keeps.
     fn put_mark<W: Write, A: Allocator>(
         &self,
         text: &mut Vec<u8, A>,
@@ -79,11 +81,11 @@ pub trait Emitter {
         ensures cut { IfErr result (λ e. BreaksOff (outgoing W.contents writer.old text.old.items)
             (outgoing W.contents writer.new text.new.items) e ((rule self.now).mark number byte (path self.now))) };
 
-    /// Returns the length of the path that is kept.
+    /// Returns the length in bytes of the path that the emitter keeps.
     fn path_length(&self) -> usize
         ensures { result ≡ length (path self.now) };
 
-    /// Appends `number` to the path that is kept.
+    /// Appends `number` to the path, unless the marks of the emitter show no path.
     fn step_below(&mut self, number: u32) -> Result<(), Broken>
         ensures below { OnOk result (path self.new ≡ (rule self.old).below (path self.old) number) }
         ensures back { OnOk result (take (length (path self.old)) (path self.new) ≡ path self.old) }
@@ -91,15 +93,15 @@ pub trait Emitter {
         ensures of { OnOk result ((m : List (List ℕ)) → is_of self.old m → is_of self.new m) }
         ensures memory { IfErr result (λ e. e ≡ broken.Memory) };
 
-    /// Cuts the path that is kept to this `length`.
+    /// Cuts the path that the emitter keeps to its first `length` bytes.
     fn step_back(&mut self, length: usize)
         ensures path { path self.new ≡ take length (path self.old) }
         ensures rule { rule self.new ≡ rule self.old }
         ensures of { (m : List (List ℕ)) → is_of self.old m → is_of self.new m };
 }
 
-/// The emitter of lines without marks, by whether lists of bytes that are texts are written between quotes. It takes no
-/// bytes.
+/// The emitter of lines without marks. `QUOTED` says whether a list of bytes that is a text is written between quotes.
+/// It has no fields, so it takes no memory.
 #[derive(Drop)]
 pub struct Lines<const QUOTED: bool>;
 

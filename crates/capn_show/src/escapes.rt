@@ -1,4 +1,4 @@
-//! The bytes of a quoted text, some of them escaped.
+//! The escapes of a text between quotes, in lines and in JSON.
 
 ghost use Rattle.std.specs.Prelude.{◌≡◌, ◌≤◌, length, take, IfErr, OnOk};
 ghost use Rattle.capn_show.specs.JsonTexts as json;
@@ -14,10 +14,10 @@ use capn_words::Watched;
 use std::alloc::Allocator;
 use std::io::Write;
 
-/// The most bytes of a text that are added at once.
+/// The length of the longest run of unescaped bytes that is appended at once.
 const PIECE: usize = 4096;
 
-/// Returns `true` if `byte` of a text is escaped between quotes, in JSON or (without `json`) in lines.
+/// Returns `true` if `byte` has to be escaped between quotes, in JSON if `json`, else in lines.
 fn is_escaped(json: bool, byte: u8) -> bool
     ensures { result ≡ places.is_escaped json byte }
 {
@@ -28,7 +28,7 @@ fn is_escaped(json: bool, byte: u8) -> bool
     }
 }
 
-/// Appends `byte` of a text to `text`, as it is written between quotes in lines.
+/// Appends `byte` to `text` as it is written between quotes in lines.
 fn put_line_escaped<W: Write, A: Allocator>(
     text: &mut Vec<u8, A>,
     writer: &mut Watched<W>,
@@ -47,7 +47,7 @@ fn put_line_escaped<W: Write, A: Allocator>(
     }
 }
 
-/// Appends `byte` of a text to `text`, as it is written between quotes in JSON.
+/// Appends `byte` to `text` as it is written between quotes in JSON.
 fn put_json_escaped<W: Write, A: Allocator>(
     text: &mut Vec<u8, A>,
     writer: &mut Watched<W>,
@@ -68,7 +68,7 @@ fn put_json_escaped<W: Write, A: Allocator>(
     }
 }
 
-/// Appends `byte` of a text to `text`, as it is written between quotes, in JSON or (without `json`) in lines.
+/// Appends `byte` to `text` as it is written between quotes, in JSON if `json`, else in lines.
 fn put_escaped<W: Write, A: Allocator>(
     text: &mut Vec<u8, A>,
     writer: &mut Watched<W>,
@@ -87,7 +87,7 @@ fn put_escaped<W: Write, A: Allocator>(
     }
 }
 
-/// Returns the number of the first `bytes` that are left as they are between quotes, at most those of a piece.
+/// Returns the number of bytes at the front of `bytes` that need no escape, but at most `PIECE`.
 fn bare_run(json: bool, bytes: &[u8]) -> usize
     ensures within { result ≤ length bytes.now }
     ensures bare { escapes_by (escaped_of json) (take result bytes.now) ≡ take result bytes.now }
@@ -103,8 +103,8 @@ fn bare_run(json: bool, bytes: &[u8]) -> usize
     bytes.len()
 }
 
-/// Appends the `bytes` of a text to `text`, as they are written between quotes, in JSON or (without `json`) in lines:
-/// those that are left as they are, at once, and the one after.
+/// Appends `bytes` to `text` as they are written between quotes, in JSON if `json`, else in lines. Each turn of the
+/// loop appends a run of bytes that need no escape, and then the byte after it.
 pub fn put_escapes<W: Write, A: Allocator>(
     text: &mut Vec<u8, A>,
     writer: &mut Watched<W>,

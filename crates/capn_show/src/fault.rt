@@ -1,4 +1,4 @@
-//! Faults of the text of a message.
+//! The reasons why the text of a message is not written, or only in part.
 
 ghost use Rattle.std.specs.Prelude.{◌≡◌};
 ghost use Rattle.capn_show.specs.declared.fault.ShowFault.TheVariants as faults;
@@ -7,26 +7,26 @@ ghost use Rattle.capn_show.specs.ReadyPlaces.{as_fault};
 use capn_walk::Stopped;
 use thiserror::Error;
 
-/// The reason why the text of a message is not written, or not the whole of it.
+/// The reason why the text of a message is not written, or only in part.
 #[derive(Clone, Copy, Debug, PartialEq, Eq, Error)]
 pub enum ShowFault {
-    /// The message is not accepted within the limits, or the survey was refused memory. Nothing was added.
+    /// The message is not accepted within the limits, or the survey was refused memory. Nothing was added to the text.
     #[error("{0}")]
     Stopped(Stopped),
-    /// The writer failed. It has a first part of what was kept and of the message's text.
+    /// The writer failed. It has taken a first part of the text that was kept and of the message's text.
     #[error("the writer failed")]
     Io,
-    /// The text was refused memory. A first part of the message's text was added to it.
+    /// A growth of the kept text was refused memory. A first part of the message's text was added to it.
     #[error("out of memory")]
     Memory,
 }
 
-/// The reason why a text breaks off.
+/// The reason why a text breaks off after it was begun.
 #[derive(Clone, Copy, Debug, PartialEq, Eq)]
 pub enum Broken {
     /// The writer failed.
     Io,
-    /// The text was refused memory.
+    /// A growth of the kept text was refused memory.
     Memory,
 }
 
@@ -38,7 +38,7 @@ impl From<Stopped> for ShowFault {
     }
 }
 
-/// Returns the fault of a text that breaks off for the reason `broken`.
+/// Converts `broken`, the reason why a text broke off, to a `ShowFault`.
 pub fn fault_of(broken: Broken) -> ShowFault
     ensures { result ≡ as_fault broken }
 {

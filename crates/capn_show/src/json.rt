@@ -1,4 +1,4 @@
-//! The emitter of JSON.
+//! The emitter of JSON, which writes a value as one line of JSON.
 
 ghost use Rattle.std.specs.Prelude.{[], ⊤, IfErr, OnOk};
 ghost use Rattle.capn_show.specs.inner.JsonRule.{json_piece, json_rule};
@@ -14,11 +14,12 @@ use capn_words::{Place, Space, Watched};
 use std::alloc::Allocator;
 use std::io::Write;
 
-/// The emitter of JSON, by whether lists of bytes that are texts are written so. It takes no bytes.
+/// The emitter of JSON. `QUOTED` says whether a list of bytes that is a text is written as a string. It has no fields,
+/// so it takes no memory.
 #[derive(Drop)]
 pub struct Json<const QUOTED: bool>;
 
-/// Appends a `piece` of JSON to `text`.
+/// Appends the JSON of `piece` to `text`.
 #[inline(always)]
 fn put_json_piece<W: Write, A: Allocator>(
     text: &mut Vec<u8, A>,

@@ -1,4 +1,4 @@
-//! The members and items of JSON, and their commas.
+//! The numbers, words, members and commas of the JSON that is written.
 
 ghost use Rattle.std.specs.Prelude.{◌≡◌, [], ◌∷◌, ◌++◌, IfErr, OnOk};
 ghost use Rattle.std.specs.Fmt.{decimal};
@@ -14,7 +14,7 @@ use capn_words::{Watched, Width};
 use std::alloc::Allocator;
 use std::io::Write;
 
-/// Appends a comma to `text`, unless `item` is 0, the first.
+/// Appends a comma to `text`, unless `item` is 0, the number of the first item.
 #[inline(always)]
 pub fn separate<W: Write, A: Allocator>(
     text: &mut Vec<u8, A>,
@@ -32,7 +32,7 @@ pub fn separate<W: Write, A: Allocator>(
     put(text, writer, b",")
 }
 
-/// Appends the number `n` to `text`.
+/// Appends the number `n` to `text`, without quotes.
 #[inline(always)]
 fn put_plain<W: Write, A: Allocator>(
     text: &mut Vec<u8, A>,
@@ -66,7 +66,7 @@ fn put_quoted<W: Write, A: Allocator>(
     put(text, writer, &digits[start - 1..])
 }
 
-/// Appends the number `n` to `text`, between quotes if it is `quoted`.
+/// Appends the number `n` to `text`, between quotes if `quoted`.
 #[inline(always)]
 pub fn put_value<W: Write, A: Allocator>(
     text: &mut Vec<u8, A>,
@@ -85,7 +85,7 @@ pub fn put_value<W: Write, A: Allocator>(
     put_plain(text, writer, n)
 }
 
-/// Returns `true` if the numbers of a list of this `width` are written between quotes.
+/// Returns `true` if the numbers of a list of this `width` are written between quotes. Only those of 64 bits are.
 pub fn is_quoted(width: Width) -> bool
     ensures { result ≡ places.is_quoted width }
 {
@@ -95,17 +95,17 @@ pub fn is_quoted(width: Width) -> bool
     }
 }
 
-/// Returns the bytes of a data `word` between quotes.
+/// Returns the 16 hexadecimal digits of a data `word` between quotes, the most significant first.
 fn word_bytes(word: u64) -> [u8; 18]
     ensures { result ≡ word_text word }
 {
     let mut item = *b"\"0000000000000000\"";
-    // 16 digits have room, so nothing is refused.
+    // The slice has room for all 16 digits, so the call cannot fail.
     let _done = hex::encode_to_slice(word.to_be_bytes(), &mut item[1..17]);
     item
 }
 
-/// Appends a data `word` between quotes to `text`.
+/// Appends a data `word` to `text` in hexadecimal digits between quotes.
 #[inline(always)]
 pub fn put_word<W: Write, A: Allocator>(
     text: &mut Vec<u8, A>,
@@ -120,7 +120,7 @@ pub fn put_word<W: Write, A: Allocator>(
     put(text, writer, &word_bytes(word))
 }
 
-/// Appends the JSON of an object of the one number `n` to `text`, after its beginning `head`.
+/// Appends a JSON object with one member, the number `n`, to `text`. `head` is the object up to the number.
 pub fn put_member<W: Write, A: Allocator>(
     text: &mut Vec<u8, A>,
     writer: &mut Watched<W>,

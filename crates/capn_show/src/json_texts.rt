@@ -1,4 +1,4 @@
-//! Lists of bytes that are texts in JSON.
+//! Lists of bytes that JSON has as strings: how they are recognised, and written.
 
 ghost use Rattle.std.specs.Prelude.{◌≡◌, IfErr, OnOk};
 ghost use Rattle.std.specs.Str.{is_utf8};
@@ -13,21 +13,21 @@ use capn_words::Watched;
 use std::alloc::Allocator;
 use std::io::Write;
 
-/// Returns `true` if `byte` is a control character, but tab, newline and carriage return.
+/// Returns `true` if `byte` is a control character other than tab, newline and carriage return.
 fn is_control(byte: u8) -> bool
     ensures { result ≡ texts.is_control byte }
 {
     (byte <= 31 && !(byte == b'\t' || byte == b'\n' || byte == b'\r')) || byte == 127
 }
 
-/// Returns `true` if two bytes, `first` and `second`, are a control character.
+/// Returns `true` if the bytes `first` and `second` of a UTF-8 text are a control character from U+0080 to U+009F.
 fn is_long_control(first: u8, second: u8) -> bool
     ensures { result ≡ texts.is_long_control first second }
 {
     first == 194 && second <= 159
 }
 
-/// Returns `true` if a control character stands in `bytes`.
+/// Returns `true` if `bytes`, as UTF-8, have a control character other than tab, newline and carriage return.
 fn has_control(bytes: &[u8]) -> bool
     ensures { result ≡ texts.has_control bytes.now }
 {
@@ -53,8 +53,8 @@ fn is_well_formed(bytes: &[u8]) -> bool
     }
 }
 
-/// Returns `true` if `bytes` are a text: the last is zero, and those before it are well-formed UTF-8 without control
-/// characters.
+/// Returns `true` if `bytes` is a text: the last byte is zero, and those before it are well-formed UTF-8 without
+/// control characters other than tab, newline and carriage return.
 pub fn is_json_text(bytes: &[u8]) -> bool
     ensures { result ≡ texts.is_json_text bytes.now }
 {
@@ -69,7 +69,7 @@ pub fn is_json_text(bytes: &[u8]) -> bool
     is_well_formed(front) && !has_control(front)
 }
 
-/// Appends the JSON of the list `bytes` to `text` as a text, without its last byte.
+/// Appends the JSON of the list `bytes` to `text` as a string, which leaves out the last byte.
 pub fn json_text<W: Write, A: Allocator>(
     text: &mut Vec<u8, A>,
     writer: &mut Watched<W>,

@@ -1,8 +1,8 @@
-//! The law of styled texts, as an empty function.
+//! The law that JSON with strings loses nothing, as the clause of an empty function.
 
 ghost use Rattle.capn_show.specs.Laws.{OneJson};
 
-/// States: in [`crate::Style::JsonText`] nothing is lost: two lists of bytes with one JSON are one list.
+/// States that [`crate::Style::JsonText`] loses nothing: two lists of bytes with the same JSON are equal.
 pub fn json_texts()
     ensures { OneJson }
 {}

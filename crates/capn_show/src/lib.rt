@@ -1,10 +1,11 @@
 //! The text of a message, written without making its value.
 //!
-//! [`show_message`] surveys a message within limits. Of one that is refused it writes nothing. Of one that is accepted
-//! it writes what `capn_value::show` writes of the value that `capn_walk::walk` answers: it goes from slot to slot as
-//! the walk did, and adds each line to a text that the caller keeps. So small texts of many messages make one write. A
-//! text of 65,536 bytes or more is written and emptied, so that it takes the same memory for every message.
-//! [`show_part`] does so for the value at a path of numbers from the root, in one of four styles.
+//! [`show_message`] surveys a message within limits, and writes nothing if it is refused. The text of an accepted
+//! message is what `capn_value::show` writes of the value that `capn_walk::walk` returns. It is written slot by slot,
+//! in the order of the walk, and each line is added to a text that the caller keeps, so that small texts of many
+//! messages make one write. A kept text of 65,536 bytes or more is written and emptied, so the memory for it does not
+//! grow with a message. [`show_part`] does the same for the value at a path of numbers from the root, in one of four
+//! styles.
 //!
 //! ```text
 //! let mut text = Vec::new(alloc);
@@ -45,7 +46,7 @@ pub use message::show_message;
 pub use part::show_part;
 pub use style::Style;
 
-// The parts of texts of other forms: a text on its way, lines and lists in it, and the steps of a path.
+// The building blocks for texts of other forms: the kept text, its lines and lists, and the steps of a path.
 pub use bytes::{is_text, show_quoted};
 pub use descent::{Part, named, step_down};
 pub use emitter::Emitter;

@@ -1,4 +1,4 @@
-//! The pieces of lines.
+//! The pieces of a text of lines, each as the line or the bytes that it stands for.
 
 ghost use Rattle.std.specs.Prelude.{IfErr, OnOk};
 ghost use Rattle.capn_show.specs.Emitted.{line_piece};
@@ -11,7 +11,8 @@ use capn_words::Watched;
 use std::alloc::Allocator;
 use std::io::Write;
 
-/// Appends a `piece` of lines to `text`, at this `level`; nothing, if it only parts or closes others.
+/// Appends the line or the part of a line that stands for `piece` to `text`, at this `level`. Pieces that only separate
+/// or close others add nothing.
 #[inline(always)]
 pub fn put_line_piece<W: Write, A: Allocator>(
     text: &mut Vec<u8, A>,

@@ -1,4 +1,4 @@
-//! The lines of a text.
+//! The lines of a text, and their parts: indents, numbers and digits.
 
 ghost use Rattle.std.specs.Prelude.{◌≡◌, ℕ, ◌<◌, ◌^◌, [], ◌∷◌, ◌++◌, ◌+◌, ◌*◌, IfErr, OnOk, codes, length, replicate};
 ghost use Rattle.std.specs.Prelude.{slice_index};
@@ -17,10 +17,10 @@ use capn_words::{Watched, Width};
 use std::alloc::Allocator;
 use std::io::Write;
 
-/// The spaces of 32 levels.
+/// The spaces of 32 levels, two for each.
 const SPACES: [u8; 64] = [b' '; 64];
 
-/// Appends the spaces of `level` to `text`.
+/// Appends the indent of `level` to `text`, which is two spaces a level.
 pub fn indent<W: Write, A: Allocator>(
     text: &mut Vec<u8, A>,
     writer: &mut Watched<W>,
@@ -39,7 +39,7 @@ pub fn indent<W: Write, A: Allocator>(
     put(text, writer, &SPACES[..2 * (level - done) as usize])
 }
 
-/// Appends the end of a line to `text`.
+/// Appends a newline to `text`.
 pub fn end_line<W: Write, A: Allocator>(
     text: &mut Vec<u8, A>,
     writer: &mut Watched<W>,
@@ -52,7 +52,7 @@ pub fn end_line<W: Write, A: Allocator>(
     put(text, writer, b"\n")
 }
 
-/// Appends the number `n` and the byte `after` to `text`.
+/// Appends the number `n` in decimal digits to `text`, and the byte `after` behind it.
 pub fn put_number<W: Write, A: Allocator>(
     text: &mut Vec<u8, A>,
     writer: &mut Watched<W>,
@@ -69,7 +69,7 @@ pub fn put_number<W: Write, A: Allocator>(
     put(text, writer, &digits[start..])
 }
 
-/// Appends a line of one `word` to `text`, at this `level`.
+/// Appends a line with `word` alone to `text`, at this `level`.
 pub fn plain_line<W: Write, A: Allocator>(
     text: &mut Vec<u8, A>,
     writer: &mut Watched<W>,
@@ -86,7 +86,7 @@ pub fn plain_line<W: Write, A: Allocator>(
     end_line(text, writer)
 }
 
-/// Appends a line of a `name` and the number `n` to `text`, at this `level`.
+/// Appends a line with `name` and the number `n` to `text`, at this `level`.
 pub fn named_line<W: Write, A: Allocator>(
     text: &mut Vec<u8, A>,
     writer: &mut Watched<W>,
@@ -105,7 +105,7 @@ pub fn named_line<W: Write, A: Allocator>(
     put_number(text, writer, n as u64, b'\n')
 }
 
-/// Appends the first line of a struct to `text`, at this `level`: its number of `words` and of `slots`.
+/// Appends the first line of a struct to `text`, at this `level`, with its number of data `words` and of `slots`.
 pub fn body_line<W: Write, A: Allocator>(
     text: &mut Vec<u8, A>,
     writer: &mut Watched<W>,
@@ -124,7 +124,7 @@ pub fn body_line<W: Write, A: Allocator>(
     put_number(text, writer, slots as u64, b'\n')
 }
 
-/// Appends a line of the number `n` to `text`, at this `level`.
+/// Appends a line with the number `n` to `text`, at this `level`.
 pub fn number_line<W: Write, A: Allocator>(
     text: &mut Vec<u8, A>,
     writer: &mut Watched<W>,
@@ -140,17 +140,17 @@ pub fn number_line<W: Write, A: Allocator>(
     put_number(text, writer, n, b'\n')
 }
 
-/// Returns the bytes of the line of one data `word`, as a number: its most significant digit comes first.
+/// Returns the line of a data `word`. Its 16 hexadecimal digits begin with the most significant one.
 fn word_bytes(word: u64) -> [u8; 22]
     ensures { result ≡ codes "word " ++ (form.hex16 word ++ 10 ∷ []) }
 {
     let mut line = *b"word 0000000000000000\n";
-    // 16 digits have room, so nothing is refused.
+    // The slice has room for all 16 digits, so the call cannot fail.
     let _done = hex::encode_to_slice(word.to_be_bytes(), &mut line[5..21]);
     line
 }
 
-/// Appends the line of one data `word` to `text`, at this `level`.
+/// Appends the line of a data `word` to `text`, at this `level`.
 pub fn word_line<W: Write, A: Allocator>(
     text: &mut Vec<u8, A>,
     writer: &mut Watched<W>,
@@ -166,7 +166,7 @@ pub fn word_line<W: Write, A: Allocator>(
     put(text, writer, &word_bytes(word))
 }
 
-/// Returns the digits of the bits of `word`, the least significant first.
+/// Returns the 64 binary digits of `word`, the least significant first.
 pub fn word_bits(word: u64) -> [u8; 64]
     ensures size { length result ≡ 64 }
     ensures each { (i : ℕ) → i < 64 → slice_index result i ≡ 48 + seen.digit widths.W1 word i }
@@ -178,12 +178,12 @@ pub fn word_bits(word: u64) -> [u8; 64]
     digits
 }
 
-/// Returns the digits of the bytes of `word`, the least significant byte first.
+/// Returns the hexadecimal digits of the bytes of `word`, the least significant byte first.
 pub fn word_digits(word: u64) -> [u8; 16]
     ensures { result ≡ encode_lower (to_le_bytes w64 word) }
 {
     let mut digits = [0u8; 16];
-    // 16 digits have room, so nothing is refused.
+    // The array has room for all 16 digits, so the call cannot fail.
     let _done = hex::encode_to_slice(word.to_le_bytes(), &mut digits);
     digits
 }

@@ -1,4 +1,4 @@
-//! The text of lists without pointers.
+//! The text of lists whose elements are not pointers or structs.
 
 ghost use Rattle.std.specs.Prelude.{◌≡◌, ℕ, ◌+◌, ◌<◌, ◌^◌, IfErr, OnOk};
 ghost use Rattle.capn_words.specs.Message.{IsMessage};
@@ -19,8 +19,8 @@ use capn_words::{Place, Space, Watched, Width};
 use std::alloc::Allocator;
 use std::io::Write;
 
-/// Appends the text of the list of `count` elements of this `width` at `start`, which are no pointers, to `text`,
-/// behind its first mark.
+/// Appends the text of the list of `count` elements of this `width` at `start` to `text`. The elements are neither
+/// pointers nor structs. The mark of the list has been written.
 pub fn show_list<S: Space, W: Write, A: Allocator, E: Emitter>(
     text: &mut Vec<u8, A>,
     writer: &mut Watched<W>,

@@ -1,4 +1,4 @@
-//! The text of a message.
+//! The text of a whole message in lines.
 
 ghost use Rattle.std.specs.Prelude.{OnOk, IfErr};
 ghost use Rattle.capn_value.specs.Text.{show_text};
@@ -16,9 +16,10 @@ use std::io::Write;
 
 /// Appends the text of the value that the message `space` denotes within `limits` to `text`.
 ///
-/// The message is surveyed first, and nothing is added of one that is refused. `text` is kept by the caller: it is
-/// written to `writer` and emptied whenever it has 65,536 bytes or more, and what is left of it is written by the
-/// caller. It takes no memory beside that text and what a survey takes, which is none for a depth of at most 64.
+/// The message is surveyed first, and nothing is added for a message that is refused. The caller keeps `text` between
+/// calls. It is written to `writer` and emptied whenever it has 65,536 bytes or more, and the caller writes the bytes
+/// that are left at the end. A call takes no memory except for `text` and for the survey, which needs none up to a
+/// depth of 64.
 pub fn show_message<S: Space, W: Write, A: Allocator, B: Allocator + Copy>(
     alloc: B,
     text: &mut Vec<u8, A>,
@@ -26,11 +27,12 @@ pub fn show_message<S: Space, W: Write, A: Allocator, B: Allocator + Copy>(
     space: &S,
     limits: Limits,
 ) -> Result<(), ShowFault>
-    // An answer: the message is accepted, and the text of its value is added.
+    // If `result` is `Ok`, the message is accepted, and the text of its value was added.
     ensures shown { OnOk result (IsWritten (S.message space.now) limits show_text
         (outgoing W.contents writer.old text.old.items) (outgoing W.contents writer.new text.new.items)) }
-    // A refusal is that of a survey, and nothing is added. Otherwise the message is accepted, and the writer failed
-    // after a first part of the text, or memory was refused, and a first part of the text is added.
+    // If the survey refuses the message, `result` has its refusal, and nothing was added. Any other refusal is of an
+    // accepted message: the writer failed after a first part of the text, or memory was refused after a first part was
+    // added.
     ensures refused { IfErr result (λ fault. IsUnwritten (S.message space.now) limits show_text fault
         (outgoing W.contents writer.old text.old.items) (outgoing W.contents writer.new text.new.items)) }
 {

@@ -1,5 +1,4 @@
-//! Lists of numbers, and data words: a piece for each.
-//! They are read from the words of the message.
+//! The pieces of lists of numbers and of data words, which are read from the words of the message.
 
 ghost use Rattle.std.specs.Prelude.{◌≡◌, ◌+◌, ◌/◌, ◌++◌, IfErr, OnOk};
 ghost use Rattle.capn_words.specs.Message.{IsMessage};
@@ -21,8 +20,8 @@ use capn_words::{Place, Space, Watched, Width};
 use std::alloc::Allocator;
 use std::io::Write;
 
-/// Returns element `i` of a list of bits, bytes, pairs, quads or octs, by their `width`, whose content starts at
-/// `start`.
+/// Returns element `i` of the list whose content starts at `start`. Its elements have 1, 8, 16, 32 or 64 bits, by their
+/// `width`.
 pub fn number_at<S: Space>(space: &S, start: Place, width: Width, i: u32) -> u64
     requires message { IsMessage (S.message space.now) }
     requires there { IsContent (S.message space.now) start (i / seen.per_word width + 1) }
@@ -37,8 +36,8 @@ pub fn number_at<S: Space>(space: &S, start: Place, width: Width, i: u32) -> u64
     digit(width, word, i % many)
 }
 
-/// Appends `piece` to `text`, at this `level`: that of the item of this `number`, which lies at `byte`, with what
-/// stands before it.
+/// Appends the mark of an item to `text`, and then `piece`, at this `level`. `number` counts the items before it in its
+/// object, and `byte` is where it lies.
 #[inline(always)]
 fn put_item<W: Write, A: Allocator, E: Emitter>(
     text: &mut Vec<u8, A>,
@@ -60,7 +59,8 @@ fn put_item<W: Write, A: Allocator, E: Emitter>(
     emitter.put_piece(text, writer, level, piece)
 }
 
-/// Appends what stands before the digits of a list, whose first element lies at `byte`, to `text`, at this `level`.
+/// Appends the mark of a line of digits to `text`, and the piece before the digits, at this `level`. The first element
+/// of the list lies at `byte`.
 #[inline(always)]
 pub fn begin_digits<W: Write, A: Allocator, E: Emitter>(
     text: &mut Vec<u8, A>,
@@ -79,8 +79,8 @@ pub fn begin_digits<W: Write, A: Allocator, E: Emitter>(
     put_item(text, writer, emitter, 0, byte, level, Piece::Digits)
 }
 
-/// Appends a piece for each of the `count` data words at `start` to `text`, at this `level`, with its mark, and what
-/// follows them.
+/// Appends a mark and a piece for each of the `count` data words at `start` to `text`, at this `level`, and then the
+/// piece `EndWords`.
 pub fn show_words<S: Space, W: Write, A: Allocator, E: Emitter>(
     text: &mut Vec<u8, A>,
     writer: &mut Watched<W>,
@@ -115,15 +115,15 @@ pub fn show_words<S: Space, W: Write, A: Allocator, E: Emitter>(
     emitter.put_piece(text, writer, level, Piece::EndWords)
 }
 
-/// Returns the bytes of an element of this `width`, if no word holds more than eight of them.
+/// Returns the size in bytes of an element of this `width`, if that is at least a byte.
 fn element_bytes(width: Width) -> u128
     ensures is { result ≡ 8 / seen.per_word width }
 {
     8 / per_word(width) as u128
 }
 
-/// Appends a piece for each of the `count` numbers of this `width` at `start` to `text`, at this `level`, with its
-/// mark, and what closes them.
+/// Appends a mark and a piece for each of the `count` numbers of this `width` at `start` to `text`, at this `level`,
+/// and then the piece `EndItems`.
 pub fn show_numbers<S: Space, W: Write, A: Allocator, E: Emitter>(
     text: &mut Vec<u8, A>,
     writer: &mut Watched<W>,

@@ -1,5 +1,4 @@
-//! A text on its way to a writer.
-//! It is kept until it is long, and written then.
+//! The output of a text: it is kept until it is long enough, and is then written at once.
 
 ghost use Rattle.std.specs.Prelude.{◌≡◌, [], ◌||◌, is_err, IfErr, OnOk};
 ghost use Rattle.std.specs.Io.KnownBytes.{Appends};
@@ -12,7 +11,7 @@ use capn_words::Watched;
 use std::alloc::Allocator;
 use std::io::Write;
 
-/// The number of bytes at which a text is long enough to be written.
+/// The length in bytes at which the kept text is written.
 const BLOCK: usize = 65536;
 
 /// Writes `text` to `writer`, and empties it.
@@ -37,7 +36,7 @@ fn send<W: Write, A: Allocator>(
     }
 }
 
-/// Writes `text` to `writer` and empties it, if it has grown long.
+/// Writes `text` to `writer` and empties it, if it has reached `BLOCK` bytes.
 #[inline]
 fn settle<W: Write, A: Allocator>(
     text: &mut Vec<u8, A>,
@@ -54,7 +53,7 @@ fn settle<W: Write, A: Allocator>(
     send(text, writer)
 }
 
-/// Appends `bytes` to `text`, and writes that to `writer` if it has grown long.
+/// Appends `bytes` to `text`. If `text` then has `BLOCK` bytes or more, it is written to `writer` and emptied.
 #[inline]
 pub fn put<W: Write, A: Allocator>(
     text: &mut Vec<u8, A>,

@@ -1,4 +1,4 @@
-//! The text of a message's part, at a path.
+//! The text of the value at a path of numbers from the root.
 
 ghost use Rattle.std.specs.Prelude.{◌≡◌, ℕ, ◌+◌, ◌*◌, ◌<◌, ◌^◌, IfErr, IfNone, IfSome, None, OnOk};
 ghost use Rattle.capn_words.specs.Message.{IsMessage, IsPlace};
@@ -25,11 +25,11 @@ use std::io::Write;
 /// Appends the text of the value at a `path` of numbers from the root of the message `space` to `text`, in this
 /// `style`.
 ///
-/// If nothing is there, it is the line `none`, or in JSON an empty line.
+/// If there is no value at `path`, the text is the line `none`, or an empty line in JSON.
 ///
 /// A number leads from a struct to a slot, from a list of pointers to an element, and from a list of structs to a row,
-/// which is written as a struct. The whole message is surveyed within `limits` first, as by
-/// [`show_message`](crate::show_message), and the text is added, kept and written as there.
+/// which is written as a struct. The whole message is surveyed within `limits` first. The text is added, kept and
+/// written as by [`show_message`](crate::show_message).
 pub fn show_part<S: Space, W: Write, A: Allocator, B: Allocator + Copy>(
     alloc: B,
     text: &mut Vec<u8, A>,
@@ -39,10 +39,10 @@ pub fn show_part<S: Space, W: Write, A: Allocator, B: Allocator + Copy>(
     style: Style,
     path: &[u64],
 ) -> Result<(), ShowFault>
-    // An answer: the message is accepted, and the text of the value there is added.
+    // If `result` is `Ok`, the message is accepted, and the text of the value at `path` was added.
     ensures shown { OnOk result (IsWritten (S.message space.now) limits (styled style path.now)
         (outgoing W.contents writer.old text.old.items) (outgoing W.contents writer.new text.new.items)) }
-    // A refusal is as that of `show_message`.
+    // If `result` is an `Err`, it is one that `show_message` could have given.
     ensures refused { IfErr result (λ fault. IsUnwritten (S.message space.now) limits (styled style path.now) fault
         (outgoing W.contents writer.old text.old.items) (outgoing W.contents writer.new text.new.items)) }
 {
@@ -55,7 +55,7 @@ pub fn show_part<S: Space, W: Write, A: Allocator, B: Allocator + Copy>(
     }
 }
 
-/// Appends the text of the value at this `path` from the root to `text`.
+/// Appends the text of the value at `path` from the root to `text`, or the text for no value.
 fn write_part<S: Space, W: Write, A: Allocator>(
     text: &mut Vec<u8, A>,
     writer: &mut Watched<W>,
@@ -80,7 +80,7 @@ fn write_part<S: Space, W: Write, A: Allocator>(
     }
 }
 
-/// Follows `path` from the target `found`; `None`, if nothing is there.
+/// Follows `path` from the target `found`. Returns the target at its end, or `None` if a step leads nowhere.
 fn follow<S: Space>(space: &S, found: Target, path: &[u64]) -> Option<Target>
     requires message { IsMessage (S.message space.now) }
     requires inside { IsInMessage (S.message space.now) found }

@@ -1,44 +1,44 @@
-//! The pieces of a text, but lists of bytes that are texts.
+//! The pieces of a text, except for a list of bytes that is written as a text.
 
 use capn_words::Width;
 
-/// A piece of a text, as an emitter writes it.
+/// A piece of a text, from which an emitter makes bytes.
 #[derive(Clone, Copy, Debug, PartialEq, Eq)]
 pub enum Piece {
-    /// Null.
+    /// A null pointer.
     Nil,
-    /// A capability, by its index.
+    /// A capability, with its index.
     Cap(u32),
-    /// The head of a struct, by its numbers of data words and of slots.
+    /// The head of a struct, with its number of data words and its number of slots.
     Body(u16, u16),
     /// A data word.
     Word(u64),
-    /// What stands between the data words of a struct and its slots.
+    /// The text between the data words of a struct and its slots.
     EndWords,
-    /// What closes slots, rows, or a list of numbers.
+    /// The end of slots, rows, or a list of numbers.
     EndItems,
-    /// The head of this number of pointers.
+    /// The head of a list of pointers, with their number.
     Links(u32),
-    /// The head of this number of rows.
+    /// The head of a list of structs, with the number of rows.
     Rows(u32),
-    /// A list of this number of elements without bits.
+    /// A list of elements without bits, with their number.
     Voids(u32),
-    /// The head of this number of bits.
+    /// The head of a list of bits, with their number.
     Bits(u32),
-    /// The head of this number of bytes.
+    /// The head of a list of bytes in digits, with their number.
     Bytes(u32),
-    /// The head of this number of numbers of 16 bits.
+    /// The head of a list of 16-bit numbers, with their number.
     Pairs(u32),
-    /// The head of this number of numbers of 32 bits.
+    /// The head of a list of 32-bit numbers, with their number.
     Quads(u32),
-    /// The head of this number of numbers of 64 bits.
+    /// The head of a list of 64-bit numbers, with their number.
     Octs(u32),
-    /// A number of a list of this width.
+    /// A number in a list of elements of this width.
     Number(Width, u64),
-    /// What stands before the digits of bits or bytes.
+    /// The text before the digits of bits or bytes.
     Digits,
-    /// What stands behind them.
+    /// The text behind the digits of bits or bytes.
     EndDigits,
-    /// What stands in place of them, if there are none.
+    /// The text in place of the digits, if a list of bits or bytes is empty.
     NoDigits,
 }

@@ -1,4 +1,4 @@
-//! The text of the values of slots, and of rows.
+//! The text of a row of slots, and of the rows of a list of structs.
 
 ghost use Rattle.std.specs.Prelude.{◌≡◌, ℕ, ◌<◌, ◌+◌, ◌*◌, ◌^◌, IfErr, OnOk};
 ghost use Rattle.capn_words.specs.Message.{IsMessage, IsPlace};
@@ -15,17 +15,16 @@ use capn_words::{Place, Space, Watched};
 use std::alloc::Allocator;
 use std::io::Write;
 
-/// The size of a struct.
+/// The size of a struct, in words.
 #[derive(Clone, Copy)]
 pub struct Size {
-    /// The number of its data words.
+    /// The number of data words.
     pub words: u16,
-    /// The number of its slots.
+    /// The number of slots.
     pub slots: u16,
 }
 
-/// Appends the text of the values of `count` slots from `first` on, one after the other, and what closes them, to
-/// `text`.
+/// Appends the text of the values in the `count` slots from `first` on to `text`, and then the piece `EndItems`.
 #[cycle(slots)]
 #[inline(always)]
 pub fn show_slots<S: Space, W: Write, A: Allocator, E: Emitter>(
@@ -61,7 +60,8 @@ pub fn show_slots<S: Space, W: Write, A: Allocator, E: Emitter>(
     emitter.put_piece(text, writer, level, Piece::EndItems)
 }
 
-/// Appends the text of the value of the slot of this `number`, which is at `at`, to `text`.
+/// Appends the text of the value of the slot at `at` to `text`. The slot has this `number` in its object, which is
+/// appended to the path of `emitter` meanwhile.
 #[cycle(slots)]
 fn show_below<S: Space, W: Write, A: Allocator, E: Emitter>(
     text: &mut Vec<u8, A>,
@@ -93,8 +93,7 @@ fn show_below<S: Space, W: Write, A: Allocator, E: Emitter>(
     Ok(())
 }
 
-/// Appends the text of `count` rows of this `size` each, from `first` on, one after the other, and what closes them, to
-/// `text`.
+/// Appends the text of the `count` rows of this `size` from `first` on to `text`, and then the piece `EndItems`.
 #[cycle(slots)]
 pub fn show_rows<S: Space, W: Write, A: Allocator, E: Emitter>(
     text: &mut Vec<u8, A>,
@@ -132,7 +131,8 @@ pub fn show_rows<S: Space, W: Write, A: Allocator, E: Emitter>(
     emitter.put_piece(text, writer, level, Piece::EndItems)
 }
 
-/// Appends the text of the row of this `number`, which starts at `start`, to `text`.
+/// Appends the text of the row that starts at `start` to `text`. The row has this `number` in its list, which is
+/// appended to the path of `emitter` meanwhile.
 #[cycle(slots)]
 #[inline(always)]
 fn show_row<S: Space, W: Write, A: Allocator, E: Emitter>(

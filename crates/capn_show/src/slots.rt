@@ -1,4 +1,4 @@
-//! The text of a message's values, with all below them.
+//! The walk over a message that writes its text: a slot's value, with everything below it.
 
 ghost use Rattle.std.specs.Prelude.{◌≡◌, ℕ, ◌<◌, ◌+◌, ◌*◌, ◌^◌, IfErr, OnOk};
 ghost use Rattle.capn_words.specs.Message.{IsMessage, IsPlace};
@@ -19,8 +19,8 @@ use capn_words::{Place, Space, Watched, Width};
 use std::alloc::Allocator;
 use std::io::Write;
 
-/// Appends the text of the value at `at` to `text`, at this `level`, as the item of this `number`; the path of
-/// `emitter` leads to it.
+/// Appends the mark and the text of the value in the slot at `at` to `text`, at this `level`. The slot has this
+/// `number` in its object, and the path of `emitter` already leads to it.
 #[cycle(slots)]
 #[inline(always)]
 pub fn show_slot<S: Space, W: Write, A: Allocator, E: Emitter>(
@@ -51,13 +51,13 @@ pub fn show_slot<S: Space, W: Write, A: Allocator, E: Emitter>(
     views_show_values();
     match resolve(space, at) {
         Ok(found) => show_found(text, writer, emitter, space, found, level, depth),
-        // A value is here, so the pointer has a target.
+        // The precondition says that a value is here, so the pointer has a target.
         Err(_) => unreachable!(),
     }
 }
 
-/// Appends the text of the value with the target `found`, to which the path of `emitter` leads, to `text`, behind its
-/// first mark.
+/// Appends the text of the value with the target `found` to `text`, at this `level`. Its mark has been written, and the
+/// path of `emitter` leads to it.
 #[cycle(slots)]
 #[inline(always)]
 pub fn show_found<S: Space, W: Write, A: Allocator, E: Emitter>(
@@ -150,7 +150,8 @@ pub fn show_found<S: Space, W: Write, A: Allocator, E: Emitter>(
     }
 }
 
-/// Appends the text of a struct of this `size`, whose content starts at `start`, to `text`, behind its first mark.
+/// Appends the text of the struct of this `size` that starts at `start` to `text`, at this `level`. Its mark has been
+/// written.
 #[cycle(slots)]
 #[inline(always)]
 pub fn show_body<S: Space, W: Write, A: Allocator, E: Emitter>(

@@ -1,4 +1,4 @@
-//! Styles of a value's text.
+//! The styles in which the text of a value is written.
 
 ghost use Rattle.std.specs.Prelude.{◌≡◌};
 ghost use Rattle.capn_show.specs.Style as spec;
@@ -8,18 +8,19 @@ ghost use Rattle.capn_show.specs.Style as spec;
 pub enum Style {
     /// Lines, with the digits of each list of bytes.
     Lines,
-    /// Lines, in which a list of bytes that is a text is written between quotes: its bytes are from 0x20 to 0x7e, and
-    /// the last may also be zero.
+    /// Lines, in which a list of bytes that is a text is written between quotes. The bytes of a text are from 0x20 to
+    /// 0x7e, and the last may also be zero.
     Quoted,
     /// One line of JSON, with the digits of each list of bytes.
     Json,
-    /// One line of JSON, in which a list of bytes that is a text is written as one: its last byte is zero, and those
-    /// before it are well-formed UTF-8 without control characters, but tab, newline and carriage return.
+    /// One line of JSON, in which a list of bytes that is a text is written as a string. The last byte of a text is
+    /// zero, and those before it are well-formed UTF-8 without control characters other than tab, newline and carriage
+    /// return.
     JsonText,
 }
 
 impl Style {
-    /// Returns the end of the text of a message: the line `end`, but nothing in JSON, where the text is one line.
+    /// Returns the end of the text of a message: the line `end`, or nothing in JSON, where a text is one line.
     pub fn end(self) -> &'static [u8]
         ensures { result.now ≡ spec.end_of self }
     {
@@ -29,7 +30,7 @@ impl Style {
         }
     }
 
-    /// Returns `true` if it writes lines, before which offsets and paths can stand.
+    /// Returns `true` if the style writes lines, before which offsets and paths can stand.
     pub fn has_lines(self) -> bool
         ensures { result ≡ spec.has_lines self }
     {
@@ -39,7 +40,7 @@ impl Style {
         }
     }
 
-    /// Returns `true` if it writes lists of bytes that are texts between quotes, in lines.
+    /// Returns `true` if the style writes lines with texts between quotes.
     pub fn is_quoted(self) -> bool
         ensures { result ≡ spec.is_quoted self }
     {

@@ -1,4 +1,4 @@
-//! Text of a value or of nothing, in a style.
+//! The text of a value in a style, or of the absence of a value.
 
 ghost use Rattle.std.specs.Prelude.{◌*◌, ◌<◌, ◌^◌, None, IfErr, OnOk};
 ghost use Rattle.capn_words.specs.Message.{IsMessage};
@@ -44,8 +44,8 @@ pub fn show_there<S: Space, W: Write, A: Allocator>(
     }
 }
 
-/// Appends the lines of the value with the target `found` to `text`: lists of bytes that are texts are written between
-/// quotes, if that is asked for (`QUOTED`).
+/// Appends the lines of the value with the target `found` to `text`. A list of bytes that is a text is written between
+/// quotes if `QUOTED`.
 fn show_lines<S: Space, W: Write, A: Allocator, const QUOTED: bool>(
     text: &mut Vec<u8, A>,
     writer: &mut Watched<W>,
@@ -65,7 +65,8 @@ fn show_lines<S: Space, W: Write, A: Allocator, const QUOTED: bool>(
     show_found(text, writer, &mut Lines::<QUOTED>, space, found, 0, depth)
 }
 
-/// Appends the line of JSON of the value with the target `found` to `text`.
+/// Appends the line of JSON of the value with the target `found` to `text`. A list of bytes that is a text is written
+/// as a string if `QUOTED`.
 fn show_json<S: Space, W: Write, A: Allocator, const QUOTED: bool>(
     text: &mut Vec<u8, A>,
     writer: &mut Watched<W>,
@@ -86,7 +87,7 @@ fn show_json<S: Space, W: Write, A: Allocator, const QUOTED: bool>(
     end_line(text, writer)
 }
 
-/// Appends the line for no value to `text`, in this `style`.
+/// Appends the line that stands for no value to `text`, in this `style`.
 pub fn show_nothing<W: Write, A: Allocator>(
     text: &mut Vec<u8, A>,
     writer: &mut Watched<W>,

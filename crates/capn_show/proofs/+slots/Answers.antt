@@ -99,7 +99,7 @@ slots::show_body-show_slots-requires g t c κs live =
       ),
     )
 
--- ---- what a pointer names
+-- ---- the target of a pointer
 
 pub slots::show_found-overflow_sub-depth : goal.slots::show_found-overflow_sub-depth
 slots::show_found-overflow_sub-depth g t c =
@@ -632,7 +632,7 @@ rows::show_rows-show_row-requires g t c κs live =
       ),
     )
 
--- ---- the emitter, as it was
+-- ---- the emitter is unchanged
 
 pub slots::show_found-returns-in-Nil-clause-kept : goal.slots::show_found-returns-in-Nil-clause-kept
 slots::show_found-returns-in-Nil-clause-kept g t c =
@@ -697,7 +697,7 @@ slots::show_slot-returns-in_err-put_mark-clause-cut g t c =
     (otherwise-broken p q _ _ _ (ap (λ (n : ℕ). rule.mark c.args.number n path) c.byte_of-byte.ensures.is)
     c.in_err-put_mark.ensures.cut))
 
--- ---- the text of the slot of a number
+-- ---- the text of a slot by its number
 
 pub rows::show_below-show_slot-requires : goal.rows::show_below-show_slot-requires
 rows::show_below-show_slot-requires g t c κs live =

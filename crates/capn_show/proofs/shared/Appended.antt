@@ -1,5 +1,5 @@
--- The growth of a text, and its breaking off: by the bytes that are added, those that are written, and one text after
--- another. (For `bits.rt`, `byte_digits.rt`, `bytes.rt`, capn_commands and capn_marks.)
+-- The growth of a text that is kept and written, and its breaking off. (For `bits.rt`, `byte_digits.rt`, `bytes.rt`,
+-- capn_commands and capn_marks.)
 use Rattle.std.proofs.Common.{◌≡◌, ℕ, ◌+◌, Bool, List, IsErrAnd, [], ◌++◌, length, take, drop}
 use Rattle.std.proofs.Common.{refl, ◌∙◌, sym, ap, subst, append_assoc}
 use Rattle.std.specs.Prelude.{Option, Result, Ok, Err, OnOk, IfErr, is_err, true, false, ◌||◌}
@@ -12,7 +12,7 @@ use Rattle.capn_show.specs.declared.fault.Broken.{Broken}
 use Rattle.capn_show.specs.declared.fault.Broken.TheVariants as broken
 use Rattle.capn_show.specs.Outgoing.{Outgoing, Adds, BreaksOff}
 
--- a first part of a text is one of what begins with it
+-- A first part of `x` is a first part of `x` followed by `y`.
 first-part : (n : ℕ) (x y : List ℕ) → take (length (take n x)) (x ++ y) ≡ take n x
 first-part n x y =
     ap (λ (l : List ℕ). take (length (take n x)) l)
@@ -30,7 +30,7 @@ or-true : (b : Bool) → (b || true) ≡ true
 or-true true = refl
 or-true false = refl
 
--- a text of which more is kept
+-- The text is kept, and nothing is written.
 pub kept-more : (p q : Outgoing) (x : List ℕ) → q.taken ≡ p.taken → q.failed ≡ p.failed → q.kept ≡ p.kept ++ x
     → Adds p q x
 kept-more p q x h f k = record {
@@ -41,7 +41,7 @@ kept-more p q x h f k = record {
 }
 
 module _ {T : Type 0} (p q : Outgoing) where
-  -- what was kept is written
+  -- The kept text is written.
   pub sent : (r : Result T Broken) → OnOk r (Appends p.taken q.taken p.kept) → OnOk r (q.kept ≡ [])
       → q.failed ≡ (p.failed || is_err r) → OnOk r (Adds p q [])
   sent (Ok x) h k f = record {
@@ -52,7 +52,7 @@ module _ {T : Type 0} (p q : Outgoing) where
   }
   sent (Err e) h k f = tt
 
-  -- a first part of it is
+  -- A first part of the kept text is written, and the writer fails.
   pub unsent : (r : Result T Broken) → HasBegun p.taken q.taken p.kept → IfErr r (λ e. e ≡ broken.Io)
       → q.failed ≡ (p.failed || is_err r) → IfErr r (λ e. BreaksOff p q e [])
   unsent (Ok x) h k f = tt
@@ -62,24 +62,22 @@ module _ {T : Type 0} (p q : Outgoing) where
     f ∙ or-true p.failed,
   )
 
--- memory is refused, and nothing is added
+-- Memory is refused, and nothing is added.
 pub refused : (p q : Outgoing) (t : List ℕ) (e : Broken) → e ≡ broken.Memory → q.taken ≡ p.taken → q.failed ≡ p.failed
     → q.kept ≡ p.kept → BreaksOff p q e t
 refused p q t e is h f k =
     subst (λ (x : Broken). BreaksOff p q x t) (sym is) (0, kept-more p q [] h f (k ∙ sym (append-nil p.kept)))
 
--- nothing is added
 pub same : (p : Outgoing) → Adds p p []
 same p = kept-more p p [] refl refl (sym (append-nil p.kept))
 
--- a text written otherwise
 pub otherwise : (p q : Outgoing) (x y : List ℕ) → x ≡ y → Adds p q x → Adds p q y
 otherwise p q x y e h = subst (Adds p q) e h
 
 pub otherwise-broken : (p q : Outgoing) (e : Broken) (x y : List ℕ) → x ≡ y → BreaksOff p q e x → BreaksOff p q e y
 otherwise-broken p q e x y is h = subst (BreaksOff p q e) is h
 
--- one text, then another
+-- One text is added, and then another.
 pub both : (p q r : Outgoing) (x y : List ℕ) → Adds p q x → Adds q r y → Adds p r (x ++ y)
 both p q r x y h k = record {
   written = h.written ++ k.written;
@@ -89,7 +87,7 @@ both p q r x y h k = record {
   failed = k.failed ∙ h.failed;
 }
 
--- a text, then one that breaks off
+-- One text is added, and then another breaks off.
 pub then-broken : (p q r : Outgoing) (e : Broken) (x y : List ℕ) → Adds p q x → BreaksOff q r e y
     → BreaksOff p r e (x ++ y)
 then-broken p q r broken.Io x y h (n, k, f) =
@@ -104,7 +102,7 @@ then-broken p q r broken.Io x y h (n, k, f) =
 then-broken p q r broken.Memory x y h (n, k) =
     (length x + n, otherwise p r (x ++ take n y) _ (sym (take-append-add x y n)) (both p q r x (take n y) h k))
 
--- one that breaks off, before another
+-- One text breaks off, before another is begun.
 pub broken-before : (p q : Outgoing) (e : Broken) (x y : List ℕ) → BreaksOff p q e x → BreaksOff p q e (x ++ y)
 broken-before p q broken.Io x y (n, k, f) =
     let front = take n (p.kept ++ x) in (
@@ -116,14 +114,14 @@ broken-before p q broken.Io x y (n, k, f) =
 broken-before p q broken.Memory x y (n, k) =
     (length (take n x), otherwise p q (take n x) _ (sym (first-part n x y)) k)
 
--- a text, then nothing
+-- A text is added, and then nothing.
 pub settled : (p q r : Outgoing) (x : List ℕ) → Adds p q x → Adds q r [] → Adds p r x
 settled p q r x h k = otherwise p r (x ++ []) x (append-nil x) (both p q r x [] h k)
 
 pub settled-broken : (p q r : Outgoing) (e : Broken) (x : List ℕ) → Adds p q x → BreaksOff q r e [] → BreaksOff p r e x
 settled-broken p q r e x h k = otherwise-broken p r e (x ++ []) x (append-nil x) (then-broken p q r e x [] h k)
 
--- what is said of the error of a call holds of the one that is passed on
+-- A statement on the error of a call holds of the error that is passed on.
 pub passed : {T : Type 0} (r : Result T Broken) (e : Broken) (P : Broken → Type 0) → IsErrAnd r (λ y. y ≡ e) → P e
     → IfErr r P
 passed (Ok x) e P is h = tt

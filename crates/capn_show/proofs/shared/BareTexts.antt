@@ -1,4 +1,4 @@
--- The text by a rule without marks is that in lines. (For `show_lines`, `show_message` and capn_marks.)
+-- The text by a rule of lines without marks is the text in lines. (For `show_lines`, `show_message` and capn_marks.)
 use Rattle.std.proofs.Common.{◌≡◌, ℕ, zero, suc, ◌+◌, ◌*◌, List, [], ◌∷◌, ◌++◌, Bool, true, false, length, codes, map}
 use Rattle.std.proofs.Common.{replicate, refl, sym, ap, ap₂, ◌∙◌, append_assoc, if◌then◌else◌}
 use Rattle.std.specs.Fmt.{decimal}
@@ -18,7 +18,6 @@ use Rattle.capn_show.specs.Emitted.{digit_lines}
 use Rattle.capn_show.specs.Quoting.{is_text, quoted_line, plain_bytes, shown_by, shown_each_by, shown_rows_by}
 use Rattle.capn_show.specs.ReadyPlaces.{bytes_of}
 
--- a line, by its parts
 pub line-is : (level : ℕ) (text : List ℕ) → line level text ≡ replicate (2 * level) 32 ++ (text ++ 10 ∷ [])
 unfolding line
 line-is level text = refl

@@ -1,4 +1,4 @@
--- The answer for a text that breaks off. (For `show_message`, `show_part` and capn_marks.)
+-- The result for a text that breaks off. (For `show_message`, `show_part` and capn_marks.)
 use Rattle.std.proofs.Common.{◌≡◌, ℕ, List, subst, sym}
 use Rattle.capn_value.specs.Tree.{Tree}
 use Rattle.capn_walk.specs.Limits.{Bounds}

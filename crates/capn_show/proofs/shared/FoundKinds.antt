@@ -1,5 +1,4 @@
--- The value of a pointer to a thing of a kind. (For `FoundTexts`, `JsonValues`, `ListTexts`, `PartSteps` and
--- capn_marks.)
+-- The value of a target has the kind of the target. (For `EmittedTexts`, `FoundTexts`, `PartSteps` and capn_marks.)
 use Rattle.std.proofs.Common.{◌≡◌, ℕ, suc, ◌+◌, ◌<◌, ◌^◌, List, [], ◌∷◌, Bool, length, map, refl, sym, ap, ◌∙◌}
 use Rattle.std.proofs.Common.{Some, None, Option, subst, slice_index, arith}
 use Rattle.std.proofs.lemmas.List.{length-map}
@@ -20,7 +19,6 @@ use Rattle.capn_walk.specs.View.{kind_of_list, kind_of}
 use Rattle.capn_walk.specs.ShownValue.{Shows, ShowsStruct}
 use Rattle.capn_show.specs.ReadyPlaces.{struct_at, AreNumbers, AreSlots, AreRowsAt}
 
--- the kind of a value
 abbrev kind_in : Tree → Kind
 kind_in nil = kinds.Nil
 kind_in (cap k) = kinds.Cap
@@ -30,7 +28,7 @@ kind_in (numbers a xs) = kind_of_list (list_width a)
 kind_in (links ts) = kinds.Links
 kind_in (rows bs) = kinds.Rows
 
--- the width of the numbers of a list of a kind, if it holds numbers
+-- The width of the numbers of a list of a kind, if it holds numbers.
 abbrev number_kind : Kind → Option NumberWidth
 number_kind kinds.Bits = Some bit
 number_kind kinds.Bytes = Some byte
@@ -46,53 +44,50 @@ number_kind-list pair = refl
 number_kind-list quad = refl
 number_kind-list oct = refl
 
--- what is of another kind is no list of numbers
+-- A value of any other kind is not a list of numbers.
 no-numbers : (a : NumberWidth) (k : Kind) → number_kind k ≡ None → k ≡ kind_of_list (list_width a) → ⊥
 no-numbers a k none e = let same : None ≡ Some a = sym none ∙ ap number_kind e ∙ number_kind-list a in absurd cc
 
--- a list of numbers of this width
+-- The value is a list of numbers of this width.
 pub record IsNumbers (a : NumberWidth) (Are : List ℕ → Type 0) (n : ℕ) (v : Tree) : Type 0 where
   pub items : List ℕ
   pub is : v ≡ numbers a items
   pub count : length items ≡ n
   pub are : Are items
 
--- a list of bits, by the bits
+-- The value is a list of bits, which are these digits.
 pub record IsBits (Are : List ℕ → Type 0) (n : ℕ) (v : Tree) : Type 0 where
   pub digits : List Bool
   pub is : v ≡ numbers bit (map from_bool digits)
   pub count : length digits ≡ n
   pub are : Are (map from_bool digits)
 
--- a struct
 pub record IsNode (m : List (List ℕ)) (s w a b : ℕ) (v : Tree) : Type 0 where
   pub words : List ℕ
   pub slots : Trees
   pub is : v ≡ node words slots
   pub are : ShowsStruct m (struct_at s w a b) words slots
 
--- a list of pointers
 pub record IsLinks (m : List (List ℕ)) (s w n : ℕ) (v : Tree) : Type 0 where
   pub slots : Trees
   pub is : v ≡ links slots
   pub number : count slots ≡ n
   pub are : AreSlots m s w slots
 
--- a list of structs
 pub record IsRows (m : List (List ℕ)) (s w n a b : ℕ) (v : Tree) : Type 0 where
   pub bodies : Bodies
   pub is : v ≡ rows bodies
   pub number : count_rows bodies ≡ n
   pub are : AreRowsAt m s (w + 1) a b bodies
 
--- numbers below 2 at each index
+-- The numbers at all indexes are below 2.
 bits-below : (xs : List ℕ)
     → ((i : ℕ) → i < length xs → slice_index xs i < 2) → AllBelow (2 ^ 1) xs
 bits-below [] h = tt
 bits-below (x ∷ xs) h = (h 0 (omega arith), bits-below xs (λ i l. h (suc i) (omega arith)))
 
 module _ (m : List (List ℕ)) where
-  -- what is shown has the kind of its value
+  -- The value that a target shows has the kind of the target.
   kinded : (found : Target) (v : Tree) → Shows m found v → kind_of found ≡ kind_in v
   kinded found nil h = ap kind_of h
   kinded found (cap k) h = ap kind_of h
@@ -147,7 +142,7 @@ module _ (m : List (List ℕ)) where
         are = subst (AreNumbers m s w W1) (sym back) x.are;
       }
 
-  -- ---- what has slots
+  -- ---- values with slots
 
   pub as-node : (s w pads : ℕ) (a b : ℕ) (v : Tree)
       → Shows m (targets.Content s w (shapes.Node a b) pads) v → IsNode m s w a b v

@@ -1,4 +1,4 @@
--- The height of a value that a pointer names, and its parts. (For the cycle `slots`.)
+-- The height of the value of a target, and its parts. (For the cycle `slots`.)
 use Rattle.std.proofs.Common.{◌≡◌, ℕ, ◌+◌, ◌-◌, ◌≤◌, List, refl, subst, ap, ◌∙◌, arith}
 use Rattle.capn_words.specs.declared.pointer.Width.{Width}
 use Rattle.capn_words.specs.declared.pointer.Width.TheVariants.{W0, W1, W8, W16, W32, W64, Link, Rows}
@@ -14,7 +14,7 @@ use Rattle.capn_walk.specs.ShownValue.{Shows}
 use Rattle.capn_show.specs.ReadyPlaces.{IsFound, IsBody, AreReady, AreRows}
 use Rattle.capn_show.proofs.shared.FoundKinds.{as-node, as-links, as-rows}
 
--- content has a height
+-- The value of content is at least one object high.
 high : (m : List (List ℕ)) (s w pads : ℕ) (shape : Shape) (v : Tree)
     → Shows m (targets.Content s w shape pads) v → 1 ≤ height v
 high m s w pads shape nil h = absurd (cc)
@@ -25,7 +25,7 @@ high m s w pads shape (numbers a xs) h = omega arith
 high m s w pads shape (links ts) h = omega arith
 high m s w pads shape (rows bs) h = omega arith
 
--- what is known below what a pointer names
+-- The content of a target, and the values below it.
 module _ (m : List (List ℕ)) (found : Target) (s w pads : ℕ) (shape : Shape)
     (e : found ≡ targets.Content s w shape pads) where
   pub inside : IsInMessage m found → IsContent m (record { segment = s; word = w }) (extent shape) × RowsFit shape
@@ -65,7 +65,7 @@ module _ (m : List (List ℕ)) (found : Target) (s w pads : ℕ) (shape : Shape)
         let l = ready.low in
         record { values = x.bodies; are = x.are; count = x.number; low = omega arith }
 
--- elements of a list whose pointer is near, and not to pointers
+-- The elements of a list are not pointers or rows, if the list's width is neither.
 pub plain-of : (width : Width) (n : ℕ) → RowsFit (shapes.Many width n) → (width ≡ Link → ⊥) → IsPlain width
 plain-of W0 n fit other = tt
 plain-of W1 n fit other = tt

@@ -1,5 +1,5 @@
--- A step of the text's recursion: a place with a value has a target, and what is shown there is the value. (For the
--- cycle `slots`.)
+-- A step of the walk that writes a text: a place with a value has a target, which shows the value. (For the cycle
+-- `slots`.)
 use Rattle.std.proofs.Common.{◌≡◌, ℕ, ◌+◌, ◌*◌, ◌<◌, List, Ok, Err, sym, arith}
 use Rattle.capn_words.specs.declared.space.Place.{Place}
 use Rattle.capn_value.specs.Tree.{Tree, nil, node, voids, numbers, links, rows, cap}
@@ -14,7 +14,7 @@ use Rattle.capn_show.specs.ReadyPlaces.{IsReady, IsFound, IsBody, AreReady, AreR
 use Rattle.capn_show.proofs.SlotTexts.{low-at, row-low}
 
 module _ (m : List (List ℕ)) where
-  -- the pointer at the place of a value names something
+  -- The pointer at the place of a value has a target.
   pub found : (at : Place) (v : Tree) → IsAt m at v → (t : Target) × (target m at ≡ Ok t)
   found at nil h = (targets.Nil, h)
   found at (cap k) h = (targets.Cap k, h)
@@ -24,16 +24,15 @@ module _ (m : List (List ℕ)) where
   found at (links ts) h = (_, h.is)
   found at (rows bs) h = (_, h.3.is)
 
-  -- so no fault is answered there
+  -- The pointer at the place of a value has no fault.
   pub no-fault : (at : Place) (depth : ℕ) (e : Fault) → IsReady m at depth → target m at ≡ Err e → ⊥
   no-fault at depth e r f = let g = (found at r.value r.is).1 in absurd (cc)
 
-  -- what it names is shown
+  -- The target of the pointer shows the value.
   pub found-ready : (laws : (message : List (List ℕ)) (at : Place) (t : Target) (v : Tree) → ViewsShow message at t v)
       (at : Place) (t : Target) (depth : ℕ) → target m at ≡ Ok t → IsReady m at depth → IsFound m t depth
   found-ready laws at t depth e r = record { value = r.value; is = laws m at t r.value e r.is; low = r.low }
 
-  -- one of several slots
   pub slot-ready : (s w number depth i : ℕ) → i < number → AreReady m s w number depth
       → IsReady m (record { segment = s; word = w + i }) depth
   slot-ready s w number depth i below r =
@@ -43,7 +42,6 @@ module _ (m : List (List ℕ)) where
       let l = r.low in
       record { value = tree_at r.values i; is = r.are i there; low = omega arith }
 
-  -- one of several rows
   pub row-ready : (s w number a b depth i : ℕ) → i < number → AreRows m s w number a b depth
       → IsBody m s (w + i * (a + b)) a b depth
   row-ready s w number a b depth i below r =
@@ -58,6 +56,5 @@ module _ (m : List (List ℕ)) where
         low = omega arith;
       }
 
-  -- the slots of a struct
   pub slots-ready : (s w a b depth : ℕ) → IsBody m s w a b depth → AreReady m s (w + a) b depth
   slots-ready s w a b depth r = record { values = r.slots; are = r.is.slot; count = sym r.is.slots; low = r.low }

@@ -1,4 +1,4 @@
--- The rule of JSON: a comma stands before each item but the first.
+-- The rule of the emitter of JSON, whose mark is a comma before each item but the first.
 use Rattle.std.specs.Prelude.{ℕ, zero, suc, List, [], ◌∷◌, ◌++◌, codes, Bool, true, false, if◌then◌else◌}
 use Rattle.std.specs.Fmt.{decimal}
 use Rattle.capn_words.specs.declared.pointer.Width.{Width}
@@ -9,22 +9,22 @@ use Rattle.capn_show.specs.JsonTexts.{is_json_text, text_json, text_or_digits}
 use Rattle.capn_show.specs.declared.piece.Piece.{Piece}
 use Rattle.capn_show.specs.declared.piece.Piece.TheVariants as pieces
 
--- the comma before an item, if it has one
+-- The comma before item `i`, if it has one.
 abbrev pub comma : ℕ → List ℕ
 comma zero = []
 comma (suc i) = 44 ∷ []
 
--- true if the numbers of a list are written between quotes
+-- True if the numbers of a list of this width are written between quotes.
 abbrev pub is_quoted : Width → Bool
 is_quoted W64 = true
 is_quoted _ = false
 
--- a number, between quotes or not
+-- A number, between quotes or not.
 abbrev pub number_item : Bool → ℕ → List ℕ
 number_item true = number_text
 number_item false = decimal
 
--- the pieces of JSON
+-- The bytes of each piece in JSON.
 abbrev pub json_piece : Piece → List ℕ
 json_piece pieces.Nil = codes "null"
 json_piece (pieces.Cap k) = codes "{\"capability\":" ++ (decimal k ++ 125 ∷ [])
@@ -45,7 +45,7 @@ json_piece pieces.Digits = []
 json_piece pieces.EndDigits = codes "\"}"
 json_piece pieces.NoDigits = codes "\"}"
 
--- JSON, by whether lists of bytes that are texts are written so
+-- The rule of JSON. `quoted` says whether a list of bytes that is a text is written as a string.
 abbrev pub json_rule : Bool → Rule
 json_rule quoted = record {
   is_text = λ xs. if quoted then is_json_text xs else false;
@@ -56,7 +56,7 @@ json_rule quoted = record {
   piece = λ level p. json_piece p;
 }
 
--- the JSON of a list of bytes, by whether a text is put between quotes
+-- The JSON of a list of bytes. The first argument says whether one that is a text is written as a string.
 abbrev pub bytes_json_of : Bool → List ℕ → List ℕ
 bytes_json_of false = digits_json
 bytes_json_of true = text_or_digits

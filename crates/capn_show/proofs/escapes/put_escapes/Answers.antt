@@ -8,7 +8,6 @@ use Rattle.capn_show.proofs.Grown.{escapes-more, escapes-cut, escapes-all, bare-
 use Rattle.capn_show.proofs.shared.Appended.{otherwise, passed}
 use Rattle.capn_show.proofs.escapes.put_escapes.Goals as goal
 
--- the bytes from one on
 abbrev left_of : List ℕ → ℕ → List ℕ
 left_of xs done = take (length xs - done) (drop done xs)
 

@@ -8,7 +8,6 @@ use Rattle.capn_show.proofs.JsonEmitted.{closed}
 use Rattle.capn_show.proofs.shared.Sequels.{three, cut-second, cut-third}
 use Rattle.capn_show.proofs.json_texts.json_text.Goals as goal
 
--- the object of a text, by its parts
 text-parts : (xs : List ℕ) (n : ℕ) → n ≡ length xs - 1
     → codes "{\"text\":\"" ++ (json_escapes (take n xs) ++ codes "\"}") ≡ text_json xs
 text-parts xs n e =
