@@ -1,4 +1,4 @@
--- A line of which a beginning can't be one between quotes stays as it is. (For `Unquotings`.)
+-- Lemmas for `Unquotings`: a line with a prefix that begins no line between quotes stays as it is.
 use Rattle.std.proofs.Common.{◌≡◌, ℕ, zero, suc, ◌+◌, ◌==◌, ◌||◌, ◌⊎◌, inl, inr, Bool, true, false, cond}
 use Rattle.std.proofs.Common.{List, [], ◌∷◌, ◌++◌, codes, take, drop, Option, Some, None, refl, sym, ap, ap₂, ◌∙◌}
 use Rattle.std.proofs.Common.{append_assoc, arith}
@@ -13,7 +13,7 @@ use Rattle.capn_text.specs.inner.QuotedLines.{levels_at, quoted_at}
 use Rattle.capn_text.proofs.TokenText.{two_more}
 use Rattle.capn_text.proofs.QuotedLines.{spaces, names_line}
 
--- ---- what a line between quotes begins with
+-- ---- the first bytes of a line between quotes
 
 or_left : (a b : Bool) → a ≡ true → (a || b) ≡ true
 or_left a b e = ap (λ (x : Bool). x || b) e
@@ -22,7 +22,7 @@ or_right : (a b : Bool) → b ≡ true → (a || b) ≡ true
 or_right true b e = refl
 or_right false b e = e
 
--- of two beginnings of a text the shorter begins the longer
+-- The shorter of two prefixes of a text is a prefix of the longer.
 shorter : (w front rest t : List ℕ) → front ++ rest ≡ w ++ t
     → (begins w front ≡ true) ⊎ ((y : List ℕ) × (strip w front ≡ Some y) × (y ++ rest ≡ t))
 shorter [] front rest t e = inr (front, refl, e)
@@ -87,7 +87,7 @@ begun (suc level) front rest t e h =
 abbrev pub Never : List ℕ → Type 0
 Never front = (rest : List ℕ) → quoted_at (front ++ rest) ≡ None
 
--- a line of which a beginning can't be one between quotes is none
+-- A line with a prefix that begins no line between quotes is not one.
 pub never : (front : List ℕ) → may_begin (take looked_at front) ≡ false → Never front
 never front other rest = by (quoted_at (front ++ rest)) refl where
   by : (r : Option (ℕ × List ℕ)) → quoted_at (front ++ rest) ≡ r → r ≡ None
@@ -100,7 +100,7 @@ never front other rest = by (quoted_at (front ++ rest)) refl where
       let yes = begun line.0 (take looked_at front) (drop looked_at front ++ rest) line.1 (cut ∙ line.2) line.3 in
       absurd cc
 
--- ---- it stays as it is
+-- ---- the line stays as it is
 
 never_more : (front : List ℕ) (c : ℕ) → Never front → Never (front ++ c ∷ [])
 never_more front c h rest = ap quoted_at (append_assoc front (c ∷ []) rest) ∙ h (c ∷ rest)
@@ -139,7 +139,7 @@ never_digits n (c ∷ cs) front h =
       by true false e below = refl
       by false q e below = below
 
--- ---- bytes that end no line, and the end of it
+-- ---- bytes without a newline, and the newline
 
 pub through_past : (x more : List ℕ) → ended_lines x ≡ 0 → plain_through (x ++ more) ≡ x ++ plain_through more
 through_past [] more quiet = refl

@@ -1,4 +1,4 @@
--- First lines, each of them that of a value. (For `first_line` and `may_begin`.)
+-- Lemmas for `first_line` and `may_begin`: the first lines of values.
 use Rattle.std.proofs.Common.{◌≡◌, ◌<◌, ◌+◌, ◌==◌, ℕ, Bool, true, false, cond, List, [], ◌∷◌, ◌++◌, Some, None}
 use Rattle.std.proofs.Common.{sym, refl, ap, ◌∙◌, arith}
 use Rattle.std.proofs.lemmas.List.{append-nil}
@@ -20,13 +20,13 @@ line_ends text =
     let k : ended_lines (text ++ 10 ∷ []) ≡ ended_lines text + 1 = lines_append text (10 ∷ []) in
     omega arith
 
--- a first line and what can be below it are read as a value
+-- A first line, and lines that can be below it, are read as a value.
 read_on : (h : Head) (first : List ℕ) (w : List ℕ) (v : Tree) → head_at 0 (first ++ w) ≡ Some (h, w)
     → content_at (tree_at 0) 0 h w ≡ Some (v, []) → tree_at 1 0 (first ++ w) ≡ Some (v, [])
 unfolding tree_at
 read_on h first w v head below = ap (λ o. o >>= λ k. content_at (tree_at 0) 0 k.0 k.1) head ∙ below
 
--- the first line that was read is that of some value
+-- A first line that was read begins some value.
 pub begins : (t : List ℕ) (x : Head × List ℕ) → head_at 0 t ≡ Some x → (v : Tree) × BeginsAs t v
 begins t x e =
     let p = head_takes 0 t x.0 x.1 e in
@@ -40,14 +40,14 @@ first_or : (b : Bool) (n : ℕ) (x y : List ℕ) → 0 < cond b 1 0 + n → (0 <
 first_or true n x y some same = refl
 first_or false n x y some same = same (omega arith)
 
--- what begins with the same line has the same first line
+-- Texts that begin with the same line have the same first line.
 same_first : (front x y : List ℕ) → 0 < ended_lines front → first_lines 1 (front ++ x) ≡ first_lines 1 (front ++ y)
 same_first [] x y some = absurd (omega arith)
 same_first (c ∷ cs) x y some =
     ap (λ t. c ∷ t) (first_or (c == 10) (ended_lines cs) (first_lines 1 (cs ++ x)) (first_lines 1 (cs ++ y)) some
     (same_first cs x y))
 
--- a first line that was not read is that of no value
+-- A first line that is not read begins no value.
 pub begins_none : (t : List ℕ) → head_at 0 t ≡ None → (v : Tree) → BeginsAs t v → ⊥
 begins_none t none v h =
     (first_line_wrong show_text [] (λ w. sym (append-nil (show_text w))) t none).6 v h.0

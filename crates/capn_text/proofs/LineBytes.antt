@@ -1,4 +1,5 @@
--- Each line is one: no newline is within what a line says. (For `LineStops`, `OwnLines` and `PartStops`.)
+-- Lemmas for `LineStops`, `OwnLines` and `PartStops`: each line that is written is one line, since there is no newline
+-- in it.
 use Rattle.std.proofs.Common.{◌≡◌, ◌+◌, ◌/◌, ◌%◌, ◌^◌, ◌<◌, ◌==◌, ℕ, suc, Bool, true, false, cond}
 use Rattle.std.proofs.Common.{List, [], ◌∷◌}
 use Rattle.std.proofs.Common.{◌++◌, length, codes, refl, ap, ap₂, ◌∙◌, arith}
@@ -23,7 +24,7 @@ use Rattle.capn_text.proofs.HeadText.{name_text, head_text, number_below}
 use Rattle.capn_text.proofs.Numbers.{word_text, number_text}
 use Rattle.capn_text.proofs.WholeLines.{are_none, line_is_one}
 
--- no line ends within these bytes
+-- No line ends within the bytes.
 abbrev pub IsQuiet : List ℕ → Type 0
 IsQuiet x = ended_lines x ≡ 0
 

@@ -1,4 +1,4 @@
--- The stop on one line. (For `leaves.rt`.)
+-- Lemmas for `leaves.rt`: the stop on one line.
 use Rattle.std.proofs.Common.{◌≡◌, ◌^◌, ◌<◌, ℕ, zero, suc, Bool, true, List, [], ◌∷◌, ◌++◌, length}
 use Rattle.std.proofs.Common.{Option, Some, None, refl, sym, ap, subst, arith}
 use Rattle.std.specs.Prelude.{⊤}
@@ -19,7 +19,7 @@ use Rattle.capn_text.proofs.LineBytes.{head_is_line, word_is_line, number_is_lin
 use Rattle.capn_text.proofs.LineBytes.{bytes_are_lines, bytes_are_line}
 use Rattle.capn_text.proofs.StopLaws.{Local, Full, local_lines, full_line, line_stops}
 
--- a failure of a line, as one of what is read by height
+-- The failure of a line is one of reading at any height.
 module _ {X : Type 0} (read : List ℕ → Option (X × List ℕ)) (room : ℕ)
     (stop : (t : List ℕ) → read t ≡ None → Stops (λ r. read) room t (length t)) where
   pub line_fails : (e : Stop) (t : List ℕ) → LineFails e read t → FailsAt (λ r. read) room e t

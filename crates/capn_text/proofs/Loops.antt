@@ -1,4 +1,4 @@
--- Reading one thing after the other, as a loop does. (For `contents.rt`, `leaves.rt` and `tokens.rt`.)
+-- Lemmas for `contents.rt`, `leaves.rt` and `tokens.rt`: loops that read one item after another.
 use Rattle.std.proofs.Common.{◌≡◌, ℕ, suc, ◌-◌, ◌+◌, ◌≤◌, ◌<◌, List, [], ◌∷◌, ◌++◌, Option, Some, None, refl, sym, ap}
 use Rattle.std.proofs.Common.{◌∙◌}
 use Rattle.std.proofs.Common.{append_assoc, arith, codes}
@@ -7,7 +7,7 @@ use Rattle.capn_text.specs.declared.fault.Stop.{Stop}
 use Rattle.capn_text.specs.declared.fault.Stop.TheVariants as stops
 use Rattle.capn_text.specs.inner.Tokens.{◌>>=◌, Fails, many, strip, indent_at}
 
--- what was read before, and what is still read
+-- The items that were read before, and those that are read from the rest.
 abbrev pub with_front : {X : Type 0} → List X → Option (List X × List ℕ) → Option (List X × List ℕ)
 with_front front read = read >>= λ xs. Some (front ++ xs.0, xs.1)
 
@@ -54,12 +54,10 @@ module _ {X : Type 0} (one : List ℕ → Option (X × List ℕ)) (front : List 
       rw k (ap (λ xs. Some (xs, text)) (append-nil front)) in
       sym so_far ∙ next
 
--- what is read before anything is
 pub starts : {X : Type 0} (read : Option (List X × List ℕ)) → with_front [] read ≡ read
 starts (Some xs) = refl
 starts None = refl
 
--- one level more of an indentation
 pub indent_more : (level i : ℕ) (t after : List ℕ) (total : Option (List ℕ)) → i < level
     → strip (codes "  ") t ≡ Some after → indent_at (level - i) t ≡ total → indent_at (level - (i + 1)) after ≡ total
 indent_more level i t after total lt h so_far =

@@ -1,5 +1,5 @@
--- Lines that are none whatever follows, and lines that can still become one. (For `head_at`, `number_line_at` and
--- `word_line_at`.)
+-- Lemmas for `head_at`, `number_line_at` and `word_line_at`: lines that cannot be read whatever follows, and lines that
+-- can still be completed.
 use Rattle.std.proofs.Common.{◌≡◌, ◌+◌, ◌*◌, ◌≤◌, ◌<◌, ◌^◌, ℕ, suc, Bool, true, false, cond}
 use Rattle.std.proofs.Common.{List, [], ◌∷◌, ◌++◌, length, replicate, Option, Some, None, codes}
 use Rattle.std.proofs.Common.{refl, sym, ap, ◌∙◌, arith}
@@ -26,7 +26,7 @@ use Rattle.capn_text.proofs.TokenText.{encode_one, encode_none, encode_more}
 use Rattle.hex.specs.Hex.{encode_lower}
 use Rattle.std.specs.Int.{to_be_bytes, w64}
 
--- what begins with some bytes and is as long begins with them without what follows
+-- If `t`, with bytes after it, begins with `x`, and is at least as long, `t` itself begins with `x`.
 pub split : (t x s z : List ℕ) → t ++ z ≡ x ++ s → length x ≤ length t → (u : List ℕ) × (t ≡ x ++ u)
 split t [] s z e low = (t, refl)
 split [] (c ∷ cs) s z e low = absurd (omega arith)
@@ -49,7 +49,7 @@ module _ {X : Type 0} (read : List ℕ → Option (X × List ℕ)) (show : X →
       absurd cc
   by_answer t z none long None is = is
 
-  -- one that is as long as any line is none whatever follows
+  -- A text as long as any line is not read, whatever follows, if it is not read now.
   pub long_lost : (t : List ℕ) → read t ≡ None → ((x : X) → P x → length (show x) ≤ length t) → IsLineLost read t
   long_lost t none long z = by_answer t z none long (read (t ++ z)) refl
 
@@ -64,12 +64,12 @@ module _ {X : Type 0} (read : List ℕ → Option (X × List ℕ)) (show : X →
       let high = ltb-false (length t) few is in
       (none, refl, long_lost t none (λ x q. let s = short x q in omega arith))
 
-  -- where such a line stops
+  -- The stop on a line that is not read.
   pub line_stop : (some : X) → P some → ((x : X) → P x → length (show x) ≤ few) → (t : List ℕ) → read t ≡ None
       → LineFails (stop_in t) read t
   line_stop some p short t none = by_length (nat_lt (length t) few) t refl some p none short
 
--- ---- how long lines are
+-- ---- the length of lines
 
 line_length : (level : ℕ) (x : List ℕ) → length (line level x) ≡ 2 * level + (length x + 1)
 unfolding line

@@ -1,4 +1,4 @@
--- Lines of numbers, and one line of many digits. (For `HeadText`, `LineBytes`, `LineStops` and others.)
+-- Lemmas on lines of numbers, and on one line of many digits. (For `HeadText`, `LineBytes`, `LineStops` and others.)
 use Rattle.std.proofs.Common.{◌≡◌, ℕ, zero, suc, ◌*◌, ◌^◌, ◌<◌, Bool, true, false, cond, List, [], ◌∷◌, ◌++◌}
 use Rattle.std.proofs.Common.{length, Option, Some, None, codes, replicate, refl, sym, ap, subst, ◌∙◌, append_assoc}
 use Rattle.std.proofs.Common.{arith, inl, inr}
@@ -14,20 +14,18 @@ use Rattle.capn_text.proofs.Steps.{bind_some, guard_some, chosen, some_is, then,
 use Rattle.capn_text.proofs.TokenText.{strip_takes, indent_takes, indent_again, decimal_takes, decimal_again}
 use Rattle.capn_text.proofs.TokenText.{word_takes, word_again}
 
--- a line and what comes after it
 pub line_is : (level : ℕ) (x rest : List ℕ) → line level x ++ rest ≡ replicate (2 * level) 32 ++ (x ++ 10 ∷ rest)
 unfolding line
 line_is level x rest =
     append_assoc (replicate (2 * level) 32) (x ++ 10 ∷ []) rest
     ∙ ap (λ y. replicate (2 * level) 32 ++ y) (append_assoc x (10 ∷ []) rest)
 
--- what is read after the indentation of a line
+-- The reading of a line after its indent.
 pub in_line : {A : Type 0} (level : ℕ) (x rest : List ℕ) (f : List ℕ → Option A)
     → (indent_at level (line level x ++ rest) >>= f) ≡ f (x ++ 10 ∷ rest)
 in_line level x rest f =
     ap (λ r. r >>= f) (ap (indent_at level) (line_is level x rest) ∙ indent_again level (x ++ 10 ∷ rest))
 
--- a line from its parts
 pub line_from : (level : ℕ) (t a x b rest : List ℕ) → indent_at level t ≡ Some a → a ≡ x ++ b
     → strip (10 ∷ []) b ≡ Some rest → t ≡ line level x ++ rest
 line_from level t a x b rest e f g =
@@ -119,7 +117,7 @@ bit_takes (c ∷ cs) b rest e =
 module _ {X : Type 0} (one : List ℕ → Option (X × List ℕ)) (show : X → List ℕ) (text : List X → List ℕ)
     (P : X → Type 0) (none : text [] ≡ []) (more : (x : X) (xs : List X) → text (x ∷ xs) ≡ show x ++ text xs)
     (level : ℕ) where
-  -- one line, where there is one
+  -- The line of digits, if there is at least one item.
   row_line-some : (n : ℕ) (t : List ℕ) → row_line_at one level (suc n) t
       ≡ (indent_at level t >>= λ l. many one (suc n) l >>= λ ys. strip (10 ∷ []) ys.1 >>= λ r. Some (ys.0, r))
   unfolding row_line_at

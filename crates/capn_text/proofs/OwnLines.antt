@@ -1,4 +1,4 @@
--- The line of a text to which a line of its plain form belongs. (For `count_to` and `plain_forms`.)
+-- Lemmas for `count_to` and `plain_forms`: the line of a text to which a line of its plain form belongs.
 use Rattle.std.proofs.Common.{◌≡◌, ℕ, zero, suc, ◌+◌, ◌-◌, ◌^◌, ◌<◌, ◌≤◌, ◌==◌, ◌||◌, ◌&&◌}
 use Rattle.std.proofs.Common.{Bool, true, false, cond, nat_le}
 use Rattle.std.proofs.Common.{List, [], ◌∷◌, ◌++◌, length, codes, Option, Some, None, refl, sym, ap, ap₂, ◌∙◌}
@@ -20,7 +20,7 @@ use Rattle.capn_text.proofs.LineBytes.{head_is_line, bytes_are_line}
 use Rattle.capn_text.proofs.QuotedLines.{was_read, has_size}
 use Rattle.capn_text.proofs.PlainTexts.{plain_is_line}
 
--- ---- how many lines are at most another
+-- ---- the number of lines that are at most another
 
 counted : (q n : ℕ) → q ≤ n → (qs : List ℕ) → count_to n (q ∷ qs) ≡ 1 + count_to n qs
 counted q n below qs = ap (λ (b : Bool). cond b 1 0 + count_to n qs) (le-leb q n below)
@@ -85,13 +85,13 @@ digits_last n before (c ∷ cs) quiet = last-by (c == 10) refl (digits_last n (b
       (digits_after n (before ++ c ∷ []) cs)) e
       ∙ below (omega arith)
 
--- ---- where lines of digits stand
+-- ---- the places of lines of digits
 
--- those of a line and of what follows it, by whether that line has one
+-- The lines of digits of a line and of the bytes after it, by whether the line has bytes between quotes.
 abbrev step : Bool → ℕ → List ℕ → List ℕ
 step q n cs = cond q ((n + 1) ∷ []) [] ++ digits_after (n + cond q 2 1) [] cs
 
--- none is before the second line
+-- No line of digits is before the second line.
 pub none_before : (text before : List ℕ) (l n : ℕ) → n ≤ l → count_to n (digits_after l before text) ≡ 0
 none_before [] before l n low = refl
 none_before (c ∷ cs) before l n low =
@@ -108,7 +108,7 @@ none_before (c ∷ cs) before l n low =
 abbrev Few : List ℕ → Type 0
 Few cs = (m j : ℕ) → count_to (m + j) (digits_after m [] cs) ≤ j
 
--- no two are one after the other
+-- Two lines of digits never follow one another.
 pub few_within : (text before : List ℕ) (l i : ℕ) → count_to (l + i) (digits_after l before text) ≤ i
 few_within [] before l i = omega arith
 few_within (c ∷ cs) before l i =
@@ -182,7 +182,8 @@ first_lines_of front first fits quiet e = ap ended_lines e ∙ line_lines front 
 
 -- ---- the line of the text
 
--- the line of the plain form at which a text goes on
+-- The line of `text` to which a line of the plain form belongs. `text` begins at line `l` of the plain form, and the
+-- line is `i` lines after that.
 abbrev own_after : ℕ → List ℕ → ℕ → ℕ
 own_after l text i = suc i - count_to (l + i) (digits_after l [] text)
 

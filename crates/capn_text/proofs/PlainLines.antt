@@ -1,4 +1,4 @@
--- The lines of bytes, written part by part; and a line, found byte by byte. (For `plain_form.rt`.)
+-- Lemmas for `plain_form.rt`: the lines of bytes, written part by part, and the end of a line, found byte by byte.
 use Rattle.std.proofs.Common.{◌≡◌, ℕ, ◌+◌, ◌*◌, ◌<◌, ◌==◌, cond, Bool, List, [], ◌∷◌, ◌++◌, length, take}
 use Rattle.std.proofs.Common.{get_or, codes, replicate, sym, ap, refl, ◌∙◌, append_assoc, arith}
 use Rattle.std.specs.Prelude.{slice_index}
@@ -16,7 +16,6 @@ use Rattle.capn_text.proofs.PlainTexts.{plain_split, plain_last}
 
 pub ruleset digits = (encode_none, encode_more)
 
--- one level more
 pub indented_more : (o out more : List ℕ) (i : ℕ) → out ≡ o ++ replicate (2 * i) 32 → more ≡ out ++ 32 ∷ 32 ∷ []
     → more ≡ o ++ replicate (2 * (i + 1)) 32
 indented_more o out more i so_far e =
@@ -24,12 +23,11 @@ indented_more o out more i so_far e =
     e ∙ ap (λ (l : List ℕ). l ++ 32 ∷ 32 ∷ []) so_far ∙ append_assoc o (replicate (2 * i) 32) (32 ∷ 32 ∷ [])
     ∙ ap (λ (l : List ℕ). o ++ l) (replicate-append-replicate (2 * i) 2 32) ∙ ap (λ n. o ++ replicate n 32) next
 
--- all levels
 pub indented : (o out : List ℕ) (i level : ℕ) → i ≡ level → out ≡ o ++ replicate (2 * i) 32
     → out ≡ o ++ replicate (2 * level) 32
 indented o out i level e so_far = so_far ∙ ap (λ n. o ++ replicate (2 * n) 32) e
 
--- the lines of some bytes, part by part
+-- The lines of bytes, part by part.
 pub bytes_lines : (o : List ℕ) (level : ℕ) (xs : List ℕ) → 0 < length xs
     → (((((o ++ replicate (2 * level) 32) ++ codes "bytes ") ++ (decimal (length xs) ++ 10 ∷ []))
     ++ replicate (2 * (level + 1)) 32) ++ encode_lower xs) ++ 10 ∷ [] ≡ o ++ plain_bytes level xs
@@ -42,7 +40,7 @@ bytes_lines o level (x ∷ xs) some =
           → (((((o ++ a) ++ b) ++ c) ++ d) ++ e) ++ f ≡ o ++ ((a ++ (b ++ c)) ++ (d ++ (e ++ f)))
       joined o a b c d e f = simp append_assoc refl
 
--- one more byte that ends no line
+-- One more byte is not a newline.
 pub quiet_more : (t : List ℕ) (i : ℕ) → i < length t → (slice_index t i ≡ 10 → ⊥) → ended_lines (take i t) ≡ 0
     → ended_lines (take (i + 1) t) ≡ 0
 quiet_more t i below other so_far =
@@ -52,7 +50,6 @@ quiet_more t i below other so_far =
     ap (λ (b : Bool). cond {A = ℕ} b 1 0) (ne_eqb (get_or t i 0) 10 other) in
     omega arith
 
--- one more line
 pub line_more : (out more text rest front after : List ℕ) → out ++ plain rest ≡ plain text
     → rest ≡ front ++ 10 ∷ after → ended_lines front ≡ 0 → more ≡ out ++ plain_line front
     → more ++ plain after ≡ plain text
@@ -60,7 +57,6 @@ line_more out more text rest front after so_far is quiet e =
     ap (λ (l : List ℕ). l ++ plain after) e ∙ append_assoc out (plain_line front) (plain after)
     ∙ ap (λ (l : List ℕ). out ++ l) (sym (ap plain is ∙ plain_split [] front after quiet)) ∙ so_far
 
--- what is left
 pub line_last : (out more text rest : List ℕ) → out ++ plain rest ≡ plain text → ended_lines rest ≡ 0
     → more ≡ out ++ rest → more ≡ plain text
 line_last out more text rest so_far quiet e =

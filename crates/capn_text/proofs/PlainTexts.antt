@@ -1,4 +1,4 @@
--- The plain form of a text is one, and the only one. (For `plain_forms` and `plain_text`.)
+-- Lemmas for `plain_forms` and `plain_text`: the plain form that is found is one, and the only one.
 use Rattle.std.proofs.Common.{◌≡◌, ℕ, suc, ◌+◌, ◌^◌, ◌<◌, ◌==◌, Bool, true, false, cond}
 use Rattle.std.proofs.Common.{List, [], ◌∷◌, ◌++◌, length, Option, Some, None, refl, sym, ap, ap₂, ◌∙◌}
 use Rattle.std.proofs.Common.{append_assoc, arith, inl, inr, subst}
@@ -20,7 +20,7 @@ pair q = Some q
 some_not : (q : ℕ × List ℕ) → pair q ≡ None → ⊥
 some_not q e = absurd cc
 
--- the plain form of a line is one
+-- The plain form that is found for a line is one.
 line_by : (text : List ℕ) → length text < 2 ^ 64 → (r : Option (ℕ × List ℕ)) → quoted_at text ≡ r
     → IsPlainLine (text ++ 10 ∷ []) (plain_or r text)
 line_by text fits (Some q) e = inl (q.0, q.1, was_read text q.0 q.1 e, refl)
@@ -30,7 +30,7 @@ line_by text fits None e =
 pub line_is_plain : (text : List ℕ) → length text < 2 ^ 64 → IsPlainLine (text ++ 10 ∷ []) (plain_line text)
 line_is_plain text fits = line_by text fits (quoted_at text) refl
 
--- and no other is
+-- A line has no other plain form.
 pub plain_is_line : (text first : List ℕ) → length text < 2 ^ 64 → IsPlainLine (text ++ 10 ∷ []) first
     → first ≡ plain_line text
 plain_is_line text first fits (inl (level, xs, h, e)) =
@@ -43,7 +43,7 @@ plain_is_line text first fits (inr (e, other_than)) = other (quoted_at text) ref
 
 -- ---- line by line
 
--- a line whose front is known
+-- The plain form after a line whose bytes are known.
 pub plain_split : (before front after : List ℕ) → ended_lines front ≡ 0
     → plain_after before (front ++ 10 ∷ after) ≡ plain_line (before ++ front) ++ plain after
 plain_split before [] after quiet =
@@ -64,7 +64,6 @@ plain_split before (c ∷ cs) after quiet =
           ∙ below (omega arith)
           ∙ ap (λ (l : List ℕ). plain_line l ++ plain after) (append_assoc before (c ∷ []) cs)
 
--- what has no line end
 pub plain_last : (before text : List ℕ) → ended_lines text ≡ 0 → plain_after before text ≡ before ++ text
 plain_last before [] quiet = sym (append-nil before)
 plain_last before (c ∷ cs) quiet = last-by (c == 10) refl (plain_last (before ++ c ∷ []) cs) where
@@ -82,7 +81,7 @@ plain_last before (c ∷ cs) quiet = last-by (c == 10) refl (plain_last (before 
 
 -- ---- the whole
 
--- the only one
+-- A text has no other plain form.
 pub is_plain : (fronts : List (List ℕ)) (text form : List ℕ) → length text < 2 ^ 64 → IsPlainBy fronts text form
     → form ≡ plain text
 is_plain [] text form fits (quiet, e) = e ∙ sym (plain_last [] text quiet)
@@ -92,7 +91,6 @@ is_plain (front ∷ fronts) text form fits (quiet, first, after, rest, is, one, 
     (is_plain fronts after rest (omega arith) others)
     ∙ sym (ap plain is ∙ plain_split [] front after quiet)
 
--- one more line
 pub plain_more : (text form front after first : List ℕ) → ended_lines front ≡ 0 → text ≡ front ++ 10 ∷ after
     → IsPlainLine (front ++ 10 ∷ []) first → (rest : List ℕ) → form ≡ first ++ rest → IsPlain after rest
     → IsPlain text form

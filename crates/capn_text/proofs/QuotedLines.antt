@@ -1,5 +1,5 @@
--- A line of bytes between quotes is read as it is written. (For `Beginnings`, `OwnLines`, `PlainTexts` and
--- `ShownPlain`.)
+-- Lemmas for `Beginnings`, `OwnLines`, `PlainTexts` and `ShownPlain`: a line of bytes between quotes is read as it is
+-- written.
 use Rattle.std.proofs.Common.{◌≡◌, ℕ, zero, suc, ◌+◌, ◌*◌, ◌^◌, ◌%◌, ◌≤◌, ◌<◌, ◌==◌, ◌&&◌, ◌||◌, ◌⊎◌}
 use Rattle.std.proofs.Common.{Bool, true, false, cond}
 use Rattle.std.proofs.Common.{List, [], ◌∷◌, ◌++◌, length, codes, Option}
@@ -32,7 +32,7 @@ levels_again (suc level) rest =
     ap (λ (x : List ℕ). levels_at (x ++ 98 ∷ rest)) (two_more level)
     ∙ ap (λ (p : ℕ × List ℕ). (suc p.0, p.1)) (levels_again level rest)
 
--- a level more, or none
+-- One more level is there, or none.
 abbrev levels_of : Bool → ℕ × List ℕ → List ℕ → ℕ × List ℕ
 levels_of b below t = cond b (suc below.0, below.1) (0, t)
 
@@ -53,11 +53,11 @@ levels_take (c ∷ d ∷ cs) = levels_by c d cs (levels_at cs) (32 == c) (32 == 
 
 -- ---- the bytes after the name
 
--- what is between the quotes, and the second of them
+-- The bytes between quotes, and the closing quote.
 abbrev pub inside : List ℕ → List ℕ
 inside xs = escapes xs ++ 34 ∷ []
 
--- a count, a space and the first quote
+-- The count, a space, and the opening quote.
 abbrev pub with_count : ℕ → List ℕ → List ℕ
 with_count n rest = decimal n ++ 32 ∷ 34 ∷ rest
 
@@ -87,7 +87,7 @@ in_takes t xs e =
 abbrev counted_after : ℕ × List ℕ → Option (List ℕ)
 counted_after n = strip (codes " \"") n.1 >>= λ rest. text_in rest >>= λ xs. cond (length xs == n.0) (Some xs) None
 
--- a number has a digit first, and no quote
+-- A number begins with a digit, not with a quote.
 count_again : (xs : List ℕ) → length xs < 2 ^ 64 → is_text xs ≡ true
     → counted_text (with_count (length xs) (inside xs)) ≡ Some xs
 count_again xs fits p =
@@ -124,7 +124,6 @@ pair p = Some p
 pair_is : (p q : ℕ × List ℕ) → pair p ≡ pair q → p ≡ q
 pair_is p q e = cc
 
--- a line without its end
 abbrev uncounted : ℕ → List ℕ → List ℕ
 uncounted level xs = spaces level ++ (codes "bytes " ++ 34 ∷ inside xs)
 
@@ -144,7 +143,7 @@ bare_line : (level : ℕ) (xs : List ℕ) → uncounted_line level xs ≡ uncoun
 unfolding line
 bare_line level xs = sym (append_assoc (spaces level) (codes "bytes " ++ 34 ∷ inside xs) (10 ∷ []))
 
--- what is read after the name
+-- The bytes that are read after the name.
 abbrev after_name : List ℕ → Option (List ℕ)
 after_name rest = counted_or (strip (34 ∷ []) rest) rest
 
@@ -156,7 +155,7 @@ quoted_again level rest xs e =
     (levels_again level (codes "ytes " ++ rest))
     ∙ ap (λ (r : Option (List ℕ)). r >>= λ ys. Some (level, ys)) e
 
--- a decimal number has no quote first
+-- A decimal number does not begin with a quote.
 abbrev HasNoQuote : ℕ → List ℕ → Type 0
 HasNoQuote n ds = (rest : List ℕ) → strip (34 ∷ []) (ds ++ rest) ≡ None
 
@@ -231,7 +230,7 @@ escapes_size (x ∷ xs) =
 within : (a b : List ℕ) → length b ≤ length (a ++ b)
 within a b = let h = length-append a b in omega arith
 
--- bytes between quotes are no more than their line has
+-- The bytes between quotes are no more than the bytes of their line.
 pub has_size : (level : ℕ) (text xs : List ℕ) → length text < 2 ^ 64 → IsQuoted (text ++ 10 ∷ []) level xs
     → length xs < 2 ^ 64
 has_size level text xs fits (p, inl e) =
@@ -258,7 +257,6 @@ has_size level text xs fits (p, inr e) =
 grouped : (s b d i : List ℕ) → s ++ (b ++ (d ++ 32 ∷ 34 ∷ i)) ≡ ((s ++ b) ++ (d ++ 32 ∷ [])) ++ 34 ∷ i
 grouped s b d i = simp append_assoc refl
 
--- a line of bytes between quotes has a quote
 pub has_quote : (level : ℕ) (text xs : List ℕ) → IsQuoted (text ++ 10 ∷ []) level xs
     → (a : List ℕ) × (b : List ℕ) × (text ≡ a ++ 34 ∷ b)
 has_quote level text xs (p, inl e) = (
@@ -274,9 +272,9 @@ has_quote level text xs (p, inr e) = (
       ∙ sym (append_assoc (spaces level) (codes "bytes ") (34 ∷ inside xs)),
 )
 
--- ---- what it begins with
+-- ---- the first bytes after the name
 
--- a count has a digit first, and bytes without it a quote
+-- A count begins with a digit, and bytes without a count with a quote.
 first_fits : (rest xs : List ℕ) → after_name rest ≡ Some xs → may_follow rest ≡ true
 first_fits [] xs e = absurd cc
 first_fits (c ∷ cs) xs e = quoted (34 == c) refl e where
@@ -294,7 +292,7 @@ first_fits (c ∷ cs) xs e = quoted (34 == c) refl e where
     last true d = refl
     last false d = d
 
--- an indent, the name, and that
+-- A line between quotes has an indent, the name, and a digit or a quote.
 pub names_line : (text : List ℕ) (q : ℕ × List ℕ) → quoted_at text ≡ Some q
     → (level : ℕ) × (t : List ℕ) × (text ≡ spaces level ++ (codes "bytes " ++ t)) × (may_follow t ≡ true)
 unfolding quoted_at

@@ -1,4 +1,4 @@
--- Bytes between quotes are read as they are written. (For `levels_at` and `unquoted`.)
+-- Lemmas for `levels_at` and `unquoted`: bytes between quotes are read as they are written.
 use Rattle.std.proofs.Common.{◌≡◌, drop, take, ◌-◌, ℕ, suc, ◌+◌}
 use Rattle.std.proofs.Common.{◌≤◌, ◌==◌, ◌⊎◌, ◌&&◌, ◌||◌, Bool, true, false, cond}
 use Rattle.std.proofs.Common.{List, [], ◌∷◌, ◌++◌, length, codes, Option}
@@ -12,7 +12,7 @@ use Rattle.capn_text.specs.inner.Tokens.{◌>>=◌, strip}
 use Rattle.capn_text.specs.inner.QuotedLines.{preceded, closed, last_zero, unquoted, unescaped, levels_at}
 use Rattle.capn_text.proofs.Steps.{guard_read, some_is, bind_some, chosen}
 
--- what was read before, and what is still read
+-- The bytes that were read before, and those that are read from the rest.
 abbrev pub after_items : List ℕ → Option (List ℕ) → Option (List ℕ)
 after_items front read = read >>= λ xs. Some (front ++ xs)
 
@@ -25,7 +25,6 @@ more_read front c (Some xs) = ap (λ (ys : List ℕ). some ys) (sym (append_asso
 more_read front c None = refl
 
 module _ (front : List ℕ) (c : ℕ) (cs : List ℕ) (total : Option (List ℕ)) where
-  -- a byte that stands as it is
   pub bare_read : (c == 34) ≡ false → (c == 92) ≡ false → is_printable c ≡ true
       → after_items front (unquoted (c ∷ cs)) ≡ total → after_items (front ++ c ∷ []) (unquoted cs) ≡ total
   bare_read e f p so_far =
@@ -36,7 +35,6 @@ module _ (front : List ℕ) (c : ℕ) (cs : List ℕ) (total : Option (List ℕ)
       ∙ ap (λ b. cond b (preceded c (unquoted cs)) None) p in
       sym (more_read front c (unquoted cs)) ∙ ap (after_items front) (sym here) ∙ so_far
 
-  -- a byte after a backslash
   pub escape_read : (c == 48) ≡ false → (c == 34 || c == 92) ≡ true
       → after_items front (unescaped (c ∷ cs)) ≡ total → after_items (front ++ c ∷ []) (unquoted cs) ≡ total
   escape_read e f so_far =
@@ -45,7 +43,6 @@ module _ (front : List ℕ) (c : ℕ) (cs : List ℕ) (total : Option (List ℕ)
       ∙ ap (λ b. cond b (preceded c (unquoted cs)) None) f in
       sym (more_read front c (unquoted cs)) ∙ ap (after_items front) (sym here) ∙ so_far
 
--- what comes after the first byte, as a slice
 abbrev tail_of : List ℕ → List ℕ
 tail_of t = take (length t - 1) (drop 1 t)
 
@@ -82,7 +79,7 @@ escaped_byte front (c ∷ cs) total h e k f p so_far =
 
 -- ---- the levels of a line
 
--- those before it, and its own
+-- The levels that were counted before, and those of the rest.
 abbrev pub added : ℕ → ℕ × List ℕ → ℕ × List ℕ
 added n p = (n + p.0, p.1)
 
@@ -105,7 +102,7 @@ level_more n (c ∷ d ∷ cs) after total e so_far =
 abbrev none : List ℕ
 none = []
 
--- no indentation is left
+-- No indent is left.
 unindented : (x y : Bool) (cs : List ℕ) (p q : ℕ × List ℕ) → cond x (cond y (some cs) None) None ≡ None
     → cond (x && y) p q ≡ q
 unindented true true cs p q e = absurd cc
@@ -125,7 +122,7 @@ level_last n (c ∷ d ∷ cs) total e so_far =
     let same : n ≡ n + 0 = omega arith in
     ap (λ (k : ℕ). (k, c ∷ d ∷ cs)) same ∙ sym (ap (added n) here) ∙ so_far
 
--- ---- what is read is what is written
+-- ---- the bytes that are written are read
 
 bare_is : (c : ℕ) (cs : List ℕ) → (c == 34) ≡ false → (c == 92) ≡ false → is_printable c ≡ true
     → unquoted (c ∷ cs) ≡ preceded c (unquoted cs)
@@ -135,7 +132,7 @@ bare_is c cs e f p =
     ∙ ap (λ b. cond b (unescaped cs) (cond (is_printable c) (preceded c (unquoted cs)) None)) f
     ∙ ap (λ b. cond b (preceded c (unquoted cs)) None) p
 
--- a byte as it is written, by which of three it is
+-- The bytes that are written for a byte, by which of three special ones it is.
 abbrev escaped_by : Bool → Bool → Bool → ℕ → List ℕ
 escaped_by x y z b = cond x (92 ∷ 34 ∷ []) (cond y (92 ∷ 92 ∷ []) (cond z (92 ∷ 48 ∷ []) (b ∷ [])))
 
@@ -169,12 +166,12 @@ text_again (b ∷ c ∷ bs) p =
     ∙ one_again b (escapes (c ∷ bs) ++ 34 ∷ []) parts.0
     ∙ ap (preceded b) (text_again (c ∷ bs) parts.1)
 
--- ---- what is written so is what is read
+-- ---- the bytes that are read are written
 
 abbrev Reads : List ℕ → List ℕ → Type 0
 Reads t xs = (t ≡ escapes xs ++ 34 ∷ []) × ((xs ≡ []) ⊎ (is_text xs ≡ true))
 
--- a byte as it is written, and what was written after it
+-- One byte before others makes a text.
 more_text : (b : ℕ) (ys : List ℕ) → is_printable b ≡ true → (ys ≡ []) ⊎ (is_text ys ≡ true) → is_text (b ∷ ys) ≡ true
 more_text b [] p h = ap (λ (x : Bool). x || b == 0) p
 more_text b (y ∷ ys) p (inl h) = absurd cc
@@ -216,7 +213,7 @@ bare_by b false false true p e f g h k =
     absurd cc
 bare_by b false false false p e f g h k = refl
 
--- a byte after a backslash, and what was written after it
+-- A byte behind a backslash, and the bytes after it.
 marked : (c : ℕ) (cs xs : List ℕ) (x : Bool) → (c == 34) ≡ x → (x || c == 92) ≡ true
     → preceded c (unquoted cs) ≡ Some xs → ((ys : List ℕ) → unquoted cs ≡ Some ys → Reads cs ys)
     → (92 ∷ c ∷ cs ≡ escapes xs ++ 34 ∷ []) × (is_text xs ≡ true)

@@ -1,5 +1,4 @@
--- A value that fits and is in range has only numbers and counts that a text can show. (For `first_value`, `read`,
--- `read_next` and `texts`.)
+-- Lemmas for `first_value`, `read`, `read_next` and `texts`: a value that fits and is in range is showable.
 use Rattle.std.proofs.Common.{◌≡◌, ℕ, ◌^◌, ◌<◌, false, List, length, arith}
 use Rattle.std.specs.Prelude.{nat_lt}
 use Rattle.std.proofs.lemmas.Bool.{or_parts, ltb-false}

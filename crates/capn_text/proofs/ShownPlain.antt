@@ -1,5 +1,4 @@
--- The text that is shown of a value with texts between quotes has as its plain form the one that is shown of it
--- without. (For `plain_forms`.)
+-- Lemmas for `plain_forms`: the plain form of a text shown with lists between quotes is the text shown without them.
 use Rattle.std.proofs.Common.{◌≡◌, ◌+◌, ◌*◌, ◌/◌, ◌%◌, ◌^◌, ◌<◌, ◌≤◌, ◌==◌, ◌&&◌, ◌||◌, ℕ, zero, suc}
 use Rattle.std.proofs.Common.{Bool, true, false}
 use Rattle.std.proofs.Common.{cond, not, List, [], ◌∷◌, ◌++◌, length, codes}
@@ -101,7 +100,7 @@ quiet (c ∷ cs) p =
 rest_is : (d c : ℕ) (x y : List ℕ) → ◌≡◌ {A = List ℕ} (d ∷ x) (c ∷ y) → x ≡ y
 rest_is d c x y e = cc
 
--- no quote is within them
+-- There is no quote in clean bytes.
 no_quote : (x a b : List ℕ) → IsClean x → x ≡ a ++ 34 ∷ b → ⊥
 no_quote x [] b p e = let q : IsClean (34 ∷ b) = sym (ap clean e) ∙ p in absurd cc
 no_quote [] (c ∷ cs) b p e = absurd cc
@@ -109,7 +108,7 @@ no_quote (d ∷ ds) (c ∷ cs) b p e =
     let parts = and_parts (is_clean d) (clean ds) p in
     no_quote ds cs b parts.1 (rest_is d c ds (cs ++ 34 ∷ b) e)
 
--- ---- what is added before a text
+-- ---- lines before a text
 
 abbrev Keeps : List ℕ → List ℕ → Type 0
 Keeps x y = (rest : List ℕ) (form : List ℕ) → IsPlain rest form → IsPlain (x ++ rest) (y ++ form)
@@ -121,7 +120,7 @@ kept_both : (x y u v : List ℕ) → Keeps x y → Keeps u v → Keeps (x ++ u) 
 kept_both x y u v first second rest form h =
     rw (append_assoc x u rest, append_assoc y v form) (first (u ++ rest) (v ++ form) (second rest form h))
 
--- a line that has no quote
+-- A line without a quote stays as it is.
 kept_line : (level : ℕ) (x : List ℕ) → IsClean x → Keeps (line level x) (line level x)
 unfolding line
 kept_line level x p rest form (fronts, h) =
@@ -319,7 +318,7 @@ kept_end : Keeps end_line end_line
 unfolding line
 kept_end = kept_line 0 (codes "end") refl
 
--- the texts of values, each with its end
+-- The texts of values, each with its end.
 pub stream_kept : (vs : List Tree) → AllByRecursion IsShowable vs → IsPlain (quoted_stream vs) (stream_text vs)
 stream_kept [] all = ([], (refl, refl))
 stream_kept (v ∷ vs) all =

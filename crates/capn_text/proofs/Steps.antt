@@ -1,5 +1,4 @@
--- Steps that gave something, and things that are read one after the other. (For `FittingText`, `HeadText`, `Heights`
--- and others.)
+-- Lemmas on steps of reading, one after another. (For `FittingText`, `HeadText`, `Heights` and others.)
 use Rattle.std.proofs.Common.{◌≡◌, ℕ, zero, suc, Bool, true, false, cond, List, [], ◌∷◌, ◌++◌, length, Option, Some}
 use Rattle.std.proofs.Common.{None, ◌⊎◌, inl, inr}
 use Rattle.std.proofs.Common.{refl, sym, ap, subst, ◌∙◌, append_assoc}
@@ -11,17 +10,14 @@ pub bind_some : {A B : Type 0} (r : Option A) (f : A → Option B) (y : B) → (
 bind_some (Some x) f y e = (x, refl, e)
 bind_some None f y e = absurd cc
 
--- a test that was passed
 pub guard_some : {A : Type 0} (b : Bool) (x y : A) → cond b (Some x) None ≡ Some y → (b ≡ true) × (x ≡ y)
 guard_some true x y e = (refl, cc)
 guard_some false x y e = absurd cc
 
--- the same with a further step
 pub guard_read : {A : Type 0} (b : Bool) (r : Option A) (y : A) → cond b r None ≡ Some y → (b ≡ true) × (r ≡ Some y)
 guard_read true r y e = (refl, e)
 guard_read false r y e = absurd cc
 
--- which way a test went
 pub chosen : {A : Type 0} (b : Bool) (r s : Option A) (y : A) → cond b r s ≡ Some y
     → ((b ≡ true) × (r ≡ Some y)) ⊎ ((b ≡ false) × (s ≡ Some y))
 chosen true r s y e = inl (refl, e)
@@ -36,7 +32,7 @@ some_is x y e = cc
 pub then : (t a b x y : List ℕ) → t ≡ a ++ x → x ≡ b ++ y → t ≡ (a ++ b) ++ y
 then t a b x y e f = e ∙ ap (λ z. a ++ z) f ∙ sym (append_assoc a b y)
 
--- `one` reads an x at the front exactly as `show` writes it, and `text` is what `show` writes of a list
+-- `one` reads an item at the front exactly as `show` writes it, and `text` is the text of a list of items.
 module _ {X : Type 0} (one : List ℕ → Option (X × List ℕ)) (show : X → List ℕ) (text : List X → List ℕ)
     (P : X → Type 0) (none : text [] ≡ []) (more : (x : X) (xs : List X) → text (x ∷ xs) ≡ show x ++ text xs) where
   pub many_again : ((x : X) (rest : List ℕ) → P x → one (show x ++ rest) ≡ Some (x, rest))

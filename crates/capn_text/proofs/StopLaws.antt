@@ -1,4 +1,5 @@
--- The stops of parts that are read one after the other. (For `contents.rt`, `heads.rt`, `leaves.rt` and `tokens.rt`.)
+-- Lemmas for `contents.rt`, `heads.rt`, `leaves.rt` and `tokens.rt`: the stops of parts that are read one after the
+-- other.
 use Rattle.std.proofs.Common.{◌≡◌, ◌+◌, ◌-◌, ◌≤◌, ◌<◌, ℕ, zero, suc, List, [], ◌∷◌, ◌++◌, length, Option, Some, None}
 use Rattle.std.proofs.Common.{refl, sym, ap, subst, ◌∙◌, append_assoc, arith}
 use Rattle.std.proofs.lemmas.List.{append-nil}
@@ -10,25 +11,25 @@ use Rattle.capn_text.specs.inner.Stops.{AreLines, GoesOn, Stops, IsLost, IsOpen,
 use Rattle.capn_text.proofs.Steps.{bind_some, some_is, then}
 use Rattle.capn_text.proofs.WholeLines.{are_none, are_both, first_front}
 
--- what is read by height, as `read r` of Stops
+-- A reader by height, such as `read r` in `Stops`.
 abbrev pub Reads : Type 0 → Type 0
 Reads X = ℕ → List ℕ → Option (X × List ℕ)
 
--- What was read are whole lines, after which anything may follow, and a greater height changes nothing.
+-- The text that was read is whole lines, after which anything may follow. A greater height changes nothing.
 abbrev pub Local : {X : Type 0} → Reads X → ℕ → Type 0
 Local {X} read room = (t : List ℕ) (x : X) (after : List ℕ) → read room t ≡ Some (x, after)
     → (c : List ℕ) × (t ≡ c ++ after) × AreLines c
     × ((r : ℕ) (z : List ℕ) → room ≤ r → read r (c ++ z) ≡ Some (x, z))
 
--- Something is read, whatever the height.
+-- The reader can read something, at any height.
 abbrev pub Full : {X : Type 0} → Reads X → Type 0
 Full {X} read = (w : List ℕ) × (x : X) × ((r : ℕ) → read r w ≡ Some (x, []))
 
--- one after the other
+-- Two readers, one after the other.
 abbrev pub both : {X Y : Type 0} → Reads X → (X → Reads Y) → Reads Y
 both f g r t = f r t >>= λ x. g x.0 r x.1
 
--- nothing of the text
+-- A reader that reads nothing, and gives `y`.
 abbrev pub given : {Y : Type 0} → Y → Reads Y
 given y r t = Some (y, t)
 
@@ -41,7 +42,7 @@ local_given {Y} y room t x after e =
 pub full_given : {Y : Type 0} (y : Y) → Full (given y)
 full_given y = ([], y, λ r. refl)
 
--- what is read of all of a text is read of it before another
+-- A reader that takes all of a text takes it before any other text.
 pub past : {X : Type 0} (f : Reads X) (least : ℕ) (w : List ℕ) (x : X) → Local f least
     → ((r : ℕ) → least ≤ r → f r w ≡ Some (x, [])) → (r : ℕ) (z : List ℕ) → least ≤ r → f r (w ++ z) ≡ Some (x, z)
 past f least w x near h r z low =
@@ -111,7 +112,6 @@ module _ {X Y : Type 0} (f : Reads X) (g : X → Reads Y) (room : ℕ) where
             ∙ second.2 r,
       )
 
-  -- the first fails
   pub first_fails : ((r : ℕ) → Local f r) → ((x : X) → Full (g x)) → (e : Stop) (t : List ℕ) → FailsAt f room e t
       → FailsAt (both f g) room e t
   first_fails near fulls stops.Memory t h = tt
@@ -127,7 +127,7 @@ module _ {X Y : Type 0} (f : Reads X) (g : X → Reads Y) (room : ℕ) where
     λ z. ap (λ o. o >>= λ x. g x.0 room x.1) (h.4 z),
   )
 
-  -- the second, after what the first read
+  -- The second reader stops, after what the first read.
   stops_second : Local f room → (t : List ℕ) (x : X) (after : List ℕ) → f room t ≡ Some (x, after) → (n : ℕ)
       → Stops (g x) room after n → Stops (both f g) room t n
   stops_second near t x after is n h =
@@ -168,7 +168,6 @@ module _ {X Y : Type 0} (f : Reads X) (g : X → Reads Y) (room : ℕ) where
             ∙ ap (λ o. o >>= λ y. g y.0 r y.1) (p.3 r (h.0 ++ h.4) (omega arith)) ∙ h.6 r low,
       )
 
-  -- the second fails
   pub second_fails : Local f room → (t : List ℕ) (x : X) (after : List ℕ) → f room t ≡ Some (x, after) → (e : Stop)
       → FailsAt (g x) room e after → FailsAt (both f g) room e t
   second_fails near t x after is stops.Memory h = tt
@@ -192,7 +191,7 @@ module _ {X Y : Type 0} (f : Reads X) (g : X → Reads Y) (room : ℕ) where
             ∙ ap (λ o. o >>= λ y. g y.0 room y.1) (p.3 room (h.0 ++ z) (omega arith)) ∙ h.4 z,
       )
 
--- ---- `count` of them
+-- ---- `count` items
 
 abbrev pub all : {X : Type 0} → Reads X → ℕ → Reads (List X)
 all one n r = many (one r) n
@@ -208,7 +207,7 @@ local_all one room near (suc n) =
     (λ x. local_both (all one n) (λ xs. given (x ∷ xs)) room (local_all one room near n)
     (λ xs. local_given (x ∷ xs) room))
 
--- what a loop knows of the failures of what is left
+-- If the items that are left fail, all items do: the fact that a loop keeps.
 abbrev pub PassesOn : {X : Type 0} → Reads X → ℕ → ℕ → ℕ → List ℕ → List ℕ → Type 0
 PassesOn one room count i rest text = (e : Stop) → FailsAt (all one (count - i)) room e rest
     → FailsAt (all one count) room e text
@@ -296,7 +295,7 @@ idle_none (stops.Left n) r h = h
 idle_none (stops.Cut n) r h = h
 idle_none stops.Deep r h = h
 
--- where the height is no matter, it is none at all
+-- A reader that does not depend on the height can be taken at height 0.
 module _ {X : Type 0} (f : List ℕ → Option (X × List ℕ)) (room : ℕ) where
   any_stops : (t : List ℕ) (n : ℕ) → Stops (λ r. f) 0 t n → Stops (λ r. f) room t n
   any_stops t n h = (

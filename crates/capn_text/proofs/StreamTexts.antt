@@ -1,4 +1,4 @@
--- The text at the front of an input, and its line `end`. (For `first_value`, `read`, `read_next` and `streams`.)
+-- Lemmas for `first_value`, `read`, `read_next` and `streams`: the text at the front of an input, and its line `end`.
 use Rattle.std.proofs.Common.{◌≡◌, ◌≤◌, ◌<◌, ◌+◌, ◌-◌, ℕ, zero, suc, List, [], ◌∷◌, ◌++◌}
 use Rattle.std.proofs.Common.{length, take, Some, None}
 use Rattle.std.proofs.Common.{refl, sym, ap, ap₂, ◌∙◌, append_assoc, arith}
@@ -24,12 +24,12 @@ line_number m n e = cc
 one_end : (rest : List ℕ) → ended_lines (end_line ++ rest) ≡ 1 + ended_lines rest
 one_end rest = lines_append end_line rest
 
--- another line is a later one
+-- A fault at another line is at a later one.
 pub later : (a n b : ℕ) → a ≡ b → (faults.Line (a + n) ≡ faults.Line b → ⊥) → 0 < n
 later a zero b same other = absurd (other (ap (λ k. faults.Line k) (omega arith)))
 later a (suc n) b same other = omega arith
 
--- the text of `w` comes first
+-- The text of `w` is at the front.
 module _ (t : List ℕ) (w : Tree) (after : List ℕ) (front : t ≡ show_text w ++ after) where
   pub lines_of_front : ended_lines t ≡ ended_lines (show_text w) + ended_lines after
   lines_of_front = ap ended_lines front ∙ lines_append (show_text w) after
@@ -37,7 +37,7 @@ module _ (t : List ℕ) (w : Tree) (after : List ℕ) (front : t ≡ show_text w
   pub lines_counted : ended_lines (take (length t - length after) t) ≡ ended_lines (show_text w)
   lines_counted = ap ended_lines (before t (show_text w) after front)
 
-  -- its end was read
+  -- The end of the text was read.
   module _ (rest : List ℕ) (end : strip end_line after ≡ Some rest) where
     pub with_end : t ≡ show_text w ++ (end_line ++ rest)
     with_end = front ∙ ap (λ x. show_text w ++ x) (strip_takes end_line after rest end)
@@ -57,7 +57,7 @@ module _ (t : List ℕ) (w : Tree) (after : List ℕ) (front : t ≡ show_text w
         let few = lines_within (show_text w) in
         omega arith
 
--- what comes after a text is its end
+-- The end of the text follows it.
 module _ (after rest : List ℕ) (is : after ≡ end_line ++ rest) where
   pub rest_is : (left : List ℕ) → strip end_line after ≡ Some left → left ≡ rest
   rest_is left h = some_is left rest (sym h ∙ ap (strip end_line) is ∙ strip_again end_line rest)
@@ -67,7 +67,6 @@ module _ (after rest : List ℕ) (is : after ≡ end_line ++ rest) where
 
 -- ---- streams
 
--- one text more
 pub stream_goes_on : (vs : List Tree) (v : Tree) (rest : List ℕ)
     → stream_text (vs ++ v ∷ []) ++ rest ≡ stream_text vs ++ (show_text v ++ (end_line ++ rest))
 stream_goes_on [] v rest = append_assoc (show_text v) (end_line ++ []) rest
@@ -76,7 +75,6 @@ stream_goes_on (u ∷ us) v rest =
     ∙ ap (λ x. show_text u ++ (end_line ++ x)) (stream_goes_on us v rest)
     ∙ sym (append_assoc (show_text u) (end_line ++ stream_text us) (show_text v ++ (end_line ++ rest)))
 
--- nothing is no text
 nothing_read : (room : ℕ) → tree_at (suc room) 0 [] ≡ None
 unfolding tree_at head_at named_at name_at
 nothing_read room = refl

@@ -1,5 +1,5 @@
--- Trees: what is shown of a tree is read as that tree, and what is read as a tree is what is shown of it. (For
--- `texts`.)
+-- Lemmas for the law `texts`: the text of a tree is read as that tree, and what is read as a tree is the text of that
+-- tree.
 use Rattle.std.proofs.Common.{◌≡◌, ℕ, zero, suc, ◌+◌, ◌^◌, ◌≤◌, ◌<◌, Bool, List, [], ◌∷◌, ◌++◌, length, Option}
 use Rattle.std.proofs.Common.{Some}
 use Rattle.std.proofs.Common.{map, refl, sym, ap, ap₂, ◌∙◌, append_assoc, arith}
@@ -91,7 +91,7 @@ rows_text-cons level b bs =
     ap (λ x. first ++ x) (sym (append_assoc ws ss (rows_text level bs)))
     ∙ sym (append_assoc first (ws ++ ss) (rows_text level bs))
 
--- ---- what is shown is read
+-- ---- the text of a tree is read
 
 abbrev Again : ℕ → Type 0
 Again room = (level : ℕ) (t : Tree) (rest : List ℕ) → height t ≤ room → IsShowable t
@@ -171,14 +171,12 @@ numbers_again greatest level top xs rest fits =
     many_again (number_line_at greatest level) (number_text level) (number_lines level) (λ n. n < suc greatest) refl
     (λ x ys. refl) (number_line_again greatest level top) xs rest fits
 
--- a value of height 0 by its first line
 lowest : (level : ℕ) (h : Head) (rest : List ℕ) → Holds h
     → tree_at 0 level (line level (head_text h) ++ rest) ≡ low_at h rest
 unfolding tree_at
 lowest level h rest fits =
     ap (λ (r : Option (Head × List ℕ)). r >>= λ k. low_at k.0 k.1) (head_again level h rest fits)
 
--- a value by its first line
 plain : (room level : ℕ) (h : Head) (rest : List ℕ) → Holds h
     → tree_at (suc room) level (line level (head_text h) ++ rest) ≡ content_at (tree_at room) level h rest
 unfolding tree_at
@@ -253,7 +251,7 @@ tree_again (suc room) level (rows bs) rest low s =
 tree_again (suc room) level (cap k) rest low s =
     plain room level (heads.Named names.Cap k) rest (omega arith)
 
--- no text begins another's
+-- No text of a value begins another's.
 pub apart : (level : ℕ) (v w : Tree) (x y : List ℕ) → IsShowable v → IsShowable w
     → shown level v ++ x ≡ shown level w ++ y → (v ≡ w) × (x ≡ y)
 apart level v w x y sv sw e =

@@ -1,4 +1,4 @@
--- A text, read piece by piece. (For `unquoter.rt`.)
+-- Lemmas for `unquoter.rt`: the plain form of a text that arrives in chunks.
 use Rattle.std.proofs.Common.{◌≡◌, ℕ, suc, ◌+◌, ◌-◌, ◌<◌, ◌≤◌, ◌==◌, Bool, true, false, cond, nat_le}
 use Rattle.std.proofs.Common.{List, [], ◌∷◌, ◌++◌, length, take, drop, get_or, refl, sym, ap, ap₂, ◌∙◌}
 use Rattle.std.proofs.Common.{if◌then◌else◌, append_assoc, arith, subst}
@@ -17,7 +17,7 @@ use Rattle.capn_text.proofs.shared.Counts.{count_append}
 
 -- ---- numbers counted
 
--- one more is before a line
+-- One more line of digits is before `line`.
 pub gone_more : (qs : List ℕ) (i line : ℕ) → i < length qs → slice_index qs i < line
     → ((n : ℕ) → line ≤ n → count_to n (take i qs) ≡ i) → (n : ℕ) → line ≤ n → count_to n (take (i + 1) qs) ≡ i + 1
 gone_more qs i line below low so_far n at =
@@ -28,16 +28,16 @@ gone_more qs i line below low so_far n at =
     let before = so_far n at in
     omega arith
 
--- this one is not
+-- The line of digits `i` is not before `line`.
 pub starts_here : (qs : List ℕ) (i line : ℕ) → i < length qs → line ≤ slice_index qs i → StartFrom line (drop i qs)
 starts_here qs i line below high = subst (StartFrom line) (sym (drop-cons qs i 0 below)) high
 
--- all are
+-- All lines of digits are before `line`.
 pub none_starts : (qs : List ℕ) (i line : ℕ) → i ≡ length qs → StartFrom line (drop i qs)
 none_starts qs i line e =
     subst (StartFrom line) (sym (ap (λ k. drop k qs) e ∙ drop-length qs)) tt
 
--- ---- bytes that end no line
+-- ---- bytes without a newline
 
 pub plain_past : (before x more : List ℕ) → ended_lines x ≡ 0
     → plain_after before (x ++ more) ≡ plain_after (before ++ x) more
@@ -72,9 +72,9 @@ digits_past n before (c ∷ cs) more quiet = past-by (c == 10) refl (digits_past
       ∙ below (omega arith)
       ∙ ap (λ (l : List ℕ). digits_after n l more) (append_assoc before (c ∷ []) cs)
 
--- ---- pieces
+-- ---- chunks
 
--- where nothing of the line was given, and where its front was
+-- The plain form of the rest, if the front of its line is kept, and if it was given.
 on_kept : (u : Unquoting) (more : List ℕ) → u.through ≡ false → plain_on u more ≡ plain_after u.front more
 on_kept u more e = ap (λ b. cond b (plain_through more) (plain_after u.front more)) e
 
@@ -104,11 +104,11 @@ both_pieces u v w a b x y first next = record {
   passed = next.passed ∙ first.passed;
 }
 
--- what was read, and this was added to the plain form
+-- `bytes` were taken, and what was added to the plain form went from `old` to `new`.
 abbrev pub Adds : Unquoting → Unquoting → List ℕ → List ℕ → List ℕ → Type 0
 Adds u v bytes old new = (added : List ℕ) × (new ≡ old ++ added) × Unquotes u v bytes added
 
--- the end of a line of which nothing was given
+-- A line ends that was kept from its beginning.
 pub line_kept : (u v : Unquoting) (old new : List ℕ) → u.through ≡ false → v.through ≡ u.through → v.front ≡ []
     → v.line ≡ u.line + lines_of u.front → v.digits ≡ u.digits ++ digits_of u.line u.front → v.passed ≡ u.passed
     → new ≡ old ++ plain_line u.front → Adds u v (10 ∷ []) old new
@@ -131,7 +131,7 @@ line_kept u v old new kept same front line digits passed is =
       },
     )
 
--- the end of one whose front was
+-- A line ends whose front was given.
 pub line_given : (u v : Unquoting) (old new : List ℕ) → u.through ≡ true → v.through ≡ false → v.front ≡ []
     → v.line ≡ u.line + 1 → v.digits ≡ u.digits → v.passed ≡ u.passed → new ≡ old ++ 10 ∷ []
     → Adds u v (10 ∷ []) old new
@@ -150,7 +150,7 @@ line_given u v old new given held front line digits passed is = (
   },
 )
 
--- what ends no line
+-- Bytes without a newline are taken.
 pub part_kept : (u v : Unquoting) (text old : List ℕ) → ended_lines text ≡ 0 → u.through ≡ false
     → v.through ≡ u.through → v.front ≡ u.front ++ text → v.line ≡ u.line → v.digits ≡ u.digits
     → v.passed ≡ u.passed → Adds u v text old old
@@ -188,7 +188,7 @@ part_given u text old new quiet given is = (
   },
 )
 
--- the front of a line that can't be one between quotes
+-- The front of a line is given, since the line cannot be one between quotes.
 pub front_given : (u v : Unquoting) (old new : List ℕ) → u.through ≡ false → v.through ≡ true
     → may_begin (take looked_at u.front) ≡ false → v.line ≡ u.line → v.digits ≡ u.digits → v.passed ≡ u.passed
     → new ≡ old ++ u.front → Adds u v [] old new
@@ -208,7 +208,7 @@ front_given u v old new kept given other line digits passed is =
       },
     )
 
--- the same, field by field
+-- The front of a line is given, stated field by field.
 pub given_front : (front cleared digits old new : List ℕ) (line passed : ℕ) (through : Bool) → through ≡ false
     → may_begin (take looked_at front) ≡ false → new ≡ old ++ front
     → Adds (record { front = front; line = line; digits = digits; passed = passed; through = through })
@@ -218,7 +218,7 @@ given_front front cleared digits old new line passed through kept other is =
     (record { front = cleared; line = line; digits = digits; passed = passed; through = true }) old new kept refl other
     refl refl refl is
 
--- nothing more of it is held
+-- The front of a line that was given is cleared.
 pub front_cleared : (u v : Unquoting) (old : List ℕ) → u.through ≡ true → v.through ≡ u.through → v.line ≡ u.line
     → v.digits ≡ u.digits → v.passed ≡ u.passed → Adds u v [] old old
 front_cleared u v old given same line digits passed = (
@@ -237,9 +237,9 @@ front_cleared u v old given same line digits passed = (
 pub nothing_given : (u : Unquoting) (old : List ℕ) → Adds u u [] old old
 nothing_given u old = ([], sym (append-nil old), no_piece u)
 
--- ---- the loop over a piece
+-- ---- the loop over a chunk
 
--- so far
+-- The bytes of the chunk before `rest` were taken.
 pub record HasPushed (u v : Unquoting) (piece rest old new : List ℕ) : Type 0 where
   pub bytes : List ℕ
   pub are : piece ≡ bytes ++ rest
@@ -256,7 +256,7 @@ both_added u v w a b old mid new first next = (
   both_pieces u v w a b first.0 next.0 first.2 next.2,
 )
 
--- one line more
+-- One more line of the chunk is taken.
 pub step_pushed : (u v m w : Unquoting) (piece rest old new mid next text after : List ℕ)
     → HasPushed u v piece rest old new → (rest ≡ text ++ 10 ∷ after) × (ended_lines text ≡ 0)
     → Adds v m text new mid → Adds m w (10 ∷ []) mid next → HasPushed u w piece after old next

@@ -1,4 +1,4 @@
--- The facts about a text that its whole lines decide, whatever follows them. (For `whole_lines`.)
+-- Lemmas for the law `whole_lines`: the facts about a text that its whole lines decide, whatever follows.
 use Rattle.std.proofs.Common.{◌≡◌, inl, inr, ◌++◌, sym, ap, ◌∙◌, append_assoc, arith}
 use Rattle.std.proofs.lemmas.Bool.{cases_lt}
 use Rattle.capn_value.specs.Text.{show_text}

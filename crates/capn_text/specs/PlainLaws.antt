@@ -1,4 +1,4 @@
--- Laws of the plain form of a text.
+-- The laws of the plain form of a text.
 use Rattle.std.specs.Prelude.{◌≡◌, ◌<◌, ◌^◌, ℕ, List, [], ◌∷◌, ◌++◌, length}
 use Rattle.std.specs.List.{AllByRecursion}
 use Rattle.capn_value.specs.Tree.{Tree}
@@ -8,23 +8,23 @@ use Rattle.capn_text.specs.PlainForm.{plain, own_line}
 use Rattle.capn_text.specs.Showable.{IsShowable}
 use Rattle.capn_text.specs.Streams.{end_line, stream_text}
 
--- the texts of these values with texts between quotes, each followed by the line `end`
+-- The texts of values with lists between quotes, each followed by the line `end`.
 abbrev pub quoted_stream : List Tree → List ℕ
 quoted_stream [] = []
 quoted_stream (v ∷ vs) = shown_by quoted_bytes 0 v ++ (end_line ++ quoted_stream vs)
 
--- their plain form is the text that is shown of these values without quotes
+-- The plain form of the texts of values with lists between quotes is their texts without quotes.
 abbrev pub QuotedIsPlain : Type 0
 QuotedIsPlain = (vs : List Tree) → AllByRecursion IsShowable vs → IsPlain (quoted_stream vs) (stream_text vs)
 
--- a text has one plain form
+-- A text has at most one plain form.
 abbrev pub OnePlain : Type 0
 OnePlain = (text a b : List ℕ) → length text < 2 ^ 64 → IsPlain text a → IsPlain text b → a ≡ b
 
--- it is the one that is found from left to right
+-- The plain form of a text is the one that is found from left to right.
 abbrev pub PlainIsFound : Type 0
 PlainIsFound = (text : List ℕ) → length text < 2 ^ 64 → IsPlain text (plain text)
 
--- and so is the line of the text that a line of it is
+-- The line of a text to which line `n` of its plain form belongs is the one that is found from left to right.
 abbrev pub OwnLineIsFound : Type 0
 OwnLineIsFound = (text : List ℕ) (n : ℕ) → length text < 2 ^ 64 → 0 < n → IsOwnLine text n (own_line text n)

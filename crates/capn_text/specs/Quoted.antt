@@ -4,40 +4,41 @@ use Rattle.capn_value.specs.Text.{line, named}
 use Rattle.capn_show.specs.Quoting.{is_text, escapes, quoted_line, plain_bytes}
 use Rattle.capn_text.specs.Streams.{ended_lines}
 
--- the line of a text between quotes without its count
+-- The line of a text between quotes, without its count.
 abbrev pub uncounted_line : ℕ → List ℕ → List ℕ
 uncounted_line level xs = line level (codes "bytes " ++ 34 ∷ (escapes xs ++ 34 ∷ []))
 
--- a line, with its end, is that of these bytes between quotes, with their count or without it
+-- The line `text`, with its newline, has the bytes `xs` between quotes, with their count or without it.
 abbrev pub IsQuoted : List ℕ → ℕ → List ℕ → Type 0
 IsQuoted text level xs = (is_text xs ≡ true) × ((text ≡ quoted_line level xs) ⊎ (text ≡ uncounted_line level xs))
 
--- the plain form of a line: of bytes between quotes the lines of their digits, of any other line itself
+-- The plain form of a line: the lines of digits if it has bytes between quotes, and the line itself otherwise.
 abbrev pub IsPlainLine : List ℕ → List ℕ → Type 0
 IsPlainLine text plain = ((level : ℕ) × (xs : List ℕ) × IsQuoted text level xs × (plain ≡ plain_bytes level xs))
     ⊎ ((plain ≡ text) × ((level : ℕ) (xs : List ℕ) → IsQuoted text level xs → ⊥))
 
--- the plain form of a text of these lines, which stand here without their ends: that of each, and the bytes that are
--- left after the last, as it is
+-- `plain` is the plain form of `text`, whose lines are the given ones, without their newlines. It has the plain form of
+-- each line, and then the bytes after the last line as they are.
 abbrev pub IsPlainBy : List (List ℕ) → List ℕ → List ℕ → Type 0
 IsPlainBy [] text plain = (ended_lines text ≡ 0) × (plain ≡ text)
 IsPlainBy (front ∷ fronts) text plain = (ended_lines front ≡ 0) × (first : List ℕ) × (after : List ℕ)
     × (rest : List ℕ) × (text ≡ front ++ 10 ∷ after) × IsPlainLine (front ++ 10 ∷ []) first
     × IsPlainBy fronts after rest × (plain ≡ first ++ rest)
 
--- the plain form of a text, in which a list of bytes may stand between quotes
+-- `plain` is the plain form of `text`, in which a list of bytes may stand between quotes.
 abbrev pub IsPlain : List ℕ → List ℕ → Type 0
 IsPlain text plain = (fronts : List (List ℕ)) × IsPlainBy fronts text plain
 
--- Line n of the plain form of a text of these lines is line m of the text, both counted from 1: the first, as far as
--- the plain form of that goes, or one after it. After the last line both have as many.
+-- Line `n` of the plain form of a text of the given lines belongs to line `m` of the text, both counted from 1. The
+-- lines of the plain form of the first line belong to line 1, and the others to lines after it. After the last line
+-- both count the same.
 abbrev pub IsOwnBy : List (List ℕ) → ℕ → ℕ → Type 0
 IsOwnBy [] n m = m ≡ n
 IsOwnBy (front ∷ fronts) n m = (first : List ℕ) × IsPlainLine (front ++ 10 ∷ []) first
     × (((n ≤ ended_lines first) × (m ≡ 1))
     ⊎ ((k : ℕ) × (j : ℕ) × (n ≡ ended_lines first + suc k) × (m ≡ suc j) × IsOwnBy fronts (suc k) j))
 
--- line n of the plain form of a text is line m of the text
+-- Line `n` of the plain form of `text` belongs to line `m` of `text`.
 abbrev pub IsOwnLine : List ℕ → ℕ → ℕ → Type 0
 IsOwnLine text n m = (fronts : List (List ℕ)) × (plain : List ℕ) × IsPlainBy fronts text plain × IsOwnBy fronts n m
 

@@ -1,5 +1,4 @@
--- Values whose numbers a text can show: each is in the range of its type, and so is each count of the values in a
--- value.
+-- Values whose numbers a text can show: each number is in the range of its type, and each count fits 64 bits.
 use Rattle.std.specs.Prelude.{◌<◌, ◌^◌, length, ⊤}
 use Rattle.capn_value.specs.InRange.{AllBelow}
 use Rattle.capn_value.specs.NumberWidth.{bits_in}

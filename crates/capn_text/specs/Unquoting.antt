@@ -1,10 +1,11 @@
--- A text with quotes, read piece by piece. (Own.)
+-- The plain form of a text that arrives in chunks. (Own.)
 use Rattle.std.specs.Prelude.{◌≡◌, ◌≤◌, ℕ, ◌+◌, ◌-◌, List, [], ◌∷◌, ◌++◌, length, ⊤, cond, Bool, true, false}
 use Rattle.capn_text.specs.PlainForm.{plain_after, plain_through, digits_after, digits_through, count_to}
 
--- The state of an unquoter: the front of the line that is unfinished, the line of the plain form at which it begins,
--- the lines of digits of that form that the text hasn't, the number of those that it has before these, and whether the
--- front of that line was given already, as it is.
+-- The state of a converter to the plain form. It has the front of the unfinished line, and the line of the plain form
+-- at which that begins. `digits` are the numbers of the lines of digits that the plain form adds, and `passed` is the
+-- number of those that were forgotten before them. `through` is set if the front of the unfinished line was given as it
+-- is.
 pub record Unquoting : Type 0 where
   pub front : List ℕ
   pub line : ℕ
@@ -12,34 +13,35 @@ pub record Unquoting : Type 0 where
   pub passed : ℕ
   pub through : Bool
 
--- before the first piece
+-- The state before the first chunk.
 abbrev pub first_unquoting : Unquoting
 first_unquoting = record { front = []; line = 1; digits = []; passed = 0; through = false }
 
--- the plain form of the bytes that come
+-- The plain form of the bytes that arrive in a state.
 abbrev pub plain_on : Unquoting → List ℕ → List ℕ
 plain_on u more = cond u.through (plain_through more) (plain_after u.front more)
 
--- its lines of digits
+-- The numbers of the lines of digits that are added for the bytes that arrive in a state.
 abbrev pub digits_on : Unquoting → List ℕ → List ℕ
 digits_on u more = cond u.through (digits_through u.line more) (digits_after u.line u.front more)
 
--- these bytes were read, and this was added to the plain form; whatever follows is read as if all came at once
+-- The converter took `bytes` and gave `added`, and went from the state `u` to `v`. Bytes that follow are converted as
+-- if all had arrived at once.
 pub record Unquotes (u v : Unquoting) (bytes added : List ℕ) : Type 0 where
   pub plain : (more : List ℕ) → plain_on u (bytes ++ more) ≡ added ++ plain_on v more
   pub digits : (more : List ℕ) → u.digits ++ digits_on u (bytes ++ more) ≡ v.digits ++ digits_on v more
   pub passed : v.passed ≡ u.passed
 
--- the line of the text whose plain form has line n
+-- The line of the text to which line `n` of the plain form belongs.
 abbrev pub own_at : Unquoting → ℕ → ℕ
 own_at u n = n - (u.passed + count_to n u.digits)
 
--- none of these is before a line, or the first is not
+-- The first of the given lines, if there is one, is not before `line`.
 abbrev pub StartFrom : ℕ → List ℕ → Type 0
 StartFrom line [] = ⊤
 StartFrom line (q ∷ qs) = line ≤ q
 
--- of the lines of digits those before a line are only counted
+-- The lines of digits before `line` are forgotten, except for their number.
 pub record Forgets (line : ℕ) (u v : Unquoting) : Type 0 where
   pub gone : List ℕ
   pub are : u.digits ≡ gone ++ v.digits

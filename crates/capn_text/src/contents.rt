@@ -1,4 +1,4 @@
-//! The parser of values with all that they hold: the recursion over the lines of a text.
+//! The parser of values: a recursion over the lines of a text, which reads a value with everything in it.
 
 ghost use Rattle.std.specs.Prelude.{◌≡◌, ◌+◌, ◌*◌, ◌≤◌, map, IfErr};
 ghost use Rattle.capn_value.specs.TreeOf.{tree_of, body_of};
@@ -15,8 +15,8 @@ use crate::leaves::{leaf_at, words_at};
 use capn_value::{Body, Items, Value};
 use std::alloc::Allocator;
 
-/// Reads the value at the front of `text`, of a height of at most `room`, its first line at this `level`. Returns it
-/// with the bytes after it.
+/// Reads the value at the front of `text`, whose first line is at this `level` and whose height is at most `room`.
+/// Returns it with the bytes after it.
 #[cycle(value_at)]
 pub fn value_at<'t, A: Allocator + Copy>(
     alloc: A,
@@ -34,7 +34,7 @@ pub fn value_at<'t, A: Allocator + Copy>(
     content_at(alloc, room - 1, level, head, rest)
 }
 
-// Reads a value of height 0, by its first line.
+// Reads a value of height 0, whose first line is `head`: null or a capability. Any other value is too deep.
 #[tactic(auto, using(crate::proofs::ValueOfParts::steps_and_views))]
 fn low_at<'t, A: Allocator>(head: Head, text: &'t [u8]) -> Result<(Value<A>, &'t [u8]), Stop>
     requires { Holds head }
@@ -48,7 +48,8 @@ fn low_at<'t, A: Allocator>(head: Head, text: &'t [u8]) -> Result<(Value<A>, &'t
     }
 }
 
-// Reads a value by its first line, which was at this level; the values that it holds are of a height of at most `room`.
+// Reads the rest of the value whose first line, `head`, was at this `level`. The values in it have a height of at most
+// `room`.
 #[cycle(value_at)]
 #[tactic(auto, using(crate::proofs::ValueOfParts::steps_and_views))]
 fn content_at<'t, A: Allocator + Copy>(
@@ -84,7 +85,7 @@ fn content_at<'t, A: Allocator + Copy>(
     }
 }
 
-// Reads the words and slots of a struct, whose first line was at this level.
+// Reads the data words and the slots of a struct, whose first line was at this `level`.
 #[cycle(value_at)]
 #[tactic(auto, unfolding(crate::specs::inner::Values::body_at))]
 fn body_at<'t, A: Allocator + Copy>(
@@ -108,7 +109,7 @@ fn body_at<'t, A: Allocator + Copy>(
     Ok((body, rest))
 }
 
-// Reads `count` values.
+// Reads `count` values at this `level`, each of a height of at most `room`.
 #[cycle(value_at)]
 fn values_at<'t, A: Allocator + Copy>(
     alloc: A,
@@ -131,7 +132,7 @@ fn values_at<'t, A: Allocator + Copy>(
     Ok((items, rest))
 }
 
-// Reads one row.
+// Reads one row at this `level`. The values in it have a height of at most `room`.
 #[cycle(value_at)]
 #[tactic(auto, unfolding(crate::specs::inner::Values::row_at))]
 fn row_at<'t, A: Allocator + Copy>(
@@ -151,7 +152,7 @@ fn row_at<'t, A: Allocator + Copy>(
     }
 }
 
-// Reads `count` rows.
+// Reads `count` rows at this `level`.
 #[cycle(value_at)]
 fn rows_at<'t, A: Allocator + Copy>(
     alloc: A,

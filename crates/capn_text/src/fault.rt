@@ -1,4 +1,4 @@
-//! Faults of a text from which no tree is read.
+//! The reasons why no tree is read from a text, and those for which the parser stops.
 
 ghost use Rattle.std.specs.Prelude.{◌≡◌};
 ghost use Rattle.capn_text.specs.declared.fault.Stop.TheVariants.{Memory};
@@ -9,29 +9,30 @@ use std::alloc::{AllocError, AllocFailed};
 /// The reason why no tree is read from a text.
 #[derive(Clone, Copy, Debug, PartialEq, Eq)]
 pub enum TextFault {
-    /// A growth was refused.
+    /// A growth of memory was refused.
     Memory,
-    /// The first line, counted from 1, that doesn't go on with the text of a value. A line that is missing is the one
-    /// after the last. [`crate::Texts`] answers so if that holds whatever follows.
+    /// The first wrong line, counted from 1: the lines before it begin the text of some value, but no text of a value
+    /// has that line, too. If a line is missing, it is the line after the last. [`crate::Texts`] returns this only if
+    /// it is true whatever bytes follow.
     Line(u64),
-    /// The first line that doesn't go on if nothing follows. More bytes may make the text that of a value.
+    /// The first line, counted from 1, that is wrong if no bytes follow. More bytes may make the text that of a value.
     Cut(u64),
-    /// The text is that of a value that fits into no message, or goes deeper than any that fits (`Tall`), whatever
-    /// follows.
+    /// The text is that of a value that fits into no message. It is `Tall` if the text goes deeper than any value that
+    /// fits, whatever bytes follow.
     Misfit(Misfit),
 }
 
-/// The reason why reading ends within a text.
+/// The reason why the parser stops within a text.
 #[derive(Clone, Copy)]
 pub enum Stop {
-    /// A growth was refused.
+    /// A growth of memory was refused.
     Memory,
-    /// A line doesn't go on. The number is that of the bytes of the text from the beginning of that line on; within a
-    /// line, from any place on it.
+    /// A line is wrong. The number is that of the bytes from the beginning of that line to the end of the text.
+    /// Functions that read a part of a line may count from any place on it.
     Left(usize),
-    /// A line is unfinished. The number is that of the bytes of the text from its beginning on.
+    /// A line is unfinished. The number is that of the bytes from its beginning to the end of the text.
     Cut(usize),
-    /// A value is deeper than any that fits.
+    /// A value is deeper than any that fits into a message.
     Deep,
 }
 

@@ -1,4 +1,4 @@
-//! The first line of a value.
+//! The first line of a value, which has its kind and its sizes.
 
 ghost use Rattle.std.specs.Prelude.{◌≡◌, ◌≤◌, IfOk, IfErr};
 ghost use Rattle.capn_text.specs.inner.Tokens.{GivesIdly};
@@ -10,7 +10,7 @@ ghost use Rattle.capn_text.specs.inner.Stops.{GivesLine};
 use crate::fault::Stop;
 use crate::tokens::{decimal_at, indent_at, pass, skip, stop_in};
 
-/// A list whose elements hold no other value, by the kind of its elements.
+/// The kind of a list whose elements hold no other values.
 #[derive(Clone, Copy)]
 pub enum Leaf {
     Voids,
@@ -21,7 +21,7 @@ pub enum Leaf {
     Octs,
 }
 
-/// The name before a single number.
+/// The word before the number, in a first line that has a single number.
 #[derive(Clone, Copy)]
 pub enum Name {
     Links,
@@ -30,17 +30,17 @@ pub enum Name {
     Leaf(Leaf),
 }
 
-/// A first line, read: the kind of a value, and its sizes.
+/// The first line of a value: its kind and its sizes.
 #[derive(Clone, Copy)]
 pub enum Head {
     Null,
-    /// Words and slots.
+    /// The numbers of data words and of slots of a struct.
     Struct(u64, u64),
-    /// The number of elements, or of a capability.
+    /// The number of elements of a list, or the index of a capability.
     Named(Name, u64),
 }
 
-/// Reads the first line at the front of `text`, at this `level`. Returns it with the bytes after it.
+/// Reads the first line of a value at this `level`, at the front of `text`. Returns it with the bytes after it.
 pub fn head_at(level: u32, text: &[u8]) -> Result<(Head, &[u8]), Stop>
     requires { level ≤ 600 }
     ensures value { GivesLine (λ x. (x.0, x.1.now)) result (values.head_at level) text.now }

@@ -1,35 +1,36 @@
-//! The laws of texts, as functions that do nothing.
+//! The laws of texts, as the clauses of functions that do nothing.
 
 ghost use Rattle.capn_text.specs.Laws.{TextsAreApart, FittingIsShowable, OneValue, OneStream, StreamGoesOn};
 ghost use Rattle.capn_text.specs.Laws.{OneWrongLine, WrongIsNotDeep, DeepIsHigh};
 ghost use Rattle.capn_text.specs.Laws.{WrongLineStays, NoTextGoesOn, DeepStays, NoBeginningComes};
 ghost use Rattle.capn_text.specs.PlainLaws.{QuotedIsPlain, OnePlain, PlainIsFound, OwnLineIsFound};
 
-/// States: values whose texts begin one text are equal, and so is what comes after them: no text of a value begins that
-/// of another. So one text has one value that fits and is in range.
+/// States that no text of a value begins the text of another value. If the texts of two values begin one text, the
+/// values are equal, and so are the bytes after them. So a text has at most one value that fits and is in range.
 pub fn texts()
     ensures apart { TextsAreApart }
     ensures showable { FittingIsShowable }
     ensures one { OneValue }
 {}
 
-/// States: one stream of texts has one list of values, and what [`crate::Texts`] reads is added at its end: so a loop
-/// over all texts of an input knows that they and what is left are the input.
+/// States that a stream of texts has at most one list of values, and that a text with its end, read after a stream,
+/// makes it a stream with one more. So a loop that calls [`crate::Texts`] until the end knows that the values it read,
+/// and the bytes that are left, make up the input.
 pub fn streams()
     ensures one { OneStream }
     ensures goes_on { StreamGoesOn }
 {}
 
-/// States: a text that is refused has one fault: one line is the first that doesn't go on, or the text goes too deep,
-/// or its value is of at most 256 levels.
+/// States that a text is refused for one reason only. Two lines cannot both be the first wrong one. A text with a wrong
+/// line does not go too deep. A text that goes too deep begins with the text of no value of at most 256 levels.
 pub fn refusals()
     ensures wrong { OneWrongLine }
     ensures deep { WrongIsNotDeep }
     ensures high { DeepIsHigh }
 {}
 
-/// States: what is known of a text by its whole lines stays so whatever follows: that one of them is the first that
-/// doesn't go on, that the text goes too deep, and that the first of them is that of no value.
+/// States three facts that whole lines of a text decide whatever bytes follow. One of these lines is the first wrong
+/// line, the text goes too deep, or its first line begins no value.
 pub fn whole_lines()
     ensures wrong { WrongLineStays }
     ensures none { NoTextGoesOn }
@@ -37,8 +38,8 @@ pub fn whole_lines()
     ensures first { NoBeginningComes }
 {}
 
-/// States: the plain form of a text that was shown with texts between quotes is the text that is shown without them. A
-/// text has one plain form, and each line of that is of one line of the text.
+/// States that the plain form of a text with lists between quotes is the text that is shown without quotes. A text has
+/// exactly one plain form, and each line of the plain form belongs to one line of the text.
 pub fn plain_forms()
     ensures shown { QuotedIsPlain }
     ensures one { OnePlain }

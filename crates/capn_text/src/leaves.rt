@@ -1,4 +1,4 @@
-//! Lists whose elements hold no other value.
+//! The parsers of data words, and of lists without other values in them.
 
 ghost use Rattle.std.specs.Prelude.{◌≡◌, ◌+◌, ◌≤◌, None};
 ghost use Rattle.capn_value.specs.TreeOf.{tree_of};
@@ -16,8 +16,8 @@ use crate::tokens::{
 use capn_value::{Items, Value};
 use std::alloc::Allocator;
 
-/// Reads a list whose elements hold no other value, by their kind `leaf` and their number `count`; its first line was
-/// at this `level`. Returns it with the bytes after it.
+/// Reads a list of `count` elements, whose kind `leaf` holds no other value. Its first line was at this `level`.
+/// Returns it with the bytes after it.
 #[tactic(auto, using(crate::proofs::ValueOfParts::steps_and_views), unfolding(crate::specs::inner::Values::leaf_at))]
 pub fn leaf_at<'t, A: Allocator>(
     alloc: A,
@@ -55,7 +55,8 @@ pub fn leaf_at<'t, A: Allocator>(
     }
 }
 
-/// Returns the stop for a `text` that doesn't begin with a line of `count` bits: `Cut` if it can still become one.
+/// Returns the stop for a `text` that does not begin with a line of `count` bits. It is `Cut` if more bytes can make it
+/// one.
 fn stop_in_bits(level: u32, count: u64, text: &[u8]) -> Stop
     requires level { level ≤ 600 }
     requires none { tokens.row_line_at tokens.bit_at level count text.now ≡ None }
@@ -126,7 +127,8 @@ fn bit_digits_at<A: Allocator>(
     Ok((items, rest))
 }
 
-/// Returns the stop for a `text` that doesn't begin with a line of `count` bytes: `Cut` if it can still become one.
+/// Returns the stop for a `text` that does not begin with a line of `count` bytes. It is `Cut` if more bytes can make
+/// it one.
 fn stop_in_bytes(level: u32, count: u64, text: &[u8]) -> Stop
     requires level { level ≤ 600 }
     requires none { tokens.row_line_at tokens.byte_at level count text.now ≡ None }
@@ -258,7 +260,7 @@ fn octs_at<A: Allocator>(
     Ok((items, rest))
 }
 
-/// Reads the lines of `count` data words at this `level`. Returns them with the bytes after them.
+/// Reads the lines of `count` data words at this `level`. Returns the words with the bytes after their lines.
 pub fn words_at<A: Allocator>(
     alloc: A,
     level: u32,

@@ -1,9 +1,9 @@
-//! Lines, counted.
+//! The counting of lines.
 
 ghost use Rattle.std.specs.Prelude.{◌≡◌, ◌+◌, ◌-◌, ◌≤◌, length, take};
 ghost use Rattle.capn_text.specs.Streams.{ended_lines};
 
-/// Counts the lines that end within `bytes`: a last one without its line end is not counted. Takes no memory.
+/// Counts the lines that end within `bytes`. A last line without its newline is not counted. Takes no memory.
 #[tactic(auto, using(crate::proofs::LineCounts::lines_within))]
 pub fn lines_in(bytes: &[u8]) -> u64
     ensures exact { result ≡ ended_lines bytes.now }

@@ -1,4 +1,4 @@
-//! The tree of one text, and its first value, from which all texts are read.
+//! The reading of one text to its tree, and of the value at the front of a longer text.
 
 ghost use Rattle.std.specs.Prelude.{◌≡◌, ◌≢◌, ◌⊎◌, ◌≤◌, ◌+◌, ◌++◌, ℕ, List, [], length, IfOk, IfErr, OnOk, OnErr};
 ghost use Rattle.std.specs.Prelude.{MatchResult, Some, None, true, false};
@@ -29,23 +29,24 @@ use std::alloc::Allocator;
 /// Reads `text` as a tree: the one for which [`capn_value::show`] writes this text.
 ///
 /// Refuses with [`TextFault::Line`] if the bytes are not the text of a value, then with [`TextFault::Misfit`] if that
-/// value fits into no message. A text of more than 256 levels is `Tall`, whatever follows. Linear in the text. Memory:
-/// the tree's own on `alloc`, up to twice for lists as they grow. The stack holds at most 257 values.
+/// value fits into no message. A text of more than 256 levels is `Tall`, whatever bytes follow. Takes time linear in
+/// the text. Takes memory of `alloc` for the tree, up to twice as much for lists while they grow. The stack holds at
+/// most 257 values.
 pub fn read<A: Allocator + Copy>(alloc: A, text: &[u8]) -> Result<Tree<A>, TextFault>
-    // The tree that is read has this text.
+    // If a tree is returned, `text` is its text.
     ensures found { IfOk result (λ t. text.now ≡ show_text t) }
-    // A tree that has this text is read, unless memory runs out.
+    // If `text` is the text of a tree, that tree is returned, unless memory runs out.
     ensures only { (v : trees.Tree) → Fits v → InRange v → text.now ≡ show_text v →
         MatchResult result (λ t. t ≡ v) (λ e. e ≡ faults.Memory) }
-    // A text that is refused by a line is that of no value, fit or not, of at most 256 levels.
+    // If a line is refused, `text` is not the text of any value of at most 256 levels, even of one that does not fit.
     ensures line { IfErr result (λ e. (n : ℕ) → e ≡ faults.Line n → (v : trees.Tree) → IsShowable v →
         height v ≤ most_height → text.now ≢ show_text v) }
-    // Except for line 1, nothing is refused and no memory needed before the first line is that of a value.
+    // If the first line of `text` begins no value, line 1 is refused, which takes no memory.
     ensures begun { IfErr result (λ e. e ≢ faults.Line 1 → (v : trees.Tree) × BeginsAs text.now v) }
-    // A line that is refused is the first that doesn't go on with a text.
+    // If a line is refused, it is the first wrong line of `text`.
     ensures first { IfErr result (λ e. (n : ℕ) → e ≡ faults.Line n → IsFirstWrong show_text n text.now) }
-    // A misfit is that of the value of at most 256 levels which has this text, or the text goes too deep, whatever
-    // follows.
+    // If there is a misfit, it is that of the value of at most 256 levels with this text, or the text goes too deep
+    // whatever bytes follow.
     ensures misfit { IfErr result (λ e. (m : Misfit) → e ≡ faults.Misfit m →
         ((m ≡ Tall) × GoesTooDeep text.now) ⊎ ((v : trees.Tree) × InRange v × IsShowable v
         × (height v ≤ most_height) × (text.now ≡ show_text v) × (misfit v ≡ Some m))) }
@@ -62,7 +63,7 @@ pub fn read<A: Allocator + Copy>(alloc: A, text: &[u8]) -> Result<Tree<A>, TextF
     Ok(tree)
 }
 
-// Returns the fault of a text to which nothing follows.
+// Converts the fault of a text to the one it has if no bytes follow: a `Cut` line is wrong.
 fn ended(fault: TextFault) -> TextFault
     ensures memory { fault ≡ faults.Memory → result ≡ faults.Memory }
     ensures line { (n : ℕ) → result ≡ faults.Line n → Names fault n }
@@ -88,8 +89,8 @@ pub fn has_more(rest: &[u8]) -> bool
     }
 }
 
-/// Reads the value whose text is at the front of `text`, whether it fits or not. Returns it with the bytes after that
-/// text.
+/// Reads the value whose text is at the front of `text`, even one that fits into no message. Returns it with the bytes
+/// after that text.
 pub fn first_value<A: Allocator + Copy>(
     alloc: A,
     text: &[u8],
@@ -98,34 +99,36 @@ pub fn first_value<A: Allocator + Copy>(
     ensures range { IfOk result (λ x. InRange (tree_of x.0)) }
     ensures showable { IfOk result (λ x. IsShowable (tree_of x.0)) }
     ensures low { IfOk result (λ x. height (tree_of x.0) ≤ most_height) }
-    // A value of at most 256 levels whose text is at the front is read, unless memory runs out.
+    // If the text of a value of at most 256 levels is at the front, that value is read, unless memory runs out.
     ensures only { (v : trees.Tree) (rest : List ℕ) → IsShowable v → height v ≤ most_height →
         text.now ≡ show_text v ++ rest →
         MatchResult result (λ x. (tree_of x.0 ≡ v) × (x.1.now ≡ rest)) (λ e. e ≡ faults.Memory) }
-    // A line that is refused is one of these bytes, or the one after their last.
+    // If a line is refused, it is one of `text`, or the line after its last.
     ensures place { IfErr result (λ e. (n : ℕ) → Names e n → (1 ≤ n) × (n ≤ ended_lines text.now + 1)) }
-    // Except for line 1, nothing is answered and no memory needed before the first line is that of a value.
+    // If the first line of `text` begins no value, line 1 is refused, which takes no memory.
     ensures begins { IfOk result (λ x. (v : trees.Tree) × BeginsAs text.now v) }
     ensures begun { IfErr result (λ e. (Names e 1 → ⊥) → (v : trees.Tree) × BeginsAs text.now v) }
-    // A line that is refused is the first that doesn't go on with a text, also where each text has its end.
+    // If a line is refused, it is the first wrong line, both of a text alone and of a text with its line `end`.
     ensures first { IfErr result (λ e. (n : ℕ) → Names e n → IsFirstWrong show_text n text.now) }
     ensures first_ended { IfErr result (λ e. (n : ℕ) → Names e n → IsFirstWrong ended_text n text.now) }
-    // It is so whatever follows, or all but few bytes at the end can go on.
+    // If the fault is `Line`, that is so whatever bytes follow. If it is `Cut`, all of the text except for a few bytes
+    // at its end can still be completed.
     ensures lost { IfErr result (λ e. (n : ℕ) → e ≡ faults.Line n → (more : List ℕ) →
         IsFirstWrong ended_text n (text.now ++ more)) }
     ensures none { IfErr result (λ e. (n : ℕ) → e ≡ faults.Line n → (more : List ℕ) → (v : trees.Tree)
         (rest : List ℕ) → IsShowable v → height v ≤ most_height → text.now ++ more ≢ show_text v ++ rest) }
     ensures open { IfErr result (λ e. (n : ℕ) → e ≡ faults.Cut n → MayGoOn text.now) }
-    // So is the line after the value that was read, if there is one, or no end.
+    // If bytes follow the value that was read, their first line is the first wrong one of `text` as a text alone.
+    // Unless they begin with the line `end`, that also holds for a text with its end.
     ensures more { IfOk result (λ x. x.1.now ≢ [] →
         IsFirstWrong show_text (ended_lines (show_text (tree_of x.0)) + 1) text.now) }
     ensures no_end { IfOk result (λ x. (more : List ℕ) → strip end_line (x.1.now ++ more) ≡ None →
         IsFirstWrong ended_text (ended_lines (show_text (tree_of x.0)) + 1) (text.now ++ more)) }
-    // A misfit says that the text goes too deep, whatever follows.
+    // If there is a misfit, the text goes too deep whatever bytes follow.
     ensures tall { IfErr result (λ e. (m : Misfit) → e ≡ faults.Misfit m → m ≡ Tall) }
     ensures deep { IfErr result (λ e. (m : Misfit) → e ≡ faults.Misfit m → GoesTooDeep text.now) }
 {
-    // No memory is needed if the first line is that of no value.
+    // The first line is tested before any memory is taken.
     if let Err(fault) = first_line(text) {
         return Err(fault);
     }
@@ -138,14 +141,15 @@ pub fn first_value<A: Allocator + Copy>(
     }
 }
 
-/// Tests that the first line of `text` is that of a value: if not, the fault is `Cut` if more bytes may make it one,
-/// else `Line`.
+/// Tests that the first line of `text` begins a value. Otherwise the fault is `Cut` if more bytes may make it do so,
+/// and `Line` if not.
 pub fn first_line(text: &[u8]) -> Result<(), TextFault>
     ensures some { OnOk result ((v : trees.Tree) × BeginsAs text.now v) }
     ensures other { OnErr result ((v : trees.Tree) → BeginsAs text.now v → ⊥) }
     ensures none { OnErr result (values.head_at 0 text.now ≡ None) }
     ensures line { IfErr result (λ e. Names e 1) }
-    // It is that of none whatever follows, or few bytes at its end may make it one.
+    // If the fault is `Line`, the line begins no value whatever bytes follow. If it is `Cut`, `text` has at most 2,048
+    // bytes.
     ensures lost { IfErr result (λ e. e ≡ faults.Line 1 → IsLineLost (values.head_at 0) text.now) }
     ensures open { IfErr result (λ e. e ≡ faults.Cut 1 → length text.now ≤ few) }
 {
@@ -161,7 +165,7 @@ pub fn first_line(text: &[u8]) -> Result<(), TextFault>
     }
 }
 
-/// Makes a tree of `value`, if it fits into a message; else the fault is its misfit.
+/// Makes a tree of `value`. If it fits into no message, the fault is its misfit.
 pub fn fitting<A: Allocator>(value: Value<A>) -> Result<Tree<A>, TextFault>
     ensures found { IfOk result (λ t. t ≡ tree_of value) }
     ensures fits { IfOk result (λ t. Fits t) }

@@ -1,4 +1,5 @@
-//! The plain form of a text with lists between quotes.
+//! The plain form of a text: the lines that stand for its lists of bytes between quotes, and all other lines as they
+//! are.
 
 ghost use Rattle.std.specs.Prelude.{◌≡◌, ◌≢◌, ◌≤◌, ◌<◌, ◌+◌, ◌*◌, ◌^◌, [], ◌∷◌, ◌++◌, length, replicate};
 ghost use Rattle.std.specs.Prelude.{IfOk, OnOk, OnErr, MatchOption};
@@ -13,7 +14,7 @@ use crate::fault::Stop;
 use crate::quoted_line::quoted_at;
 use std::alloc::{AllocError, Allocator};
 
-/// Appends the spaces of `level` to `out`.
+/// Appends the indent of `level` to `out`, which is two spaces a level.
 fn push_indent<A: Allocator>(out: &mut Vec<u8, A>, level: usize) -> Result<(), AllocError>
     ensures { OnOk result (out.new.items ≡ out.old.items ++ replicate (2 * level) 32) }
 {
@@ -23,7 +24,7 @@ fn push_indent<A: Allocator>(out: &mut Vec<u8, A>, level: usize) -> Result<(), A
     Ok(())
 }
 
-/// Appends `n` in decimal digits and the end of its line to `out`.
+/// Appends `n` in decimal digits and a newline to `out`.
 fn push_number<A: Allocator>(out: &mut Vec<u8, A>, n: u64) -> Result<(), AllocError>
     ensures { OnOk result (out.new.items ≡ out.old.items ++ (decimal n ++ 10 ∷ [])) }
 {
@@ -32,17 +33,17 @@ fn push_number<A: Allocator>(out: &mut Vec<u8, A>, n: u64) -> Result<(), AllocEr
     out.extend_from_slice(&digits[start..])
 }
 
-/// Appends the two digits of `byte` to `out`.
+/// Appends the two hexadecimal digits of `byte` to `out`.
 fn push_byte<A: Allocator>(out: &mut Vec<u8, A>, byte: u8) -> Result<(), AllocError>
     ensures { OnOk result (out.new.items ≡ out.old.items ++ encode_lower (byte ∷ [])) }
 {
     let mut digits = [0u8; 2];
-    // Two digits have room, so nothing is refused.
+    // The array has room for both digits, so the call cannot fail.
     let _done = hex::encode_to_slice([byte], &mut digits);
     out.extend_from_slice(&digits)
 }
 
-/// Appends two digits of each of `bytes` to `out`.
+/// Appends the hexadecimal digits of `bytes` to `out`, two for each.
 #[tactic(auto, using(std::proofs::lemmas::Grind::common_steps, crate::proofs::PlainLines::digits))]
 fn push_digits<A: Allocator>(out: &mut Vec<u8, A>, bytes: &[u8]) -> Result<(), AllocError>
     ensures { OnOk result (out.new.items ≡ out.old.items ++ encode_lower bytes.now) }
@@ -53,7 +54,7 @@ fn push_digits<A: Allocator>(out: &mut Vec<u8, A>, bytes: &[u8]) -> Result<(), A
     Ok(())
 }
 
-/// Appends the lines of the list `bytes` at this `level` to `out`.
+/// Appends the two lines of the list `bytes` at this `level` to `out`: its count, and its digits.
 fn push_bytes<A: Allocator>(
     out: &mut Vec<u8, A>,
     level: usize,
@@ -72,8 +73,8 @@ fn push_bytes<A: Allocator>(
     Ok(())
 }
 
-/// Appends the plain form of `line`, which stands here without its end, to `out`, and returns `true` if that is of
-/// bytes between quotes. Memory: the lines that are added, and those bytes.
+/// Appends the plain form of `line` to `out`. `line` is given without its newline. Returns `true` if it is a line of
+/// bytes between quotes. Takes memory for the lines that are added and for the bytes of a quoted line.
 pub fn push_plain<A: Allocator + Copy>(
     alloc: A,
     out: &mut Vec<u8, A>,
@@ -96,8 +97,8 @@ pub fn push_plain<A: Allocator + Copy>(
     }
 }
 
-/// Splits `text` into its first line, without the end of it, and the bytes after that; `None` if no line ends here.
-/// Takes no memory.
+/// Splits `text` into its first line, without the newline, and the bytes after that. Returns `None` if no line ends in
+/// `text`. Takes no memory.
 pub fn next_line(text: &[u8]) -> Option<(&[u8], &[u8])>
     ensures { MatchOption result (ended_lines text.now ≡ 0)
         (λ x. (text.now ≡ x.0.now ++ 10 ∷ x.1.now) × (ended_lines x.0.now ≡ 0)) }
@@ -110,15 +111,16 @@ pub fn next_line(text: &[u8]) -> Option<(&[u8], &[u8])>
     None
 }
 
-/// Writes the plain form of `text`, in which a list of bytes may stand between quotes: that of each such line, `bytes N
-/// "T"` or `bytes "T"`, is the lines that [`capn_value::show`] writes of the bytes of T, and any other line stays as it
-/// is. Those bytes are from 0x20 to 0x7e, except that the last may be zero; there is one at least. In T a quote is
-/// `\"`, a backslash `\\`, a last zero `\0`. (Own.)
+/// Writes the plain form of `text`, in which a list of bytes may stand between quotes, as a line `bytes N "T"` or
+/// `bytes "T"`. Such a line becomes the lines that [`capn_value::show`] writes for the bytes of T, and any other line
+/// stays as it is. T has at least one byte. Its bytes are from 0x20 to 0x7e, except that the last may be zero. In T a
+/// quote is `\"`, a backslash `\\`, a last zero `\0`. (Own.)
 ///
-/// Linear in the text. Memory: the plain form on `alloc`, up to twice as it grows, and the bytes of one line.
+/// Takes time linear in the text. Takes memory of `alloc` for the plain form, up to twice as much while it grows, and
+/// for the bytes of one line.
 pub fn plain_text<A: Allocator + Copy>(alloc: A, text: &[u8]) -> Result<Vec<u8, A>, AllocError>
     ensures found { IfOk result (λ plain. IsPlain text.now plain.items) }
-    // Memory is needed only for some bytes.
+    // If `text` is empty, no memory is needed.
     ensures memory { OnErr result (text.now ≢ []) }
 {
     if text.is_empty() {
@@ -134,7 +136,7 @@ pub fn plain_text<A: Allocator + Copy>(alloc: A, text: &[u8]) -> Result<Vec<u8, 
     Ok(out)
 }
 
-/// Counts the numbers of `lines` that are at most `n`. Takes no memory.
+/// Returns the number of `lines` that are at most `n`. Takes no memory.
 #[tactic(auto, using(crate::proofs::OwnLines::count_within))]
 pub fn count_to(lines: &[u64], n: u64) -> u64
     ensures exact { result ≡ form.count_to n lines.now }

@@ -1,4 +1,4 @@
-//! Bytes between quotes.
+//! The parser of a line with a list of bytes between quotes.
 
 ghost use Rattle.std.specs.Prelude.{◌≡◌, ◌≤◌, ◌<◌, ◌*◌, ◌==◌, ◌||◌, length, take, IfOk};
 ghost use Rattle.capn_show.specs.Quoting as quoting;
@@ -17,14 +17,14 @@ fn is_printable(byte: u8) -> bool
     b' ' <= byte && byte <= b'~'
 }
 
-/// Returns `true` if `byte` has a backslash before it between quotes.
+/// Returns `true` if `byte` has to stand behind a backslash between quotes.
 fn is_marked(byte: u8) -> bool
     ensures { result ≡ (byte == 34 || byte == 92) }
 {
     byte == b'"' || byte == b'\\'
 }
 
-/// Reads the bytes of `text` up to the second quote, with which the line ends.
+/// Reads the bytes of `text` up to the closing quote, which has to be the last byte of `text`.
 pub fn unquoted<A: Allocator>(alloc: A, text: &[u8]) -> Result<Vec<u8, A>, Stop>
     ensures { Gives (λ x. x.items) result (quotes.unquoted text.now) }
 {
@@ -64,7 +64,7 @@ pub fn unquoted<A: Allocator>(alloc: A, text: &[u8]) -> Result<Vec<u8, A>, Stop>
     Err(Stop::Left(0))
 }
 
-/// Reads the bytes of `text` after the first quote of a line: one at least.
+/// Reads the bytes of `text`, which begins after the opening quote. There has to be at least one.
 fn text_in<A: Allocator>(alloc: A, text: &[u8]) -> Result<Vec<u8, A>, Stop>
     ensures found { Gives (λ x. x.items) result (quotes.text_in text.now) }
     ensures some { IfOk result (λ x. 0 < length x.items) }
@@ -76,7 +76,8 @@ fn text_in<A: Allocator>(alloc: A, text: &[u8]) -> Result<Vec<u8, A>, Stop>
     Ok(bytes)
 }
 
-/// Reads the bytes after the first quote of a line, one at least, behind their count: `text` begins with the count.
+/// Reads the count at the front of `text`, and the bytes between quotes behind it. There has to be at least one byte,
+/// and their number has to be the count.
 fn counted_text<A: Allocator>(alloc: A, text: &[u8]) -> Result<Vec<u8, A>, Stop>
     ensures found { Gives (λ x. x.items) result (quotes.counted_text text.now) }
     ensures some { IfOk result (λ x. 0 < length x.items) }
@@ -90,7 +91,8 @@ fn counted_text<A: Allocator>(alloc: A, text: &[u8]) -> Result<Vec<u8, A>, Stop>
     Ok(bytes)
 }
 
-/// Counts the levels of a line by its spaces; returns them and the bytes after these.
+/// Counts the levels of a line by its spaces at the front, two for each. Returns the number of levels and the bytes
+/// behind the spaces.
 fn levels_at(text: &[u8]) -> (usize, &[u8])
     ensures levels { (result.0, result.1.now) ≡ quotes.levels_at text.now }
     ensures within { 2 * result.0 ≤ length text.now }
@@ -104,7 +106,7 @@ fn levels_at(text: &[u8]) -> (usize, &[u8])
     (level, rest)
 }
 
-/// Reads `text`, a line between quotes that stands here without its end: returns its level and its bytes.
+/// Reads `text`, a line of bytes between quotes without its newline. Returns its level and its bytes.
 #[tactic(auto, unfolding(crate::specs::inner::QuotedLines::quoted_at))]
 pub fn quoted_at<A: Allocator>(alloc: A, text: &[u8]) -> Result<(usize, Vec<u8, A>), Stop>
     ensures found { Gives (λ x. (x.0, x.1.items)) result (quotes.quoted_at text.now) }
@@ -120,7 +122,8 @@ pub fn quoted_at<A: Allocator>(alloc: A, text: &[u8]) -> Result<(usize, Vec<u8, 
     Ok((level, bytes))
 }
 
-/// Returns the first bytes of `line`, as many as are looked at while it is unfinished.
+/// Returns the first 1,024 bytes of `line`, or all of it if it has fewer. By these bytes it is decided whether an
+/// unfinished line may be one of bytes between quotes.
 pub fn looked_at(line: &[u8]) -> &[u8]
     ensures { result.now ≡ take beginnings.looked_at line.now }
 {
@@ -131,7 +134,7 @@ pub fn looked_at(line: &[u8]) -> &[u8]
     }
 }
 
-/// Returns `true` if `front` is a beginning of `whole`, or all of it.
+/// Returns `true` if `front` is a prefix of `whole`.
 fn begins(whole: &[u8], front: &[u8]) -> bool
     ensures { result ≡ beginnings.begins whole.now front.now }
 {
@@ -141,7 +144,7 @@ fn begins(whole: &[u8], front: &[u8]) -> bool
     }
 }
 
-/// Returns `true` if `rest`, or its first bytes, may come after the name of a list of bytes.
+/// Returns `true` if `rest` is empty, or begins with a quote or a digit, as it must after the name of a list of bytes.
 fn may_follow(rest: &[u8]) -> bool
     ensures { result ≡ beginnings.may_follow rest.now }
 {

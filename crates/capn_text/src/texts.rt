@@ -1,4 +1,4 @@
-//! The texts of a stream, one after the other.
+//! The reader of a stream of texts, which takes one after the other.
 
 ghost use Rattle.std.specs.Prelude.{◌≡◌, ◌≢◌, ◌⊎◌, ◌≤◌, ◌<◌, ◌+◌, ◌-◌, ◌^◌, ◌++◌, ℕ, List, [], length};
 ghost use Rattle.std.specs.Prelude.{IfOk, IfErr, OnErr, IfSome, IsSome, MatchResult};
@@ -24,7 +24,7 @@ use capn_value::Tree;
 use std::alloc::Allocator;
 use std::marker::Model;
 
-/// An input of texts, each followed by its line `end`, that are read one after the other.
+/// A reader of an input of texts, one after the other, each followed by its line `end`.
 #[derive(Debug, Drop)]
 pub struct Texts<'t> {
     rest: &'t [u8],
@@ -43,7 +43,7 @@ impl<'t> Model for Texts<'t> {
 }
 
 impl<'t> Texts<'t> {
-    /// Returns all texts of `input`. Takes no memory.
+    /// Creates a reader of the texts of `input`. Takes no memory.
     pub fn new(input: &'t [u8]) -> Texts<'t>
         ensures { result ≡ record { rest = input.now; line = 1 } }
     {
@@ -53,8 +53,8 @@ impl<'t> Texts<'t> {
         }
     }
 
-    /// Returns the texts of `input`, which is what is left of one from the beginning of `line` on; `None` if the number
-    /// of its last line might pass 64 bits. Takes no memory.
+    /// Creates a reader of `input`, which is the rest of a longer input from the beginning of `line` on. Returns `None`
+    /// if the number of its last line might pass 64 bits. Takes no memory.
     pub fn from_line(input: &'t [u8], line: u64) -> Option<Texts<'t>>
         ensures found { IfSome result (λ t. t ≡ record { rest = input.now; line = line }) }
         ensures only { line + length input.now < 2 ^ 64 → IsSome result }
@@ -65,22 +65,22 @@ impl<'t> Texts<'t> {
         Some(Texts { rest: input, line })
     }
 
-    /// Returns the line, counted from 1 over the whole input, at which the next text begins, or the line after the
-    /// last.
+    /// Returns the line at which the next text begins, or the line after the last one at the end. Lines are counted
+    /// from 1 over the whole input.
     pub fn line(&self) -> u64
         ensures { result ≡ self.now.line }
     {
         self.line
     }
 
-    /// Returns the number of bytes that are left. Takes no memory.
+    /// Returns the number of bytes that have not been read. Takes no memory.
     pub fn left(&self) -> usize
         ensures { result ≡ length self.now.rest }
     {
         self.rest.len()
     }
 
-    /// Returns `true` if the end of the input is reached. Takes no memory.
+    /// Returns `true` if the end of the input has been reached. Takes no memory.
     pub fn is_done(&self) -> bool
         ensures over { result ≡ true → self.now.rest ≡ [] }
         ensures more { result ≡ false → self.now.rest ≢ [] }
@@ -88,7 +88,7 @@ impl<'t> Texts<'t> {
         !has_more(self.rest)
     }
 
-    /// Returns `true` if the first line of what is left is that of a value. Takes no memory.
+    /// Returns `true` if the next line begins a value. Takes no memory.
     pub fn begins(&self) -> bool
         ensures begun { result ≡ true → (v : trees.Tree) × BeginsAs self.now.rest v }
         ensures other { result ≡ false → (v : trees.Tree) → BeginsAs self.now.rest v → ⊥ }
@@ -99,8 +99,8 @@ impl<'t> Texts<'t> {
         }
     }
 
-    /// Returns `true` if more bytes may make the first line of what is left that of a value, which it isn't yet: then
-    /// few are left. Takes no memory.
+    /// Returns `true` if the next line does not begin a value yet, but more bytes may make it do so. Then only a few
+    /// bytes are left. Takes no memory.
     pub fn may_begin(&self) -> bool
         ensures lost { result ≡ false → ((v : trees.Tree) → BeginsAs self.now.rest v → ⊥) →
             (more : List ℕ) (v : trees.Tree) → BeginsAs (self.now.rest ++ more) v → ⊥ }
@@ -112,49 +112,52 @@ impl<'t> Texts<'t> {
         }
     }
 
-    /// Reads the next text: returns its tree, or `None` at the end of the input.
+    /// Reads the next text. Returns its tree, or `None` at the end of the input.
     ///
-    /// A text is taken with its line `end`: another line in its place is refused before a misfit is. A text of more
-    /// than 256 levels is `Tall`, whatever follows. After a refusal the place is as it was, so each later call answers
-    /// the same. A line that is refused is counted over the whole input; a misfit is that of the text that begins at
-    /// [`Texts::line`]. Memory on `alloc` as for [`crate::read`].
+    /// A text is read together with its line `end`. If another line stands in place of `end`, that line is refused
+    /// before a misfit is. A text of more than 256 levels is `Tall`, whatever bytes follow. After a refusal the reader
+    /// has not moved, so each later call returns the same. The line of a refusal is counted over the whole input. A
+    /// misfit is that of the text that begins at [`Texts::line`]. Takes memory of `alloc` as [`crate::read`] does.
     pub fn read_next<A: Allocator + Copy>(&mut self, alloc: A) -> Result<Option<Tree<A>>, TextFault>
-        // The text of what is read came next with its end, and what comes after it is left; or nothing was left.
+        // If a tree is returned, the input had its text and the line `end` next, and the bytes behind them are left. If
+        // `None` is returned, no bytes were left.
         ensures found { IfOk result (λ o. MatchOption o ((self.old.rest ≡ []) × (self.new ≡ self.old))
             (λ t. self.old.rest ≡ show_text t ++ (end_line ++ self.new.rest))) }
-        // A tree whose text and end come next is read, unless memory runs out.
+        // If the text of a tree and its end are next, that tree is read, unless memory runs out.
         ensures only { (v : trees.Tree) (rest : List ℕ) → Fits v → InRange v →
             self.old.rest ≡ show_text v ++ (end_line ++ rest) →
             MatchResult result (λ o. (o ≡ Some v) × (self.new.rest ≡ rest)) (λ e. e ≡ faults.Memory) }
-        // At the end there is none.
+        // At the end of the input, the result is `None`.
         ensures ended { self.old.rest ≡ [] → result ≡ Ok None }
-        // The line is one more for each that was read.
+        // The line number grows by one for each line that was read.
         ensures counted { self.new.line + ended_lines self.new.rest ≡ self.old.line + ended_lines self.old.rest }
         // After a refusal nothing has changed.
         ensures kept { OnErr result (self.new ≡ self.old) }
-        // If a line is refused, no text of a value of at most 256 levels, fit or not, comes next with its end.
+        // If a line is refused, the input does not continue with the text and end of any value of at most 256 levels,
+        // even of one that does not fit.
         ensures line { IfErr result (λ e. (n : ℕ) → Names e n → (v : trees.Tree) (rest : List ℕ) →
             IsShowable v → height v ≤ most_height → self.old.rest ≢ show_text v ++ (end_line ++ rest)) }
-        // That line is not before the text, and not after the line that follows the last.
+        // A line that is refused is not before the next text, and at most the one after the last line of the input.
         ensures place { IfErr result (λ e. (n : ℕ) → Names e n →
             (self.old.line ≤ n) × (n ≤ self.old.line + ended_lines self.old.rest)) }
-        // After the text of a value of at most 256 levels, fit or not, the line refused is the one at which its end
-        // is missing.
+        // If the text of a value of at most 256 levels is next, and a line is refused, it is the line after that text,
+        // where `end` is missing. The value need not fit into a message.
         ensures end { (v : trees.Tree) (rest : List ℕ) → IsShowable v → height v ≤ most_height →
             self.old.rest ≡ show_text v ++ rest →
             IfErr result (λ e. (n : ℕ) → Names e n → n ≡ self.old.line + ended_lines (show_text v)) }
-        // Except for the next line, nothing is refused and no memory needed before that line is the first of a value.
+        // If the next line begins no value, that line is refused, which takes no memory.
         ensures begun { IfErr result (λ e. (Names e self.old.line → ⊥) →
             (v : trees.Tree) × BeginsAs self.old.rest v) }
-        // A line that is refused is the first that doesn't go on with a text and its end.
+        // A line that is refused is the first wrong line of a text with its end.
         ensures first { IfErr result (λ e. (n : ℕ) → Names e n →
             (k : ℕ) × (n + 1 ≡ self.old.line + k) × IsFirstWrong ended_text k self.old.rest) }
-        // With `Line` it is refused whatever follows. With `Cut` all but few bytes at the end can go on.
+        // If the fault is `Line`, the line is wrong whatever bytes follow. If it is `Cut`, all of the input except for
+        // a few bytes at its end can still be completed.
         ensures lost { IfErr result (λ e. (n : ℕ) → e ≡ faults.Line n → (more : List ℕ) →
             IsWrongAt self.old.line (self.old.rest ++ more) n) }
         ensures open { IfErr result (λ e. (n : ℕ) → e ≡ faults.Cut n → MayGoOn self.old.rest) }
-        // A misfit is that of the value of at most 256 levels whose text comes next with its end, or the text goes
-        // too deep, whatever follows.
+        // If there is a misfit, it is that of the value of at most 256 levels whose text and end are next, or the text
+        // goes too deep whatever bytes follow.
         ensures misfit { IfErr result (λ e. (m : Misfit) → e ≡ faults.Misfit m →
             ((m ≡ Tall) × GoesTooDeep self.old.rest) ⊎ ((v : trees.Tree) × (rest : List ℕ) × InRange v
             × IsShowable v × (height v ≤ most_height) × (self.old.rest ≡ show_text v ++ (end_line ++ rest))
@@ -179,7 +182,7 @@ impl<'t> Texts<'t> {
     }
 }
 
-// Counts the line of a fault from this line on, at which the text begins.
+// Converts the fault of a text that begins at `line` to one whose line is counted over the whole input.
 fn counted_from(line: u64, fault: TextFault) -> TextFault
     requires { (n : ℕ) → Names fault n → line + (n - 1) < 2 ^ 64 }
     ensures memory { fault ≡ faults.Memory → result ≡ faults.Memory }
@@ -197,7 +200,8 @@ fn counted_from(line: u64, fault: TextFault) -> TextFault
     }
 }
 
-// Returns the fault of a text that is followed by other bytes than its line `end`: `Cut` if they are too few for one.
+// Returns the fault of a text that is not followed by its line `end`, where `after` follows at `line`. It is `Cut` if
+// `after` is too short for that line.
 fn end_fault(line: u64, after: &[u8]) -> TextFault
     ensures named { (n : ℕ) → Names result n → n ≡ line }
     ensures line { (n : ℕ) → result ≡ faults.Line n → 4 ≤ length after.now }

@@ -1,4 +1,4 @@
-//! Tokens of a line, read from left to right: each is given with the bytes after it.
+//! The tokens of a line, read from left to right. Each function returns what it reads with the bytes after it.
 
 ghost use Rattle.std.specs.Prelude.{◌≡◌, ◌≤◌, ◌<◌, nat_lt, length, MatchOption, IfOk, IfSome, Some, None};
 ghost use Rattle.capn_text.specs.Streams.{few};
@@ -9,7 +9,7 @@ ghost use Rattle.capn_text.specs.inner.Stops.{GivesLine};
 
 use crate::fault::Stop;
 
-/// Returns the bytes of `text` after `front`, if it begins with that.
+/// Returns the bytes of `text` after `front`, or `None` if `text` does not begin with `front`.
 pub fn skip<'t>(text: &'t [u8], front: &[u8]) -> Option<&'t [u8]>
     ensures { MatchOption result (tokens.strip front.now text.now ≡ None)
         (λ rest. tokens.strip front.now text.now ≡ Some rest.now) }
@@ -29,7 +29,7 @@ pub fn skip<'t>(text: &'t [u8], front: &[u8]) -> Option<&'t [u8]>
     Some(rest)
 }
 
-/// Returns the bytes of `text` after `front`; a text that begins otherwise ends the reading.
+/// Returns the bytes of `text` after `front`, or a stop if `text` does not begin with `front`.
 pub fn pass<'t>(text: &'t [u8], front: &[u8]) -> Result<&'t [u8], Stop>
     ensures { GivesIdly (λ rest. rest.now) result (tokens.strip front.now text.now) }
 {
@@ -39,7 +39,7 @@ pub fn pass<'t>(text: &'t [u8], front: &[u8]) -> Result<&'t [u8], Stop>
     }
 }
 
-/// Returns the bytes of `text` after two spaces for each `level`.
+/// Returns the bytes of `text` after its indent, which is two spaces for each `level`.
 pub fn indent_at(level: u32, text: &[u8]) -> Result<&[u8], Stop>
     ensures { GivesIdly (λ rest. rest.now) result (tokens.indent_at level text.now) }
 {
@@ -51,7 +51,7 @@ pub fn indent_at(level: u32, text: &[u8]) -> Result<&[u8], Stop>
     Ok(rest)
 }
 
-/// Reads the number at the front of `text`, in decimal digits.
+/// Reads the number in decimal digits at the front of `text`.
 pub fn decimal_at(text: &[u8]) -> Result<(u64, &[u8]), Stop>
     ensures { GivesIdly (λ x. (x.0, x.1.now)) result (tokens.decimal_at text.now) }
 {
@@ -90,7 +90,7 @@ pub fn is_digit(c: u8) -> bool
     b'0' <= c && c <= b'9'
 }
 
-/// Reads the byte at the front of `text`, in two hexadecimal digits.
+/// Reads the byte at the front of `text`, which is given by two hexadecimal digits.
 pub fn byte_at(text: &[u8]) -> Result<(u8, &[u8]), Stop>
     ensures { Gives (λ x. (x.0, x.1.now)) result (tokens.byte_at text.now) }
 {
@@ -120,7 +120,7 @@ pub fn are_hex(text: &[u8]) -> bool
     true
 }
 
-/// Returns `true` if all bytes of `text` are digits of bits.
+/// Returns `true` if all bytes of `text` are the digit 0 or 1.
 pub fn are_bits(text: &[u8]) -> bool
     ensures { result ≡ tokens.are_all tokens.is_bit text.now }
 {
@@ -145,7 +145,7 @@ fn nibble(c: u8) -> Option<u8>
     }
 }
 
-/// Reads the bit at the front of `text`, in one digit.
+/// Reads the bit at the front of `text`, which is the digit 0 or 1.
 pub fn bit_at(text: &[u8]) -> Result<(bool, &[u8]), Stop>
     ensures { Gives (λ x. (x.0, x.1.now)) result (tokens.bit_at text.now) }
 {
@@ -156,7 +156,7 @@ pub fn bit_at(text: &[u8]) -> Result<(bool, &[u8]), Stop>
     }
 }
 
-// Reads the eight bytes of a word, the most significant first.
+// Reads the eight bytes of a word in hexadecimal digits, the most significant first.
 fn eight_at(text: &[u8]) -> Result<([u8; 8], &[u8]), Stop>
     ensures { Gives (λ x. (x.0, x.1.now)) result (tokens.many tokens.byte_at 8 text.now) }
 {
@@ -170,7 +170,7 @@ fn eight_at(text: &[u8]) -> Result<([u8; 8], &[u8]), Stop>
     Ok((bytes, rest))
 }
 
-/// Reads the number at the front of `text`, in sixteen hexadecimal digits.
+/// Reads the number at the front of `text`, which is given by 16 hexadecimal digits.
 pub fn word_at(text: &[u8]) -> Result<(u64, &[u8]), Stop>
     ensures { Gives (λ x. (x.0, x.1.now)) result (tokens.word_at text.now) }
 {
@@ -178,7 +178,7 @@ pub fn word_at(text: &[u8]) -> Result<(u64, &[u8]), Stop>
     Ok((u64::from_be_bytes(bytes), rest))
 }
 
-/// The most bytes of a line, except for one of the digits of a list.
+/// The most bytes that a line can have, except for a line with the digits of a list.
 const FEW: usize = 2048;
 
 /// Returns `true` if `text` has fewer than [`FEW`] bytes.
@@ -188,8 +188,8 @@ pub fn is_short(text: &[u8]) -> bool
     text.len() < FEW
 }
 
-/// Returns the stop for a `text` that doesn't begin with the line that was to be read, which is never a long one: `Cut`
-/// if `text` is short, so that more bytes may make it one; else `Left`.
+/// Returns the stop for a `text` that does not begin with the line that was expected. That line has at most [`FEW`]
+/// bytes. The stop is `Cut` if `text` has fewer, so that more bytes may make it the line, and `Left` if not.
 pub fn stop_in(text: &[u8]) -> Stop
     ensures { result ≡ spec.stop_in text.now }
 {
@@ -200,7 +200,7 @@ pub fn stop_in(text: &[u8]) -> Stop
     }
 }
 
-/// Reads the line of a data word at this `level` at the front of `text`.
+/// Reads the line of a data word at this `level`, at the front of `text`.
 pub fn word_line_at(level: u32, text: &[u8]) -> Result<(u64, &[u8]), Stop>
     requires { level ≤ 600 }
     ensures { GivesLine (λ x. (x.0, x.1.now)) result (tokens.word_line_at level) text.now }
@@ -225,7 +225,7 @@ fn word_in_line(level: u32, text: &[u8]) -> Result<(u64, &[u8]), Stop>
     Ok((word, rest))
 }
 
-/// Reads the line of a number up to `greatest` at this `level` at the front of `text`.
+/// Reads the line of a number at this `level`, at the front of `text`. The number has to be at most `greatest`.
 pub fn number_line_at(greatest: u64, level: u32, text: &[u8]) -> Result<(u64, &[u8]), Stop>
     requires { level ≤ 600 }
     ensures value { GivesLine (λ x. (x.0, x.1.now)) result (tokens.number_line_at greatest level) text.now }

@@ -1,4 +1,4 @@
-//! The plain form of a text that comes in pieces.
+//! The conversion of a text that arrives in chunks to its plain form.
 
 ghost use Rattle.std.specs.Prelude.{◌≡◌, ◌≢◌, ◌≤◌, ◌+◌, ◌++◌, ℕ, List, [], ◌∷◌, length, drop, take, true, OnOk, OnErr};
 ghost use Rattle.capn_text.specs.Streams.{ended_lines};
@@ -12,11 +12,12 @@ use crate::quoted_line::{looked_at, may_begin};
 use std::alloc::{AllocError, Allocator};
 use std::marker::Model;
 
-/// Takes a text with lists of bytes between quotes, which comes in pieces, cut anywhere, and gives its plain form.
+/// A converter of a text with lists of bytes between quotes to its plain form. The text may arrive in chunks that are
+/// cut anywhere.
 ///
-/// It keeps the line that is unfinished, while by its first 1,024 bytes that may be one between quotes. To find the
-/// line of the text that a line of the plain form is of, it keeps eight bytes for each line between quotes, up to those
-/// that it may forget.
+/// The unfinished line is kept while its first 1,024 bytes can begin a line of bytes between quotes. A line number of
+/// the plain form can be converted to one of the text. That takes eight bytes of memory for each line between quotes,
+/// until [`Unquoter::forget`] drops them.
 #[derive(Debug, Drop)]
 pub struct Unquoter<A: Allocator + Copy> {
     alloc: A,
@@ -46,7 +47,7 @@ impl<A: Allocator + Copy> Model for Unquoter<A> {
     ghost invariant = { λ u. (ended_lines u.front.items ≡ 0) × (u.passed + length u.digits.items < u.line) };
 }
 
-/// Returns the number of lines of `digits` at the front that are before `line`.
+/// Returns the number of elements at the front of `digits` that are less than `line`.
 #[tactic(auto, using(crate::proofs::Unquotings::starts_here, crate::proofs::Unquotings::none_starts))]
 fn gone_before(digits: &[u64], line: u64) -> usize
     ensures within { result ≤ length digits.now }
@@ -72,7 +73,7 @@ fn drop_front<A: Allocator>(digits: &mut Vec<u64, A>, count: usize)
 }
 
 impl<A: Allocator + Copy> Unquoter<A> {
-    /// Returns an unquoter at the beginning of a text. It takes no memory.
+    /// Creates a converter for the beginning of a text. Takes no memory.
     pub fn new(alloc: A) -> Unquoter<A>
         ensures { result ≡ spec.first_unquoting }
     {
@@ -86,7 +87,7 @@ impl<A: Allocator + Copy> Unquoter<A> {
         }
     }
 
-    /// Keeps `part`, which ends no line, with the line that is unfinished.
+    /// Appends `part`, in which no line ends, to the unfinished line that is kept.
     fn keep(&mut self, part: &[u8]) -> Result<(), AllocError>
         requires { ended_lines part.now ≡ 0 }
         ensures quiet { ended_lines self.new.front ≡ 0 }
@@ -99,7 +100,7 @@ impl<A: Allocator + Copy> Unquoter<A> {
         self.front.extend_from_slice(part)
     }
 
-    /// Takes `part`, which ends no line.
+    /// Takes `part`, in which no line ends. It is appended to `out` if the front of its line was, and kept otherwise.
     fn take(&mut self, part: &[u8], out: &mut Vec<u8, A>) -> Result<(), AllocError>
         requires { ended_lines part.now ≡ 0 }
         ensures { OnOk result ((added : List ℕ) × (out.new.items ≡ out.old.items ++ added)
@@ -113,7 +114,8 @@ impl<A: Allocator + Copy> Unquoter<A> {
         Ok(())
     }
 
-    /// Ends a line of which nothing was given: appends its plain form to `out`. Fails, too, for a text of 2^64 lines.
+    /// Ends a line that was kept from its beginning, and appends its plain form to `out`. Also fails if the number of a
+    /// line would pass 64 bits.
     fn end_kept(&mut self, out: &mut Vec<u8, A>) -> Result<(), AllocError>
         ensures front { OnOk result (self.new.front ≡ []) }
         ensures line { OnOk result (self.new.line ≡ self.old.line + form.lines_of self.old.front) }
@@ -135,7 +137,8 @@ impl<A: Allocator + Copy> Unquoter<A> {
         Ok(())
     }
 
-    /// Ends the line that is unfinished, and gives the rest of it to `out`. Fails, too, for a text of 2^64 lines.
+    /// Ends the unfinished line, and appends to `out` what has not been given of its plain form. Also fails if the
+    /// number of a line would pass 64 bits.
     fn end_line(&mut self, out: &mut Vec<u8, A>) -> Result<(), AllocError>
         ensures { OnOk result ((added : List ℕ) × (out.new.items ≡ out.old.items ++ added)
             × Unquotes self.old self.new (10 ∷ []) added) }
@@ -154,7 +157,7 @@ impl<A: Allocator + Copy> Unquoter<A> {
         Ok(())
     }
 
-    /// Gives the line that is unfinished to `out` as it is, if that can't be one between quotes.
+    /// Appends the unfinished line to `out` as it is, if it cannot be one of bytes between quotes.
     fn pass_on(&mut self, out: &mut Vec<u8, A>) -> Result<(), AllocError>
         ensures read { OnOk result ((added : List ℕ) × (out.new.items ≡ out.old.items ++ added)
             × Unquotes self.old self.new [] added) }
@@ -175,9 +178,9 @@ impl<A: Allocator + Copy> Unquoter<A> {
         Ok(())
     }
 
-    /// Takes the next `piece`, and appends to `out` the plain form of each line that is whole by now. It also appends
-    /// what has come of the unfinished line, if its first bytes, at most 1,024, show that it isn't one between quotes.
-    /// After a failure nothing is known of it.
+    /// Takes the next chunk, `piece`, and appends the plain form of each line that it completes to `out`. The
+    /// unfinished line is appended as far as it has arrived, if its first bytes, at most 1,024, show that it is not one
+    /// of bytes between quotes. After a failure the state of the converter is unspecified.
     pub fn push(&mut self, piece: &[u8], out: &mut Vec<u8, A>) -> Result<(), AllocError>
         ensures quiet { OnOk result (ended_lines self.new.front ≡ 0) }
         ensures empty { OnOk result (self.new.through ≡ true → self.new.front ≡ []) }
@@ -196,7 +199,7 @@ impl<A: Allocator + Copy> Unquoter<A> {
         Ok(())
     }
 
-    /// Appends what is left of a text that ended to `out`: a line without its end.
+    /// Appends the rest of a text that has ended to `out`, which is a last line without its newline.
     pub fn finish(&self, out: &mut Vec<u8, A>) -> Result<(), AllocError>
         ensures memory { OnErr result (self.now.front ≢ []) }
         ensures added { OnOk result (out.new.items ≡ out.old.items ++ self.now.front) }
@@ -204,7 +207,7 @@ impl<A: Allocator + Copy> Unquoter<A> {
         out.extend_from_slice(&self.front)
     }
 
-    /// Forgets the lines of digits before this `line` of the plain form. Takes no memory.
+    /// Forgets the numbers that are kept for lines of digits before this `line` of the plain form. Takes no memory.
     pub fn forget(&mut self, line: u64)
         ensures { Forgets line self.old self.new }
     {
@@ -213,8 +216,8 @@ impl<A: Allocator + Copy> Unquoter<A> {
         self.passed += gone as u64;
     }
 
-    /// Returns the line of the text whose plain form has this `line`, if that is none of those before what was
-    /// forgotten. Takes no memory.
+    /// Returns the line of the text to which this `line` of the plain form belongs. `line` must not be before one that
+    /// was given to [`Unquoter::forget`]. Takes no memory.
     pub fn own_line(&self, line: u64) -> u64
         ensures { result ≡ spec.own_at self.now line }
     {

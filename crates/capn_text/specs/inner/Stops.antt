@@ -1,76 +1,77 @@
--- The places at which reading stops: after whole lines that go on, on a line that doesn't. (Own.)
+-- The places at which reading stops: after whole lines that can be continued, on a line that cannot. (Own.)
 use Rattle.std.specs.Prelude.{ℕ, suc, ◌≡◌, ◌≤◌, ◌+◌, List, [], ◌++◌, length, Option, Some, None, Result, Ok, Err}
 use Rattle.std.specs.Prelude.{⊤, nat_lt, cond}
 use Rattle.capn_text.specs.Streams.{first_lines, ended_lines, few}
 use Rattle.capn_text.specs.declared.fault.Stop.{Stop}
 use Rattle.capn_text.specs.declared.fault.Stop.TheVariants as stops
 
--- whole lines, none or more: bytes after them don't change them
+-- `x` is whole lines, or empty: bytes after it do not change its lines.
 abbrev pub AreLines : List ℕ → Type 0
 AreLines x = (n : ℕ) (y : List ℕ) → first_lines (ended_lines x + n) (x ++ y) ≡ x ++ first_lines n y
 
--- Whole lines that can be completed to a value of a height of at most `least`; `read r` reads values of a height of at
--- most r.
+-- `front` is whole lines that some bytes complete to a value of a height of at most `least`. `read r` reads values of a
+-- height of at most `r`.
 abbrev pub GoesOn : {X : Type 0} → (ℕ → List ℕ → Option (X × List ℕ)) → ℕ → List ℕ → Type 0
 GoesOn {X} read least front = AreLines front × (y : List ℕ) × (x : X)
     × ((r : ℕ) → least ≤ r → read r (front ++ y) ≡ Some (x, []))
 
 module _ {X : Type 0} (read : ℕ → List ℕ → Option (X × List ℕ)) (room : ℕ) where
-  -- lines that go on, and `left` bytes after them, whose first line doesn't go on at any height
+  -- `text` is whole lines that can be continued, and `left` bytes after them. The first line of these continues no
+  -- value of any height.
   abbrev pub Stops : List ℕ → ℕ → Type 0
   Stops text left = (front : List ℕ) × (rest : List ℕ) × (text ≡ front ++ rest) × (length rest ≡ left)
       × GoesOn read room front
       × ((r : ℕ) (z : List ℕ) → room ≤ r → first_lines 1 z ≡ first_lines 1 rest → read r (front ++ z) ≡ None)
 
-  -- lines that go on only with a greater height
+  -- `text` begins with whole lines that can be continued, but only to a value that is higher than `room`.
   abbrev pub Deepens : List ℕ → Type 0
   Deepens text = (front : List ℕ) × (rest : List ℕ) × (text ≡ front ++ rest)
       × GoesOn read (suc room) front × ((z : List ℕ) → read room (front ++ z) ≡ None)
 
-  -- nothing is read from a text whatever follows it
+  -- Nothing is read from `text`, whatever bytes follow it.
   abbrev pub IsLost : List ℕ → Type 0
   IsLost text = (r : ℕ) (z : List ℕ) → room ≤ r → read r (text ++ z) ≡ None
 
-  -- all of a text but few bytes at its end can be completed
+  -- Some bytes complete all of `text` except for a few bytes at its end.
   abbrev pub IsOpen : List ℕ → Type 0
   IsOpen text = (front : List ℕ) × (last : List ℕ) × (text ≡ front ++ last) × (length last ≤ few)
       × (y : List ℕ) × (x : X) × ((r : ℕ) → room ≤ r → read r (front ++ y) ≡ Some (x, []))
 
-  -- nothing is read from a text, for this reason
+  -- Nothing is read from `text`, for the given reason.
   abbrev pub FailsAt : Stop → List ℕ → Type 0
   FailsAt stops.Memory text = ⊤
   FailsAt (stops.Left n) text = Stops text n × IsLost text
   FailsAt (stops.Cut n) text = Stops text n × IsOpen text
   FailsAt stops.Deep text = Deepens text
 
--- a function returned, seen by `view`, what is read, or the stop at which reading ends
+-- A function returned what is read from `text`, as `view` shows it, or the stop at which reading ends.
 abbrev pub GivesAt : {X Y : Type 0} → (X → Y × List ℕ) → Result X Stop → (ℕ → List ℕ → Option (Y × List ℕ)) → ℕ → List ℕ
     → Type 0
 GivesAt view (Ok x) read room text = read room text ≡ Some (view x)
 GivesAt view (Err e) read room text = FailsAt read room e text
 
--- nothing is read from the line at the front whatever follows
+-- Nothing is read from the line at the front of `text`, whatever bytes follow.
 abbrev pub IsLineLost : {X : Type 0} → (List ℕ → Option (X × List ℕ)) → List ℕ → Type 0
 IsLineLost read text = (z : List ℕ) → read (text ++ z) ≡ None
 
--- all of it but few bytes at its end can be completed
+-- Some bytes complete all of `text`, except for a few bytes at its end, to a line that is read.
 abbrev pub IsLineOpen : {X : Type 0} → (List ℕ → Option (X × List ℕ)) → List ℕ → Type 0
 IsLineOpen {X} read text = (front : List ℕ) × (last : List ℕ) × (text ≡ front ++ last) × (length last ≤ few)
     × (y : List ℕ) × (x : X) × (read (front ++ y) ≡ Some (x, []))
 
--- nothing is read from the line at the front, for this reason
+-- Nothing is read from the line at the front of `text`, for the given reason.
 abbrev pub LineFails : {X : Type 0} → Stop → (List ℕ → Option (X × List ℕ)) → List ℕ → Type 0
 LineFails stops.Memory read text = ⊤
 LineFails (stops.Left n) read text = (read text ≡ None) × (n ≡ length text) × IsLineLost read text
 LineFails (stops.Cut n) read text = (read text ≡ None) × (n ≡ length text) × IsLineOpen read text
 LineFails stops.Deep read text = ⊥
 
--- a function returned, seen by `view`, what is read from the line at the front
+-- A function returned what is read from the line at the front of `text`, as `view` shows it, or the stop.
 abbrev pub GivesLine : {X Y : Type 0} → (X → Y × List ℕ) → Result X Stop → (List ℕ → Option (Y × List ℕ)) → List ℕ
     → Type 0
 GivesLine view (Ok x) read text = read text ≡ Some (view x)
 GivesLine view (Err e) read text = LineFails e read text
 
--- the stop on a line: `Cut` if the text is shorter than any long line, else `Left`
+-- The stop on a line that is not read: `Cut` if the text is shorter than any long line, and `Left` if not.
 abbrev pub stop_in : List ℕ → Stop
 stop_in text = cond (nat_lt (length text) few) (stops.Cut (length text)) (stops.Left (length text))

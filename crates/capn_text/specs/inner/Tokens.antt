@@ -1,4 +1,4 @@
--- Reading the tokens of a line, from left to right: each is given with the bytes after it. (Own.)
+-- The reading of the tokens of a line, from left to right. Each is given with the bytes after it. (Own.)
 use Rattle.std.specs.Prelude.{◌≡◌, ℕ, zero, suc, ◌+◌, ◌-◌, ◌*◌, ◌^◌, List, [], ◌∷◌, Option, Some, None, Result, Ok}
 use Rattle.std.specs.Prelude.{Err, Bool}
 use Rattle.std.specs.Prelude.{nat_lt, nat_le, ◌==◌, ◌&&◌, ◌||◌, cond, codes, ⊤}
@@ -6,13 +6,13 @@ use Rattle.std.specs.Int.{from_be_bytes, w64}
 use Rattle.capn_text.specs.declared.fault.Stop.{Stop}
 use Rattle.capn_text.specs.declared.fault.Stop.TheVariants as stops
 
--- the second step, if the first gave something
+-- The second step, applied to what the first step gives, or nothing if that gives nothing.
 infixl 10 ◌>>=◌
 abbrev pub ◌>>=◌ : {A B : Type 0} → Option A → (A → Option B) → Option B
 (Some x) >>= f = f x
 None >>= f = None
 
--- a function returned, seen by `view`, what reading gives, unless memory ran out
+-- A function returned what `read` gives, as `view` shows it, unless memory was refused.
 abbrev pub Fails : {Y : Type 0} → Stop → Option Y → Type 0
 Fails stops.Memory read = ⊤
 Fails (stops.Left n) read = read ≡ None
@@ -23,7 +23,7 @@ abbrev pub Gives : {X Y : Type 0} → (X → Y) → Result X Stop → Option Y �
 Gives view (Ok x) read = read ≡ Some (view x)
 Gives view (Err e) read = Fails e read
 
--- a function that takes no memory returned what reading gives
+-- A function that takes no memory returned what `read` gives, as `view` shows it.
 abbrev pub FailsIdly : {Y : Type 0} → Stop → Option Y → Type 0
 FailsIdly stops.Memory read = ⊥
 FailsIdly (stops.Left n) read = read ≡ None
@@ -34,29 +34,29 @@ abbrev pub GivesIdly : {X Y : Type 0} → (X → Y) → Result X Stop → Option
 GivesIdly view (Ok x) read = read ≡ Some (view x)
 GivesIdly view (Err e) read = FailsIdly e read
 
--- the bytes after these
+-- The bytes after a prefix, if the text begins with that.
 abbrev pub strip : List ℕ → List ℕ → Option (List ℕ)
 strip [] text = Some text
 strip (c ∷ cs) [] = None
 strip (c ∷ cs) (d ∷ ds) = cond (c == d) (strip cs ds) None
 
--- the bytes after two spaces for each level
+-- The bytes after two spaces for each level.
 abbrev pub indent_at : ℕ → List ℕ → Option (List ℕ)
 indent_at zero text = Some text
 indent_at (suc level) text = strip (codes "  ") text >>= indent_at level
 
--- true if it is a decimal digit
+-- True if `c` is a decimal digit.
 abbrev pub is_digit : ℕ → Bool
 is_digit c = nat_le 48 c && nat_le c 57
 
--- the number that goes on from n with the digits at the front, if it is below 2^64
+-- The number whose digits follow those of `n`, if it is below 2^64.
 abbrev pub digits_at : ℕ → List ℕ → Option (ℕ × List ℕ)
 digits_at n [] = Some (n, [])
 digits_at n (c ∷ cs) = cond (is_digit c)
     (cond (nat_lt (n * 10 + (c - 48)) (2 ^ 64)) (digits_at (n * 10 + (c - 48)) cs) None)
     (Some (n, c ∷ cs))
 
--- a number in decimal digits; after a digit 0 at the front it has no more
+-- A number in decimal digits. If its first digit is 0, that is its only one.
 abbrev pub decimal_at : List ℕ → Option (ℕ × List ℕ)
 decimal_at [] = None
 decimal_at (c ∷ cs) = cond (c == 48) (Some (0, cs)) (cond (is_digit c) (digits_at 0 (c ∷ cs)) None)
@@ -66,52 +66,52 @@ abbrev pub nibble : ℕ → Option ℕ
 nibble c = cond (nat_le 48 c && nat_le c 57) (Some (c - 48))
     (cond (nat_le 97 c && nat_le c 102) (Some (c - 87)) None)
 
--- a byte in two such digits
+-- A byte in two hexadecimal digits.
 abbrev pub byte_at : List ℕ → Option (ℕ × List ℕ)
 byte_at [] = None
 byte_at (h ∷ []) = None
 byte_at (h ∷ l ∷ rest) = nibble h >>= λ a. nibble l >>= λ b. Some (a * 16 + b, rest)
 
--- a bit as a digit
+-- A bit in one digit.
 abbrev pub bit_at : List ℕ → Option (Bool × List ℕ)
 bit_at [] = None
 bit_at (c ∷ cs) = cond (c == 49) (Some (Bool.true, cs)) (cond (c == 48) (Some (Bool.false, cs)) None)
 
--- n of them, one after the other
+-- The `n` items that `one` reads one after the other.
 module _ {X : Type 0} (one : List ℕ → Option (X × List ℕ)) where
   unfoldable pub many : ℕ → List ℕ → Option (List X × List ℕ)
   many zero text = Some ([], text)
   many (suc n) text = one text >>= λ x. many n x.1 >>= λ xs. Some (x.0 ∷ xs.0, xs.1)
 
--- a number in sixteen hexadecimal digits
+-- A number in 16 hexadecimal digits.
 abbrev pub word_at : List ℕ → Option (ℕ × List ℕ)
 word_at text = many byte_at 8 text >>= λ bs. Some (from_be_bytes w64 bs.0, bs.1)
 
--- the line of a data word
+-- The line of a data word.
 unfoldable pub word_line_at : ℕ → List ℕ → Option (ℕ × List ℕ)
 word_line_at level text =
     indent_at level text >>= λ line. strip (codes "word ") line >>= λ digits. word_at digits
     >>= λ n. strip (10 ∷ []) n.1 >>= λ rest. Some (n.0, rest)
 
--- the line of a number up to the greatest
+-- The line of a number that is at most `greatest`.
 unfoldable pub number_line_at : ℕ → ℕ → List ℕ → Option (ℕ × List ℕ)
 number_line_at greatest level text =
     indent_at level text >>= λ line. decimal_at line >>= λ n. strip (10 ∷ []) n.1
     >>= λ rest. cond (nat_le n.0 greatest) (Some (n.0, rest)) None
 
--- true if all of these bytes are such digits
+-- True if all bytes are digits of a kind.
 abbrev pub are_all : (ℕ → Bool) → List ℕ → Bool
 are_all is [] = Bool.true
 are_all is (c ∷ cs) = is c && are_all is cs
 
--- true if a byte is a hexadecimal digit in lower case, or a bit's
+-- True if `c` is a hexadecimal digit in lower case, or that of a bit.
 abbrev pub is_hex : ℕ → Bool
 is_hex c = (nat_le 48 c && nat_le c 57) || (nat_le 97 c && nat_le c 102)
 
 abbrev pub is_bit : ℕ → Bool
 is_bit c = (c == 49) || (c == 48)
 
--- one line of n items, and no line for none
+-- One line of `n` items, or no line if `n` is 0.
 unfoldable pub row_line_at : {X : Type 0} → (List ℕ → Option (X × List ℕ)) → ℕ → ℕ → List ℕ → Option (List X × List ℕ)
 row_line_at one level n text = cond (n == 0) (Some ([], text))
     (indent_at level text >>= λ line. many one n line >>= λ xs. strip (10 ∷ []) xs.1 >>= λ rest. Some (xs.0, rest))

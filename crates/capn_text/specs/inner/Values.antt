@@ -1,4 +1,4 @@
--- Reading a tree from its text: its first line, then the values that it holds. (Own.)
+-- The reading of a tree from its text: the first line of a value, and then the values in it. (Own.)
 use Rattle.std.specs.Prelude.{ℕ, zero, suc, ◌+◌, List, [], ◌∷◌, Option, Some, None, nat_le, cond, codes, length, map}
 use Rattle.std.specs.Prelude.{◌==◌, ◌≤◌, ◌<◌, ◌^◌, ⊤}
 use Rattle.std.specs.Int.{from_bool}
@@ -15,12 +15,12 @@ use Rattle.capn_text.specs.declared.heads.Name.TheVariants as names
 use Rattle.capn_text.specs.declared.heads.Head.{Head}
 use Rattle.capn_text.specs.declared.heads.Head.TheVariants as heads
 
--- the name, if its bytes are at the front, else another
+-- The name `name` if its bytes were at the front, and `other` if not.
 abbrev pub or_else : Option (List ℕ) → Name → Option (Name × List ℕ) → Option (Name × List ℕ)
 or_else (Some rest) name other = Some (name, rest)
 or_else None name other = other
 
--- a name and the space after it
+-- A name and the space after it.
 unfoldable pub name_at : List ℕ → Option (Name × List ℕ)
 name_at line =
     or_else (strip (codes "pointers ") line) names.Links
@@ -33,13 +33,13 @@ name_at line =
     (or_else (strip (codes "u64 ") line) (names.Leaf leaves.Octs)
     (or_else (strip (codes "capability ") line) names.Cap None))))))))
 
--- the sizes of a struct, after its name
+-- The sizes of a struct, after the word `struct`.
 unfoldable pub sizes_at : List ℕ → Option (Head × List ℕ)
 sizes_at text =
     decimal_at text >>= λ w. strip (32 ∷ []) w.1 >>= λ gap. decimal_at gap >>= λ s. strip (10 ∷ []) s.1
     >>= λ rest. Some (heads.Struct w.0 s.0, rest)
 
--- the greatest number after a name: that of the elements of a list of no bits, or of a capability, has 32 bits
+-- The greatest number after a name. For a list of elements without bits, and for a capability, it has 32 bits.
 abbrev pub greatest_number : Name → ℕ
 greatest_number names.Links = 18446744073709551615
 greatest_number names.Rows = 18446744073709551615
@@ -51,33 +51,33 @@ greatest_number (names.Leaf leaves.Pairs) = 18446744073709551615
 greatest_number (names.Leaf leaves.Quads) = 18446744073709551615
 greatest_number (names.Leaf leaves.Octs) = 18446744073709551615
 
--- its number is no greater than its name admits
+-- The numbers of a first line are no greater than it admits.
 abbrev pub Holds : Head → Type 0
 Holds heads.Null = ⊤
 Holds (heads.Struct w s) = (w < 2 ^ 64) × (s < 2 ^ 64)
 Holds (heads.Named name n) = n ≤ greatest_number name
 
--- a name and a number
+-- A name and its number.
 unfoldable pub named_at : List ℕ → Option (Head × List ℕ)
 named_at line =
     name_at line >>= λ name. decimal_at name.1 >>= λ n. strip (10 ∷ []) n.1
     >>= λ rest. cond (nat_le n.0 (greatest_number name.0)) (Some (heads.Named name.0 n.0, rest)) None
 
--- a struct if its name was there, else a name and a number
+-- A struct if the word `struct` was there, and a name with its number if not.
 abbrev pub struct_or : Option (List ℕ) → List ℕ → Option (Head × List ℕ)
 struct_or (Some text) line = sizes_at text
 struct_or None line = named_at line
 
--- null if its line was there, else any other
+-- Null if its line was there, and any other first line if not.
 abbrev pub null_or : Option (List ℕ) → List ℕ → Option (Head × List ℕ)
 null_or (Some rest) line = Some (heads.Null, rest)
 null_or None line = struct_or (strip (codes "struct ") line) line
 
--- the first line of a value
+-- The first line of a value.
 unfoldable pub head_at : ℕ → List ℕ → Option (Head × List ℕ)
 head_at level text = indent_at level text >>= λ line. null_or (strip (codes "null\n") line) line
 
--- a value that holds no other, by its kind and number; its first line was at this level
+-- A list of a kind that holds no other values, with `n` elements. Its first line was at this level.
 unfoldable pub leaf_at : ℕ → Leaf → ℕ → List ℕ → Option (Tree × List ℕ)
 leaf_at level leaves.Voids n text = Some (voids n, text)
 leaf_at level leaves.Bits n text =
@@ -89,15 +89,15 @@ leaf_at level leaves.Quads n text =
 leaf_at level leaves.Octs n text =
     many (number_line_at 18446744073709551615 (level + 1)) n text >>= λ x. Some (numbers oct x.0, x.1)
 
--- values that hold others; `below` reads one of these at a level
+-- Values that hold others, which `below` reads at a level.
 module _ (below : ℕ → List ℕ → Option (Tree × List ℕ)) where
-  -- the words and slots of a struct
+  -- The data words and the slots of a struct.
   unfoldable pub body_at : ℕ → ℕ → ℕ → List ℕ → Option ((List ℕ × Trees) × List ℕ)
   body_at level w s text =
       many (word_line_at (level + 1)) w text >>= λ ws. many (below (level + 1)) s ws.1
       >>= λ ss. Some ((ws.0, trees ss.0), ss.1)
 
-  -- a row by its first line
+  -- A row, from its first line.
   abbrev pub row_of : ℕ → Head → List ℕ → Option ((List ℕ × Trees) × List ℕ)
   row_of level heads.Null text = None
   row_of level (heads.Struct w s) text = body_at level w s text
@@ -106,7 +106,7 @@ module _ (below : ℕ → List ℕ → Option (Tree × List ℕ)) where
   unfoldable pub row_at : ℕ → List ℕ → Option ((List ℕ × Trees) × List ℕ)
   row_at level text = head_at level text >>= λ h. row_of level h.0 h.1
 
-  -- a value by its first line
+  -- A value, from its first line.
   abbrev pub content_at : ℕ → Head → List ℕ → Option (Tree × List ℕ)
   content_at level heads.Null text = Some (nil, text)
   content_at level (heads.Named names.Cap n) text = Some (cap n, text)
@@ -117,7 +117,7 @@ module _ (below : ℕ → List ℕ → Option (Tree × List ℕ)) where
       many (row_at (level + 1)) n text >>= λ bs. Some (rows (rows_from bs.0), bs.1)
   content_at level (heads.Named (names.Leaf leaf) n) text = leaf_at level leaf n text
 
--- a value of height 0 by its first line: null, or a capability
+-- A value of height 0, from its first line: null, or a capability.
 abbrev pub low_at : Head → List ℕ → Option (Tree × List ℕ)
 low_at heads.Null text = Some (nil, text)
 low_at (heads.Struct w s) text = None
@@ -126,11 +126,11 @@ low_at (heads.Named names.Rows n) text = None
 low_at (heads.Named names.Cap n) text = Some (cap n, text)
 low_at (heads.Named (names.Leaf leaf) n) text = None
 
--- a value whose first line is at a level, of a height of at most `room`
+-- A value whose first line is at a level, of a height of at most `room`.
 unfoldable pub tree_at : ℕ → ℕ → List ℕ → Option (Tree × List ℕ)
 tree_at zero level text = head_at level text >>= λ h. low_at h.0 h.1
 tree_at (suc room) level text = head_at level text >>= λ h. content_at (tree_at room) level h.0 h.1
 
--- a value of at most 256 levels, and nothing after it
+-- A value of at most 256 levels, if nothing follows it.
 unfoldable pub whole : List ℕ → Option Tree
 whole text = tree_at 256 0 text >>= λ x. cond (length x.1 == 0) (Some x.0) None
