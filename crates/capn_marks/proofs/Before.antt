@@ -1,4 +1,4 @@
--- The number of words before each segment, one segment after the other. (For `byte_of` and `words_before`.)
+-- Lemmas for `byte_of` and `words_before`: the number of words before each segment, one segment after the other.
 use Rattle.std.proofs.Common.{◌≡◌, ℕ, zero, suc, ◌+◌, ◌<◌, ◌≤◌, nat_lt, Bool, true, false, List, [], ◌∷◌, ◌++◌, length}
 use Rattle.std.proofs.Common.{take, slice_index, refl, ap, subst, ◌∙◌, arith}
 use Rattle.std.proofs.lemmas.Bool.Decides.{nat_tests}
@@ -10,15 +10,15 @@ use Rattle.capn_words.specs.Message.{segment_at, total}
 use Rattle.capn_marks.specs.MarkedPlaces.{CountsBefore}
 
 module _ (m : List (List ℕ)) (s : ℕ) (below : s < length m) where
-  -- the words before the next segment
+  -- The words before the next segment are those before this one, and its own.
   pub next : total (take (s + 1) m) ≡ total (take s m) + length (segment_at m s)
   next = sum_by_more length m s [] below
 
-  -- and they are words of the message
+  -- The words before the next segment are no more than those of the message.
   pub within : total (take s m) + length (segment_at m s) ≤ total m
   within = sum_by_more_le length m s [] below
 
--- these are so for the first segments
+-- The first `n` counts are right.
 pub record AreBefore (m : List (List ℕ)) (xs : List ℕ) (n : ℕ) : Type 0 where
   pub count : length xs ≡ n
   pub each : (s : ℕ) → s < n → slice_index xs s ≡ total (take s m)
@@ -37,7 +37,6 @@ module _ (m : List (List ℕ)) (xs : List ℕ) (n x : ℕ) (h : AreBefore m xs n
       subst (λ (k : ℕ). slice_index (xs ++ x ∷ []) k ≡ x) same (get_or-append_seam xs x [] 0)
       ∙ e ∙ ap (λ (k : ℕ). total (take k m)) last
 
-  -- and of one more
   pub one_more : AreBefore m (xs ++ x ∷ []) (n + 1)
   one_more =
       let number = h.count in
@@ -46,7 +45,6 @@ module _ (m : List (List ℕ)) (xs : List ℕ) (n x : ℕ) (h : AreBefore m xs n
         each = λ s below. one s below (nat_lt s n) refl;
       }
 
--- of all of them
 pub counts_before : (m : List (List ℕ)) (xs : List ℕ) (n : ℕ) → AreBefore m xs n → n ≡ length m → CountsBefore m xs
 counts_before m xs n h e = record { count = h.count ∙ e; each = λ s below. h.each s (omega arith) }
 
@@ -54,6 +52,6 @@ first : (m : List (List ℕ)) (s : ℕ) → s < 1 → slice_index (0 ∷ []) s �
 first m zero below = refl
 first m (suc s) below = absurd (omega arith)
 
--- of a message's only one
+-- A message of one segment has the count 0.
 pub alone : (m : List (List ℕ)) → 1 ≡ length m → CountsBefore m (0 ∷ [])
 alone m one = record { count = one; each = λ s below. first m s (omega arith) }

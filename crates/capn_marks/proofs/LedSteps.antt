@@ -1,4 +1,4 @@
--- A step of a path: where it leads in a message. (For `lead` and `mark_part`.)
+-- Lemmas for `lead` and `mark_part`: a step of a path, and where it leads in a message.
 use Rattle.std.proofs.Common.{◌≡◌, ℕ, suc, ◌+◌, ◌<◌, ◌≤◌, List, [], ◌∷◌, length, drop, get_or, Some, None, Option}
 use Rattle.std.proofs.Common.{refl, subst, sym, ap, ap₂, ◌∙◌, arith}
 use Rattle.std.specs.Prelude.{IfSome}
@@ -15,11 +15,10 @@ use Rattle.capn_marks.specs.MarkedPart.{There, led, stepped, there_text, marked_
 use Rattle.capn_show.specs.ReadyPlaces.{IsFound}
 use Rattle.capn_marks.specs.MarkedPlaces.{IsLed, IsLedMarked}
 
--- something, by its parts
 abbrev pub somewhere : Tree → Place → Target → List ℕ → There
 somewhere v a f w = record { at = a; found = f; value = v; path = w }
 
--- it is the same where these are
+-- Two parts are equal if their fields are.
 pub there-is : (v : Tree) (a b : Place) (f g : Target) (x y : List ℕ) → a ≡ b → f ≡ g → x ≡ y
     → Some (somewhere v a f x) ≡ Some (somewhere v b g y)
 there-is v a b f g x y e h k =
@@ -30,7 +29,6 @@ module _ (m : List (List ℕ)) where
   led-none [] = refl
   led-none (i ∷ numbers) = refl
 
-  -- the step of a number
   pub led-one : (numbers : List ℕ) (i n : ℕ) (p : There) → i < length numbers → n ≡ get_or numbers i 0
       → led m (drop i numbers) (Some p) ≡ led m (drop (i + 1) numbers) (stepped m p n (step_down p.value n))
   led-one numbers i n p below e =
@@ -39,7 +37,6 @@ module _ (m : List (List ℕ)) where
       ∙ ap (λ (k : ℕ). led m (drop (suc i) numbers) (stepped m p k (step_down p.value k))) (sym e)
       ∙ ap (λ (k : ℕ). led m (drop k numbers) (stepped m p n (step_down p.value n))) next
 
-  -- numbers that end there
   pub led-end : (numbers : List ℕ) (i : ℕ) (p : There) → length numbers ≤ i → led m (drop i numbers) (Some p) ≡ Some p
   led-end numbers i p past = ap (λ (l : List ℕ). led m l (Some p)) (drop_of_length-le numbers past)
 

@@ -1,4 +1,4 @@
--- A text with marks, where no mark is asked for. (For `without_marks`.)
+-- Lemmas for the law `without_marks`: a text with marks of no kind is the text in lines.
 use Rattle.std.proofs.Common.{◌≡◌, ℕ, List, [], ◌∷◌, ◌++◌, Bool, true, false, codes}
 use Rattle.std.proofs.Common.{refl, sym, ap, ap₂, ◌∙◌, if◌then◌else◌, Option, Some, None}
 use Rattle.capn_value.specs.Tree.{Tree}
@@ -28,9 +28,9 @@ module _ (marks : Marks) (no_offsets : marks.offsets ≡ false) (no_ways : marks
         ∙ texts.bare marks.quoted (λ m at. byte_at m marks at) (annotation.stepped marks.ways) (mark marks) no-mark m
         level path found t
 
-    -- ---- what is at a path
+    -- ---- the value at a path
 
-    -- by the value, in the style
+    -- The text of a value is the text in the style.
     bare-chosen-style : (quoted : Bool) (t : Tree)
         → shown_by (bytes_of quoted) 0 t ≡ part_in (lines_style quoted) (Some t)
     bare-chosen-style true t = refl
@@ -69,7 +69,7 @@ module _ (marks : Marks) (no_offsets : marks.offsets ≡ false) (no_ways : marks
         ∙ ap (λ (t : Option Tree). part_in (lines_style marks.quoted) (follow path t))
         (value-stepped there i (step_down there.value i))
 
-    -- it is the text in the style
+    -- The text of the part at a path is the text in the style.
     pub bare-text : (path : List ℕ) (t : Tree)
         → marked_at m marks path t ≡ styled (lines_style marks.quoted) path t
     bare-text path t = bare-led path (Some (at_root m t))

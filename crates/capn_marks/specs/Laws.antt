@@ -5,7 +5,7 @@ use Rattle.capn_show.specs.Styled.{styled}
 use Rattle.capn_marks.specs.MarkedPart.{lines_style, marked_at}
 use Rattle.capn_marks.specs.declared.marks.Marks.{Marks}
 
--- without its marks a text is that in lines, at each path and of each value, wherever the message lies
+-- A text without marks is the text in lines, at each path of each value, at any place of a stream.
 abbrev pub WithoutMarks : Type 0
 WithoutMarks = (m : List (List ℕ)) (marks : Marks) → marks.offsets ≡ false → marks.ways ≡ false
     → (numbers : List ℕ) (v : Tree) → marked_at m marks numbers v ≡ styled (lines_style marks.quoted) numbers v

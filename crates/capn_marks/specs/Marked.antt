@@ -20,72 +20,73 @@ use Rattle.capn_marks.specs.declared.marks.Marks.{Marks}
 
 -- ---- paths and places
 
--- the text of a path, by that of the path above it and the last number
+-- The text of a path, from that of the path above it and its last number.
 abbrev pub below : List ℕ → ℕ → List ℕ
 below [] i = decimal i
 below (c ∷ path) i = (c ∷ path) ++ 46 ∷ decimal i
 
--- the name of a path
+-- The text that stands for a path in a mark.
 abbrev pub path_name : List ℕ → List ℕ
 path_name [] = codes "root"
 path_name (c ∷ path) = c ∷ path
 
--- the byte of the first word of a message: its table lies between that and the bytes before the message
+-- The byte of the first word of a message, behind its table.
 abbrev pub first_byte : Marks → ℕ
 first_byte marks = marks.offset + 8 * marks.table
 
--- the byte of a word of a message whose words begin at a byte: the segments lie one after the other
+-- The byte of a word of a message whose first word lies at the byte `start`. The segments lie one after the other.
 abbrev pub byte_of : ℕ → List (List ℕ) → Place → ℕ
 byte_of start m at = start + 8 * (total (take at.segment m) + at.word)
 
 -- ---- marks
 
--- the byte of a line's subject
+-- The mark with the byte of a line's subject, if there are offsets.
 abbrev pub offset_mark : Bool → ℕ → List ℕ
 offset_mark offsets lies = if offsets then decimal lies ++ 9 ∷ [] else []
 
--- the path to it
+-- The mark with the path to a line's subject, if there are ways.
 abbrev pub path_mark : Bool → List ℕ → List ℕ
 path_mark ways path = if ways then path_name path ++ 9 ∷ [] else []
 
--- the marks of a line whose subject lies at a byte, at a path
+-- The marks of a line whose subject lies at the byte `lies` and has the path `path`.
 abbrev pub mark : Marks → ℕ → List ℕ → List ℕ
 mark marks lies path = offset_mark marks.offsets lies ++ path_mark marks.ways path
 
 -- ---- lines with marks
 
--- the line of a data word
+-- The line of a data word.
 abbrev pub word_line : ℕ → ℕ → List ℕ
 word_line level w = line level (codes "word " ++ hex16 w)
 
--- the line of an element
+-- The line of a number in a list.
 abbrev pub number_line : ℕ → ℕ → List ℕ
 number_line level n = line level (decimal n)
 
 module _ (marks : Marks) where
-  -- a line for each number, of which the first lies at a byte, and each takes this many bytes
+  -- A line with its marks for each number. The first of them lies at the byte `first`, and each takes `size` bytes.
   abbrev pub marked_lines : ℕ → (ℕ → List ℕ) → List ℕ → ℕ → List ℕ → List ℕ
   marked_lines size line_of path first [] = []
   marked_lines size line_of path first (x ∷ xs) =
       mark marks first path ++ (line_of x ++ marked_lines size line_of path (first + size) xs)
 
-  -- the digits of a list whose first element lies at a byte: one line, unless the list is empty
+  -- The digits of a list whose first element lies at the byte `first`: one line, unless the list is empty.
   abbrev pub marked_digits : ℕ → List ℕ → ℕ → ℕ → List ℕ → List ℕ
   marked_digits level path first zero digits = []
   marked_digits level path first (suc n) digits = mark marks first path ++ line level digits
 
-  -- the lines of a list of bytes in digits: of the first one, the part behind the mark
+  -- The lines of a list of bytes in digits, without the mark of the first line.
   abbrev pub digit_lines : ℕ → List ℕ → ℕ → List ℕ → List ℕ
   digit_lines level path first xs =
       line level (named (codes "bytes") (length xs))
       ++ marked_digits (level + 1) path first (length xs) (encode_lower xs)
 
-  -- a text on one line, or the digits of bytes that are none
+  -- The lines of a list of bytes, without the mark of the first line: between quotes if it is a text, and in digits
+  -- otherwise.
   abbrev pub text_or_digits : ℕ → List ℕ → ℕ → List ℕ → List ℕ
   text_or_digits level path first xs =
       if is_text xs then quoted_line level xs else digit_lines level path first xs
 
-  -- the lines of a list of numbers: of the first one, the part behind the mark
+  -- The lines of a list of numbers, without the mark of the first line.
   abbrev pub marked_numbers : NumberWidth → ℕ → List ℕ → ℕ → List ℕ → List ℕ
   marked_numbers bit level path first xs =
       line level (named (codes "bits") (length xs))
@@ -99,13 +100,12 @@ module _ (marks : Marks) where
 -- ---- the text
 
 module _ (m : List (List ℕ)) (marks : Marks) where
-  -- the byte of a word
+  -- The byte of the word at `at`.
   abbrev pub byte_at : Place → ℕ
   byte_at at = byte_of (first_byte marks) m at
 
   abbrev mutual
-    -- the text of the target of a pointer, at a level and a path: of its first line the part behind the mark, and all
-    -- lines below
+    -- The lines of the value with the target `found`, without the mark of the first line, and with all lines below.
     pub unmarked : ℕ → List ℕ → Target → Tree → List ℕ
     unmarked level path found nil = line level (codes "null")
     unmarked level path found (node ws ss) =
@@ -120,7 +120,8 @@ module _ (m : List (List ℕ)) (marks : Marks) where
         line level (named (codes "rows") (count_rows bs)) ++ marked_rows (level + 1) path (row_of found) 0 bs
     unmarked level path found (cap k) = line level (named (codes "capability") k)
 
-    -- slots at these places, from one number on: the mark is that of the slot
+    -- The lines of the values in slots, from item `i` on. `place` gives the place of each slot, whose byte is in its
+    -- mark.
     pub marked_slots : ℕ → List ℕ → (ℕ → Place) → ℕ → Trees → List ℕ
     marked_slots level path place i no_trees = []
     marked_slots level path place i (tree t ts) =
@@ -128,7 +129,7 @@ module _ (m : List (List ℕ)) (marks : Marks) where
         ++ unmarked level (below path i) (named_by (target m (place i))) t)
         ++ marked_slots level path place (suc i) ts
 
-    -- these rows, from one number on: the mark says where the row begins
+    -- The lines of rows, from item `i` on. The mark of a row has the byte at which it begins.
     pub marked_rows : ℕ → List ℕ → (ℕ → Target) → ℕ → Bodies → List ℕ
     marked_rows level path row i no_bodies = []
     marked_rows level path row i (body ws ss bs) =
@@ -138,12 +139,12 @@ module _ (m : List (List ℕ)) (marks : Marks) where
         ++ marked_slots (level + 1) (below path i) (step_place (row i)) 0 ss)))
         ++ marked_rows level path row (suc i) bs
 
-  -- the value in a slot
+  -- The lines of the value in the slot at `at`.
   abbrev pub marked_slot : ℕ → List ℕ → Place → Tree → List ℕ
   marked_slot level path at t =
       mark marks (byte_at at) path ++ unmarked level path (named_by (target m at)) t
 
-  -- the value at the root
+  -- The lines of the value at the root.
   abbrev pub marked_text : Tree → List ℕ
   marked_text t = marked_slot 0 [] root t
 

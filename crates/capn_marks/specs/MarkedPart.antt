@@ -1,4 +1,4 @@
--- The text with marks of the part at a path of numbers from a value of a message. (Own.)
+-- The text with marks of the part of a message's value at a path of numbers. (Own.)
 use Rattle.std.specs.Prelude.{◌≡◌, ℕ, List, [], ◌∷◌, ◌++◌, Option, Some, None, codes, if◌then◌else◌, Bool, true}
 use Rattle.std.specs.Prelude.{false, refl}
 use Rattle.capn_words.specs.declared.space.Place.{Place}
@@ -14,21 +14,20 @@ use Rattle.capn_marks.specs.declared.marks.Marks.{Marks}
 use Rattle.capn_show.specs.declared.style.Style.{Style}
 use Rattle.capn_show.specs.declared.style.Style.TheVariants as styles
 
--- a part of a message: the slot that names it, or of a row the place at which it begins; the target of its pointer; its
--- value; its path
+-- A part of a message: its slot, or the first word of a row, its target, its value, and the path to it.
 pub record There : Type 0 where
   pub at : Place
   pub found : Target
   pub value : Tree
   pub path : List ℕ
 
--- the line for no part: no digits and no path stand before it
+-- The line for no part. Each of its marks is only a tab.
 abbrev pub none_line : Marks → List ℕ
 none_line marks =
     (if marks.offsets then 9 ∷ [] else []) ++ ((if marks.ways then 9 ∷ [] else []) ++ line 0 (codes "none"))
 
 module _ (m : List (List ℕ)) where
-  -- the part one step below another, with its value if it has one
+  -- The part one step below another, if there is a value.
   abbrev pub stepped : There → ℕ → Option Tree → Option There
   stepped there i None = None
   stepped there i (Some t) = Some (record {
@@ -38,28 +37,28 @@ module _ (m : List (List ℕ)) where
     path = below there.path i;
   })
 
-  -- step by step, as long as something is there
+  -- The part that the steps of a path lead to, as long as each step leads somewhere.
   abbrev pub led : List ℕ → Option There → Option There
   led [] there = there
   led (i ∷ numbers) None = None
   led (i ∷ numbers) (Some there) = led numbers (stepped there i (step_down there.value i))
 
-  -- the part at the root
+  -- The part at the root, with the value `t`.
   abbrev pub at_root : Tree → There
   at_root t = record { at = root; found = named_by (target m root); value = t; path = [] }
 
   module _ (marks : Marks) where
-    -- the text of the part there
+    -- The lines of a part, or the line for no part.
     abbrev pub there_text : Option There → List ℕ
     there_text None = none_line marks
     there_text (Some there) =
         mark marks (byte_at m marks there.at) there.path ++ unmarked m marks 0 there.path there.found there.value
 
-    -- the text of the part at a path of numbers from the root
+    -- The lines of the part at the path `numbers` from the root, whose value is `t`.
     abbrev pub marked_at : List ℕ → Tree → List ℕ
     marked_at numbers t = there_text (led numbers (Some (at_root t)))
 
--- the style of a text without marks: lists of bytes in digits, or those that are texts between quotes
+-- The style of a text without marks.
 abbrev pub lines_style : Bool → Style
 lines_style quoted = if quoted then styles.Quoted else styles.Lines
 

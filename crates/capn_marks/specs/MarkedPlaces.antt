@@ -1,4 +1,5 @@
--- The places whose text is written with marks, and the growth of a text by it.
+-- Statements `Says` on the text with marks that is written for a place of a message, such as that it is added to a
+-- text.
 use Rattle.std.specs.Prelude.{◌≡◌, ◌≤◌, ℕ, Option, Some, None, ◌<◌, List, ◌++◌, length, take, slice_index}
 use Rattle.capn_words.specs.Message.{total}
 use Rattle.capn_words.specs.declared.space.Place.{Place}
@@ -13,22 +14,23 @@ use Rattle.capn_marks.specs.Marked.{mark, byte_at, unmarked}
 use Rattle.capn_marks.specs.MarkedPart.{at_root, led, marked_at, none_line}
 use Rattle.capn_show.specs.declared.descent.Part.{Part}
 
--- the number of words of a message before each of its segments
+-- For each segment of the message `m`, `before` has the number of words before it.
 pub record CountsBefore (m : List (List ℕ)) (before : List ℕ) : Type 0 where
   pub count : length before ≡ length m
   pub each : (s : ℕ) → s < length m → slice_index before s ≡ total (take s m)
 
 module _ (m : List (List ℕ)) where
-  -- of the text of a part, at a path
+  -- `Says` holds of the lines of the part at `at`, whose path is `path`.
   abbrev pub IsThereMarked : Marks → List ℕ → Place → Target → (List ℕ → Type 0) → Type 0
   IsThereMarked marks path at found Says = (v : Tree) → Shows m found v
       → Says (mark marks (byte_at m marks at) path ++ unmarked m marks 0 path found v)
 
-  -- of that of the part at a path of numbers from the root
+  -- `Says` holds of the lines of the part at the path `numbers` from the root.
   abbrev pub IsPartMarked : Marks → List ℕ → (List ℕ → Type 0) → Type 0
   IsPartMarked marks numbers Says = (v : Tree) → IsAt m root v → Says (marked_at m marks numbers v)
 
-  -- numbers lead from the root to the part there, with a value that is no higher and a path; or nothing is there
+  -- The path `numbers` leads from the root, whose value is `v`, to the given part with the path `path`, whose value is
+  -- no higher than `v`. If no part is given, it leads nowhere.
   abbrev pub IsLed : List ℕ → Tree → List ℕ → Option Part → Type 0
   IsLed numbers v path (Some p) = (u : Tree)
       × (led m numbers (Some (at_root m v)) ≡ Some (record { at = p.at; found = p.found; value = u; path = path }))
@@ -36,7 +38,7 @@ module _ (m : List (List ℕ)) where
       × (height u ≤ height v)
   IsLed numbers v path None = led m numbers (Some (at_root m v)) ≡ None
 
-  -- of the text of a part at a path, or of the line for no part
+  -- `Says` holds of the lines of the given part, or of the line for no part.
   abbrev pub IsLedMarked : Marks → List ℕ → Option Part → (List ℕ → Type 0) → Type 0
   IsLedMarked marks path (Some p) Says = IsThereMarked marks path p.at p.found Says
   IsLedMarked marks path None Says = Says (none_line marks)

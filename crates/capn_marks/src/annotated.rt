@@ -1,4 +1,4 @@
-//! The emitter of lines with marks.
+//! The emitter of lines with marks, for the walk of `capn_show`.
 
 ghost use Rattle.std.specs.Prelude.{IfErr};
 ghost use Rattle.capn_marks.specs.Annotation.{rule_of};
@@ -11,14 +11,14 @@ use capn_words::{Place, Space, Watched};
 use std::alloc::Allocator;
 use std::io::Write;
 
-/// The emitter of lines with `marks`.
+/// The emitter of lines with marks before them.
 #[derive(Drop)]
 pub struct Annotated<'a, A: Allocator> {
-    /// The marks.
+    /// The marks that each line gets.
     pub marks: Marks,
-    /// The words of the message before each of its segments.
+    /// For each segment, the number of words of the message before it.
     pub before: &'a [u32],
-    /// The path to the value whose lines are written.
+    /// The path to the value that is being written, as text.
     pub path: Vec<u8, A>,
 }
 

@@ -1,7 +1,7 @@
-//! The text of a message with marks: before each line stand the byte of its subject, the path to it, or both.
+//! The text of a message with marks: before each line stands the offset of its subject, the path to it, or both.
 //!
-//! [`show_marked`] surveys a message and adds its text, or that of the value at a path, as `capn_show::show_part` does.
-//! The byte of a line is that of a stream in which the message begins at [`Marks::offset`], behind a table.
+//! [`show_marked`] surveys a message and appends the text of the value at a path, as `capn_show::show_part` does. The
+//! offset of a line is a byte of the stream in which the message's table begins at [`Marks::offset`].
 #![tactic(auto)]
 
 mod annotated;

@@ -1,4 +1,4 @@
-//! The text with marks of a message's part, at a path.
+//! The text with marks of the value at a path of numbers from the root.
 
 ghost use Rattle.std.specs.Prelude.{◌≡◌, [], ◌∷◌, ◌+◌, ◌*◌, ◌<◌, ◌^◌, IfErr, IfOk, IfSome, OnOk, if◌then◌else◌};
 ghost use Rattle.capn_words.specs.Message.{IsMessage, IsPlace};
@@ -28,9 +28,9 @@ use std::io::Write;
 /// Appends the text of the value at a `path` of numbers from the root of `message` to `text`, with `marks` before each
 /// line.
 ///
-/// The text without its marks is that of `capn_show::show_part`, as lines, and the message is surveyed within `limits`,
-/// and the text added, kept and written as there. Beside that it takes memory of `alloc` for the path to where it is,
-/// and, for a message of several segments alone, 4 bytes for each.
+/// Without the marks, the text is what `capn_show::show_part` writes in lines. As there, the message is surveyed within
+/// `limits` first, and the text is added, kept and written. A call also takes memory of `alloc` for the path to the
+/// current line. If the message has several segments, it takes 4 bytes for each of them.
 pub fn show_marked<S: Space, W: Write, A: Allocator + Copy>(
     alloc: A,
     text: &mut Vec<u8, A>,
@@ -40,11 +40,11 @@ pub fn show_marked<S: Space, W: Write, A: Allocator + Copy>(
     marks: Marks,
     path: &[u64],
 ) -> Result<(), ShowFault>
-    // An answer: the message is accepted, and the text of the value there is added.
+    // If `result` is `Ok`, the message is accepted, and the text of the value at `path` was added.
     ensures shown { OnOk result (IsWritten (S.message message.now) limits
         (marked_at (S.message message.now) marks path.now)
         (outgoing W.contents writer.old text.old.items) (outgoing W.contents writer.new text.new.items)) }
-    // A refusal is as that of `capn_show::show_message`.
+    // If `result` is an `Err`, it is one that `capn_show::show_message` could have given.
     ensures refused { IfErr result (λ fault. IsUnwritten (S.message message.now) limits
         (marked_at (S.message message.now) marks path.now) fault
         (outgoing W.contents writer.old text.old.items) (outgoing W.contents writer.new text.new.items)) }
@@ -86,8 +86,8 @@ fn mark_part<S: Space, W: Write, A: Allocator + Copy>(
     mark_counted(alloc, text, writer, space, &before, marks, numbers, depth)
 }
 
-/// Appends the text of the value at the path of `numbers` from the root to `text`, with the words `before` each
-/// segment.
+/// Appends the text of the value at the path of `numbers` from the root to `text`. For each segment, `before` has the
+/// number of words before it.
 fn mark_counted<S: Space, W: Write, A: Allocator>(
     alloc: A,
     text: &mut Vec<u8, A>,
@@ -123,7 +123,8 @@ fn mark_counted<S: Space, W: Write, A: Allocator>(
     }
 }
 
-/// Appends the text of `found`, to which the path of `annotated` leads, to `text`; or the line for no value.
+/// Appends the text of the value `found` to `text`, or the line for no value. The path of `annotated` leads to the
+/// value.
 fn mark_led<S: Space, W: Write, A: Allocator>(
     text: &mut Vec<u8, A>,
     writer: &mut Watched<W>,
@@ -151,7 +152,8 @@ fn mark_led<S: Space, W: Write, A: Allocator>(
     }
 }
 
-/// Follows `numbers` from the root, and adds the path to `path`, which is empty; `None`, if nothing is there.
+/// Follows `numbers` from the root, and appends their path to `path`, which is empty at first. Returns the value at the
+/// end, or `None` if a step leads nowhere.
 fn lead<S: Space, A: Allocator>(
     path: &mut Vec<u8, A>,
     space: &S,
@@ -182,7 +184,7 @@ fn lead<S: Space, A: Allocator>(
     Ok(Some(part))
 }
 
-/// Appends the text of `part`, to which the path of `annotated` leads, to `text`.
+/// Appends the text of the value `part` to `text`. The path of `annotated` leads to it.
 fn mark_there<S: Space, W: Write, A: Allocator>(
     text: &mut Vec<u8, A>,
     writer: &mut Watched<W>,
@@ -210,7 +212,7 @@ fn mark_there<S: Space, W: Write, A: Allocator>(
     show_found(text, writer, annotated, space, part.found, 0, depth)
 }
 
-/// Appends a tab to `text`, if it is `marked`.
+/// Appends a tab to `text` if `marked`.
 fn put_tab<W: Write, A: Allocator>(
     text: &mut Vec<u8, A>,
     writer: &mut Watched<W>,
@@ -228,7 +230,7 @@ fn put_tab<W: Write, A: Allocator>(
     }
 }
 
-/// Appends the line for no value to `text`.
+/// Appends the line for no value to `text`, with an empty mark for each kind that `marks` has.
 fn mark_none<W: Write, A: Allocator>(
     text: &mut Vec<u8, A>,
     writer: &mut Watched<W>,

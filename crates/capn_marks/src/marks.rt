@@ -1,4 +1,4 @@
-//! Marks before the lines of a text.
+//! The marks before a line of a text, and the path that they show.
 
 ghost use Rattle.std.specs.Prelude.{◌≡◌, ◌≤◌, ◌+◌, [], ◌∷◌, ◌++◌, IfErr, OnOk, drop, length, take};
 ghost use Rattle.std.specs.Prelude.{if◌then◌else◌};
@@ -13,22 +13,22 @@ use itoa::Buffer;
 use std::alloc::Allocator;
 use std::io::Write;
 
-/// The marks before each line of a text, and the way in which lists of bytes are written.
+/// The marks that stand before each line of a text. The subject of a line is the value or the word that it shows.
 #[derive(Clone, Copy, Debug, PartialEq, Eq)]
 pub struct Marks {
-    /// Before each line stands the byte of its subject, in decimal digits, and a tab.
+    /// Set if a line begins with the offset of its subject, in decimal digits, and a tab.
     pub offsets: bool,
-    /// Before each line, after its offset, stands the path to its subject, and a tab.
+    /// Set if the path to the subject of a line, and a tab, stand before it. They follow the offset, if there is one.
     pub ways: bool,
-    /// A list of bytes that is a text is written between quotes, as in `capn_show::Style::Quoted`.
+    /// Set if a list of bytes that is a text is written between quotes, as in `capn_show::Style::Quoted`.
     pub quoted: bool,
-    /// The number of bytes of the stream before the message's table.
+    /// The offset in bytes at which the message's table begins in its stream.
     pub offset: u64,
-    /// The number of words of the table: 0 for a message without one.
+    /// The number of words of the table, which is 0 for a message without one.
     pub table: u32,
 }
 
-/// Appends the digits of a `byte` past 2^64 and a tab to `text`.
+/// Appends the decimal digits of `byte`, an offset of 2^64 or more, and a tab to `text`.
 #[cold]
 fn put_wide<W: Write, A: Allocator>(
     text: &mut Vec<u8, A>,
@@ -46,7 +46,7 @@ fn put_wide<W: Write, A: Allocator>(
     put(text, writer, b"\t")
 }
 
-/// Appends the digits of `byte` and a tab to `text`.
+/// Appends the decimal digits of `byte` and a tab to `text`.
 #[inline(always)]
 fn put_digits<W: Write, A: Allocator>(
     text: &mut Vec<u8, A>,
@@ -63,7 +63,7 @@ fn put_digits<W: Write, A: Allocator>(
     put(text, writer, &digits[start..])
 }
 
-/// Appends the digits of a `byte` of any size and a tab to `text`.
+/// Appends the decimal digits of an offset `byte` of any size and a tab to `text`.
 #[inline(always)]
 fn put_byte<W: Write, A: Allocator>(
     text: &mut Vec<u8, A>,
@@ -82,7 +82,7 @@ fn put_byte<W: Write, A: Allocator>(
     }
 }
 
-/// Appends the `byte` of a line's subject and a tab to `text`, if `offsets` are asked for.
+/// Appends the offset `byte` and a tab to `text`, if `offsets`.
 #[inline(always)]
 fn put_offset<W: Write, A: Allocator>(
     text: &mut Vec<u8, A>,
@@ -102,7 +102,7 @@ fn put_offset<W: Write, A: Allocator>(
     }
 }
 
-/// Returns the name of `path`: that of the root, which has no numbers, is `root`.
+/// Returns the text that stands for `path` in a mark, which is `root` for the empty path.
 #[inline(always)]
 fn path_name(path: &[u8]) -> &[u8]
     ensures { result.now ≡ spec.path_name path.now }
@@ -110,10 +110,10 @@ fn path_name(path: &[u8]) -> &[u8]
     if path.is_empty() { b"root" } else { path }
 }
 
-/// The most bytes of a name that has room in a block.
+/// The longest name, in bytes, that fits into a block.
 const MOST: usize = 42;
 
-/// Returns a block with `name` in it: a tab is before it, at byte 20, and one behind it.
+/// Returns a block with `name` from byte 21 on. A tab stands before it, at byte 20, and one behind it.
 #[inline(always)]
 fn name_block(name: &[u8]) -> [u8; 64]
     requires short { length name.now ≤ 42 }
@@ -142,7 +142,7 @@ fn put_named<W: Write, A: Allocator>(
     put(text, writer, b"\t")
 }
 
-/// Appends the digits of `byte`, a tab, `name` and a tab to `text`, in one block.
+/// Appends the digits of `byte`, a tab, `name` and a tab to `text` by a single call, from one block.
 #[inline(always)]
 fn put_block<W: Write, A: Allocator>(
     text: &mut Vec<u8, A>,
@@ -161,7 +161,8 @@ fn put_block<W: Write, A: Allocator>(
     put(text, writer, &block[start..22 + name.len()])
 }
 
-/// Appends the digits of `byte`, a tab, `name` and a tab to `text`; they need not have room in a block.
+/// Appends the digits of `byte`, a tab, `name` and a tab to `text` one by one, for numbers and names too long for a
+/// block.
 #[cold]
 fn put_apart<W: Write, A: Allocator>(
     text: &mut Vec<u8, A>,
@@ -199,7 +200,7 @@ fn put_both<W: Write, A: Allocator>(
     }
 }
 
-/// Appends the `marks` of a line to `text`, whose subject lies at `byte` and has this `path`.
+/// Appends the `marks` of a line to `text`. The subject of the line lies at `byte`, and `path` leads to it.
 #[inline(always)]
 pub fn put_mark<W: Write, A: Allocator>(
     text: &mut Vec<u8, A>,
@@ -222,7 +223,7 @@ pub fn put_mark<W: Write, A: Allocator>(
     }
 }
 
-/// Returns the number of bytes of `path`.
+/// Returns the length of `path` in bytes.
 #[inline(always)]
 pub fn path_length<A: Allocator>(path: &Vec<u8, A>) -> usize
     ensures { result ≡ length path.now.items }
@@ -230,7 +231,7 @@ pub fn path_length<A: Allocator>(path: &Vec<u8, A>) -> usize
     path.len()
 }
 
-/// Appends the digits of `number` to `path`.
+/// Appends the decimal digits of `number` to `path`.
 #[tactic(auto, using(std::proofs::lemmas::Fmt::decimal_digit))]
 fn push_digits<A: Allocator>(path: &mut Vec<u8, A>, number: u64) -> Result<(), Broken>
     ensures digits { OnOk result (path.new.items ≡ path.old.items ++ decimal number) }
@@ -250,7 +251,7 @@ fn push_digits<A: Allocator>(path: &mut Vec<u8, A>, number: u64) -> Result<(), B
     }
 }
 
-/// Appends `number` to `path`, which then leads to the value of this number below.
+/// Appends `number` to `path`, behind a dot if it is not the first.
 pub fn push_number<A: Allocator>(path: &mut Vec<u8, A>, number: u64) -> Result<(), Broken>
     ensures below { OnOk result (path.new.items ≡ spec.below path.old.items number) }
     ensures memory { IfErr result (λ e. e ≡ broken.Memory) }
@@ -263,7 +264,7 @@ pub fn push_number<A: Allocator>(path: &mut Vec<u8, A>, number: u64) -> Result<(
     push_digits(path, number)
 }
 
-/// Appends `number` to `path`, if `ways` are asked for; else it stays, and nothing reads it.
+/// Appends `number` to `path` if `ways` is set. Otherwise `path` is not changed, since no mark shows it.
 #[inline(always)]
 pub fn step_below<A: Allocator>(
     path: &mut Vec<u8, A>,

@@ -1,4 +1,4 @@
-//! The bytes at which words of a message lie.
+//! The offsets in bytes at which the words of a message lie.
 
 ghost use Rattle.std.specs.Prelude.{◌≡◌, ◌≤◌, ◌<◌, ◌^◌, length, IfOk};
 ghost use Rattle.capn_words.specs.Message.{IsMessage, segment_at};
@@ -9,7 +9,7 @@ use crate::marks::Marks;
 use capn_words::{Place, Space};
 use std::alloc::{AllocError, Allocator};
 
-/// Returns the number of words of the message `space`, which has several segments, before each of them.
+/// Returns, for each segment of the message `space`, the number of words before it. The message has several segments.
 #[tactic(auto, using(crate::proofs::Before::one_more, crate::proofs::Before::next, crate::proofs::Before::within))]
 pub fn words_before<S: Space, A: Allocator>(alloc: A, space: &S) -> Result<Vec<u32, A>, AllocError>
     requires message { IsMessage (S.message space.now) }
@@ -28,7 +28,7 @@ pub fn words_before<S: Space, A: Allocator>(alloc: A, space: &S) -> Result<Vec<u
     Ok(before)
 }
 
-/// Returns the byte of a message's first word.
+/// Returns the offset at which the first word of a message lies, behind its table.
 #[inline(always)]
 fn first_byte(marks: &Marks) -> u128
     ensures is { result ≡ spec.first_byte marks.now }
@@ -37,7 +37,8 @@ fn first_byte(marks: &Marks) -> u128
     marks.offset as u128 + 8 * marks.table as u128
 }
 
-/// Returns the byte of the word at `at`, or of a segment's end; `before` has the words before each segment.
+/// Returns the offset at which the word at `at` lies, which may also be the end of a segment. For each segment,
+/// `before` has the number of words before it.
 #[tactic(auto, using(crate::proofs::Before::within))]
 #[inline(always)]
 pub fn byte_of<S: Space>(space: &S, marks: &Marks, before: &[u32], at: Place) -> u128
