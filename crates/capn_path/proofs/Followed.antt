@@ -1,4 +1,5 @@
--- A path that is followed leads where it is said to lead. (For `followed`, `held`, `holder_of` and `holders`.)
+-- The slot to which a path is followed is the one to which it leads. (For `followed`, `held`, `holder_of` and
+-- `holders`.)
 use Rattle.std.proofs.Common.{◌≡◌, ℕ, zero, suc, ◌+◌, ◌<◌, ◌≤◌, List, [], ◌∷◌, ◌++◌, length, Result, Ok, Err}
 use Rattle.std.proofs.Common.{refl, ap, sym, ◌∙◌, arith, append_assoc, length-append, Option, Some, None}
 use Rattle.std.proofs.lemmas.List.{append-nil}
@@ -26,7 +27,7 @@ use Rattle.capn_path.proofs.shared.Steps.{goes}
 use Rattle.capn_path.proofs.Holding.{spot, told, Taken, taken, held-one}
 
 module _ (m : List (List ℕ)) where
-  -- a path without numbers
+  -- a path without numbers leads to the slot itself
   at-end : (n : ℕ) (x : Spot) → follow m n x [] ≡ Some x
   at-end zero x = refl
   at-end (suc n) x = refl
@@ -130,7 +131,7 @@ module _ (m : List (List ℕ)) where
   led base (suc d) here (i ∷ path) to n h fuel more k =
       descends base d (λ x w p j l f r e. led base d x w p j l f r e) here (i ∷ path) to n h fuel more k (omega arith)
 
-  -- so is one to a slot that an object holds, and then that is what holds it
+  -- a path to a slot that an object holds is followed to that slot, and the object is its holder
   last-step : (left : ℕ) (x : Spot) (numbers : List ℕ) (slot : Place) (holder : Holder) → 0 < length numbers
       → length numbers ≤ left
       → ((rest : List ℕ) → step_by (target m x.place) (numbers ++ rest) ≡ Some (spot holder slot, rest))
@@ -160,7 +161,7 @@ module _ (m : List (List ℕ)) where
 
   module _ (at : Place) (s from pads : ℕ) (shape : Shape) (names : target m at ≡ Ok (targets.Content s from shape pads))
       (path : List ℕ) (x : Spot) (rest : List ℕ) (t : Taken s from shape pads path x rest) where
-    -- the first step is the last
+    -- the first step of the path is the last
     alone : rest ≡ [] → Holds m at path x.place t.holder
     alone e = record {
       base = 0;
@@ -180,7 +181,7 @@ module _ (m : List (List ℕ)) where
       held = t.held;
     }
 
-    -- or others follow
+    -- the first step of the path is followed by others
     before-others : (to : Place) (holder : Holder) → Holds m x.place rest to holder → Holds m at path to holder
     before-others to holder g =
         let between = 1 + length (visits_of m g.base g.depth t.before) + g.between in
@@ -267,7 +268,7 @@ module _ (m : List (List ℕ)) where
   followed-holds (suc n) here (i ∷ path) y e k some =
       by-found n (λ x w z f l h. followed-holds n x w z f l h) here (i ∷ path) y k (target m here.place) refl e
 
-  -- ---- what is answered of a path from the root
+  -- ---- the result for a path from the root
 
   abbrev answer : List ℕ → Option Holder
   answer path = holder_at (follow m (length path) start path)
@@ -289,7 +290,7 @@ module _ (m : List (List ℕ)) where
   none-holds path e to holder h =
       let f = ap holder_at (holds-followed (length path) start path to holder h (omega arith)) in cc
 
-  -- a path that leads somewhere
+  -- the result for a path that leads to a slot
   pub leads-holds : (base d : ℕ) (path : List ℕ) (to : Place) (n : ℕ) → Leads m base d root path to n
       → (r : Option Holder) → answer path ≡ r → IsHolderOrRoot m path to r
   leads-holds base d [] to n h None e = refl
@@ -312,14 +313,14 @@ module _ (m : List (List ℕ)) where
   if-none path (Some holder) e = tt
   if-none path None e = none-holds path (sym e)
 
-  -- where there is no root, nothing is held
+  -- if there is no root, no slot is held
   pub no-root : (path : List ℕ) (n : ℕ) → target m root ≡ Ok targets.Nil → holder_at (follow m n start path) ≡ None
   no-root path zero e = refl
   no-root [] (suc n) e = refl
   no-root (i ∷ path) (suc n) e =
       ap (λ (found : Result Target Fault). holder_at (onward (follow m n) (step_by found (i ∷ path)))) e
 
-  -- one object at most holds a slot
+  -- at most one object holds a slot
   pub one-holder : (path : List ℕ) (to at : Place) (holder other : Holder) → IsHolder m path to holder
       → IsHolder m path at other → (other ≡ holder) × (at ≡ to)
   one-holder path to at holder other h g =
@@ -331,7 +332,7 @@ module _ (m : List (List ℕ)) where
       let held = ap (λ (x : Spot). x.holder) same in
       (some-one other holder (sym held), ap (λ (x : Spot). x.place) (sym same))
 
--- a message without a root has no pointer there
+-- a segment without words has the word 0 at its beginning
 first-word : (ws : List ℕ) → length ws ≡ 0 → slice_index ws 0 ≡ 0
 first-word [] e = refl
 first-word (w ∷ ws) e = absurd (omega arith)

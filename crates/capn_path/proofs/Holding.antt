@@ -22,9 +22,9 @@ use Rattle.capn_path.proofs.Splits.{in-either, none-split}
 use Rattle.capn_path.proofs.shared.Steps.{length-places, length-rows, row-split, middle}
 use Rattle.capn_path.proofs.Unique.{row-parts}
 
--- ---- slots one after the other
+-- ---- consecutive slots
 
--- which slot it is, by those before it
+-- the place of a slot, given the slots before it
 slot-there : (s w n : ℕ) (before : List Place) (p : Place) (behind : List Place)
     → places s w n ≡ before ++ p ∷ behind → (p ≡ place s (w + length before)) × (length before < n)
 slot-there s w zero before p behind e = absurd (none-split before p behind e)
@@ -39,7 +39,7 @@ slot-there s w (suc n) (q ∷ before) p behind e =
     let small = r.1 in
     (rw z at r.0, omega arith)
 
--- the slots around a slot
+-- a slot with the slots before and behind it
 pub record Around (ps : List Place) (number : ℕ) (p : Place) : Type 0 where
   pub before : List Place
   pub behind : List Place
@@ -118,7 +118,7 @@ around-row s w a b n row slot h k =
 
 -- ---- a step among the slots of a holder
 
--- what a step comes to whose numbers say a slot
+-- the result of a step to a slot that a holder holds
 abbrev pub spot : Holder → Place → Spot
 spot holder at = record { holder = Some holder; place = at }
 
@@ -159,9 +159,9 @@ were-among holder first n (i ∷ path) x rest e =
     })
     (λ t. λ f. absurd (cc)) e
 
--- ---- a step that the numbers of a slot say
+-- ---- a step with the numbers of a slot
 
--- what it comes to
+-- the result of a step with the numbers of a slot
 pub record Told (s start : ℕ) (shape : Shape) (pads : ℕ) (numbers : List ℕ) (slot : Place) : Type 0 where
   pub some : 0 < length numbers
   pub holder : Holder
@@ -303,7 +303,7 @@ taken s start pads (shapes.Rows n a b span) (row ∷ path) x rest e =
     })
     (λ t. λ f. absurd (cc)) e
 
--- ---- what holds a slot is one
+-- ---- at most one object holds a slot
 
 pub held-one : (found : Target) (numbers : List ℕ) (x y : Holder) → IsHeldIn found numbers x
     → IsHeldIn found numbers y → x ≡ y

@@ -1,4 +1,4 @@
--- Searches among visits. (For the cycle `seek`.)
+-- Searches among visits, as they are under way. (For the cycle `seek`.)
 use Rattle.std.proofs.Common.{◌≡◌, ℕ, zero, suc, ◌+◌, ◌-◌, ◌*◌, ◌<◌, List, [], ◌∷◌, ◌++◌, length, Option, Some, None}
 use Rattle.std.proofs.Common.{take, Ok, Err, Result, refl, ap, sym, subst, ◌∙◌, arith, append_assoc, length-append}
 use Rattle.std.proofs.lemmas.List.{append-nil}
@@ -30,7 +30,7 @@ popped path old new i n e l h =
     let k : n - 1 ≡ length path = omega arith in
     h ∙ rw (k, e) (take-append_seam path (i ∷ []))
 
--- rows without slots
+-- rows without slots give no places
 no-slots : (s w a b n : ℕ) → b ≡ 0 → row_places s w a b n ≡ []
 no-slots s w a b zero z = refl
 no-slots s w a b (suc n) z =
@@ -120,7 +120,7 @@ module _ {G F : Type 0} (m : List (List ℕ)) (finds : G → Place → Result Ta
   -- ---- from several slots on
 
   module _ (d s w : ℕ) where
-    -- the visits of the first so many
+    -- the visits of the first i slots
     abbrev first : ℕ → List Visit
     first i = visits_of m base d (places s w i)
 
@@ -176,15 +176,15 @@ module _ {G F : Type 0} (m : List (List ℕ)) (finds : G → Place → Result Ta
   -- ---- from the slots of rows on
 
   module _ (d s w a b : ℕ) where
-    -- the visits of those of the first so many rows
+    -- the visits of the slots of the first i rows
     abbrev first_rows : ℕ → List Visit
     first_rows i = visits_of m base d (row_places s w a b i)
 
-    -- where the slots of a row are
+    -- the places of the slots of row i
     abbrev row : ℕ → List Place
     row i = places s (w + i * (a + b) + a) b
 
-    -- those of the rows after row i, of n
+    -- the places of the slots of the rows after row i, of n rows
     abbrev later_rows : ℕ → ℕ → List Place
     later_rows i n = row_places s (w + i * (a + b) + a + b) a b (n - suc i)
 

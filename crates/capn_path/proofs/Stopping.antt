@@ -1,4 +1,4 @@
--- The slot of a visit by its number, and that of the visit at which a walk stops. (For `path_of_stop` and
+-- The slot of a visit, given its number, and that of the visit at which a walk stops. (For `path_of_stop` and
 -- `path_of_visit`.)
 use Rattle.std.proofs.Common.{◌≡◌, inl, inr, ℕ, zero, suc, ◌+◌, ◌-◌, ◌≤◌, ◌==◌, List, [], ◌∷◌, ◌++◌, length, map}
 use Rattle.std.proofs.Common.{Option, Some}
@@ -26,14 +26,14 @@ use Rattle.capn_path.specs.inner.Numbered.{found_at, one_less}
 
 -- ---- visits are counted down
 
--- a slot that isn't found has one before it
+-- if nothing is found at a slot, a visit is left to come before it
 counted-here : (aim : Numbered) (at : Place) (named : Result Target Fault) → found_at aim at named ≡ None
     → aim.left ≡ 0 → ⊥
 counted-here aim at named e z =
     pick (λ (o : Option Place). o ≡ None → ⊥) (aim.left == 0) (Some at) None
     (λ t f. absurd cc) (λ t f. absurd (grind (arith, nat_tests))) e
 
--- one that is found has none
+-- if something is found at a slot, no visit is left to come before it
 found-here : (aim : Numbered) (at : Place) (named : Result Target Fault) (x : Place) → found_at aim at named ≡ Some x
     → (aim.left ≡ 0) × (at ≡ x)
 found-here aim at named x =
@@ -68,7 +68,7 @@ module _ (m : List (List ℕ)) (b d : ℕ) where
   unfolding root_visits
   root-places = by-root (target m root) refl
 
--- the visit at the same place of another list
+-- the visit at the same place in another list
 record Matched (vs : List Visit) (number : ℕ) (at : Place) : Type 0 where
   before : List Visit
   here : Visit
@@ -99,7 +99,7 @@ module _ (m : List (List ℕ)) (limits : Bounds) (n : ℕ) where
   abbrev b : ℕ
   b = base limits.tariff
 
-  -- the aim at the visit after so many others
+  -- the aim that finds the visit after n others
   abbrev aim : Numbered
   aim = record { left = n }
 
@@ -131,7 +131,7 @@ module _ (m : List (List ℕ)) (limits : Bounds) (n : ℕ) where
       ∙ length-map (visits m b limits.depth root) place_of in
       inr (omega arith)
 
--- the element at a number is one
+-- the element at an index is unique
 same-at : (zs bs : List Visit) (x y : Visit) (cs ds : List Visit) → zs ++ x ∷ cs ≡ bs ++ y ∷ ds
     → length zs ≡ length bs → x ≡ y
 same-at [] [] x y cs ds e l = cc

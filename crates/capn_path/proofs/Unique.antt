@@ -1,4 +1,4 @@
--- One path at most leads to the slot of a visit. (For `paths`.)
+-- At most one path leads to the slot of a visit. (For `paths`.)
 use Rattle.std.proofs.Common.{◌≡◌, ℕ, zero, suc, ◌+◌, ◌-◌, ◌*◌, ◌/◌, ◌<◌, List, [], ◌∷◌, ◌++◌, length, Ok}
 use Rattle.std.proofs.Common.{Result, refl, ap, ap₂, sym, ◌∙◌, arith, length-append}
 use Rattle.std.specs.List.{flat_map}
@@ -20,7 +20,7 @@ use Rattle.capn_path.specs.Laws.{PathsAreOne}
 use Rattle.capn_path.proofs.Splits.{none-split}
 use Rattle.capn_path.proofs.shared.Passing.{begins}
 
--- ---- the numbers of a slot are one
+-- ---- the numbers of a slot are unique
 
 pub row-parts : (b row slot r s : ℕ) → slot < b → s < b → row * b + slot ≡ r * b + s → (row ≡ r) × (slot ≡ s)
 row-parts b row slot r s h k e =
@@ -51,7 +51,7 @@ numbers-one s start pads (shapes.Many width n) k (i ∷ x ∷ xs) ms h g = absur
 numbers-one s start pads (shapes.Many width n) k (i ∷ []) [] h g = absurd g
 numbers-one s start pads (shapes.Many width n) k (i ∷ []) (j ∷ x ∷ xs) h g = absurd g
 
--- ---- one slot of several by how many visits come before it
+-- ---- a slot is determined by the number of visits before it
 
 module _ (f : Place → List Visit) where
   record Same (xs ys : List Place) (p q : Place) (i j : ℕ) : Type 0 where
@@ -82,7 +82,7 @@ module _ (f : Place → List Visit) where
       let r = one-slot xs ys p q us vs i j t h k (omega arith) in
       record { front = ap₂ (λ (y : Place) (ys : List Place). y ∷ ys) z r.front; slot = r.slot; later = r.later }
 
--- ---- one path
+-- ---- the path to a slot is unique
 
 module _ (m : List (List ℕ)) (b : ℕ) where
   here-shorter : (d : ℕ) (at : Place) (n : ℕ) → n ≡ 0 → n < length (visits m b d at)
@@ -108,7 +108,7 @@ module _ (m : List (List ℕ)) (b : ℕ) where
     below-shorter targets.Nil e = absurd (none-split h.before h.slot h.behind (sym (ap slots_below e) ∙ h.slots))
     below-shorter (targets.Cap k) e = absurd (none-split h.before h.slot h.behind (sym (ap slots_below e) ∙ h.slots))
 
-  -- fewer visits are before the slot than below the first
+  -- the visits before a slot are fewer than those of the slot at which the path begins
   shorter : (d : ℕ) (at : Place) (path : List ℕ) (to : Place) (n : ℕ) → Leads m b d at path to n
       → n < length (visits m b d at)
   shorter zero at [] to n h = here-shorter zero at n h.1

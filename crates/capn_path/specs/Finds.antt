@@ -9,13 +9,13 @@ use Rattle.capn_walk.specs.Index.{place_of}
 use Rattle.capn_path.specs.Paths.{Leads}
 
 module _ {G F : Type 0} (m : List (List ℕ)) (finds : G → Place → Result Target Fault → Option F) (next : G → G) where
-  -- nothing is found at the slots of these visits, from one aim on, and this is the aim after them
+  -- nothing is found at the slots of the visits if the search begins with `aim`, and `after` is the aim that is left
   abbrev pub IsPassed : G → List Visit → G → Type 0
   IsPassed aim [] after = after ≡ aim
   IsPassed aim (v ∷ vs) after =
       (finds aim (place_of v) (target m (place_of v)) ≡ None) × IsPassed (next aim) vs after
 
-  -- the first of these visits at whose slot something is found, and the path to that
+  -- `x` is found at the slot of one of the visits, nothing is found at those before it, and the path leads to that slot
   pub record Meets (vs : List Visit) (Onward : List ℕ → Place → ℕ → Type 0) (aim : G) (path : List ℕ) (x : F)
       : Type 0 where
     pub to : Place
@@ -29,11 +29,12 @@ module _ {G F : Type 0} (m : List (List ℕ)) (finds : G → Place → Result Ta
     pub found : finds last to (target m to) ≡ Some x
     pub leads : Onward path to (length before)
 
-  -- of the visits from a slot on, at most `depth` objects deep, and whatever the base of their prices
+  -- `x` is the first find among the visits from the slot at `at` on, at most `depth` objects deep, whatever their
+  -- prices
   abbrev pub IsFirstFind : ℕ → Place → G → List ℕ → F → Type 0
   IsFirstFind depth at aim path x =
       (base : ℕ) → Meets (visits m base depth at) (Leads m base depth at) aim path x
 
-  -- nothing is found at any of them
+  -- nothing is found among the visits from the slot at `at` on, at most `depth` objects deep, whatever their prices
   abbrev pub IsWithoutFind : ℕ → Place → G → Type 0
   IsWithoutFind depth at aim = (base : ℕ) → (after : G) × IsPassed aim (visits m base depth at) after

@@ -15,12 +15,12 @@ use Rattle.capn_path.specs.Paths.{AreNumbersOf, Leads}
 abbrev pub place : ℕ → ℕ → Place
 place s w = record { segment = s; word = w }
 
--- the start of a row, of those of a words and b slots each of a list whose tag is word `start`
+-- the word at which row `row` begins in a list whose tag is word `start` and whose rows have a words and b slots each
 abbrev pub row_start : ℕ → ℕ → ℕ → ℕ → ℕ
 row_start start a b row = start + 1 + row * (a + b)
 
--- the holder of the slot of an object that these numbers name: the struct, the list of pointers, or of a list of
--- structs the row
+-- the holder of the slot to which the numbers lead from an object: the struct, the list of pointers, or the row of a
+-- list of structs
 abbrev pub IsHeldIn : Target → List ℕ → Holder → Type 0
 IsHeldIn (targets.Content s start (shapes.Node a b) pads) numbers holder = holder ≡ Struct a b (place s start)
 IsHeldIn (targets.Content s start (shapes.Many width n) pads) numbers holder = holder ≡ Pointers n (place s start)
@@ -28,8 +28,8 @@ IsHeldIn (targets.Content s start (shapes.Rows n a b span) pads) (row ∷ slot �
     holder ≡ Row row n (place s (row_start start a b row))
 IsHeldIn found numbers holder = ⊥
 
--- a path leads from the slot at a place to one that this object holds: its front to the slot that names the object, and
--- its last numbers say which of the object's slots is meant
+-- the path leads from the slot at `start` to a slot that `holder` holds: the front of the path leads to the slot that
+-- names the object, and its last numbers lead to the slot in the object
 pub record Holds (message : List (List ℕ)) (start : Place) (path : List ℕ) (to : Place) (holder : Holder)
     : Type 0 where
   pub base : ℕ
@@ -48,11 +48,11 @@ pub record Holds (message : List (List ℕ)) (start : Place) (path : List ℕ) (
   pub is : path ≡ front ++ numbers
   pub held : IsHeldIn found numbers holder
 
--- a path leads from the root to a slot that this object holds
+-- the path leads from the root to the slot at `to`, which `holder` holds
 abbrev pub IsHolder : List (List ℕ) → List ℕ → Place → Holder → Type 0
 IsHolder message path to holder = Holds message root path to holder
 
--- the holder of the slot to which a path leads; nothing holds the root's
+-- the holder of the slot to which the path leads, or none for the root's slot
 abbrev pub IsHolderOrRoot : List (List ℕ) → List ℕ → Place → Option Holder → Type 0
 IsHolderOrRoot message path to (Some holder) = IsHolder message path to holder
 IsHolderOrRoot message path to None = path ≡ []

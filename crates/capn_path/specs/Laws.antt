@@ -6,12 +6,12 @@ use Rattle.capn_path.specs.declared.holder.Holder.{Holder}
 use Rattle.capn_path.specs.Paths.{IsPathTo}
 use Rattle.capn_path.specs.Holders.{IsHolder}
 
--- one path at most leads to the slot of the visit before which a walk makes so many
+-- at most one path leads to the slot that a walk visits after `number` other visits
 abbrev pub PathsAreOne : Type 0
 PathsAreOne = (message : List (List ℕ)) (limits : Bounds) (number : ℕ) (path other : List ℕ) (at to : Place)
     → IsPathTo message limits number path at → IsPathTo message limits number other to → (path ≡ other) × (at ≡ to)
 
--- one object, and no other, holds the slot of a visit, except the root's
+-- exactly one object holds the slot of a visit, unless it is the root's slot
 abbrev pub HoldersAreOne : Type 0
 HoldersAreOne = (message : List (List ℕ)) (limits : Bounds) (number : ℕ) (path : List ℕ) (to : Place)
     → IsPathTo message limits number path to → 0 < length path

@@ -1,4 +1,5 @@
--- The path to a slot: the numbers that lead to it from another slot, and how many visits of a walk come between.
+-- The path to a slot: the numbers that lead to it from another slot, and the number of visits of a walk that come
+-- between.
 use Rattle.std.specs.Prelude.{◌≡◌, ◌⊎◌, ℕ, zero, suc, ◌+◌, ◌-◌, ◌*◌, ◌<◌, ◌≤◌, List, [], ◌∷◌, ◌++◌, length, Ok}
 use Rattle.capn_words.specs.Message.{segment_at}
 use Rattle.capn_words.specs.declared.space.Place.{Place}
@@ -14,8 +15,8 @@ use Rattle.capn_walk.specs.Accepted.{root, visits_within, number_of_visits, IsWa
 use Rattle.capn_walk.specs.Limits.{Bounds}
 use Rattle.capn_walk.specs.declared.walk_answer.Stopped.{Stopped}
 
--- the numbers that say which of an object's slots is meant, by how many of them come before it: the slot's own; of a
--- list of structs the row's, and then the slot's in its row
+-- the numbers lead to the slot of an object before which k of its slots come: the slot's number, or for a list of
+-- structs the number of the row and then that of the slot in the row
 abbrev pub AreNumbersOf : Target → ℕ → List ℕ → Type 0
 AreNumbersOf (targets.Content s start (shapes.Rows n a b span) pads) k (row ∷ slot ∷ []) =
     (slot < b) × (k ≡ row * b + slot)
@@ -23,8 +24,8 @@ AreNumbersOf (targets.Content s start (shapes.Rows n a b span) pads) k numbers =
 AreNumbersOf found k (slot ∷ []) = k ≡ slot
 AreNumbersOf found k numbers = ⊥
 
--- a step from the slot at a place to one of those below its target, and a path from there on; between are the visit at
--- the place, those of the slots before that one, and those on the path
+-- a step leads from the slot at `from` to one of the slots below its target, and a path from there on; `between` counts
+-- the visit at `from`, those of the slots before that slot, and those on the path
 pub record Descends (message : List (List ℕ)) (base depth : ℕ) (leads : Place → List ℕ → Place → ℕ → Type 0)
     (from : Place) (path : List ℕ) (to : Place) (between : ℕ) : Type 0 where
   pub found : Target
@@ -42,8 +43,8 @@ pub record Descends (message : List (List ℕ)) (base depth : ℕ) (leads : Plac
   pub count : between ≡ 1 + length (visits_of message base depth before) + later
 
 module _ (message : List (List ℕ)) (base : ℕ) where
-  -- a path leads from the slot at a place to the one at another; a walk that visits at most `depth` objects one below
-  -- another makes so many visits before that of the other, from that of the first on
+  -- the path leads from the slot at `from` to the slot at `to`; from the visit of the first on, a walk at most `depth`
+  -- objects deep makes `between` visits before that of the second
   abbrev pub Leads : ℕ → Place → List ℕ → Place → ℕ → Type 0
   Leads zero from [] to between = (to ≡ from) × (between ≡ 0)
   Leads zero from (i ∷ path) to between = ⊥
@@ -51,11 +52,11 @@ module _ (message : List (List ℕ)) (base : ℕ) where
   Leads (suc depth) from (i ∷ path) to between =
       Descends message base depth (Leads depth) from (i ∷ path) to between
 
--- the path from the root to the slot of the visit before which the walk of a message makes so many
+-- the path leads from the root to the slot at `place`, which the walk of a message visits after `number` other visits
 abbrev pub IsPathTo : List (List ℕ) → Bounds → ℕ → List ℕ → Place → Type 0
 IsPathTo message limits number path place = Leads message (base limits.tariff) limits.depth root path place number
 
--- the walk makes such a visit, at this place, and the path leads to its slot
+-- the walk makes a visit after `number` others, of the slot at `at`, to which the path leads
 pub record IsVisited (message : List (List ℕ)) (limits : Bounds) (number : ℕ) (path : List ℕ)
     (at : Place) : Type 0 where
   pub before : List Visit
@@ -66,12 +67,12 @@ pub record IsVisited (message : List (List ℕ)) (limits : Bounds) (number : ℕ
   pub place : place_of here ≡ at
   pub leads : IsPathTo message limits number path at
 
--- a message has no root, or its walk makes no such visit
+-- the message has no root, or its walk makes at most `number` visits
 abbrev pub IsNotVisited : List (List ℕ) → Bounds → ℕ → Type 0
 IsNotVisited message limits number =
     (length (segment_at message 0) ≡ 0) ⊎ (number_of_visits message limits ≤ number)
 
--- a message is refused, and the path leads to the slot at which its walk stopped: none if it has no root
+-- the message is refused, and the path leads to the slot at which its walk stopped; without a root the path is empty
 pub record IsRefusedAt (message : List (List ℕ)) (limits : Bounds) (stopped : Stopped) (path : List ℕ) : Type 0 where
   pub refused : IsWalkRefused message limits stopped.fault stopped.place stopped.paid stopped.visits
   pub leads : 0 < stopped.visits → IsPathTo message limits (stopped.visits - 1) path stopped.place

@@ -1,4 +1,4 @@
--- A step to one of several slots, and a path from there on. (Own.)
+-- A step to one of several slots, followed by a path from there on. (Own.)
 use Rattle.std.specs.Prelude.{◌≡◌, ℕ, ◌+◌, ◌*◌, ◌<◌, List, [], ◌∷◌, ◌++◌, length}
 use Rattle.capn_words.specs.declared.space.Place.{Place}
 use Rattle.capn_target.specs.declared.target.Shape.{Shape}
@@ -6,11 +6,12 @@ use Rattle.capn_target.specs.declared.target.Shape.TheVariants as shapes
 use Rattle.capn_walk.specs.Visits.{visits_of}
 use Rattle.capn_path.specs.Paths.{Leads}
 
--- the number that says which of several slots is meant, by how many come before it
+-- the one number that leads to a slot before which k others come
 abbrev pub AreNumbers : ℕ → List ℕ → Type 0
 AreNumbers k numbers = numbers ≡ k ∷ []
 
--- the numbers of a slot of rows, of b slots each: the number of the row, and that of the slot in it
+-- the numbers that lead to a slot of rows of b slots each, before which k others come: that of the row, and that of the
+-- slot in the row
 pub record AreRowNumbers (b k : ℕ) (numbers : List ℕ) : Type 0 where
   pub row : ℕ
   pub slot : ℕ
@@ -18,13 +19,13 @@ pub record AreRowNumbers (b k : ℕ) (numbers : List ℕ) : Type 0 where
   pub small : slot < b
   pub count : k ≡ row * b + slot
 
--- the numbers of a slot of an object
+-- the numbers that lead to a slot of an object of a shape
 abbrev pub AreNumbersIn : Shape → ℕ → List ℕ → Type 0
 AreNumbersIn (shapes.Node a b) = AreNumbers
 AreNumbersIn (shapes.Many width n) = AreNumbers
 AreNumbersIn (shapes.Rows n a b span) = AreRowNumbers b
 
--- a step to one of several slots, and a path from there on
+-- a step leads to one of the slots `ps`, and a path from there on to the slot at `to`
 pub record DescendsTo (m : List (List ℕ)) (base depth : ℕ) (ps : List Place) (are : ℕ → List ℕ → Type 0)
     (path : List ℕ) (to : Place) (between : ℕ) : Type 0 where
   pub before : List Place

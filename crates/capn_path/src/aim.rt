@@ -8,18 +8,18 @@ ghost use Rattle.capn_target.specs.declared.target.Fault.{Fault as Faults};
 use capn_target::{Fault, Target};
 use capn_words::Place;
 
-/// The aim of a search among the visits of a walk: it tests their slots in preorder, until something is found at one.
+/// The aim of a search. It tests the slots that a walk visits, in preorder, until it finds something at one of them.
 pub trait Aim: Drop {
-    /// The find.
+    /// The type of a find.
     type Found: Drop;
 
-    /// The find at the slot at a place, by its target or the fault of its pointer.
+    /// The find at the slot at a place, given its target or the fault of its pointer.
     ghost finds: { Self → Places → Results Targets Faults → Options Self.Found };
 
     /// The aim after a slot at which nothing was found.
     ghost next: { Self → Self };
 
-    /// Tests the slot at `at`, whose pointer has the target or the fault `named`: returns the find there, if there is
+    /// Tests the slot at `at`, whose pointer has the target or the fault `named`. Returns the find there, if there is
     /// one.
     fn test(&mut self, at: Place, named: Result<Target, Fault>) -> Option<Self::Found>
         ensures found { result ≡ finds self.old at named }

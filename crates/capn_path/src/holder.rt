@@ -1,4 +1,4 @@
-//! The holder of a slot.
+//! The search for the object that holds a slot.
 
 ghost use Rattle.std.specs.Prelude.{◌≡◌, ℕ, ◌+◌, ◌*◌, ◌<◌, ◌≤◌, ◌^◌, length, None, Some, IfNone, IfSome, MatchOption};
 ghost use Rattle.capn_words.specs.Message.{segment_at, IsPlace};
@@ -17,11 +17,11 @@ use capn_words::{Place, Space, Width};
 pub enum Holder {
     /// A struct.
     Struct {
-        /// Its data words.
+        /// The number of its data words.
         words: u16,
-        /// Its slots.
+        /// The number of its slots.
         slots: u16,
-        /// The place of its first word; of one without words, that of its first slot.
+        /// The place of its first word, which is that of its first slot if it has no data words.
         at: Place,
     },
     /// A list of pointers.
@@ -33,11 +33,11 @@ pub enum Holder {
     },
     /// A struct of a list of structs.
     Row {
-        /// Its number, counted from 0.
+        /// The number of the row in the list, counted from 0.
         row: u32,
         /// The number of structs in the list.
         count: u32,
-        /// The place of its first word; of one without words, that of its first slot.
+        /// The place of its first word, which is that of its first slot if it has no data words.
         at: Place,
     },
 }
@@ -45,23 +45,24 @@ pub enum Holder {
 /// A slot to which a path leads.
 #[derive(Clone, Copy)]
 pub struct Spot {
-    /// Its holder; the root's slot has none.
+    /// The object that holds the slot. The root's slot has none.
     pub holder: Option<Holder>,
-    /// Its place.
+    /// The place of the slot.
     pub place: Place,
 }
 
 /// Finds the object that holds the slot to which `path` leads from the root.
 ///
-/// `None` if the path is empty, since nothing holds the root's slot, and if it leads to no slot. It follows the path
-/// from the root, and reads at most four words for each step. It takes no memory, and looks at no limits.
+/// Returns `None` if `path` leads to no slot, and if it is empty, since nothing holds the root's slot. It follows
+/// `path` from the root, and reads at most four words for each step. It takes no memory, and looks at no limits.
 pub fn holder_of<S: Space>(space: &S, path: &[u32]) -> Option<Holder>
-    // An answer holds the slot to which the path leads.
+    // If `result` is `Some`, that object holds the slot to which `path` leads.
     ensures some { IfSome result (λ holder. (to : Place) × IsHolder (S.message space.now) path.now to holder) }
-    // If there is no answer, nothing does.
+    // If `result` is `None`, no object holds a slot to which `path` leads.
     ensures none { IfNone result
         ((to : Place) (holder : Holder) → IsHolder (S.message space.now) path.now to holder → ⊥) }
-    // Of the path to a visit, that at which a walk stopped among them, it is the holder of that visit's slot.
+    // If `path` leads to the slot of a visit, `result` is that slot's holder. This includes the visit at which a walk
+    // stopped.
     ensures visit { (limits : Bounds) (number : ℕ) (to : Place)
         → IsPathTo (S.message space.now) limits number path.now to
         → IsHolderOrRoot (S.message space.now) path.now to result }
@@ -69,7 +70,7 @@ pub fn holder_of<S: Space>(space: &S, path: &[u32]) -> Option<Holder>
     held(space, path)
 }
 
-/// Finds that object by following `path`.
+/// Finds the holder by following `path` from the root.
 fn held<S: Space>(space: &S, path: &[u32]) -> Option<Holder>
     ensures { result ≡ spec.holder_at (spec.follow (S.message space.now) (length path.now) spec.start path.now) }
 {
@@ -86,7 +87,7 @@ fn held<S: Space>(space: &S, path: &[u32]) -> Option<Holder>
     }
 }
 
-/// Follows `path` from the slot `from`; `None`, if it leads to no slot.
+/// Follows `path` from the slot `from`. Returns the slot to which it leads, or `None` if it leads to no slot.
 fn followed<S: Space>(space: &S, from: Spot, path: &[u32]) -> Option<Spot>
     requires place { IsPlace (S.message space.now) from.place }
     ensures { result ≡ spec.follow (S.message space.now) (length path.now) from path.now }
@@ -105,7 +106,7 @@ fn followed<S: Space>(space: &S, from: Spot, path: &[u32]) -> Option<Spot>
     Some(spot)
 }
 
-/// Follows `path` one step from the slot at `at`: returns the slot there and the rest of the path.
+/// Follows `path` one step from the slot at `at`. Returns the slot there and the rest of `path`.
 fn step<'w, S: Space>(space: &S, at: Place, path: &'w [u32]) -> Option<(Spot, &'w [u32])>
     requires place { IsPlace (S.message space.now) at }
     ensures place { IfSome result (λ x. IsPlace (S.message space.now) x.0.place) }
@@ -135,7 +136,7 @@ fn step<'w, S: Space>(space: &S, at: Place, path: &'w [u32]) -> Option<(Spot, &'
     }
 }
 
-/// Follows `path` one step among the slots of an object of this `shape`, whose content starts at `start`.
+/// Follows `path` one step among the slots of an object of `shape` whose content starts at `start`.
 fn step_in<'w, S: Space>(
     space: &S,
     start: Place,
@@ -181,8 +182,8 @@ fn step_in<'w, S: Space>(
     }
 }
 
-/// Follows `path` one step among the slots of `count` rows of `words` words and `slots` slots each, behind the tag at
-/// `start`.
+/// Follows `path` one step among the slots of `count` rows behind the tag at `start`. Each row has `words` words and
+/// `slots` slots.
 fn step_in_rows<'w, S: Space>(
     space: &S,
     start: Place,
@@ -221,7 +222,7 @@ fn step_in_rows<'w, S: Space>(
     step_among(space, holder, first, slots as u32, others)
 }
 
-/// Follows `path` one step among the `count` slots of one `holder`, which lie one after the other from `first` on.
+/// Follows `path` one step among the `count` consecutive slots of `holder`, the first of which is at `first`.
 fn step_among<'w, S: Space>(
     space: &S,
     holder: Holder,

@@ -1,13 +1,13 @@
-//! The laws of paths, as empty functions.
+//! The laws of paths. Each law is the contract of an empty function.
 
 ghost use Rattle.capn_path.specs.Laws.{PathsAreOne, HoldersAreOne};
 
-/// States: at most one path leads to the slot of the visit that the walk of a message makes after so many others.
+/// States that at most one path leads to the slot that the walk of a message visits after a given number of visits.
 pub fn paths()
     ensures { PathsAreOne }
 {}
 
-/// States: one object, and no other, holds the slot of a visit, except the root's.
+/// States that exactly one object holds the slot of a visit, unless it is the root's slot.
 pub fn holders()
     ensures { HoldersAreOne }
 {}

@@ -1,16 +1,16 @@
 //! The path to a slot of a message: the numbers that lead to the slot from the root.
 //!
-//! A number leads from a struct to a slot, from a list of pointers to an element, and from a list of structs to a row,
-//! whose slot the next number says. No number leads to the root.
+//! A number leads from a struct to a slot, or from a list of pointers to an element. From a list of structs a number
+//! leads to a row, and the next number to a slot of the row. The path to the root's slot has no numbers.
 //!
-//! - [`path_of_refusal`] finds out if a message is refused, for which reason, and the path to the slot at which its
-//!   walk stopped.
-//! - [`path_of_stop`] finds that path of a walk that has stopped.
-//! - [`path_of_visit`] finds the path to the slot of a visit by its number.
+//! - [`path_of_refusal`] finds out whether a message is refused, for which reason, and the path to the slot at which
+//!   its walk stopped.
+//! - [`path_of_stop`] finds the path to the slot at which a walk has stopped.
+//! - [`path_of_visit`] finds the path to the slot of a visit, given the number of the visit.
 //! - [`holder_of`] finds the object that holds the slot to which a path leads.
 //! - [`seek`] finds the first visit at whose slot an [`Aim`] finds something, and the path to it.
-//! - Module [`laws`] has what holds of paths apart from any call: one path at most leads to the slot of a visit, and
-//!   one object holds it.
+//! - Module [`laws`] states what holds of paths apart from any call: at most one path leads to the slot of a visit, and
+//!   one object holds the slot.
 //!
 //! ```text
 //! if let Some(refused) = path_of_refusal(alloc, &message, limits)? {

@@ -9,19 +9,21 @@ use capn_walk::{Limits, Stopped, survey};
 use capn_words::{Memory, Space};
 use std::alloc::{Allocator, Global};
 
-/// A message whose walk stopped: the place and the reason, and the path to the slot that was visited.
+/// The refusal of a message: the place and the reason at which its walk stopped, and the path to the slot that was
+/// visited.
 #[derive(Debug, Drop)]
 pub struct Refused<A: Allocator = Global> {
-    /// The place and the reason, as [`survey`] answers them.
+    /// The place and the reason, as [`survey`] returns them.
     pub stopped: Stopped,
-    /// The numbers that lead to the slot from the root: none, if it is the root's, or if there is no root.
+    /// The numbers that lead to the slot from the root. There are none if it is the root's slot, or if there is no
+    /// root.
     pub path: Vec<u32, A>,
 }
 
 /// Tests whether the message `space` is refused within `limits`, and finds the path to the slot at which its walk
-/// stopped: `None`, if it is accepted.
+/// stopped. Returns `None` if the message is accepted.
 ///
-/// It surveys the message, and if that is refused it makes the visits up to the refused one again. Memory: the path on
+/// It surveys the message, and if that is refused, it repeats the visits up to the refused one. Memory: the path on
 /// `alloc`, which has at most two numbers for each level of the depth limit.
 pub fn path_of_refusal<S: Space, A: Allocator + Copy>(
     alloc: A,
@@ -41,11 +43,11 @@ pub fn path_of_refusal<S: Space, A: Allocator + Copy>(
     }
 }
 
-/// Finds the path to the slot at which the walk of the message `space` stopped: empty, if it is the root's, or if there
-/// is no root.
+/// Finds the path to the slot at which the walk of the message `space` stopped. The path is empty if that is the root's
+/// slot, or if there is no root.
 ///
-/// `stopped` is the stop of the walk of this message within these `limits`, as [`survey`] answers it. It makes the
-/// visits up to the refused one, and no survey. Memory: that of [`path_of_refusal`].
+/// `stopped` is the stop of the walk of this message within `limits`, as [`survey`] returns it. The visits up to the
+/// refused one are repeated, without a survey. Memory: that of [`path_of_refusal`].
 pub fn path_of_stop<S: Space, A: Allocator + Copy>(
     alloc: A,
     space: &S,

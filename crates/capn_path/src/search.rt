@@ -1,4 +1,4 @@
-//! The search among the visits of a walk.
+//! The search for a slot among the visits of a walk.
 
 ghost use Rattle.std.specs.Prelude.{◌≡◌, ℕ, ◌+◌, ◌*◌, ◌<◌, ◌≤◌, IfOk, IfSome, IfNone, None, OnErr, length};
 ghost use Rattle.std.specs.Prelude.{vec_capacity, vec_len};
@@ -16,12 +16,12 @@ use capn_target::{Shape, Target, resolve};
 use capn_words::{Memory, Place, Space, Width};
 use std::alloc::Allocator;
 
-/// Finds the first visit from the root of the message `space` on, at most `depth` objects deep, at whose slot `aim`
-/// finds something: returns the find, and the path to the slot. `None`: nothing is found at any.
+/// Finds the first visit at whose slot `aim` finds something, from the root of the message `space` on and at most
+/// `depth` objects deep. Returns the find and the path to the slot, or `None` if nothing is found at any visit.
 ///
-/// It makes the visits up to that one, and reads at most four words for each beside what `aim` reads. It looks at no
-/// price and no budget. `Memory` comes only if a growth of the path on `alloc` was refused; the path has at most two
-/// numbers for each level of `depth`. (Own.)
+/// It makes the visits up to the find, and reads at most four words for each in addition to what `aim` reads. It looks
+/// at no price and no budget. `Memory` is returned only if a growth of the path on `alloc` was refused. The path has at
+/// most two numbers for each level of `depth`. (Own.)
 pub fn seek<S: Space, G: Aim, A: Allocator + Copy>(
     alloc: A,
     space: &S,
@@ -29,12 +29,13 @@ pub fn seek<S: Space, G: Aim, A: Allocator + Copy>(
     aim: G,
 ) -> Result<Option<(G::Found, Vec<u32, A>)>, Memory>
     requires root { 0 < length (segment_at (S.message space.now) 0) }
-    // A find is the first.
+    // If `result` has a find, it is the first.
     ensures found { IfOk result (λ r. IfSome r
         (λ x. IsFirstFind (S.message space.now) G.finds G.next depth root aim x.1.items x.0)) }
-    // Without one, nothing is found at any visit.
+    // If `result` has no find, nothing is found at any visit.
     ensures none { IfOk result (λ r. IfNone r (IsWithoutFind (S.message space.now) G.finds G.next depth root aim)) }
-    // The root's slot takes no memory: it isn't the find, and objects may be below it.
+    // The root's slot itself needs no memory. If memory is refused, nothing was found there, and `depth` allows
+    // objects.
     ensures memory { OnErr result ((G.finds aim root (target (S.message space.now) root) ≡ None) × (0 < depth)) }
 {
     let mut aim = aim;
@@ -45,8 +46,8 @@ pub fn seek<S: Space, G: Aim, A: Allocator + Copy>(
     }
 }
 
-/// Looks for the first find of `aim` from the visit of the slot at `at` on, where objects are visited at most `depth`
-/// deep. `path` has the numbers that lead to that slot, and if something is found, those to its slot.
+/// Looks for the first find of `aim` from the visit of the slot at `at` on, at most `depth` objects deep. `path` has
+/// the numbers that lead to the slot at `at`. If something is found, `path` then leads to the slot of the find.
 #[cycle(seek)]
 fn seek_slot<S: Space, G: Aim, A: Allocator>(
     space: &S,
@@ -92,7 +93,7 @@ fn seek_slot<S: Space, G: Aim, A: Allocator>(
     }
 }
 
-/// Looks for it among the visits of the slots of an object of this `shape`, whose content starts at `start`.
+/// Looks for the first find among the visits of the slots of an object of `shape` whose content starts at `start`.
 #[cycle(seek)]
 fn seek_object<S: Space, G: Aim, A: Allocator>(
     space: &S,
@@ -141,7 +142,7 @@ fn seek_object<S: Space, G: Aim, A: Allocator>(
     }
 }
 
-/// Looks for it among the visits of `count` slots that lie one after the other from `first` on, numbered from 0.
+/// Looks for the first find among the visits of `count` consecutive slots from `first` on, numbered from 0.
 #[cycle(seek)]
 fn seek_slots<S: Space, G: Aim, A: Allocator>(
     space: &S,
@@ -175,8 +176,7 @@ fn seek_slots<S: Space, G: Aim, A: Allocator>(
     Ok(None)
 }
 
-/// Looks for it among the visits of the slots of `count` rows that lie one after the other from `first` on, numbered
-/// from 0.
+/// Looks for the first find among the visits of the slots of `count` consecutive rows from `first` on, numbered from 0.
 #[cycle(seek)]
 fn seek_rows<S: Space, G: Aim, A: Allocator>(
     space: &S,

@@ -13,16 +13,16 @@ use std::alloc::{Allocator, Global};
 /// A slot that a walk visits, and the path to it.
 #[derive(Debug, Drop)]
 pub struct Visited<A: Allocator = Global> {
-    /// The numbers that lead to it from the root: none to the root's slot.
+    /// The numbers that lead to the slot from the root. There are none to the root's slot.
     pub path: Vec<u32, A>,
-    /// Its place.
+    /// The place of the slot.
     pub place: Place,
 }
 
-/// The aim at one visit, by its number.
+/// The aim that finds one visit by its number.
 #[derive(Drop)]
 struct Numbered {
-    /// The number of visits that come before it.
+    /// The number of visits that still come before it.
     left: u32,
 }
 
@@ -44,12 +44,12 @@ impl Aim for Numbered {
     }
 }
 
-/// Finds the slot that the walk of the message `space` visits after `number` others, and the path to it: `None`, if
-/// there is no such visit.
+/// Finds the slot that the walk of the message `space` visits after `number` others, and the path to it. Returns `None`
+/// if there is no such visit.
 ///
-/// It makes the visits up to that one again, and reads at most four words for each. Of `limits` it looks at the depth,
-/// and at no price and no budget, so let `number` be below the visits that a survey answered or refused with. Memory:
-/// the path on `alloc`, which has at most two numbers for each level of the depth limit.
+/// It repeats the visits up to that one, and reads at most four words for each. It looks only at the depth of `limits`,
+/// at no price and no budget. So `number` should be below the number of visits that a survey returned, accepted or
+/// refused. Memory: the path on `alloc`, which has at most two numbers for each level of the depth limit.
 pub fn path_of_visit<S: Space, A: Allocator + Copy>(
     alloc: A,
     space: &S,
@@ -59,7 +59,7 @@ pub fn path_of_visit<S: Space, A: Allocator + Copy>(
     ensures found { IfOk result (λ r. IfSome r
         (λ v. IsVisited (S.message space.now) limits number v.path.items v.place)) }
     ensures none { IfOk result (λ r. IfNone r (IsNotVisited (S.message space.now) limits number)) }
-    // The path to the root's slot, which is visited first, takes no memory.
+    // The path to the root's slot, which is visited first, needs no memory.
     ensures memory { OnErr result (0 < number) }
 {
     if segment_length(space, Place::ROOT.segment) == 0 {

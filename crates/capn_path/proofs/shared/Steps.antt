@@ -12,7 +12,7 @@ use Rattle.capn_walk.proofs.shared.RowWalks.{row_places-add}
 use Rattle.capn_path.specs.Paths.{AreNumbersOf, Leads, Descends}
 use Rattle.capn_path.specs.Steps.{AreNumbersIn, DescendsTo}
 
--- how many slots there are
+-- the number of places
 pub length-places : (s w n : ℕ) → length (places s w n) ≡ n
 length-places s w zero = refl
 length-places s w (suc n) = ap suc (length-places s (w + 1) n)
@@ -25,7 +25,7 @@ length-rows s w a b (suc n) =
     let q = length-rows s (w + a + b) a b n in
     omega arith
 
--- the slots of the rows before row i, its own, and those of the rows after it
+-- the slots of the rows before row i, the slots of row i, and those of the rows after it
 pub row-split : (s w a b i n : ℕ) → i < n
     → row_places s w a b n
     ≡ row_places s w a b i
@@ -34,13 +34,13 @@ row-split s w a b i n lt =
     let e : n ≡ i + suc (n - suc i) = omega arith in
     ap (row_places s w a b) e ∙ row_places-add s w a b i (suc (n - suc i))
 
--- something in the middle of the second of three lists
+-- an element in the middle of the second of three lists
 pub middle : {A : Type 0} (xs before : List A) (x : A) (behind ys : List A)
     → xs ++ ((before ++ x ∷ behind) ++ ys) ≡ (xs ++ before) ++ x ∷ (behind ++ ys)
 middle xs before x behind ys =
     ap (λ zs. xs ++ zs) (append_assoc before (x ∷ behind) ys) ∙ sym (append_assoc xs before (x ∷ (behind ++ ys)))
 
--- the numbers say which of an object's slots is meant, and there are some
+-- the numbers lead to a slot of the object, and there are some
 numbers-of : (shape : Shape) (s start pads k : ℕ) (numbers : List ℕ) → AreNumbersIn shape k numbers
     → AreNumbersOf (targets.Content s start shape pads) k numbers × (0 < length numbers)
 numbers-of (shapes.Node a b) s start pads k numbers h = rw h (refl, omega arith)
@@ -48,12 +48,12 @@ numbers-of (shapes.Many width n) s start pads k numbers h = rw h (refl, omega ar
 numbers-of (shapes.Rows n a b span) s start pads k numbers h = rw h.are ((h.small, h.count), omega arith)
 
 module _ (m : List (List ℕ)) (base : ℕ) where
-  -- a slot leads to itself
+  -- a path without numbers leads from a slot to itself
   pub stays : (left : ℕ) (at : Place) → Leads m base left at [] at 0
   stays zero at = (refl, refl)
   stays (suc left) at = (refl, refl)
 
-  -- a step, and a path from there on
+  -- a step, followed by a path from there on, is a path
   pub goes : (left : ℕ) (at : Place) (path : List ℕ) (to : Place) (n : ℕ) → 0 < length path
       → Descends m base left (Leads m base left) at path to n → Leads m base (suc left) at path to n
   goes left at [] to n h g = absurd (omega arith)

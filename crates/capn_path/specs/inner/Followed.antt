@@ -1,4 +1,4 @@
--- A path that is followed, step by step: the slot to which it leads, and its holder.
+-- The following of a path, step by step: the slot to which it leads, and the slot's holder.
 use Rattle.std.specs.Prelude.{ℕ, zero, suc, ◌+◌, nat_lt, List, [], ◌∷◌, Result, Ok, Option, Some, None}
 use Rattle.std.specs.Prelude.{if◌then◌else◌}
 use Rattle.capn_words.specs.declared.space.Place.{Place}
@@ -15,7 +15,8 @@ use Rattle.capn_path.specs.declared.holder.Holder.TheVariants.{Struct, Pointers,
 use Rattle.capn_path.specs.declared.holder.Spot.{Spot}
 use Rattle.capn_path.specs.Holders.{place, row_start}
 
--- the slot of a holder that the first number of a path says, of n from a place on, and the rest of the path
+-- the slot to which the first number of a path leads among n slots of `holder` from `first` on, and the rest of the
+-- path
 abbrev pub step_among : Holder → Place → ℕ → List ℕ → Option (Spot × List ℕ)
 step_among holder first n [] = None
 step_among holder first n (i ∷ path) =
@@ -23,7 +24,8 @@ step_among holder first n (i ∷ path) =
     then Some (record { holder = Some holder; place = place first.segment (first.word + i) }, path)
     else None
 
--- the slot of a row that the first two numbers of a path say, of n rows of a words and b slots each
+-- the slot to which the first two numbers of a path lead among n rows of a words and b slots each, and the rest of the
+-- path
 abbrev pub step_in_rows : ℕ → ℕ → ℕ → ℕ → ℕ → List ℕ → Option (Spot × List ℕ)
 step_in_rows s start n a b [] = None
 step_in_rows s start n a b (row ∷ path) =
@@ -31,25 +33,25 @@ step_in_rows s start n a b (row ∷ path) =
     then step_among (Row row n (place s (row_start start a b row))) (place s (row_start start a b row + a)) b path
     else None
 
--- the slot of an object that the first numbers of a path say
+-- the slot to which the first numbers of a path lead in an object, and the rest of the path
 abbrev pub step_in : ℕ → ℕ → Shape → List ℕ → Option (Spot × List ℕ)
 step_in s start (shapes.Node a b) path = step_among (Struct a b (place s start)) (place s (start + a)) b path
 step_in s start (shapes.Many Link n) path = step_among (Pointers n (place s start)) (place s start) n path
 step_in s start (shapes.Many width n) path = None
 step_in s start (shapes.Rows n a b span) path = step_in_rows s start n a b path
 
--- the step from a target
+-- the slot to which the first numbers of a path lead from a target, and the rest of the path
 abbrev pub step_by : Result Target Fault → List ℕ → Option (Spot × List ℕ)
 step_by (Ok (targets.Content s start shape pads)) path = step_in s start shape path
 step_by found path = None
 
--- on from a step, if it leads anywhere
+-- the slot to which the rest of a path leads after a step, if the step leads to a slot
 abbrev pub onward : (Spot → List ℕ → Option Spot) → Option (Spot × List ℕ) → Option Spot
 onward follow (Some x) = follow x.0 x.1
 onward follow None = None
 
 module _ (message : List (List ℕ)) where
-  -- the slot that a path leads to from a slot, where no more steps than so many are needed
+  -- the slot to which a path leads from `here`, if the path has at most as many numbers as the first argument
   abbrev pub follow : ℕ → Spot → List ℕ → Option Spot
   follow zero here path = Some here
   follow (suc n) here [] = Some here
@@ -59,7 +61,7 @@ module _ (message : List (List ℕ)) where
 abbrev pub start : Spot
 start = record { holder = None; place = root }
 
--- the holder of the slot to which a path was followed
+-- the holder of the slot to which a path leads
 abbrev pub holder_at : Option Spot → Option Holder
 holder_at (Some x) = x.holder
 holder_at None = None

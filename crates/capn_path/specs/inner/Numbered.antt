@@ -5,10 +5,10 @@ use Rattle.capn_target.specs.declared.target.Target.{Target}
 use Rattle.capn_target.specs.declared.target.Fault.{Fault}
 use Rattle.capn_path.specs.declared.visit.Numbered.{Numbered}
 
--- a slot is found by its place when no more visits come before it
+-- the place of a slot, if no further visit has to come before it
 abbrev pub found_at : Numbered → Place → Result Target Fault → Option Place
 found_at aim at named = if aim.left == 0 then Some at else None
 
--- one visit less
+-- the aim after one visit
 abbrev pub one_less : Numbered → Numbered
 one_less aim = record { left = aim.left - 1 }

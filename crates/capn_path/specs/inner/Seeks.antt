@@ -1,4 +1,4 @@
--- The outcome of a search among visits: the first find, and the path to its slot.
+-- The outcome of a search among visits: the first find and the path to its slot, or none.
 use Rattle.std.specs.Prelude.{◌≡◌, ℕ, List, ◌++◌, Option, Some, None, Result}
 use Rattle.capn_words.specs.declared.space.Place.{Place}
 use Rattle.capn_target.specs.declared.target.Target.{Target}
@@ -10,16 +10,17 @@ use Rattle.capn_path.specs.Paths.{Leads}
 
 module _ {G F : Type 0} (m : List (List ℕ)) (finds : G → Place → Result Target Fault → Option F) (next : G → G)
     (base : ℕ) where
-  -- the first find, and the old path with the numbers to it; or none, the aim after all, and the path as it was
+  -- either `x` is the first find and the new path continues the old one to its slot, or nothing is found, `after` is
+  -- the aim that is left, and the path is as it was
   abbrev pub SeeksIn : List Visit → (List ℕ → Place → ℕ → Type 0) → G → G → List ℕ → List ℕ → Option F → Type 0
   SeeksIn vs leads aim after old new (Some x) =
       (rest : List ℕ) × (new ≡ old ++ rest) × Meets m finds next vs leads aim rest x
   SeeksIn vs leads aim after old new None = (new ≡ old) × IsPassed m finds next aim vs after
 
-  -- among those from a slot on
+  -- the outcome of a search among the visits from the slot at `at` on
   abbrev pub Seeks : ℕ → Place → G → G → List ℕ → List ℕ → Option F → Type 0
   Seeks depth at = SeeksIn (visits m base depth at) (Leads m base depth at)
 
-  -- among those from several slots on
+  -- the outcome of a search among the visits from the slots `ps` on
   abbrev pub SeeksBelow : ℕ → List Place → (ℕ → List ℕ → Type 0) → G → G → List ℕ → List ℕ → Option F → Type 0
   SeeksBelow depth ps are = SeeksIn (visits_of m base depth ps) (DescendsTo m base depth ps are)
