@@ -1,4 +1,4 @@
--- A place in range is before the end of its message. (For `long_place_byte`.)
+-- Lemmas for `long_place_byte`: a place in range is before the end of its message.
 use Rattle.std.proofs.Common.{◌≡◌, ℕ, ◌+◌, ◌<◌, ◌≤◌, nat_lt, Bool, true, false, List, [], length, take, arith, ap, refl}
 use Rattle.std.specs.List.{sum_by}
 use Rattle.std.proofs.lemmas.Bool.Decides.{nat_tests}
@@ -14,10 +14,9 @@ module _ (m : List (List ℕ)) (s w : ℕ) (h : w < length (segment_at m s)) whe
       let none : length (segment_at m s) ≡ 0 = ap length (get_or-eq_default m [] past) in
       absurd (omega arith)
 
-  -- its segment exists
   pub has_segment : s < length m
   has_segment = exists-by (nat_lt s (length m)) refl
 
-  -- the words before it, in its segment and in those before, are fewer than all
+  -- The words before the place, in its segment and in those before, are fewer than all words of the message.
   pub before_end : sum_by length (take s m) + w < sum_by length m
   before_end = let all = sum_by_more_le length m s [] has_segment in omega arith

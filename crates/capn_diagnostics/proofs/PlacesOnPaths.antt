@@ -1,5 +1,5 @@
--- A path leads to places in range, and what holds the slot there begins at one. (For `slot_lines` and
--- `text_of_holder`.)
+-- Lemmas for `slot_lines` and `text_of_holder`: a path leads to a slot in range, and the object that holds it begins at
+-- a place in range.
 use Rattle.std.proofs.Common.{◌≡◌, inl, inr, ℕ, zero, suc, ◌+◌, ◌*◌, ◌<◌, ◌≤◌, List, [], ◌∷◌, ◌++◌, length}
 use Rattle.std.proofs.Common.{◌-◌, Ok, refl, ap, sym, subst, arith, length-append}
 use Rattle.std.proofs.lemmas.Nat.{row_fits, row_below_turned, div-mul-add}
@@ -38,14 +38,14 @@ rows-length s w a b (suc n) =
     let more = rows-length s (w + a + b) a b n in
     omega arith
 
--- a list with a place in it isn't empty
+-- A list with a place in it is not empty.
 some-of : (ps before : List Place) (p : Place) (behind : List Place) → ps ≡ before ++ p ∷ behind → 0 < length ps
 some-of ps before p behind e = let l = length-append before (p ∷ behind) in let n = ap length e in omega arith
 
 no-slot : (before : List Place) (p : Place) (behind : List Place) → [] ≡ before ++ p ∷ behind → ⊥
 no-slot before p behind e = let n = some-of [] before p behind e in omega arith
 
--- a slot of n rows is in one of them
+-- A slot of `n` rows is in one of them.
 low-row : (row slot b n : ℕ) → slot < b → row * b + slot < n * b → row < n
 low-row row slot b n h k =
     let q = row_below_turned (row * b + slot) b n b k (omega arith) in rw (div-mul-add row b slot h) at q.1
@@ -99,7 +99,7 @@ module _ (m : List (List ℕ)) where
       let j = h.1 in
       in-rows s (start + 1) a b n (omega arith)
 
-  -- a slot below what a place in range names is in range
+  -- The slots below the target of a place in range are in range.
   slot-in : (at : Place) (t : Target) (before : List Place) (p : Place) (behind : List Place) → IsPlace m at
       → target m at ≡ Ok t → slots_below t ≡ before ++ p ∷ behind → IsPlace m p
   slot-in at t before p behind h e s =
@@ -107,7 +107,7 @@ module _ (m : List (List ℕ)) where
 
   -- ---- a path
 
-  -- a path from a place in range leads to one
+  -- A path from a place in range leads to a place in range.
   led-in : (base d : ℕ) (from : Place) (path : List ℕ) (to : Place) (n : ℕ) → IsPlace m from
       → Leads m base d from path to n → IsPlace m to
   led-in base zero from [] to n h l = subst (IsPlace m) (sym l.0) h
@@ -116,9 +116,9 @@ module _ (m : List (List ℕ)) where
   led-in base (suc d) from (i ∷ path) to n h l =
       led-in base d l.slot l.rest to l.later (slot-in from l.found l.before l.slot l.behind h l.names l.slots) l.onward
 
-  -- ---- what holds a slot
+  -- ---- the object that holds a slot
 
-  -- an object of which these numbers say a slot begins at a place in range
+  -- The object that holds a slot below a target begins at a place in range.
   held-in : (t : Target) (numbers : List ℕ) (before : List Place) (p : Place) (behind : List Place)
       (holder : Holder) → IsInMessage m t → slots_below t ≡ before ++ p ∷ behind
       → AreNumbersOf t (length before) numbers → IsHeldIn t numbers holder → IsPlace m (beginning holder)
@@ -168,7 +168,7 @@ module _ (m : List (List ℕ)) where
   held-in (targets.Content s start (shapes.Rows n x y span) pads) (row ∷ slot ∷ k ∷ ks) ps p qs holder h e a held =
       absurd held
 
-  -- what holds the slot to which a path leads begins at a place in range
+  -- The object that holds the slot to which a path leads begins at a place in range.
   pub holder-in : (path : List ℕ) (to : Place) (holder : Holder) → IsPlace m root → IsHolder m path to holder
       → IsPlace m (beginning holder)
   holder-in path to holder h x =
@@ -176,16 +176,16 @@ module _ (m : List (List ℕ)) where
       held-in x.found x.numbers x.before to x.behind holder (found-inside m x.from x.found from x.names) x.slots x.are
       x.held
 
-  -- ---- where a walk stops
+  -- ---- the place where a walk stops
 
   module _ (limits : Bounds) (stopped : Stopped) where
-    -- a message whose walk made a visit has a root
+    -- A message whose walk made a visit has a root.
     rooted : IsWalkRefused m limits stopped.fault stopped.place stopped.paid stopped.visits
         → (stopped.visits ≡ 0 → ⊥) → 0 < length (segment_at m 0)
     rooted (inl h) some = absurd (some h.4)
     rooted (inr h) some = h.0
 
-    -- one whose walk made none has none
+    -- A message whose walk made no visit has no root.
     rootless : IsWalkRefused m limits stopped.fault stopped.place stopped.paid stopped.visits
         → stopped.visits ≡ 0 → length (segment_at m 0) ≡ 0
     rootless (inl h) none = h.0
@@ -202,7 +202,7 @@ module _ (m : List (List ℕ)) where
         pub path-there : IsPathTo m limits (stopped.visits - 1) path stopped.place
         path-there = h.leads (some-visit stopped.visits some)
 
-        -- its walk stopped at a place in range
+        -- The walk stopped at a place in range.
         pub stopped-in : IsPlace m stopped.place
         stopped-in =
             led-in (base limits.tariff) limits.depth root path stopped.place (stopped.visits - 1) has-root path-there

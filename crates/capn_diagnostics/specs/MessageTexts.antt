@@ -1,4 +1,4 @@
--- The lines of a message that is explained.
+-- The lines that explain a message.
 use Rattle.std.specs.Prelude.{◌≡◌, ℕ, ◌+◌, nat_lt, min, List, [], ◌∷◌, ◌++◌, take, length, Option, Some, None, codes}
 use Rattle.std.specs.Prelude.{refl, if◌then◌else◌}
 use Rattle.std.specs.Fmt.{decimal, digits}
@@ -21,23 +21,23 @@ use Rattle.capn_diagnostics.specs.declared.count_text.CountText.TheVariants as c
 
 -- ---- `message` and `segments`
 
--- numbers, each behind a comma
+-- The numbers, each behind a comma.
 abbrev pub behind_commas : List ℕ → List ℕ
 behind_commas [] = []
 behind_commas (n ∷ ns) = codes ", " ++ (decimal n ++ behind_commas ns)
 
--- numbers with commas between them
+-- The numbers with commas between them.
 abbrev pub listed : List ℕ → List ℕ
 listed [] = codes ""
 listed (n ∷ ns) = decimal n ++ behind_commas ns
 
--- the sizes of segments, if there are two or more: those of the first eight
+-- The sizes of segments, which are shown if there are two or more. Those of the first eight are listed.
 abbrev pub sizes_text : ℕ → List ℕ → List ℕ
 sizes_text count first =
     if nat_lt count 2 then codes ""
     else codes ": " ++ (listed (take (min count 8) first) ++ (if nat_lt 8 count then codes ", .." else codes ""))
 
--- the segments of a message: the words of each of the first eight, none behind the last segment
+-- The sizes of the segments of a message. Behind the last segment the size is 0.
 abbrev pub segments_of : List (List ℕ) → SegmentsText
 segments_of message = record {
   count = length message;
@@ -47,37 +47,37 @@ segments_of message = record {
       ∷ length (segment_at message 6) ∷ length (segment_at message 7) ∷ [];
 }
 
--- the number of segments, and of words in all
+-- The number of segments, the number of words in all, and the sizes.
 abbrev pub segments_text : SegmentsText → List ℕ
 segments_text s =
     decimal s.count ++ (codes " of " ++ (decimal s.words ++ (codes " words" ++ sizes_text s.count s.first)))
 
--- the line of the segments, if all sizes are known
+-- The line of the segments, if all sizes are known.
 abbrev pub segments_line : Option SegmentsText → List ℕ
 segments_line (Some segments) = line (codes "segments: ") (segments_text segments)
 segments_line None = codes ""
 
--- the number of a message, counted from 1, its offset, and its segments
+-- The number of a message, counted from 1, its offset, and its segments.
 abbrev pub head_lines : MessageHead → List ℕ
 head_lines head =
     codes "message: " ++ (decimal (head.index + 1) ++ (codes " at " ++ (decimal head.offset ++ (codes "\n"
     ++ segments_line head.segments))))
 
--- ---- a message that its walk refuses
+-- ---- a message that is refused in its walk
 
--- the slot, if there is a root
+-- The lines of the slot, if there is a root.
 abbrev pub some_slot : Option SlotLines → List ℕ
 some_slot (Some slot) = slot_lines slot.path.now slot.holder slot.examined
 some_slot None = codes ""
 
--- all lines
+-- All lines of a message that is refused in its walk.
 abbrev pub refused_lines : MessageHead → Stopped → Option SlotLines → List ℕ
 refused_lines head stopped slot =
     head_lines head ++ (codes "refused: " ++ (stopped_text stopped ++ (codes "\n" ++ some_slot slot)))
 
 -- ---- a message whose frame, packing or length is refused
 
--- the part of a message that came
+-- The line of the sizes behind a refusal, if it has one.
 abbrev pub key_line : FrameKey → List ℕ
 key_line keys.Nothing = codes ""
 key_line (keys.There came) = codes "there: " ++ (decimal came ++ codes " bytes\n")
@@ -89,18 +89,18 @@ key_line (keys.Group byte tag needs came) =
     codes "group: byte " ++ (decimal byte ++ (codes " of the packed input, tag " ++ (encode_lower (tag ∷ [])
     ++ (codes ": needs " ++ (decimal needs ++ (codes " bytes, " ++ (decimal came ++ codes " came\n")))))))
 
--- all lines, of which the fault's text is given
+-- All lines of a message whose frame, packing or length is refused with the text `fault`.
 abbrev pub frame_lines : MessageHead → List ℕ → FrameKey → List ℕ
 frame_lines head fault key =
     head_lines head ++ (codes "refused: " ++ (fault ++ (codes "\n" ++ key_line key)))
 
 -- ---- a message that is accepted
 
--- a word as its bytes, and as a pointer
+-- A word as its bytes, and as the pointer that they are.
 abbrev pub word_says : ℕ → List ℕ
 word_says word = word_text word ++ (codes " (" ++ (pointer_text (pointer_of word) ++ codes ")"))
 
--- yes, if it is canonical, else the reason why not
+-- The line `yes` if the message is canonical, and the reason if it is not.
 abbrev pub canonical_text : CanonicalText → List ℕ
 canonical_text forms.Yes = codes "yes"
 canonical_text (forms.Segments count) = codes "no: " ++ (decimal count ++ codes " segments")
@@ -119,7 +119,7 @@ canonical_text (forms.After byte word) =
     codes "no: at byte " ++ (decimal byte ++ (codes ": " ++ (word_text word
     ++ codes ", canonical nothing, after the value")))
 
--- the lengths of its contents and of its canonical bytes, if these are known
+-- The line of two lengths, if they are known: that of the message's contents, and that of its canonical bytes.
 abbrev pub lengths_line : Option (ℕ × ℕ) → List ℕ
 lengths_line (Some lengths) =
     codes "lengths: " ++ (decimal lengths.0 ++ (codes " bytes, canonical " ++ (decimal lengths.1 ++ codes "\n")))
@@ -127,7 +127,7 @@ lengths_line None = codes ""
 
 -- ---- no message
 
--- the reason why none is explained
+-- The reason why no message is explained.
 abbrev pub count_text : CountText → List ℕ
 count_text (counts.NoneRefused count) = decimal count ++ codes " messages, none refused"
 count_text (counts.Fewer count) = decimal count ++ codes " messages"

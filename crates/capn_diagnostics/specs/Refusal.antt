@@ -1,4 +1,4 @@
--- The whole explanation of a message that its walk refuses. (Own.)
+-- The whole explanation of a message that is refused in its walk. (Own.)
 use Rattle.std.specs.Prelude.{◌≡◌, ℕ, ◌<◌, List, [], ◌∷◌, length, Option, Some, None, codes, refl}
 use Rattle.std.specs.Fmt.{digits}
 use Rattle.capn_words.specs.Message.{segment_at}
@@ -20,25 +20,25 @@ use Rattle.capn_diagnostics.specs.declared.holder_text.HolderText.{HolderText}
 use Rattle.capn_diagnostics.specs.declared.holder_text.HolderText.TheVariants as texts
 use Rattle.capn_diagnostics.specs.declared.message_text.MessageHead.{MessageHead}
 
--- the place at which the words of a struct, the elements of a list of pointers, or a row begin
+-- The place at which the words of a struct, the elements of a list of pointers, or a row begin.
 abbrev pub beginning : Holder → Place
 beginning (holders.Struct words slots at) = at
 beginning (holders.Pointers count at) = at
 beginning (holders.Row row count at) = at
 
 module _ (message : List (List ℕ)) (offset table : ℕ) where
-  -- an object that holds a slot, with the byte where it begins
+  -- An object that holds a slot, with the byte at which it begins.
   abbrev pub with_byte : Holder → HolderText
   with_byte (holders.Struct words slots at) = texts.Struct words slots (place_byte offset table message at)
   with_byte (holders.Pointers count at) = texts.Pointers count (place_byte offset table message at)
   with_byte (holders.Row row count at) = texts.Row row count (place_byte offset table message at)
 
-  -- the holder with its byte, if there is one
+  -- The object that holds a slot with its byte, if there is one.
   abbrev pub with_byte_if : Option Holder → Option HolderText
   with_byte_if (Some holder) = Some (with_byte holder)
   with_byte_if None = None
 
-  -- the findings about the slot at which a walk stopped
+  -- The findings about the slot at which the walk stopped.
   abbrev pub examined_at : Bounds → Stopped → Examined
   examined_at limits stopped = record {
     slot = slots.placed message offset table stopped.place;
@@ -49,30 +49,32 @@ module _ (message : List (List ℕ)) (offset table : ℕ) where
     limit = slots.limit_of message limits stopped.place stopped.paid stopped.fault;
   }
 
-  -- the text of the object that holds the slot to which a path leads: of the root's there is none
+  -- `path` leads to the slot at `to`, and `text` is the text of the object that holds this slot. It is `None` for the
+  -- slot of the root.
   pub record IsHolderText (path : List ℕ) (to : Place) (text : Option HolderText) : Type 0 where
     pub holder : Option Holder
     pub holds : IsHolderOrRoot message path to holder
     pub is : text ≡ with_byte_if holder
 
-  -- the lines of the slot at which a walk stopped: the path to it, the object that holds it, and the findings
+  -- `lines` are those of the slot at which the walk stopped: the path to it, the object that holds it, and the
+  -- findings.
   pub record AreLinesOf (limits : Bounds) (path : List ℕ) (stopped : Stopped) (lines : SlotLines) : Type 0 where
     pub numbers : lines.path.now ≡ path
     pub holder : IsHolderText path stopped.place lines.holder
     pub examined : lines.examined ≡ examined_at limits stopped
 
-  -- these are those lines, if the message has a root; if it has none, there are no lines
+  -- The given lines are those of the slot at which the walk stopped. There are none if the message has no root.
   abbrev pub AreLinesIf : Bounds → List ℕ → Stopped → Option SlotLines → Type 0
   AreLinesIf limits path stopped (Some lines) =
       (0 < length (segment_at message 0)) × AreLinesOf limits path stopped lines
   AreLinesIf limits path stopped None = length (segment_at message 0) ≡ 0
 
--- the number of messages before one, the byte at which its table begins, and its segments
+-- The head of the lines: the number of messages before this one, the byte at which its table begins, and its segments.
 abbrev pub head : List (List ℕ) → ℕ → ℕ → MessageHead
 head message index offset = record { index = index; offset = offset; segments = Some (segments_of message) }
 
--- a message is refused, and the text has the lines that explain it: its head, the refusal, and the slot at which its
--- walk stopped, if it has a root
+-- `message` is refused, and `text` has the lines that explain it: its head, the refusal, and the lines of the slot at
+-- which the walk stopped, if it has a root.
 pub record IsRefusalTold (message : List (List ℕ)) (limits : Bounds) (index offset table : ℕ) (stopped : Stopped)
     (text : List ℕ) : Type 0 where
   pub path : List ℕ
@@ -81,7 +83,7 @@ pub record IsRefusalTold (message : List (List ℕ)) (limits : Bounds) (index of
   pub lines : AreLinesIf message offset table limits path stopped slot
   pub is : text ≡ refused_lines (head message index offset) stopped slot
 
--- ---- the second row of three, whose slot holds it and whose words begin at byte 72; and a message without a root
+-- ---- examples: the second row of three, which holds a slot and begins at byte 72, and a message without a root
 
 a_row : with_byte ((0 ∷ 1 ∷ 2 ∷ 3 ∷ 4 ∷ 5 ∷ 6 ∷ 7 ∷ 8 ∷ []) ∷ []) 24 1 (holders.Row 1 3 (place 0 5))
     ≡ texts.Row 1 3 72

@@ -1,5 +1,5 @@
--- The findings about the slot at which the walk of a message was refused. The target of a slot, and each fault in its
--- order, is that of `target`. (Own.)
+-- The findings about the slot at which the walk over a message was refused. The target of a slot, and the order of its
+-- faults, are those of `target`. (Own.)
 use Rattle.std.specs.Prelude.{ℕ, ◌+◌, ◌-◌, ◌*◌, ◌==◌, nat_lt, ℤ, pos, negsuc, ◌+ℤ◌, Bool, true, false, List, length}
 use Rattle.std.specs.Prelude.{Option, Some, None, Result, Ok, Err, if◌then◌else◌}
 use Rattle.capn_words.specs.Message.{segment_at, word_at}
@@ -26,25 +26,24 @@ use Rattle.capn_diagnostics.specs.declared.examined.RowWords.{RowWords}
 use Rattle.capn_diagnostics.specs.declared.examined.Limit.{Limit}
 use Rattle.capn_diagnostics.specs.declared.examined.Limit.TheVariants as bounds
 
--- the words that a pointer says its content takes, without an offset
+-- The number of words that the content of a pointer takes.
 abbrev pub words_told : Pointer → ℕ
 words_told (Node o a b) = a + b
 words_told (Many o width n) = content_words width n
 words_told _ = 0
 
--- the reference of a pointer to a struct or list at a word of a segment
+-- The reference of a pointer to a struct or list, which lies at word `w` of segment `s`.
 abbrev pub told_near : ℕ → ℕ → Pointer → Option Telling
 told_near s w (Node o a b) = Some (record { segment = s; from = w + 1; offset = o; form = Node o a b })
 told_near s w (Many o width n) = Some (record { segment = s; from = w + 1; offset = o; form = Many o width n })
 told_near s w _ = None
 
--- the word at which content begins that does not begin before word 0
+-- The word that lies an offset after `from`, if it is not before word 0.
 abbrev pub begins : ℕ → ℤ → Option ℕ
 begins from (pos n) = Some (from + n)
 begins from (negsuc n) = if nat_lt n from then Some (from - (n + 1)) else None
 
--- the number of rows that a tag counts, of the words of each and of all together, and of those that the list's pointer
--- gives them
+-- The number of rows that a tag counts, the words of each and of all, and the words that the list's pointer gives them.
 abbrev pub row_words : ℕ → ℕ → RowWords
 row_words tag span = record {
   count = field 2 30 tag;
@@ -53,47 +52,50 @@ row_words tag span = record {
   span = span;
 }
 
--- the words that a visit of a slot asks for, if each content costs `each` beside its size: 0, if it is a fault
+-- The price of the visit of a slot, in words, where each content costs `each` in addition to its size. It is 0 for a
+-- fault.
 abbrev pub asked : ℕ → Result Target Fault → ℕ
 asked each (Ok found) = toll each found
 asked each (Err e) = 0
 
--- the rows of a list of structs by its tag
+-- The rows that a tag counts, if the pointer is one to a list of structs.
 abbrev pub rows_by : ℕ → Pointer → Option RowWords
 rows_by tag (Many o Rows n) = Some (row_words tag n)
 rows_by tag _ = None
 
 module _ (message : List (List ℕ)) where
-  -- true if n words from a word on are inside a segment
+  -- True if the `n` words from word `w` of segment `s` on are inside it.
   abbrev pub has_words : ℕ → ℕ → ℕ → Bool
   has_words s w n = if nat_lt (length (segment_at message s)) (w + n) then false else true
 
   -- ---- the reference of a pointer to content
 
-  -- the second word of a pad of two, whose first leads to a segment that exists
+  -- The reference of a landing pad of two words, whose second word is `form`, to word `w` of segment `s`, if that
+  -- exists.
   abbrev pub told_there : ℕ → ℕ → Pointer → Option Telling
   told_there s w form =
       if nat_lt s (length message) then Some (record { segment = s; from = w; offset = pos 0; form = form }) else None
 
-  -- the two words of a pad
+  -- The reference of the two words of a landing pad, if they are valid.
   abbrev pub told_two : Pointer → Pointer → Option Telling
   told_two (Far false w s) tag = if is_second_pad message tag then told_there s w tag else None
   told_two _ tag = None
 
-  -- a pointer at word w of segment s, or its landing pad, if the whole pad is inside its segment
+  -- The reference of a pointer at word `w` of segment `s`, or of its landing pad, if the whole pad is inside its
+  -- segment.
   abbrev pub told_by : ℕ → ℕ → Pointer → Option Telling
   told_by s w (Far false v t) = if has_words t v 1 then told_near t v (pointer_in message t v) else None
   told_by s w (Far true v t) =
       if has_words t v 2 then told_two (pointer_in message t v) (pointer_in message t (v + 1)) else None
   told_by s w near_pointer = told_near s w near_pointer
 
-  -- the slot at a place, if it leads to content
+  -- The reference of the slot at `at`, if it leads to content.
   abbrev pub told : Place → Option Telling
   told at = told_by at.segment at.word (pointer_in message at.segment at.word)
 
   -- ---- `content`
 
-  -- the words to which a pointer refers
+  -- The words that a reference covers.
   abbrev pub stretch : Telling → Stretch
   stretch t = record {
     segment = t.segment;
@@ -102,23 +104,24 @@ module _ (message : List (List ℕ)) where
     length = length (segment_at message t.segment);
   }
 
-  -- those words, if a pointer refers to some
+  -- The words that a reference covers, if there is one.
   abbrev pub stretch_told : Option Telling → Option Stretch
   stretch_told None = None
   stretch_told (Some t) = Some (stretch t)
 
-  -- n words from a word of a segment on
+  -- The `n` words of segment `s` from word `w` on.
   abbrev pub words_at : ℕ → ℕ → ℕ → Stretch
   words_at s w n =
       record { segment = s; start = pos w; end = pos (w + n); length = length (segment_at message s) }
 
-  -- the landing pad of a far pointer, also if it isn't inside its segment
+  -- The words of the landing pad of a far pointer, even if they are not inside their segment.
   abbrev pub pad_stretch : Pointer → Option Stretch
   pad_stretch (Far false w s) = Some (words_at s w 1)
   pad_stretch (Far true w s) = Some (words_at s w 2)
   pad_stretch _ = None
 
-  -- by the fault: the content that isn't inside its segment, or whose rows have no room; or such a pad
+  -- The words that the fault of the slot at `at` is about. They are content that is not inside its segment or has no
+  -- room for its rows, or a landing pad that is not inside its segment.
   abbrev pub content_of : Place → Fault → Option Stretch
   content_of at faults.Range = stretch_told (told at)
   content_of at faults.TagOverrun = stretch_told (told at)
@@ -127,38 +130,38 @@ module _ (message : List (List ℕ)) where
 
   -- ---- `tag` and `rows`
 
-  -- the place of a tag, if it and n words after it are inside their segment
+  -- The place of a tag, if it and the `n` words after it are inside segment `s`.
   abbrev pub tag_from : ℕ → ℕ → Option ℕ → Option Place
   tag_from s n None = None
   tag_from s n (Some start) = if has_words s start (1 + n) then Some (record { segment = s; word = start }) else None
 
-  -- the place of the tag, if the pointer is to a list of structs
+  -- The place of the tag, if the pointer is one to a list of structs.
   abbrev pub tag_told : ℕ → ℕ → ℤ → Pointer → Option Place
   tag_told s from offset (Many o Rows n) = tag_from s n (begins from offset)
   tag_told s from offset _ = None
 
-  -- the place of the tag of the list of structs to which a pointer refers
+  -- The place of the tag of the list of structs to which a reference leads.
   abbrev pub tag_in : Option Telling → Option Place
   tag_in None = None
   tag_in (Some t) = tag_told t.segment t.from t.offset t.form
 
-  -- the tag of the list to which the slot at a place leads, if it is reached
+  -- The place of the tag of the list to which the slot at `at` leads, if the list is inside its segment.
   abbrev pub tag_at : Place → Option Place
   tag_at at = tag_in (told at)
 
-  -- the rows of a list whose tag is at a place
+  -- The rows of the list to which a reference leads, as its tag counts them.
   abbrev pub rows_in : Option Telling → Option Place → Option RowWords
   rows_in (Some t) (Some at) = rows_by (word_at message at) t.form
   rows_in t at = None
 
-  -- its rows, if they have no room
+  -- The rows of the list to which the slot at `at` leads, if the fault is that they have no room.
   abbrev pub rows_of : Place → Fault → Option RowWords
   rows_of at faults.TagOverrun = rows_in (told at) (tag_at at)
   rows_of at _ = None
 
   -- ---- `limit`
 
-  -- the limit that a fault is about
+  -- The limit that a fault is about.
   abbrev pub limit_of : Bounds → Place → ℕ → Fault → Option Limit
   limit_of limits at paid faults.TooDeep = Some (bounds.Depth limits.depth)
   limit_of limits at paid faults.OverBudget = Some (bounds.Budget (asked (base limits.tariff) (target message at))
@@ -169,37 +172,37 @@ module _ (message : List (List ℕ)) where
   -- ---- `slot` and `pad`
 
   module _ (offset table : ℕ) where
-    -- a word with its byte
+    -- The word at `at` with its byte.
     abbrev pub placed : Place → SlotText
     placed at = record { byte = place_byte offset table message at; place = at; word = word_at message at }
 
-    -- the word at a place, if there is one
+    -- The word at a place with its byte, if there is a place.
     abbrev pub placed_some : Option Place → Option SlotText
     placed_some None = None
     placed_some (Some at) = Some (placed at)
 
-    -- the tag of the list to which the slot at a place leads, if it is reached
+    -- The tag of the list to which the slot at `at` leads, if the list is inside its segment.
     abbrev pub tag_of : Place → Option SlotText
     tag_of at = placed_some (tag_at at)
 
-    -- a landing pad of one word, if it is inside its segment
+    -- The landing pad of one word at word `w` of segment `s`, if it is inside the segment.
     abbrev pub pad_of_one : ℕ → ℕ → Pad
     pad_of_one s w =
         if has_words s w 1 then pads.One (placed (record { segment = s; word = w })) else pads.Absent
 
-    -- a landing pad of two words, if both are inside their segment
+    -- The landing pad of two words at word `w` of segment `s`, if both are inside the segment.
     abbrev pub pad_of_two : ℕ → ℕ → Pad
     pad_of_two s w =
         if has_words s w 2
         then pads.Two (placed (record { segment = s; word = w })) (placed (record { segment = s; word = w + 1 }))
         else pads.Absent
 
-    -- the landing pad of a far pointer
+    -- The landing pad of a far pointer.
     abbrev pub pad_by : Pointer → Pad
     pad_by (Far false w s) = pad_of_one s w
     pad_by (Far true w s) = pad_of_two s w
     pad_by _ = pads.Absent
 
-    -- the landing pad of the slot at a place
+    -- The landing pad of the pointer in the slot at `at`.
     abbrev pub pad_of : Place → Pad
     pad_of at = pad_by (pointer_in message at.segment at.word)

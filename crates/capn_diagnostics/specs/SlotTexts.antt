@@ -15,19 +15,19 @@ use Rattle.capn_diagnostics.specs.declared.holder_text.HolderText.TheVariants as
 
 -- ---- texts
 
--- the place of words
+-- The text of words of a segment, with the length of the segment.
 abbrev pub stretch_text : Stretch → List ℕ
 stretch_text s =
     codes "words " ++ (signed_decimal s.start ++ (codes " to " ++ (signed_decimal s.end ++ (codes " of segment "
     ++ (decimal s.segment ++ (codes ", which has " ++ decimal s.length))))))
 
--- rows that have no room
+-- The text of rows that have no room.
 abbrev pub rows_text : RowWords → List ℕ
 rows_text r =
     decimal r.count ++ (codes " of " ++ (decimal r.each ++ (codes " words each: " ++ (decimal r.words
     ++ (codes " of the list's " ++ decimal r.span)))))
 
--- a limit
+-- The text of a limit.
 abbrev pub limit_text : Limit → List ℕ
 limit_text (bounds.Depth depth) = codes "--depth " ++ decimal depth
 limit_text (bounds.Budget asks left budget) =
@@ -35,7 +35,7 @@ limit_text (bounds.Budget asks left budget) =
     ++ decimal budget))))
 limit_text (bounds.Segments count) = decimal count ++ codes " segments"
 
--- the object that holds a slot
+-- The text of the object that holds a slot.
 abbrev pub holder_text : HolderText → List ℕ
 holder_text (holders.Struct words slots byte) =
     codes "struct of " ++ (decimal words ++ (codes " words and " ++ (decimal slots ++ (codes " slots at byte "
@@ -45,53 +45,53 @@ holder_text (holders.Pointers count byte) =
 holder_text (holders.Row row count byte) =
     codes "row " ++ (decimal row ++ (codes " of " ++ (decimal count ++ (codes " at byte " ++ decimal byte))))
 
--- a word that is read as a pointer
+-- The text of a word that is read as a pointer.
 abbrev pub word_as_pointer : SlotText → List ℕ
 word_as_pointer s = slot_text s.byte s.place s.word
 
--- a word that is read as a tag
+-- The text of a word that is read as a tag.
 abbrev pub word_as_tag : SlotText → List ℕ
 word_as_tag s = word_at_text s.byte s.place s.word (tag_text s.word)
 
--- ---- lines, each where there is something to say
+-- ---- lines, each empty if there is nothing to show
 
--- a key, and a text
+-- A line with a key and a text.
 abbrev pub line : List ℕ → List ℕ → List ℕ
 line key text = key ++ (text ++ codes "\n")
 
--- the object that holds the slot: none holds the root's
+-- The line of the object that holds the slot. It is empty for the slot of the root.
 abbrev pub holder_line : Option HolderText → List ℕ
 holder_line (Some holder) = line (codes "in: ") (holder_text holder)
 holder_line None = codes ""
 
--- the words of the landing pad
+-- The lines of the words of the landing pad.
 abbrev pub pad_lines : Pad → List ℕ
 pad_lines pads.Absent = codes ""
 pad_lines (pads.One word) = line (codes "pad: ") (word_as_pointer word)
 pad_lines (pads.Two first second) =
     line (codes "pad: ") (word_as_pointer first) ++ line (codes "pad: ") (word_as_pointer second)
 
--- the tag
+-- The line of the tag.
 abbrev pub tag_line : Option SlotText → List ℕ
 tag_line (Some word) = line (codes "tag: ") (word_as_tag word)
 tag_line None = codes ""
 
--- the place of the content or of the pad
+-- The line of the content, or of a landing pad, that is not inside its segment.
 abbrev pub content_line : Option Stretch → List ℕ
 content_line (Some s) = line (codes "content: ") (stretch_text s)
 content_line None = codes ""
 
--- the rows
+-- The line of the rows.
 abbrev pub rows_line : Option RowWords → List ℕ
 rows_line (Some r) = line (codes "rows: ") (rows_text r)
 rows_line None = codes ""
 
--- the limit
+-- The line of the limit.
 abbrev pub limit_line : Option Limit → List ℕ
 limit_line (Some limit) = line (codes "limit: ") (limit_text limit)
 limit_line None = codes ""
 
--- the findings, with the path to the slot and the object that holds it
+-- The lines of the findings, with the path to the slot and the object that holds it.
 abbrev pub slot_lines : List ℕ → Option HolderText → Examined → List ℕ
 slot_lines path holder e =
     line (codes "way: ") (path_text path) ++ (line (codes "slot: ") (word_as_pointer e.slot) ++ (holder_line holder

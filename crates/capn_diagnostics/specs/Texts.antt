@@ -13,7 +13,7 @@ use Rattle.capn_words.specs.declared.pointer.Width.TheVariants.{W0, W1, W8, W16,
 
 -- ---- the text of a word as a pointer
 
--- the elements of a list
+-- The kind of the elements of a list, in the plural.
 abbrev pub elements_text : Width → List ℕ
 elements_text W0 = codes "voids"
 elements_text W1 = codes "bits"
@@ -24,15 +24,15 @@ elements_text W64 = codes "u64"
 elements_text Link = codes "pointers"
 elements_text Rows = codes "structs"
 
--- a number of words and a number of slots
+-- The text of a number of words and a number of slots.
 abbrev pub sizes_text : ℕ → ℕ → List ℕ
 sizes_text words slots = decimal words ++ (codes " words and " ++ (decimal slots ++ codes " slots"))
 
--- a place
+-- The text of a place.
 abbrev pub place_text : ℕ → ℕ → List ℕ
 place_text segment word = codes "segment " ++ (decimal segment ++ (codes " word " ++ decimal word))
 
--- the text of a pointer
+-- The text of a pointer.
 abbrev pub pointer_text : Pointer → List ℕ
 pointer_text Nil = codes "null"
 pointer_text (Node offset words slots) =
@@ -48,7 +48,7 @@ pointer_text (Far true word segment) = codes "double far to " ++ place_text segm
 pointer_text (Cap index) = codes "capability " ++ decimal index
 pointer_text (Reserved word) = codes "reserved"
 
--- the text of a word as the tag of a list of structs, if it has the kind of a struct; else as a pointer
+-- The text of a word as the tag of a list of structs, if it has the kind of a struct, and as a pointer if not.
 abbrev pub tag_text : ℕ → List ℕ
 tag_text word =
     if field 0 2 word == 0
@@ -58,28 +58,28 @@ tag_text word =
 
 -- ---- words and slots
 
--- the bytes of a word in the order in which they lie, two hexadecimal digits each
+-- The bytes of a word in the order in which they lie, as two hexadecimal digits each.
 abbrev pub word_text : ℕ → List ℕ
 word_text word = encode_lower (word_bytes word)
 
--- a word at a byte and a place, and its text as a pointer
+-- The text of a word with its byte, its place, its bytes, and the text `says`.
 abbrev pub word_at_text : ℕ → Place → ℕ → List ℕ → List ℕ
 word_at_text byte at word says =
     codes "byte " ++ (decimal byte ++ (codes ", " ++ (place_text at.segment at.word ++ (codes ": "
     ++ (word_text word ++ (codes ": " ++ says))))))
 
--- a slot
+-- The text of a slot.
 abbrev pub slot_text : ℕ → Place → ℕ → List ℕ
 slot_text byte at word = word_at_text byte at word (pointer_text (pointer_of word))
 
 -- ---- paths
 
--- numbers, each behind a dot
+-- The numbers, each behind a dot.
 abbrev pub dotted : List ℕ → List ℕ
 dotted [] = []
 dotted (n ∷ path) = codes "." ++ (decimal n ++ dotted path)
 
--- a path
+-- The text of a path.
 abbrev pub path_text : List ℕ → List ℕ
 path_text [] = codes "root"
 path_text (first ∷ path) = decimal first ++ dotted path

@@ -1,4 +1,4 @@
-//! The byte at which a word of a message lies.
+//! The offset of a word of a message in its stream, in bytes.
 
 ghost use Rattle.std.specs.Prelude.{◌<◌, ◌≤◌, ◌≡◌, ◌^◌, length};
 ghost use Rattle.capn_words.specs.Message.{IsPlace};
@@ -8,8 +8,8 @@ use capn_words::{Place, Space};
 
 /// Returns the byte of a stream at which the word at `at` of the message `space` lies.
 ///
-/// `offset` is that of the message, in bytes, and `table` the number of words of its table: 0 for a bare segment. It
-/// asks for the length of each segment before that of the word.
+/// `offset` is the byte at which the message begins, and `table` is the number of words of its table, which is 0 for a
+/// bare segment. The call asks `space` for the length of each segment before that of the word.
 #[tactic(auto, using(std::proofs::lemmas::List::Sums::sum_by_more_le, std::proofs::lemmas::List::Sums::fold_more))]
 pub fn place_byte<S: Space>(space: &S, offset: u64, table: u32, at: Place) -> u64
     requires segment { at.segment ≤ length (S.message space.now) }
@@ -26,7 +26,8 @@ pub fn place_byte<S: Space>(space: &S, offset: u64, table: u32, at: Place) -> u6
     offset + 8 * (table as u64 + before as u64 + at.word as u64)
 }
 
-/// Returns that byte for a place in range, also if it passes 64 bits.
+/// Returns the byte of a stream at which the word at `at` lies, as `place_byte` does. The place has to be in range, and
+/// the byte may pass 64 bits.
 #[tactic(auto, using(crate::proofs::PlaceWithin::before_end, crate::proofs::PlaceWithin::has_segment))]
 pub(crate) fn long_place_byte<S: Space>(space: &S, offset: u64, table: u32, at: Place) -> u128
     requires { IsPlace (S.message space.now) at }

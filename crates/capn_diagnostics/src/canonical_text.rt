@@ -1,33 +1,34 @@
-//! The answer to the question if a message is canonical, as a text.
+//! The line that says whether a message is canonical, or why it is not.
 
 use crate::path_text::PathText;
 use crate::pointer_text::PointerText;
 use crate::word_text::WordText;
 use std::fmt;
 
-/// The answer to the question if a message is canonical, displayed in one line without its end: it is, or the reason
-/// why not.
+/// A finding on whether a message is canonical, displayed in one line without its newline: `yes`, or the reason why
+/// not.
 #[derive(Clone, Copy, Debug, PartialEq, Eq)]
 pub enum CanonicalText<'a> {
-    /// It is canonical.
+    /// The message is canonical.
     Yes,
-    /// It has more than one segment: their number.
+    /// The message has more than one segment. The number is that of its segments.
     Segments(u32),
-    /// It has a capability: its index, and the path to it.
+    /// The message has a capability, with this index and the path to it.
     Capability(u32, &'a [u32]),
-    /// A word differs from the canonical one that is a pointer: its byte, both words, and the path to the pointer's
-    /// slot.
+    /// A word differs from the canonical one, and is a pointer. Its byte, the word, the canonical word, and the path to
+    /// the pointer's slot follow.
     Pointer(u128, u64, u64, &'a [u32]),
-    /// A word differs from the canonical one that is a tag: its byte, both words, and the path to the list's slot.
+    /// A word differs from the canonical one, and is a tag. Its byte, the word, the canonical word, and the path to the
+    /// list's slot follow.
     Tag(u128, u64, u64, &'a [u32]),
-    /// A word differs from the canonical one that is the last of a list: its byte, both words, and the path to the
-    /// list's slot.
+    /// A word differs from the canonical one, and is the last of a list. Its byte, the word, the canonical word, and
+    /// the path to the list's slot follow.
     LastWord(u128, u64, u64, &'a [u32]),
-    /// A word stands where the canonical bytes have ended: its byte, and the word.
+    /// A word stands behind the end of the canonical bytes. Its byte, and the word, follow.
     After(u128, u64),
 }
 
-/// A word, displayed as its bytes and as the pointer that it is.
+/// A word, displayed as its bytes and then as the pointer that they are.
 #[derive(Drop)]
 struct WordSays(u64);
 

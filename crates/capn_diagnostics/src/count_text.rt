@@ -1,13 +1,13 @@
-//! The line of a run that explains no message.
+//! The line of a run that finds no message to explain.
 
 use std::fmt;
 
-/// The reason why no message is explained, displayed in one line without its end.
+/// The reason why no message is explained, displayed in one line without its newline.
 #[derive(Clone, Copy, Debug, PartialEq, Eq)]
 pub enum CountText {
-    /// None of the messages is refused: their number.
+    /// No message is refused. The number is that of all messages.
     NoneRefused(u64),
-    /// There is no message of the number that was asked for: the number of those that are there.
+    /// There is no message with the number that was given. The number is that of all messages.
     Fewer(u64),
 }
 

@@ -1,4 +1,4 @@
-//! The examination of the slot at which the walk of a message was refused.
+//! The examination of the slot at which the walk over a message was refused.
 
 ghost use Rattle.std.specs.Prelude.{◌≡◌, ◌<◌, ◌≤◌, ◌^◌, pos, ◌+ℤ◌, IfSome};
 ghost use Rattle.capn_words.specs.Message.{IsPlace};
@@ -15,7 +15,7 @@ use capn_target::{Fault, pointer_at, segment_length};
 use capn_walk::{Limits, Stopped};
 use capn_words::{Place, Pointer, Space};
 
-/// Returns the word to which `offset` leads from the word `from`.
+/// Returns the word that lies `offset` words after the word `from`.
 fn led(from: u64, offset: i32) -> i64
     requires { from < 2 ^ 42 }
     ensures { result ≡ (pos from +ℤ offset) }
@@ -23,7 +23,7 @@ fn led(from: u64, offset: i32) -> i64
     from as i64 + offset as i64
 }
 
-/// Returns the words to which a pointer refers.
+/// Returns the words that the reference `told` of a pointer covers.
 fn stretch_of<S: Space>(space: &S, told: Telling) -> Stretch
     requires { told.from ≤ 2 ^ 32 }
     ensures { result ≡ spec.stretch (S.message space.now) told }
@@ -37,7 +37,7 @@ fn stretch_of<S: Space>(space: &S, told: Telling) -> Stretch
     }
 }
 
-/// Returns the words to which a pointer refers, if it refers to some.
+/// Returns the words that the reference `told` of a pointer covers, if there is a reference.
 fn stretch_told<S: Space>(space: &S, told: Option<Telling>) -> Option<Stretch>
     requires { IfSome told (λ t. t.from ≤ 2 ^ 32) }
     ensures { result ≡ spec.stretch_told (S.message space.now) told }
@@ -48,8 +48,8 @@ fn stretch_told<S: Space>(space: &S, told: Option<Telling>) -> Option<Stretch>
     }
 }
 
-/// Returns the content that isn't inside its segment or has no room for its rows, or such a landing pad, by the
-/// `fault`.
+/// Returns the words that the `fault` of the slot at `at` is about. They are content that is not inside its segment or
+/// has no room for its rows, or a landing pad that is not inside its segment.
 fn content_of<S: Space>(
     space: &S,
     at: Place,
@@ -70,7 +70,7 @@ fn content_of<S: Space>(
     }
 }
 
-/// Returns the limit that a refusal is about.
+/// Returns the limit that the refusal `stopped` is about, if it is about one.
 fn limit_of<S: Space>(space: &S, limits: Limits, stopped: Stopped) -> Option<Limit>
     requires { IsPlace (S.message space.now) stopped.place }
     ensures { result ≡ spec.limit_of (S.message space.now) limits stopped.place stopped.paid stopped.fault }
@@ -87,7 +87,7 @@ fn limit_of<S: Space>(space: &S, limits: Limits, stopped: Stopped) -> Option<Lim
     }
 }
 
-/// Returns the word at `at` with its byte, if there is a place.
+/// Returns the word at `at` with its byte, if `at` is a place.
 fn placed_some<S: Space>(space: &S, offset: u64, table: u32, at: Option<Place>) -> Option<SlotText>
     requires { IfSome at (λ at. IsPlace (S.message space.now) at) }
     ensures { result ≡ spec.placed_some (S.message space.now) offset table at }
@@ -98,11 +98,12 @@ fn placed_some<S: Space>(space: &S, offset: u64, table: u32, at: Option<Place>) 
     }
 }
 
-/// Examines the slot at which the walk of the message `space` was refused within `limits`.
+/// Examines the slot at which the walk over the message `space` was refused within `limits`.
 ///
-/// `offset` is the byte of its stream at which the message's table begins, and `table` the number of words that it
-/// takes: 0 for a bare segment. The slot of `stopped` has to be a place of the message, as it is after each refusal but
-/// `NoRoot`. It reads at most twelve words, asks for the length of each segment a few times, and takes no memory.
+/// `offset` is the byte of the stream at which the message's table begins, and `table` is the number of words that the
+/// table takes, which is 0 for a bare segment. The slot of `stopped` has to be a place of the message, as it is after
+/// each refusal but `NoRoot`. The call reads at most twelve words, asks for the length of each segment a few times, and
+/// takes no memory.
 pub fn examine<S: Space>(
     space: &S,
     offset: u64,

@@ -2,10 +2,10 @@
 
 use crate::slot_text::SlotText;
 
-/// The landing pad of a slot.
+/// The landing pad of the pointer in a slot.
 #[derive(Clone, Copy, Debug, PartialEq, Eq)]
 pub enum Pad {
-    /// The slot is no far pointer, or its pad isn't inside its segment.
+    /// There is no pad to show: the pointer is not far, or its pad is not inside its segment.
     Absent,
     /// A pad of one word.
     One(SlotText),
@@ -13,56 +13,56 @@ pub enum Pad {
     Two(SlotText, SlotText),
 }
 
-/// Words of a segment, at the place that a pointer gives them: perhaps outside the segment, and before its first word.
+/// The words of a segment that a pointer refers to. They may lie outside the segment, even before its first word.
 #[derive(Clone, Copy, Debug, PartialEq, Eq)]
 pub struct Stretch {
-    /// The segment.
+    /// The number of the segment.
     pub segment: u32,
     /// The first of the words.
     pub start: i64,
-    /// The word after the last of them.
+    /// The word behind the last of the words.
     pub end: i64,
-    /// The number of words of the segment.
+    /// The length of the segment in words.
     pub length: u32,
 }
 
-/// The rows of a list of structs, as its tag counts them.
+/// The rows of a list of structs, with the sizes that its tag and its pointer give.
 #[derive(Clone, Copy, Debug, PartialEq, Eq)]
 pub struct RowWords {
     /// The number of rows.
     pub count: u32,
-    /// The words of each.
+    /// The words of one row.
     pub each: u32,
-    /// The words of all.
+    /// The words of all rows.
     pub words: u64,
-    /// The words that the list's pointer gives them, without the tag.
+    /// The words that the list's pointer gives to the rows, without the tag.
     pub span: u32,
 }
 
-/// The limit that a refusal is about.
+/// The limit that a refusal is about, with the numbers to compare.
 #[derive(Clone, Copy, Debug, PartialEq, Eq)]
 pub enum Limit {
-    /// The number of objects that a walk goes deep.
+    /// The limit on depth, in objects.
     Depth(u32),
-    /// The words that the visit asks for, those that were left, and the budget.
+    /// The price of the visit, what was left of the budget, and the budget, all in words.
     Budget(u64, u32, u32),
     /// The number of segments of the message.
     Segments(u32),
 }
 
-/// The findings about the slot at which the walk of a message was refused.
+/// The findings about the slot at which the walk over a message was refused.
 #[derive(Clone, Copy, Debug, PartialEq, Eq)]
 pub struct Examined {
-    /// The slot.
+    /// The slot and its word.
     pub slot: SlotText,
-    /// Its landing pad.
+    /// The landing pad of the slot's pointer.
     pub pad: Pad,
-    /// The tag of the list of structs to which it leads, if that was reached.
+    /// The tag of the list of structs to which the slot leads, if the tag is inside its segment.
     pub tag: Option<SlotText>,
-    /// The content, if it is refused with `Range` or `TagOverrun`; the landing pad, if with `PadRange`.
+    /// The words of the content, if the fault is `Range` or `TagOverrun`, or of the landing pad, if it is `PadRange`.
     pub content: Option<Stretch>,
-    /// The rows, if it is refused with `TagOverrun`.
+    /// The rows, if the fault is `TagOverrun`.
     pub rows: Option<RowWords>,
-    /// The limit, if it is refused with `TooDeep`, `OverBudget` or `NoSegment`.
+    /// The limit, if the fault is `TooDeep`, `OverBudget` or `NoSegment`.
     pub limit: Option<Limit>,
 }

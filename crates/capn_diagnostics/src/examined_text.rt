@@ -61,7 +61,7 @@ impl fmt::Display for Limit {
     }
 }
 
-/// The word of a tag.
+/// The word of a tag, displayed with its byte, its place and its bytes.
 #[derive(Drop)]
 struct TagAt(SlotText);
 
@@ -84,7 +84,7 @@ impl fmt::Display for TagAt {
     }
 }
 
-/// The line of the object that holds a slot.
+/// The line `in:`, about the object that holds a slot, or nothing.
 #[derive(Drop)]
 struct HolderLine(Option<HolderText>);
 
@@ -102,7 +102,7 @@ impl fmt::Display for HolderLine {
     }
 }
 
-/// The lines of a landing pad.
+/// The lines `pad:`, one for each word of a landing pad, or nothing.
 #[derive(Drop)]
 struct PadLines(Pad);
 
@@ -124,7 +124,7 @@ impl fmt::Display for PadLines {
     }
 }
 
-/// The line of a tag.
+/// The line `tag:`, or nothing.
 #[derive(Drop)]
 struct TagLine(Option<SlotText>);
 
@@ -142,7 +142,7 @@ impl fmt::Display for TagLine {
     }
 }
 
-/// The line of the content.
+/// The line `content:`, about words outside their segment, or nothing.
 #[derive(Drop)]
 struct ContentLine(Option<Stretch>);
 
@@ -160,7 +160,7 @@ impl fmt::Display for ContentLine {
     }
 }
 
-/// The line of the rows.
+/// The line `rows:`, about rows that have no room, or nothing.
 #[derive(Drop)]
 struct RowsLine(Option<RowWords>);
 
@@ -178,7 +178,7 @@ impl fmt::Display for RowsLine {
     }
 }
 
-/// The line of a limit.
+/// The line `limit:`, or nothing.
 #[derive(Drop)]
 struct LimitLine(Option<Limit>);
 
@@ -196,14 +196,14 @@ impl fmt::Display for LimitLine {
     }
 }
 
-/// The findings about the slot at which the walk of a message was refused, displayed in lines.
+/// The findings about the slot at which the walk over a message was refused, displayed in lines.
 #[derive(Clone, Copy, Debug, PartialEq, Eq)]
 pub struct SlotLines<'a> {
-    /// The numbers that lead to it from the root.
+    /// The numbers that lead from the root to the slot.
     pub path: &'a [u32],
-    /// The object that holds it: `None` for the root's.
+    /// The object that holds the slot, or `None` for the slot of the root.
     pub holder: Option<HolderText>,
-    /// The findings.
+    /// The findings about the slot.
     pub examined: Examined,
 }
 

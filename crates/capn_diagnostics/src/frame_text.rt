@@ -1,24 +1,23 @@
-//! The lines of a frame, a packing or a length that is refused.
+//! The line about a message whose frame, packing or length is refused.
 
 ghost use Rattle.std.specs.Prelude.{◌≡◌, [], ◌∷◌};
 ghost use Rattle.hex.specs.Hex.{encode_lower};
 
 use std::{fmt, str};
 
-/// The part that came of a message whose frame, packing or length is refused, displayed in a line with its end; or in
-/// no bytes.
+/// The sizes behind the refusal of a frame, a packing or a length, displayed in a line with its newline, or as nothing.
 #[derive(Clone, Copy, Debug, PartialEq, Eq)]
 pub enum FrameKey {
-    /// The fault has no such line.
+    /// Nothing, since the fault has no such line.
     Nothing,
-    /// The bytes that came of a bare message.
+    /// The bytes of a bare message that were read.
     There(u64),
-    /// The bytes that came of a framed message, and those that it has at least.
+    /// The bytes of a framed message that were read, and the number that it has at least.
     AtLeast(u64, u64),
     /// The segments or words that a table announces, and the most that are allowed.
     Announced(u64, u64),
     /// A group of a packed input: the byte at which it begins, its tag, the bytes that it has at least, and those that
-    /// came.
+    /// were read.
     Group(u64, u8, u64, u64),
 }
 
@@ -27,12 +26,12 @@ fn digits_of(byte: u8) -> [u8; 2]
     ensures { result ≡ encode_lower (byte ∷ []) }
 {
     let mut digits = [0u8; 2];
-    // Two digits have room, so nothing is refused.
+    // The array has room for both digits, so the call cannot fail.
     let _done = hex::encode_to_slice([byte], &mut digits);
     digits
 }
 
-/// The bits of a byte, displayed in two hexadecimal digits in lower case.
+/// A byte, displayed as two hexadecimal digits in lower case.
 #[derive(Drop)]
 struct ByteText(u8);
 

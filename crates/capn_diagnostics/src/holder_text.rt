@@ -9,23 +9,24 @@ use capn_path::Holder;
 use capn_words::Space;
 use std::fmt;
 
-/// The object that holds a slot, displayed in one line without its end.
+/// The object that holds a slot, displayed in one line without its newline.
 #[derive(Clone, Copy, Debug, PartialEq, Eq)]
 pub enum HolderText {
-    /// A struct: its words, its slots, and the byte at which it begins.
+    /// A struct, with its data words, its slots, and the byte at which it begins.
     Struct(u16, u16, u128),
-    /// A list of pointers: their number, and the byte at which the first is.
+    /// A list of pointers, with their number, and the byte of the first.
     Pointers(u32, u128),
-    /// A row of a list of structs: its number, counted from 0, the number of rows, and the byte at which it begins.
+    /// A row of a list of structs, with its number, counted from 0, the number of rows, and the byte at which it
+    /// begins.
     Row(u32, u32, u128),
 }
 
 impl HolderText {
-    /// Returns the text of `holder`, an object that holds a slot of the message `space`; it has to begin at a place in
+    /// Returns the text of `holder`, an object of the message `space` that holds a slot. It has to begin at a place in
     /// range.
     ///
-    /// `offset` is the byte of its stream at which the message's table begins, and `table` the number of words that it
-    /// takes: 0 for a bare segment.
+    /// `offset` is the byte of the stream at which the message's table begins, and `table` is the number of words that
+    /// the table takes, which is 0 for a bare segment.
     pub fn of<S: Space>(space: &S, offset: u64, table: u32, holder: Holder) -> HolderText
         requires { IsPlace (S.message space.now) (spec.beginning holder) }
         ensures { result ≡ spec.with_byte (S.message space.now) offset table holder }

@@ -1,16 +1,17 @@
-//! The texts in which a message is explained.
+//! The texts that explain a message: its place and size, the refused slot, and the words that lead to its content.
 //!
 //! - [`PointerText`] displays a word as a pointer, and [`TagText`] as the tag of a list of structs.
 //! - [`WordText`] displays the bytes of a word, in the order in which they lie.
 //! - [`SlotText`] displays a slot: the byte and the place of its word, its bytes, and the pointer that they are.
 //! - [`PathText`] displays the path from the root to a slot.
-//! - [`place_byte`] answers the byte of a stream at which a word of a message lies.
-//! - [`examine`] examines the slot at which the walk of a message was refused: the words that lead to its content, the
-//!   place of that, and the limit that the refusal is about.
-//! - [`explain_stop`] answers all lines that explain a message at which the walk has stopped.
-//! - [`RefusedLines`] and [`FrameLines`] display all lines that explain a refused message, and [`CountText`] the line
-//!   if there is none to explain. Their parts are [`MessageHead`], [`SegmentsText`], [`SlotLines`], [`HolderText`] and
-//!   [`FrameKey`]. [`CanonicalText`] says of an accepted message that it is canonical, or why it isn't.
+//! - [`place_byte`] returns the byte of a stream at which a word of a message lies.
+//! - [`examine`] examines the slot at which the walk over a message was refused. It finds the words that lead to the
+//!   slot's content, the place of the content, and the limit that the refusal is about.
+//! - [`explain_stop`] returns all lines that explain a message at which the walk has stopped.
+//! - [`RefusedLines`] and [`FrameLines`] display all lines that explain a refused message. Their parts are
+//!   [`MessageHead`], [`SegmentsText`], [`SlotLines`], [`HolderText`] and [`FrameKey`].
+//! - [`CountText`] displays the line of a run that finds no message to explain.
+//! - [`CanonicalText`] displays whether an accepted message is canonical, or why it is not.
 #![tactic(auto)]
 
 mod byte_of_place;

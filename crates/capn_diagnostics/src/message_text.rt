@@ -1,4 +1,4 @@
-//! The lines of a message that is explained.
+//! The lines about a message that is explained.
 
 use crate::examined_text::SlotLines;
 use crate::frame_text::FrameKey;
@@ -9,15 +9,15 @@ use std::fmt;
 /// The place and the size of a message, displayed in lines.
 #[derive(Clone, Copy, Debug, PartialEq, Eq)]
 pub struct MessageHead {
-    /// The number of messages before it.
+    /// The number of messages before this one.
     pub index: u64,
-    /// The byte of the stream at which its table begins.
+    /// The byte of the stream at which the message's table begins.
     pub offset: u64,
-    /// Its segments, if the sizes of all are known.
+    /// The segments of the message, if all their sizes are known.
     pub segments: Option<SegmentsText>,
 }
 
-/// The line of a message's segments.
+/// The line `segments:`, or nothing.
 #[derive(Drop)]
 struct SegmentsLine(Option<SegmentsText>);
 
@@ -42,7 +42,7 @@ impl fmt::Display for MessageHead {
     ghost output = { λ head. Some (head_lines head) };
 
     fn fmt<W: fmt::Write>(&self, f: &mut fmt::Formatter<W>) -> fmt::Result {
-        // The greatest index has a number past 64 bits.
+        // Messages are numbered from 1, so the number of the greatest index passes 64 bits.
         let number = u128::from(self.index) + 1;
         let offset = self.offset;
         write!(
@@ -53,18 +53,18 @@ impl fmt::Display for MessageHead {
     }
 }
 
-/// A message that its walk refuses, displayed in lines.
+/// The lines about a message that was refused in its walk.
 #[derive(Clone, Copy, Debug, PartialEq, Eq)]
 pub struct RefusedLines<'a> {
-    /// Its place and its size.
+    /// The place and the size of the message.
     pub head: MessageHead,
-    /// The reason, and the place at which its walk stopped.
+    /// The reason for the refusal, and the place at which the walk stopped.
     pub stopped: Stopped,
-    /// The findings about the slot: `None`, if there is no root.
+    /// The findings about the slot, or `None` if there is no root.
     pub slot: Option<SlotLines<'a>>,
 }
 
-/// The lines of a slot.
+/// The lines about a slot, or nothing.
 #[derive(Drop)]
 struct SomeSlot<'a>(Option<SlotLines<'a>>);
 
@@ -95,14 +95,14 @@ impl<'a> fmt::Display for RefusedLines<'a> {
     }
 }
 
-/// A message whose frame, packing or length is refused, displayed in lines.
+/// The lines about a message whose frame, packing or length is refused.
 #[derive(Clone, Copy, Debug, PartialEq, Eq)]
 pub struct FrameLines<'a> {
-    /// Its place and its size.
+    /// The place and the size of the message.
     pub head: MessageHead,
     /// The text of the fault.
     pub fault: &'a str,
-    /// The part of it that came.
+    /// The sizes behind the refusal.
     pub key: FrameKey,
 }
 

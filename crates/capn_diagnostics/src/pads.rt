@@ -1,4 +1,4 @@
-//! The landing pad of a slot.
+//! The landing pad of a slot's pointer.
 
 ghost use Rattle.std.specs.Prelude.{◌≡◌};
 ghost use Rattle.capn_diagnostics.specs.Slot as spec;
@@ -9,7 +9,7 @@ use crate::telling::has_words;
 use capn_target::segment_length;
 use capn_words::{Place, Pointer, Space};
 
-/// Returns the `count` words from `word` of `segment` on.
+/// Returns the `count` words of `segment` that begin at `word`.
 fn words_at<S: Space>(space: &S, segment: u32, word: u32, count: u32) -> Stretch
     ensures { result ≡ spec.words_at (S.message space.now) segment word count }
 {
@@ -21,7 +21,8 @@ fn words_at<S: Space>(space: &S, segment: u32, word: u32, count: u32) -> Stretch
     }
 }
 
-/// Returns the landing pad of `pointer`, also if it isn't inside its segment; `None`, if it is no far pointer.
+/// Returns the words of the landing pad of `pointer`, even if they are not inside their segment. Returns `None` if
+/// `pointer` is not far.
 pub(crate) fn pad_stretch<S: Space>(space: &S, pointer: Pointer) -> Option<Stretch>
     ensures { result ≡ spec.pad_stretch (S.message space.now) pointer }
 {
@@ -61,7 +62,7 @@ pub(crate) fn pad_by<S: Space>(space: &S, offset: u64, table: u32, pointer: Poin
     }
 }
 
-/// Returns the landing pad of one word at `word` of `segment`, if it is inside that.
+/// Returns the landing pad of one word at `word` of `segment`, if it is inside the segment.
 fn one_word<S: Space>(space: &S, offset: u64, table: u32, segment: u32, word: u32) -> Pad
     ensures { result ≡ spec.pad_of_one (S.message space.now) offset table segment word }
 {
@@ -72,7 +73,7 @@ fn one_word<S: Space>(space: &S, offset: u64, table: u32, segment: u32, word: u3
     }
 }
 
-/// Returns the landing pad of two words at `word` of `segment`, if both are inside that.
+/// Returns the landing pad of two words at `word` of `segment`, if both are inside the segment.
 fn two_words<S: Space>(space: &S, offset: u64, table: u32, segment: u32, word: u32) -> Pad
     ensures { result ≡ spec.pad_of_two (S.message space.now) offset table segment word }
 {

@@ -2,8 +2,8 @@
 
 use std::fmt;
 
-/// The numbers that lead from the root of a message to a slot, displayed with dots between them; or `root`, if there
-/// are none.
+/// The numbers that lead from the root of a message to a slot, displayed with dots between them. An empty path is
+/// displayed as `root`.
 #[derive(Clone, Copy, Debug, PartialEq, Eq)]
 pub struct PathText<'a>(pub &'a [u32]);
 

@@ -6,7 +6,7 @@ ghost use Rattle.capn_words.specs.Pointers.{pointer_of};
 use capn_words::{Pointer, Width, split};
 use std::fmt;
 
-/// A word read as a pointer, displayed in one line without its end.
+/// A word read as a pointer, displayed in one line without its newline.
 #[derive(Clone, Copy, Debug, PartialEq, Eq)]
 pub struct PointerText(pub Pointer);
 
@@ -19,7 +19,7 @@ impl PointerText {
     }
 }
 
-/// The kind of the elements of a list.
+/// The kind of the elements of a list, displayed in the plural.
 #[derive(Drop)]
 struct Elements(Width);
 
@@ -43,7 +43,7 @@ impl fmt::Display for Elements {
     }
 }
 
-/// The fields of a pointer to a list.
+/// The fields of a pointer to a list, displayed as the text of that pointer.
 #[derive(Drop)]
 struct List {
     offset: i32,

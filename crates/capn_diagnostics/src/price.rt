@@ -1,4 +1,4 @@
-//! The price that a visit of a slot asks for.
+//! The price of the visit of a slot.
 
 ghost use Rattle.std.specs.Prelude.{◌≡◌};
 ghost use Rattle.capn_words.specs.Message.{IsPlace};
@@ -12,7 +12,8 @@ use capn_value::Tariff;
 use capn_walk::price_of;
 use capn_words::{Place, Space};
 
-/// Returns the words that a step to `target` asks for.
+/// Returns the price of a visit whose target is `target`, in words. `base` is the price of an object in addition to its
+/// size.
 fn toll_of(target: Target, base: u32) -> u64
     ensures { result ≡ toll base target }
 {
@@ -27,7 +28,7 @@ fn toll_of(target: Target, base: u32) -> u64
     }
 }
 
-/// Returns the words that a visit of the slot at `at` asks for: 0, if it is a fault.
+/// Returns the price of the visit of the slot at `at`, in words. It is 0 if the target of the slot is a fault.
 pub(crate) fn asked<S: Space>(space: &S, tariff: Tariff, at: Place) -> u64
     requires { IsPlace (S.message space.now) at }
     ensures { result ≡ spec.asked (base tariff) (target (S.message space.now) at) }

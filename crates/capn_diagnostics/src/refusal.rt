@@ -1,4 +1,4 @@
-//! The explanation of a message that its walk refuses.
+//! The explanation of a message that was refused in its walk.
 
 ghost use Rattle.std.specs.Prelude.{◌≡◌, ℕ, ◌<◌, length, IfOk};
 ghost use Rattle.capn_words.specs.Message.{segment_at};
@@ -19,22 +19,22 @@ use capn_walk::{Limits, Stopped};
 use capn_words::{Memory, Place, Space};
 use std::alloc::{Allocator, Global};
 
-/// A message that its walk refuses, explained.
+/// The explanation of a message that was refused in its walk.
 #[derive(Debug, Drop)]
 pub struct Explanation<A: Allocator = Global> {
-    /// The reason, and the place at which its walk stopped.
+    /// The reason for the refusal, and the place at which the walk stopped.
     pub stopped: Stopped,
-    /// The lines that explain it, as [`RefusedLines`] displays them.
+    /// The lines of the explanation, as [`RefusedLines`] displays them.
     pub text: Vec<u8, A>,
 }
 
-/// Explains the message `space`, whose walk `stopped`: returns the lines.
+/// Explains why the walk over the message `space` was refused with `stopped`, and returns the lines.
 ///
-/// `stopped` is the stop of the walk of this message within these `limits`, as [`survey`](capn_walk::survey) answers
-/// it. `index` is the number of messages before it, `offset` the byte of the stream at which its table begins, and
-/// `table` the number of words that it takes: 0 for a bare segment. It makes the visits up to the refused one, and no
-/// survey. Memory on `alloc`: the path, which has at most two numbers for each level of the depth limit, and the text.
-/// (Own.)
+/// `stopped` has to be the refusal of this message within `limits`, as [`survey`](capn_walk::survey) returns it.
+/// `index` is the number of messages before it. `offset` is the byte of the stream at which its table begins, and
+/// `table` is the number of words that the table takes, which is 0 for a bare segment. The call makes the visits up to
+/// the refused one again, and no survey. It takes memory of `alloc` for the text and for the path, which has at most
+/// two numbers for each level of the depth limit. (Own.)
 pub fn explain_stop<S: Space, A: Allocator + Copy>(
     alloc: A,
     space: &S,
@@ -55,7 +55,7 @@ pub fn explain_stop<S: Space, A: Allocator + Copy>(
     tell(alloc, space, index, offset, table, limits, &refused)
 }
 
-/// Explains a message whose walk is `refused`, with the path to the slot at which it stopped.
+/// Explains a message whose walk was `refused`, by the path to the slot at which it stopped.
 fn tell<S: Space, A: Allocator + Copy>(
     alloc: A,
     space: &S,
@@ -80,7 +80,7 @@ fn tell<S: Space, A: Allocator + Copy>(
     Ok(Explanation { stopped, text })
 }
 
-/// Writes all `lines` to memory.
+/// Writes all `lines` to memory of `alloc`.
 fn text_of<'w, A: Allocator>(alloc: A, lines: RefusedLines<'w>) -> Result<Vec<u8, A>, Memory>
     ensures { IfOk result (λ text. text.items ≡ refused_lines lines.entry.head lines.entry.stopped
         lines.entry.slot) }
@@ -100,8 +100,8 @@ fn head_of<S: Space>(space: &S, index: u64, offset: u64) -> MessageHead
     }
 }
 
-/// Examines the slot at which the walk of the message `space` stopped, with the `path` to it: `None`, if there is no
-/// root.
+/// Examines the slot at which the walk over the message `space` stopped, to which `path` leads. Returns `None` if there
+/// is no root.
 fn slot_lines<'w, S: Space>(
     space: &S,
     offset: u64,
@@ -123,7 +123,7 @@ fn slot_lines<'w, S: Space>(
     })
 }
 
-/// Returns the text of the object that holds the slot to which `path` leads: the root's has none.
+/// Returns the text of the object that holds the slot to which `path` leads. Returns `None` for the slot of the root.
 fn text_of_holder<S: Space>(space: &S, offset: u64, table: u32, path: &[u32]) -> Option<HolderText>
     requires root { 0 < length (segment_at (S.message space.now) 0) }
     ensures { (limits : Bounds) (number : ℕ) (to : Place) → IsPathTo (S.message space.now) limits number path.now to

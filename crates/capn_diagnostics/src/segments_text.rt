@@ -30,19 +30,19 @@ impl<'a> fmt::Display for Listed<'a> {
     }
 }
 
-/// The segments of a message, displayed in one line without its end: their number, the words of all, and from two
-/// segments on the words of each of the first eight.
+/// The segments of a message, displayed in one line without its newline: their number, and the words of all together.
+/// If there are two or more, the words of each of the first eight follow.
 #[derive(Clone, Copy, Debug, PartialEq, Eq)]
 pub struct SegmentsText {
     /// The number of segments.
     pub count: u32,
-    /// The words of all.
+    /// The words of all segments together.
     pub words: u64,
-    /// The words of each of the first eight; behind the last segment any number may stand.
+    /// The words of each of the first eight segments. Elements past the number of segments are not displayed.
     pub first: [u32; 8],
 }
 
-/// The sizes of segments, where there are two or more.
+/// The sizes of segments, displayed if there are two or more.
 #[derive(Drop)]
 struct Sizes<'a>(&'a SegmentsText);
 
@@ -81,7 +81,7 @@ impl fmt::Display for SegmentsText {
 }
 
 impl SegmentsText {
-    /// Returns the text of the segments of the message `space`. It asks for the length of each segment.
+    /// Returns the text of the segments of the message `space`. The call asks `space` for the length of each segment.
     pub fn of<S: Space>(space: &S) -> SegmentsText
         ensures { result ≡ segments_of (S.message space.now) }
     {

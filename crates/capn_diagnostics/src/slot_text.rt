@@ -10,23 +10,23 @@ use crate::word_text::WordText;
 use capn_words::{Place, Space};
 use std::fmt;
 
-/// A slot, displayed in one line without its end: the byte and the place of its word, the word's bytes, and the pointer
-/// that it is.
+/// A slot, displayed in one line without its newline: the byte and the place of its word, the word's bytes, and the
+/// pointer that they are.
 #[derive(Clone, Copy, Debug, PartialEq, Eq)]
 pub struct SlotText {
-    /// The byte of the stream at which its word begins.
+    /// The byte of the stream at which the word begins.
     pub byte: u128,
-    /// Its place.
+    /// The place of the word.
     pub place: Place,
-    /// Its word.
+    /// The word of the slot.
     pub word: u64,
 }
 
 impl SlotText {
-    /// Returns the text of the slot at `at` of the message `space`, which has to be in range.
+    /// Returns the text of the slot at `at` of the message `space`. The place has to be in range.
     ///
-    /// `offset` is the byte of its stream at which the message's table begins, and `table` the number of words that it
-    /// takes: 0 for a bare segment.
+    /// `offset` is the byte of the stream at which the message's table begins, and `table` is the number of words that
+    /// the table takes, which is 0 for a bare segment.
     pub fn at<S: Space>(space: &S, offset: u64, table: u32, at: Place) -> SlotText
         requires { IsPlace (S.message space.now) at }
         ensures { result ≡ placed (S.message space.now) offset table at }

@@ -3,8 +3,8 @@
 use crate::pointer_text::PointerText;
 use std::fmt;
 
-/// A word read as the tag of a list of structs, displayed in one line without its end: the number of structs, and their
-/// size; or, if it hasn't the kind of a struct, the pointer that it is.
+/// A word read as the tag of a list of structs, displayed in one line without its newline: the number of structs, and
+/// their size. A word without the kind of a struct is displayed as a pointer.
 #[derive(Clone, Copy, Debug, PartialEq, Eq)]
 pub struct TagText(pub u64);
 

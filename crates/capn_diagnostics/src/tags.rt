@@ -1,4 +1,4 @@
-//! The tag of a list of structs to which a slot leads, and its rows.
+//! The tag of the list of structs to which a slot leads, and the rows that it counts.
 
 ghost use Rattle.std.specs.Prelude.{◌≡◌, ◌<◌, ◌≤◌, ◌^◌, IfSome};
 ghost use Rattle.capn_words.specs.Message.{IsPlace};
@@ -9,7 +9,7 @@ use crate::telling::{Telling, has_words};
 use capn_target::Fault;
 use capn_words::{Place, Pointer, Space, Width};
 
-/// Returns the word at which content begins, `offset` words from the word `from`; `None`, if that is before word 0.
+/// Returns the word that lies `offset` words after the word `from`, or `None` if that is before word 0.
 fn begins(from: u64, offset: i32) -> Option<u64>
     requires { from ≤ 2 ^ 32 }
     ensures value { result ≡ spec.begins from offset }
@@ -19,7 +19,7 @@ fn begins(from: u64, offset: i32) -> Option<u64>
     if start < 0 { None } else { Some(start as u64) }
 }
 
-/// Returns the place of a tag at word `start` of `segment`, if it and the `span` words after it are inside that.
+/// Returns the place of a tag at word `start` of `segment`, if it and the `span` words after it are inside the segment.
 fn tag_from<S: Space>(space: &S, segment: u32, span: u32, start: Option<u64>) -> Option<Place>
     requires { IfSome start (λ word. word < 2 ^ 34) }
     ensures value { result ≡ spec.tag_from (S.message space.now) segment span start }
@@ -36,7 +36,8 @@ fn tag_from<S: Space>(space: &S, segment: u32, span: u32, start: Option<u64>) ->
     }
 }
 
-/// Returns the place of the tag of the list of structs to which a pointer refers, if it is reached.
+/// Returns the place of the tag of the list of structs to which the reference `told` leads, if the list is inside its
+/// segment.
 pub(crate) fn tag_in<S: Space>(space: &S, told: Option<Telling>) -> Option<Place>
     requires { IfSome told (λ t. t.from ≤ 2 ^ 32) }
     ensures value { result ≡ spec.tag_in (S.message space.now) told }
@@ -46,7 +47,8 @@ pub(crate) fn tag_in<S: Space>(space: &S, told: Option<Telling>) -> Option<Place
     tag_told(space, told)
 }
 
-/// Returns the place of the tag word, if the pointer is to a list of structs.
+/// Returns the place of the tag to which the reference `told` leads, if it is one to a list of structs inside its
+/// segment.
 fn tag_told<S: Space>(space: &S, told: Telling) -> Option<Place>
     requires { told.from ≤ 2 ^ 32 }
     ensures value { result ≡ spec.tag_told (S.message space.now) told.segment told.from told.offset told.form }
@@ -85,7 +87,7 @@ fn rows_by(tag: u64, form: Pointer) -> Option<RowWords>
     }
 }
 
-/// Returns the rows that `tag` counts, of a list whose pointer gives them `span` words.
+/// Returns the rows that `tag` counts, in a list whose pointer gives them `span` words.
 fn row_words(tag: u64, span: u32) -> RowWords
     ensures { result ≡ spec.row_words tag span }
 {
@@ -101,7 +103,7 @@ fn row_words(tag: u64, span: u32) -> RowWords
     }
 }
 
-/// Returns the rows of the list of structs to which a slot leads, if they have no room.
+/// Returns the rows of the list of structs to which the slot at `at` leads, if its `fault` is that they have no room.
 pub(crate) fn rows_of<S: Space>(
     space: &S,
     at: Place,
@@ -120,7 +122,7 @@ pub(crate) fn rows_of<S: Space>(
     }
 }
 
-/// Returns the rows of the list of structs to which a pointer refers, with its `tag`.
+/// Returns the rows of the list of structs to which the reference `told` leads, as its `tag` counts them.
 fn rows_in<S: Space>(space: &S, told: Option<Telling>, tag: Option<Place>) -> Option<RowWords>
     requires { IfSome tag (λ at. IsPlace (S.message space.now) at) }
     ensures { result ≡ spec.rows_in (S.message space.now) told tag }

@@ -1,4 +1,4 @@
-//! A pointer's reference to content.
+//! The reference of a pointer to its content, directly or over a landing pad.
 
 ghost use Rattle.std.specs.Prelude.{◌≡◌, ◌<◌, ◌≤◌, ◌+◌, ◌^◌, IsTrue, Some, None, IfSome, if◌then◌else◌};
 ghost use Rattle.capn_target.specs.Target.{pointer_in};
@@ -7,17 +7,17 @@ ghost use Rattle.capn_diagnostics.specs.Slot as spec;
 use capn_target::{content_words, pointer_at, segment_length};
 use capn_words::{Place, Pointer, Space};
 
-/// A pointer's reference to content: the segment in which that lies, the word from which an offset leads to it, the
-/// offset, and the pointer that has its form.
+/// The reference of a pointer to its content: a segment, the word from which an offset counts, the offset, and the kind
+/// and size of the content.
 #[derive(Clone, Copy)]
 pub(crate) struct Telling {
-    /// The segment.
+    /// The segment of the content.
     pub segment: u32,
     /// The word from which the offset counts.
     pub from: u64,
-    /// The offset.
+    /// The offset of the content in words.
     pub offset: i32,
-    /// The pointer that has the form.
+    /// The pointer that gives the kind and the size of the content.
     pub form: Pointer,
 }
 
@@ -41,7 +41,7 @@ pub(crate) fn words_told(form: Pointer) -> u64
     }
 }
 
-/// Returns the reference of a `pointer` to a struct or list at `word` of `segment`.
+/// Returns the reference of `pointer`, which lies at `word` of `segment`, if it is one to a struct or list.
 fn told_near(segment: u32, word: u32, pointer: Pointer) -> Option<Telling>
     ensures value { result ≡ spec.told_near segment word pointer }
     ensures small { IfSome result (λ t. t.from ≤ 2 ^ 32) }
@@ -72,8 +72,8 @@ fn told_near(segment: u32, word: u32, pointer: Pointer) -> Option<Telling>
     }
 }
 
-/// Returns the reference of a landing pad of two words, of which the first leads to `word` of `segment`, and the second
-/// is `form`.
+/// Returns the reference of a landing pad of two words: content at `word` of `segment`, with the kind and size of the
+/// tag `form`. Returns `None` if there is no such segment.
 fn told_there<S: Space>(space: &S, segment: u32, word: u32, form: Pointer) -> Option<Telling>
     ensures value { result ≡ spec.told_there (S.message space.now) segment word form }
     ensures small { IfSome result (λ t. t.from ≤ 2 ^ 32) }
@@ -90,7 +90,7 @@ fn told_there<S: Space>(space: &S, segment: u32, word: u32, form: Pointer) -> Op
     }
 }
 
-/// Returns the reference of the two words of a landing pad, `first` and `second`.
+/// Returns the reference of a landing pad of two words, which are `first` and `second`, if they are valid.
 fn told_two<S: Space>(space: &S, first: Pointer, second: Pointer) -> Option<Telling>
     ensures value { result ≡ spec.told_two (S.message space.now) first second }
     ensures small { IfSome result (λ t. t.from ≤ 2 ^ 32) }
@@ -119,7 +119,7 @@ fn told_two<S: Space>(space: &S, first: Pointer, second: Pointer) -> Option<Tell
     }
 }
 
-/// Returns `true` if the `count` words from `word` on are inside `segment`.
+/// Returns `true` if the `count` words of `segment` that begin at `word` are inside it.
 pub(crate) fn has_words<S: Space>(space: &S, segment: u32, word: u64, count: u64) -> bool
     requires word { word < 2 ^ 40 }
     requires count { count < 2 ^ 40 }
@@ -130,7 +130,7 @@ pub(crate) fn has_words<S: Space>(space: &S, segment: u32, word: u64, count: u64
     end <= segment_length(space, segment) as u64
 }
 
-/// Returns the reference of the landing pad of one word at `word` of `segment`.
+/// Returns the reference of the landing pad of one word at `word` of `segment`, if there is one.
 fn behind_one<S: Space>(space: &S, segment: u32, word: u32) -> Option<Telling>
     ensures value { result ≡ (if spec.has_words (S.message space.now) segment word 1
         then spec.told_near segment word (pointer_in (S.message space.now) segment word) else None) }
@@ -143,7 +143,7 @@ fn behind_one<S: Space>(space: &S, segment: u32, word: u32) -> Option<Telling>
     }
 }
 
-/// Returns the reference of the landing pad of two words at `word` of `segment`.
+/// Returns the reference of the landing pad of two words at `word` of `segment`, if there is one.
 fn behind_two<S: Space>(space: &S, segment: u32, word: u32) -> Option<Telling>
     ensures value { result ≡ (if spec.has_words (S.message space.now) segment word 2
         then spec.told_two (S.message space.now) (pointer_in (S.message space.now) segment word)
@@ -159,7 +159,7 @@ fn behind_two<S: Space>(space: &S, segment: u32, word: u32) -> Option<Telling>
     }
 }
 
-/// Returns the reference of the `pointer` at `at`, or of its landing pad.
+/// Returns the reference of the `pointer` at `at`, or that of its landing pad if it is far.
 pub(crate) fn told_by<S: Space>(space: &S, at: Place, pointer: Pointer) -> Option<Telling>
     ensures value { result ≡ spec.told_by (S.message space.now) at.segment at.word pointer }
     ensures small { IfSome result (λ t. t.from ≤ 2 ^ 32) }

@@ -6,17 +6,17 @@ ghost use Rattle.hex.specs.Hex.{encode_lower};
 
 use std::{fmt, str};
 
-/// Returns the digits of the bytes of `word`.
+/// Returns the hexadecimal digits of the bytes of `word`, in the order in which they lie.
 fn digits_of(word: u64) -> [u8; 16]
     ensures { result ≡ encode_lower (to_le_bytes w64 word) }
 {
     let mut digits = [0u8; 16];
-    // 16 digits have room, so nothing is refused.
+    // The array has room for all 16 digits, so the call cannot fail.
     let _done = hex::encode_to_slice(word.to_le_bytes(), &mut digits);
     digits
 }
 
-/// The bytes of a word in the order in which they lie, displayed with two hexadecimal digits each, in lower case.
+/// The bytes of a word in the order in which they lie, displayed as two hexadecimal digits each, in lower case.
 #[derive(Clone, Copy, Debug, PartialEq, Eq)]
 pub struct WordText(pub u64);
 

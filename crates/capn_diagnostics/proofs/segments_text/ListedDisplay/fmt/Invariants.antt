@@ -3,7 +3,7 @@ use Rattle.std.specs.Fmt.{IsPlainFormatter, HasWritten}
 use Rattle.capn_diagnostics.specs.MessageTexts.{behind_commas, listed}
 use Rattle.capn_diagnostics.proofs.segments_text.ListedDisplay.fmt.Given as goal
 
--- what was written, with the numbers that are left, is the text
+-- The bytes written so far, with the numbers that are left, are the text.
 abbrev pub invariant-loop-i : goal.invariant-loop-i
 invariant-loop-i g l =
     IsPlainFormatter l.fn.f
