@@ -1,4 +1,4 @@
--- The first bits of words.
+-- The first bits of a list of words.
 use Rattle.std.specs.Prelude.{ℕ, zero, suc, ◌/◌, ◌%◌, ◌^◌, List, [], ◌∷◌, ◌++◌, take, drop, slice_index}
 use Rattle.capn_words.specs.declared.pointer.Width.{Width}
 use Rattle.capn_value.specs.NumberWidth.{bit, byte, pair, quad, oct, bits_in}
@@ -15,11 +15,11 @@ element_bits W64 = bits_in oct
 element_bits Link = 0
 element_bits Rows = 0
 
--- the first n bits of the first word, as a word, if any (Own.)
+-- the first n bits of the first word, as a word; no word if n is 0 (Own.)
 abbrev pub last_bits : ℕ → List ℕ → List ℕ
 last_bits zero ws = []
 last_bits (suc n) ws = slice_index ws 0 % 2 ^ suc n ∷ []
 
--- the first n bits of words, as words whose other bits are 0 (Own.)
+-- the first n bits of the words `ws`, as words whose other bits are 0 (Own.)
 abbrev pub first_bits : ℕ → List ℕ → List ℕ
 first_bits n ws = take (n / 64) ws ++ last_bits (n % 64) (drop (n / 64) ws)

@@ -1,4 +1,4 @@
--- The canonical layout of a value, by sums of sizes. (Page: canonicalization.)
+-- The canonical layout of a value, defined by sums of sizes. (Page: canonicalization.)
 use Rattle.std.specs.Prelude.{ℕ, zero, suc, ◌+◌, ◌-◌, ◌*◌, ◌^◌, ◌==◌, ◌&&◌, List, [], ◌∷◌, ◌++◌, length, take}
 use Rattle.std.specs.Prelude.{drop, pos, negsuc, if◌then◌else◌}
 use Rattle.capn_words.specs.Message.{bytes}
@@ -12,12 +12,13 @@ use Rattle.capn_value.specs.Tree.{Trees, no_trees, tree, Bodies, no_bodies, body
 use Rattle.capn_value.specs.Trim.{kept_words, kept_slots, kept_words_of_rows, kept_slots_of_rows}
 use Rattle.capn_target.specs.Target.{content_words, list_width}
 
--- the words that a row of a list of structs takes, when all rows are cut jointly (Page: canonicalization.)
+-- the number of words that each row of a list of structs takes, if all rows are cut to the same size (Page:
+-- canonicalization.)
 abbrev pub row_size : Bodies → ℕ
 row_size bs = kept_words_of_rows bs + kept_slots_of_rows bs
 
--- the words of a value's own content: what is kept of a struct, the elements of a list, a tag before rows (pages:
--- structs, lists)
+-- the number of words of a value's own content: what is kept of a struct, the elements of a list, a tag before rows
+-- (pages: structs, lists)
 abbrev pub own : Tree → ℕ
 own (node ws ss) = kept_words ws + kept_slots ss
 own (numbers width xs) = content_words (list_width width) (length xs)
@@ -25,7 +26,7 @@ own (links ts) = count ts
 own (rows bs) = 1 + count_rows bs * row_size bs
 own _ = 0
 
--- the words of a value with all that is below it (Own.)
+-- the number of words of a value's content with all that is below it (Own.)
 abbrev mutual
   pub size : Tree → ℕ
   size (node ws ss) = own (node ws ss) + sizes ss
@@ -41,17 +42,18 @@ abbrev mutual
   sizes_in_rows no_bodies = 0
   sizes_in_rows (body ws ss bs) = sizes ss + sizes_in_rows bs
 
--- the pointer, at word `from`, to a list whose content starts at word `to`; its offset counts from the next word
--- (Page: lists.)
+-- the pointer at word `from` to a list whose content starts at word `to`; the offset counts from the word after the
+-- pointer (Page: lists.)
 abbrev pub list_to : (from to : ℕ) → Width → (n : ℕ) → ℕ
 list_to from to width n = word_of (Many (pos (to - suc from)) width n)
 
--- the pointer to a struct: offset -1 if it has no words, so that it isn't null (Page: canonicalization.)
+-- the pointer to a struct; if the struct has no words, its offset is -1, so that it isn't null (Page:
+-- canonicalization.)
 abbrev pub struct_to : (from to data_words pointers : ℕ) → ℕ
 struct_to from to data_words pointers = word_of (if (data_words == 0) && (pointers == 0) then Node (negsuc 0) 0 0
     else Node (pos (to - suc from)) data_words pointers)
 
--- the pointer, at word `from`, to the value whose content starts at word `to` (pages: structs, lists, capabilities)
+-- the pointer at word `from` to the value whose content starts at word `to` (pages: structs, lists, capabilities)
 unfoldable pub point : Tree → (from to : ℕ) → ℕ
 point nil from to = 0
 point (node ws ss) from to = struct_to from to (kept_words ws) (kept_slots ss)
@@ -61,23 +63,24 @@ point (links ts) from to = list_to from to Link (count ts)
 point (rows bs) from to = list_to from to Rows (count_rows bs * row_size bs)
 point (cap k) from to = word_of (Cap k)
 
--- the pointers to values whose contents follow one another, each with all below it (Page: canonicalization,
--- preorder.)
+-- the pointers to consecutive values, whose contents follow one another, each with all that is below it (Page:
+-- canonicalization, preorder.)
 abbrev pub points : Trees → (from to : ℕ) → List ℕ
 points no_trees from to = []
 points (tree t ts) from to = point t from to ∷ points ts (suc from) (to + size t)
 
--- numbers below a base as one number, the first lowest (Page: lists.)
+-- the number whose digits in a base are the list, the first one lowest (Page: lists.)
 abbrev pub number : ℕ → List ℕ → ℕ
 number base [] = 0
 number base (x ∷ xs) = x + base * number base xs
 
--- n words, each of `many` elements of `bits` bits; missing bits of the last one are 0 (Own.)
+-- n words, each of which packs `many` elements of `bits` bits; missing bits of the last word are 0 (Own.)
 abbrev pub packed : (many bits n : ℕ) → List ℕ → List ℕ
 packed many bits zero xs = []
 packed many bits (suc n) xs = number (2 ^ bits) (take many xs) ∷ packed many bits n (drop many xs)
 
--- the own content of rows, cut to these sizes, whose children start at word `to` (Page: lists, composite.)
+-- the own content of rows that are cut to these sizes; what their slots name starts at word `to` (Page: lists,
+-- composite.)
 abbrev pub row_contents : (data_words pointers : ℕ) → Bodies → (from to : ℕ) → List ℕ
 row_contents data_words pointers no_bodies from to = []
 row_contents data_words pointers (body ws ss bs) from to =
@@ -85,7 +88,8 @@ row_contents data_words pointers (body ws ss bs) from to =
     ++ (take pointers (points ss (from + data_words) to)
     ++ row_contents data_words pointers bs (from + data_words + pointers) (to + sizes ss))
 
--- a value's content at word `at`, and after it the content of what is below (Page: canonicalization, preorder.)
+-- the content of a value at word `at`, followed by the contents of all that is below it (Page: canonicalization,
+-- preorder.)
 abbrev mutual
   pub lay : Tree → ℕ → List ℕ
   lay (node ws ss) at =
@@ -109,7 +113,8 @@ abbrev mutual
   lays_in_rows no_bodies at = []
   lays_in_rows (body ws ss bs) at = lays ss at ++ lays_in_rows bs (at + sizes ss)
 
--- the canonical words: the pointer to the root in word 0, its content from word 1 on (Page: canonicalization.)
+-- the canonical words: the pointer to the root in word 0, and the root's content from word 1 on (Page:
+-- canonicalization.)
 unfoldable pub words : Tree → List ℕ
 words v = point v 0 1 ∷ lay v 1
 

@@ -1,25 +1,25 @@
--- The growth of a buffer of words to a layout.
+-- The steps by which a buffer of words grows to a layout.
 use Rattle.std.specs.Prelude.{◌≡◌, ℕ, zero, suc, ◌+◌, List, [], ◌++◌, length, take, set, replicate}
 use Rattle.capn_value.specs.Tree.{Tree, Trees, no_trees, tree, Bodies, no_bodies, body}
 use Rattle.capn_layout.specs.Layout.{point, lay}
 
--- the content of a value, and of all below it, is appended (Own.)
+-- the buffer after the content of a value, and of all below it, is appended (Own.)
 unfoldable pub laid : Tree → List ℕ → List ℕ
 laid t p = p ++ lay t (length p)
 
--- the pointers of the first n values are written over the words from a place on, and the content of each is appended
--- (Own.)
+-- the buffer after the pointers of the first n values are written over the words from `first` on, and the content of
+-- each is appended (Own.)
 unfoldable pub laid_slots : ℕ → Trees → ℕ → List ℕ → List ℕ
 laid_slots zero ts first p = p
 laid_slots (suc n) no_trees first p = p
 laid_slots (suc n) (tree t ts) first p = laid_slots n ts (suc first) (laid t (set p first (point t first (length p))))
 
--- the slots of each row, of a words and b slots, are laid out; the first row is at a place (Own.)
+-- the buffer after the slots of each row, of a words and b slots, are laid out; the first row is at word `at` (Own.)
 unfoldable pub laid_rows : ℕ → ℕ → Bodies → ℕ → List ℕ → List ℕ
 laid_rows a b no_bodies at p = p
 laid_rows a b (body ws ss bs) at p = laid_rows a b bs (at + a + b) (laid_slots b ss (at + a) p)
 
--- the first words of each row, with b words after them (Own.)
+-- the cells are the first a words of each row, with any b words after them (Own.)
 abbrev pub AreRowsOver : ℕ → ℕ → Bodies → List ℕ → Type 0
 AreRowsOver a b no_bodies cs = cs ≡ []
 AreRowsOver a b (body ws ss bs) cs = (hs : List ℕ) × (rest : List ℕ) × (cs ≡ take a ws ++ (hs ++ rest))

@@ -1,10 +1,10 @@
--- A buffer of words and holes is a list: `None` is a hole.
+-- A buffer of words and holes, as a list in which `None` is a hole.
 use Rattle.std.specs.Prelude.{◌≡◌, ℕ, zero, suc, ◌*◌, ◌/◌, ◌%◌, ◌≤◌, ◌==◌, List, [], ◌∷◌, length, take, drop, map, ⊤}
 use Rattle.std.specs.Prelude.{slice_get, slice_index, Bool, true, false, Option, Some, None}
 use Rattle.std.specs.Int.{bit_at}
 use Rattle.capn_words.specs.Message.{word_number, AreBytes}
 
--- a hole is there (Own.)
+-- the item at `at` is a hole (Own.)
 abbrev pub IsHole : List (Option ℕ) → ℕ → Type 0
 IsHole cs at = slice_get cs at ≡ Some None
 
@@ -14,7 +14,7 @@ IsWhole [] = ⊤
 IsWhole (None ∷ cs) = ⊥
 IsWhole (Some w ∷ cs) = IsWhole cs
 
--- words, as a list without holes (Own.)
+-- the words, as a list without holes (Own.)
 abbrev pub whole : List ℕ → List (Option ℕ)
 whole ws = map (λ (w : ℕ). Some w) ws
 
@@ -24,11 +24,11 @@ filled [] = []
 filled (None ∷ cs) = filled cs
 filled (Some w ∷ cs) = w ∷ filled cs
 
--- true if the mark of a word is set, each number having the marks of 64 words (Own.)
+-- true if the mark of a word is set; each number of the list has the marks of 64 words (Own.)
 abbrev pub is_marked : List ℕ → ℕ → Bool
 is_marked marks i = bit_at (slice_index marks (i / 64)) (i % 64) == 1
 
--- the marks of n words from a word on (Own.)
+-- the marks of n words, from word i on (Own.)
 unfoldable pub flags : ℕ → ℕ → List ℕ → List Bool
 flags i zero marks = []
 flags i (suc n) marks = is_marked marks i ∷ flags (suc i) n marks
@@ -38,16 +38,16 @@ abbrev pub cell : Bool → ℕ → Option ℕ
 cell true w = None
 cell false w = Some w
 
--- the list that bytes stand for, given the mark of each word (Own.)
+-- the list of words and holes that bytes stand for, given the mark of each word (Own.)
 unfoldable pub cells : List Bool → List ℕ → List (Option ℕ)
 cells [] bs = []
 cells (h ∷ hs) bs = cell h (word_number (take 8 bs)) ∷ cells hs (drop 8 bs)
 
--- the list that marks and bytes stand for (Own.)
+-- the list of words and holes that marks and bytes stand for (Own.)
 abbrev pub patched : List ℕ → List ℕ → List (Option ℕ)
 patched marks bs = cells (flags 0 (length bs / 8) marks) bs
 
--- whole words, each with a mark; no mark is set past the last word (Own.)
+-- the bytes are whole words, each with a mark, and no mark is set past the last word (Own.)
 pub record IsPatched (marks bs : List ℕ) : Type 0 where
   pub even : length bs % 8 ≡ 0
   pub room : length bs / 8 ≤ 64 * length marks

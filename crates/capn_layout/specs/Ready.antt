@@ -1,4 +1,4 @@
--- Slots and rows whose values have room in a buffer of words, and the way in which they are laid out there.
+-- Slots and rows whose values have room in a buffer of words, and the buffer after they are laid out there.
 use Rattle.std.specs.Prelude.{◌≡◌, ℕ, suc, ◌+◌, ◌*◌, ◌^◌, ◌<◌, ◌≤◌, List, ◌++◌, length, set}
 use Rattle.capn_value.specs.Tree.{Tree, Trees, count, tree_at, Bodies, count_rows}
 use Rattle.capn_value.specs.Trim.{kept_slots_of_rows}
@@ -7,12 +7,12 @@ use Rattle.capn_layout.specs.Layout.{size, sizes, sizes_in_rows, point, row_cont
 use Rattle.capn_layout.specs.LayoutSteps.{laid, laid_slots, laid_rows, AreRowsOver, past, rows_past}
 use Rattle.capn_layout.specs.Sound.{AreWide, Sound, Sounds, SoundRows}
 
--- the pointer to a value has been put at a place, and its content appended (Own.)
+-- the pointer to `v` is written over word `from`, and its content appended (Own.)
 abbrev pub IsLaidAs : Tree → ℕ → List ℕ → List ℕ → Type 0
 IsLaidAs v from p q = q ≡ laid v (set p from (point v from (length p)))
 
 module _ {S : Type 0} (has : S → ℕ → Tree → Type 0) where
-  -- a slot has a value, at most `depth` objects high, and there is room for it after n of `most` words (Own.)
+  -- the slot has a value at most `depth` objects high, for which there is room after n of `most` words (Own.)
   pub record IsReadyIn (source : S) (slot depth n most : ℕ) : Type 0 where
     pub value : Tree
     pub is : has source slot value
@@ -20,7 +20,8 @@ module _ {S : Type 0} (has : S → ℕ → Tree → Type 0) where
     pub low : height value ≤ depth
     pub room : n + size value ≤ most
 
-  -- a slot whose value has as much room as a pointer reaches (Own.)
+  -- the slot has a value at most `depth` objects high, for which there is room after n of 2^29 words, as far as a
+  -- pointer reaches (Own.)
   pub record IsReady (source : S) (slot depth n : ℕ) : Type 0 where
     pub value : Tree
     pub is : has source slot value
@@ -28,7 +29,8 @@ module _ {S : Type 0} (has : S → ℕ → Tree → Type 0) where
     pub low : height value ≤ depth
     pub room : n + size value ≤ 2 ^ 29
 
-  -- slots have values, and there is room for those past the first i after n of `most` words (Own.)
+  -- the first `number` slots have values at most `depth` objects high; there is room for those past the first i after n
+  -- of `most` words (Own.)
   pub record AreReady (source : S) (i number depth n most : ℕ) : Type 0 where
     pub values : Trees
     pub are : (k : ℕ) → k < number → has source k (tree_at values k)
@@ -37,18 +39,17 @@ module _ {S : Type 0} (has : S → ℕ → Tree → Type 0) where
     pub low : greatest values ≤ depth
     pub room : n + sizes (past i values) ≤ most
 
-  -- the pointer to the value in a slot has been put at a place, and its content appended (Own.)
+  -- the pointer to the value in `slot` is written over word `from`, and its content appended (Own.)
   abbrev pub IsLaid : S → ℕ → ℕ → List ℕ → List ℕ → Type 0
   IsLaid source slot from p q = (v : Tree) → has source slot v → q ≡ laid v (set p from (point v from (length p)))
 
-  -- the pointers to the values in slots were written over the words from a place on, and their contents appended
-  -- (Own.)
+  -- the pointers to the values in slots are written over the words from `first` on, and their contents appended (Own.)
   abbrev pub AreLaid : S → ℕ → ℕ → List ℕ → List ℕ → Type 0
   AreLaid source number first p q = (ts : Trees) → number ≤ count ts
       → ((k : ℕ) → k < number → has source k (tree_at ts k)) → q ≡ laid_slots number ts first p
 
 module _ {R : Type 0} (are : R → Bodies → Type 0) where
-  -- rows have a words and b slots at least, and there is room for what is below those past the first i after n of
+  -- each row has at least a words and b slots; there is room for what is below the rows past the first i after n of
   -- `most` words (Own.)
   pub record RowsReady (rows : R) (i number a b depth n most : ℕ) : Type 0 where
     pub values : Bodies
@@ -65,7 +66,7 @@ module _ {R : Type 0} (are : R → Bodies → Type 0) where
   RowsLaid rows number a b first p q = (bs : Bodies) → are rows bs → count_rows bs ≡ number
       → AreWide a b bs → SoundRows bs → q ≡ laid_rows a b bs first p
 
--- a value's content is a tag, if it has one, and rows of a words and b slots, and then what is below (Own.)
+-- the content of `v` is the tag, if it has one, then rows of a words and b slots, and then what is below them (Own.)
 pub record IsBlock (v : Tree) (tag : List ℕ) (a b : ℕ) (bs : Bodies) : Type 0 where
   pub sound : SoundRows bs
   pub wide : AreWide a b bs
@@ -76,8 +77,8 @@ pub record IsBlock (v : Tree) (tag : List ℕ) (a b : ℕ) (bs : Bodies) : Type 
       ++ (row_contents a b bs (at + length tag) (at + length tag + count_rows bs * (a + b))
       ++ lays_in_rows bs (at + length tag + count_rows bs * (a + b)))
 
--- the pointer to such a value was put at a place; its tag and rows were appended, with any words in place of the slots
--- (Own.)
+-- the pointer to `v`, which is as for `IsBlock`, is written over word `from`; its tag and rows are appended, with any
+-- words in place of the slots (Own.)
 pub record IsOpened (v : Tree) (bs : Bodies) (from : ℕ) (p q : List ℕ) (first a b : ℕ) : Type 0 where
   pub tag : List ℕ
   pub block : IsBlock v tag a b bs

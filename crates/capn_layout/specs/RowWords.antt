@@ -1,17 +1,17 @@
--- Rows of equal sizes, as the words of a segment have them.
+-- Rows of equal sizes in the words of a segment.
 use Rattle.std.specs.Prelude.{ℕ, zero, suc, ◌+◌, max, List, [], ◌++◌, take}
 use Rattle.capn_value.specs.Trim.{kept_words}
 use Rattle.capn_walk.specs.ValueAt.{words_from}
 
 module _ (m : List (List ℕ)) where
-  -- the greatest length that is kept of a part of n rows: the rows begin every `step` words, the part has `size` words
+  -- the greatest length that is kept of one part of n rows, which begin every `step` words; the part has `size` words
   -- (Own.)
   abbrev pub kept_each : ℕ → ℕ → ℕ → ℕ → ℕ → ℕ
   kept_each s w size step zero = 0
   kept_each s w size step (suc n) = max (kept_words (take size (words_from m s w))) (kept_each s (w + step) size step n)
 
-  -- the first words of each of n rows, each followed by the first words of a part that begins `inset` words further in
-  -- (Own.)
+  -- the first a words of each of n rows, each followed by the first b words of the part that begins `inset` words into
+  -- the row (Own.)
   abbrev pub row_cells : ℕ → ℕ → ℕ → ℕ → ℕ → ℕ → ℕ → List ℕ
   row_cells s w step inset a b zero = []
   row_cells s w step inset a b (suc n) =

@@ -1,4 +1,4 @@
--- Values whose counts, sizes and indices have room in pointers.
+-- Values whose counts, sizes and indices fit in the fields of pointers.
 use Rattle.std.specs.Prelude.{ℕ, ◌*◌, ◌^◌, ◌<◌, ◌≤◌, List, length, slice_index, ⊤}
 use Rattle.capn_value.specs.NumberWidth.{bits_in}
 use Rattle.capn_value.specs.Tree.{Tree, nil, node, voids, numbers, links, rows, cap, Trees}
@@ -11,12 +11,12 @@ abbrev pub AreWide : ℕ → ℕ → Bodies → Type 0
 AreWide a b no_bodies = ⊤
 AreWide a b (body ws ss bs) = (a ≤ length ws) × (b ≤ count ss) × AreWide a b bs
 
--- each number is below a bound (Own.)
+-- each number is below `bound` (Own.)
 abbrev pub AreBelow : ℕ → List ℕ → Type 0
 AreBelow bound xs = (i : ℕ) → slice_index xs i < bound
 
--- each count, size and index has room in a pointer's fields, each element in its bits, and each row has the kept
--- lengths (Own.)
+-- each count, size and index fits in a pointer's fields, each element in its bits, and each row of a list has at least
+-- the lengths that are kept (Own.)
 abbrev mutual
   pub Sound : Tree → Type 0
   Sound nil = ⊤

@@ -1,10 +1,10 @@
--- The number of reads of a message by a layout of its value.
+-- The weight of a value, which bounds the reads of a layout.
 use Rattle.std.specs.Prelude.{ℕ, ◌+◌, max, length}
 use Rattle.capn_value.specs.Tree.{Tree, node, links, rows, Trees, no_trees, tree, Bodies, no_bodies, body, count}
 use Rattle.capn_value.specs.Tree.{count_rows, row_words}
 use Rattle.capn_layout.specs.Layout.{own}
 
--- the words of a value's objects before they are cut; for the words of rows how many rows there are, if that is more
+-- the number of words of a value's objects before they are cut; for rows it is the number of rows, if that is greater
 -- (Own.)
 abbrev mutual
   pub weight : Tree → ℕ

@@ -1,4 +1,4 @@
-//! Lists of bits as words.
+//! Lists of bits, packed in words.
 //! A change of what this writes changes canonical bytes: it is a new version of the form.
 
 ghost use Rattle.std.specs.Prelude.{◌≡◌, ◌+◌, ◌*◌, ◌≤◌, length, map};
@@ -9,7 +9,7 @@ ghost use Rattle.capn_layout.specs.inner.Draft.{Appends};
 
 use crate::draft::push;
 
-/// Returns the word whose lowest bit is the first of `bits`, and whose bits past the last are 0.
+/// Returns the word whose lowest bit is the first of `bits`. Its bits past the last of `bits` are 0.
 fn word_of_bits(bits: &[bool]) -> u64
     requires { length bits.now ≤ 64 }
     ensures { result ≡ number 2 (map from_bool bits.now) }
@@ -22,8 +22,7 @@ fn word_of_bits(bits: &[bool]) -> u64
     word
 }
 
-/// Appends the words of packed `bits`, 64 a word, after the first `len` words of `out`; returns the number of words
-/// then.
+/// Appends `bits`, packed 64 to a word, after the first `len` words of `out`. Returns the new number of words.
 pub fn extend_bits(out: &mut [u8], len: usize, bits: &[bool]) -> usize
     requires { 8 * (len + words_for (length bits.now)) ≤ length out.old }
     ensures { Appends len result (packed 64 1 (words_for (length bits.now)) (map from_bool bits.now)) out.old out.new }

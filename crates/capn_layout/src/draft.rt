@@ -1,5 +1,6 @@
-//! Words written into given bytes, one after the other.
-//! The first `len` words are written, and what comes next is written after them.
+//! The writing of words into a slice of bytes, one after the other.
+//! A change of what this writes changes canonical bytes: it is a new version of the form.
+//! Calls that append take the number of words that are written so far, `len`, and return the new number.
 
 ghost use Rattle.std.specs.Prelude.{◌≡◌, ℕ, ◌+◌, ◌*◌, ◌/◌, ◌%◌, ◌<◌, ◌≤◌, [], ◌∷◌, length, replicate};
 ghost use Rattle.std.specs.List.{flat_map};
@@ -21,7 +22,7 @@ fn write(out: &mut [u8], at: usize, xs: &[u8])
     out[at..at + xs.len()].copy_from_slice(xs);
 }
 
-/// Writes `word` over the 8 bytes of `out` from offset `at` on: one store.
+/// Writes `word` over the 8 bytes of `out` from offset `at` on, with one store.
 #[inline(always)]
 #[tactic(auto, unfolding(capn_words::specs::Message::word_bytes))]
 fn write_word(out: &mut [u8], at: usize, word: u64)
@@ -31,7 +32,7 @@ fn write_word(out: &mut [u8], at: usize, word: u64)
     LittleEndian::write_u64(&mut out[at..at + 8], word);
 }
 
-/// Appends `word` after the first `len` words of `out`; returns the number of words then.
+/// Appends `word` after the first `len` words of `out`. Returns the new number of words.
 #[inline(always)]
 pub fn push(out: &mut [u8], len: usize, word: u64) -> usize
     requires { 8 * len + 8 ≤ length out.old }
@@ -51,8 +52,8 @@ fn write_paid(out: &mut [u8], at: usize, xs: PaidBytes<'_>)
     xs.copy_to(&mut out[at..end]);
 }
 
-/// Appends whole words of a message, given by their bytes `xs`, after the first `len` words of `out`; returns the
-/// number of words then.
+/// Appends whole words of a message, given by their bytes `xs`, after the first `len` words of `out`. Returns the new
+/// number of words.
 #[inline(always)]
 pub fn extend(out: &mut [u8], len: usize, xs: PaidBytes<'_>) -> usize
     requires whole { length xs % 8 ≡ 0 }
@@ -64,7 +65,7 @@ pub fn extend(out: &mut [u8], len: usize, xs: PaidBytes<'_>) -> usize
     len + words
 }
 
-/// Puts `word` over word `at` of `out`.
+/// Writes `word` over word `at` of `out`.
 #[inline(always)]
 pub fn put(out: &mut [u8], at: usize, word: u64)
     requires { 8 * at + 8 ≤ length out.old }
@@ -81,7 +82,7 @@ fn write_zeros(out: &mut [u8], at: usize, n: usize)
     out[at..at + n].fill(0);
 }
 
-/// Appends `n` words of zeros after the first `len` words of `out`; returns the number of words then.
+/// Appends `n` words of zeros after the first `len` words of `out`. Returns the new number of words.
 pub fn extend_zeros(out: &mut [u8], len: usize, n: usize) -> usize
     requires { 8 * (len + n) ≤ length out.old }
     ensures words { Appends len result (replicate n 0) out.old out.new }
@@ -118,8 +119,8 @@ fn write_octs(out: &mut [u8], at: usize, xs: &[u64])
     LittleEndian::write_u64_into(xs, &mut out[at..at + size]);
 }
 
-/// Appends the words of the packed bytes `xs`, eight a word, after the first `len` words of `out`; returns the number
-/// of words then.
+/// Appends the bytes `xs`, packed eight to a word, after the first `len` words of `out`. Returns the new number of
+/// words.
 pub fn extend_bytes(out: &mut [u8], len: usize, xs: &[u8]) -> usize
     requires { 8 * (len + words_for (8 * length xs.now)) ≤ length out.old }
     ensures { Appends len result (packed 8 8 (words_for (8 * length xs.now)) xs.now) out.old out.new }
@@ -129,8 +130,8 @@ pub fn extend_bytes(out: &mut [u8], len: usize, xs: &[u8]) -> usize
     end
 }
 
-/// Appends the words of the packed 16-bit numbers `xs`, four a word, after the first `len` words of `out`; returns the
-/// number of words then.
+/// Appends the 16-bit numbers `xs`, packed four to a word, after the first `len` words of `out`. Returns the new number
+/// of words.
 pub fn extend_pairs(out: &mut [u8], len: usize, xs: &[u16]) -> usize
     requires { 8 * (len + words_for (16 * length xs.now)) ≤ length out.old }
     ensures { Appends len result (packed 4 16 (words_for (16 * length xs.now)) xs.now) out.old out.new }
@@ -140,8 +141,8 @@ pub fn extend_pairs(out: &mut [u8], len: usize, xs: &[u16]) -> usize
     end
 }
 
-/// Appends the words of the packed 32-bit numbers `xs`, two a word, after the first `len` words of `out`; returns the
-/// number of words then.
+/// Appends the 32-bit numbers `xs`, packed two to a word, after the first `len` words of `out`. Returns the new number
+/// of words.
 pub fn extend_quads(out: &mut [u8], len: usize, xs: &[u32]) -> usize
     requires { 8 * (len + words_for (32 * length xs.now)) ≤ length out.old }
     ensures { Appends len result (packed 2 32 (words_for (32 * length xs.now)) xs.now) out.old out.new }
@@ -151,7 +152,7 @@ pub fn extend_quads(out: &mut [u8], len: usize, xs: &[u32]) -> usize
     end
 }
 
-/// Appends the words `xs` after the first `len` words of `out`; returns the number of words then.
+/// Appends the words `xs` after the first `len` words of `out`. Returns the new number of words.
 pub fn extend_octs(out: &mut [u8], len: usize, xs: &[u64]) -> usize
     requires { 8 * (len + length xs.now) ≤ length out.old }
     ensures { Appends len result xs.now out.old out.new }

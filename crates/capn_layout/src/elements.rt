@@ -7,7 +7,7 @@ ghost use Rattle.capn_layout.specs.inner.PaddedBytes.{pad, padded};
 use capn_value::Memory;
 use std::alloc::Allocator;
 
-/// Appends `size` zeros and more up to a whole word to `bytes`, and returns the offset of the first.
+/// Appends `size` zeros to `bytes`, and more up to a whole word. Returns the offset of the first.
 fn append_room<A: Allocator>(bytes: &mut Vec<u8, A>, size: usize) -> Result<usize, Memory>
     ensures start { IfOk result (λ start. start ≡ length bytes.old.items) }
     ensures small { OnOk result (length bytes.old.items + size < 2 ^ 63) }

@@ -1,4 +1,4 @@
-//! Kept lengths, found in the message itself.
+//! The lengths to which structs and rows are cut, found in the message itself.
 //! A change of what this writes changes canonical bytes: it is a new version of the form.
 
 ghost use Rattle.std.specs.Prelude.{◌≡◌, ◌+◌, ◌*◌, ◌<◌, ◌≤◌, max, take};
@@ -12,8 +12,8 @@ use capn_target::counted::{CountedSpace, Reads};
 use capn_words::{Place, Space};
 use std::sync::ledger::Ledger;
 
-/// Returns the number of the `count` words from `at` on that are left when the zeros at their end are cut, but no fewer
-/// than `least`. In most cases it is all of them.
+/// Returns the number of words that are kept of the `count` words from `at` on. Zeros at the end are cut, but at least
+/// `least` words are kept. In most cases all words are kept.
 #[inline(always)]
 pub fn kept_above<S: Space, L: Ledger>(
     space: &CountedSpace<'_, S, L>,
@@ -42,8 +42,8 @@ pub fn kept_above<S: Space, L: Ledger>(
     kept_below(space.again(), at, count - 1, least, reads)
 }
 
-/// Returns that number by a loop. It is a call of its own, since its numbers would else lie on the stack at each level
-/// of depth.
+/// Returns what [`kept_above`] does, by a loop. It is a call of its own, since its variables would otherwise lie on the
+/// stack at each level of depth.
 #[inline(never)]
 fn kept_below<S: Space, L: Ledger>(
     space: CountedSpace<'_, S, L>,
@@ -73,8 +73,8 @@ fn kept_below<S: Space, L: Ledger>(
     kept
 }
 
-/// Returns the greatest length that is kept of a part of `count` rows, which begin every `step` words. The part begins
-/// `inset` words into its row and has `size` words. Each read is counted, and each row.
+/// Returns the greatest length that is kept of one part of `count` rows, which begin every `step` words from `start`
+/// on. The part begins `inset` words into its row and has `size` words. Each read is counted, and each row.
 pub fn kept_each_counted<S: Space, L: Ledger>(
     space: CountedSpace<'_, S, L>,
     start: Place,

@@ -1,4 +1,4 @@
-//! The target of a pointer already tested.
+//! The target of a pointer that was already tested.
 
 ghost use Rattle.std.specs.Prelude.{◌≡◌, ℕ, ◌+◌, ◌^◌, ◌<◌, ◌≤◌, Ok, length};
 ghost use Rattle.capn_words.specs.Message.{segment_at, IsMessage, IsPlace};
@@ -21,7 +21,7 @@ fn start_of(word: u32, offset: i32) -> u32
     if start < 0 { 0 } else { start as u32 }
 }
 
-/// Returns the target of the pointer at `at`. It is known to have one, so nothing is tested again.
+/// Returns the target of the pointer at `at`. The pointer is known to have a target, so nothing is tested again.
 #[inline(always)]
 pub fn target_at<S: Space, L: Ledger>(
     space: &CountedSpace<'_, S, L>,
@@ -63,8 +63,8 @@ pub fn target_at<S: Space, L: Ledger>(
     }
 }
 
-/// Returns the target of the pointer at `at`, whatever that is. A call has its answer in a place of its own: then only
-/// that one comes through memory, and the place lies on the stack no longer than here.
+/// Returns the target of the pointer at `at`, of any kind. The result of the call has a variable of its own. So only
+/// this result passes through memory, and its place on the stack is needed only here.
 #[inline(always)]
 fn followed<S: Space, L: Ledger>(
     space: &CountedSpace<'_, S, L>,
@@ -81,7 +81,7 @@ fn followed<S: Space, L: Ledger>(
     target
 }
 
-/// Returns the target of the pointer at `at`, whatever that is, as a call of its own. It is known to have one.
+/// Returns the target of the pointer at `at`, of any kind, as a call of its own. The pointer is known to have a target.
 #[inline(never)]
 fn resolved<S: Space, L: Ledger>(
     space: CountedSpace<'_, S, L>,
@@ -141,8 +141,8 @@ fn resolved<S: Space, L: Ledger>(
     }
 }
 
-/// Returns the content that the struct or list `pointer` at `word` of `segment` names: the word is the slot itself, or
-/// a pad of one word. It is known to name some, so nothing is tested again.
+/// Returns the content that `pointer`, to a struct or a list, names from `word` of `segment`. That word is the slot
+/// itself, or a landing pad of one word. The pointer is known to name content, so nothing is tested again.
 #[inline(always)]
 fn content_of<S: Space, L: Ledger>(
     space: &CountedSpace<'_, S, L>,
@@ -186,8 +186,8 @@ fn content_of<S: Space, L: Ledger>(
     }
 }
 
-/// Returns the composite list of `span` words after its tag, which is at word `start` of `segment`. It is known to be
-/// one, so nothing is tested again.
+/// Returns the composite list of `span` words behind the tag at word `start` of `segment`. It is known to be a
+/// composite list, so nothing is tested again.
 #[tactic(auto, using(std::proofs::lemmas::Grind::common_steps))]
 #[inline(always)]
 fn rows_of<S: Space, L: Ledger>(
@@ -221,8 +221,8 @@ fn rows_of<S: Space, L: Ledger>(
     }
 }
 
-/// Returns the target of a far pointer by the landing pad of one word at `word` of `segment`, which is known to have
-/// one.
+/// Returns the target of a far pointer to the landing pad of one word at `word` of `segment`. The pointer is known to
+/// have a target.
 #[inline(always)]
 fn behind_one<S: Space, L: Ledger>(
     space: &CountedSpace<'_, S, L>,
@@ -241,8 +241,8 @@ fn behind_one<S: Space, L: Ledger>(
     content_of(space, segment, word, 1, pointer, reads)
 }
 
-/// Returns the target of a far pointer by the landing pad of two words at `word` of `segment`, which is known to have
-/// one.
+/// Returns the target of a far pointer to the landing pad of two words at `word` of `segment`. The pointer is known to
+/// have a target.
 #[inline(always)]
 fn behind_two<S: Space, L: Ledger>(
     space: CountedSpace<'_, S, L>,
@@ -263,8 +263,8 @@ fn behind_two<S: Space, L: Ledger>(
     named_by_two(&space, first, second, reads)
 }
 
-/// Returns the content that two words of a landing pad name: `first` is a far pointer to where it starts, and `second`
-/// its form.
+/// Returns the content that the two words of a landing pad name. `first` is a far pointer to the start of the content,
+/// and `second` gives its form.
 #[inline(always)]
 fn named_by_two<S: Space, L: Ledger>(
     space: &CountedSpace<'_, S, L>,

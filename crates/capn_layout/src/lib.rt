@@ -1,20 +1,20 @@
 //! The canonical layout of values and messages: one segment, its objects in preorder, every struct cut to what it
 //! keeps.
 //!
-//! - [`layout`] writes the canonical bytes of a tree. A tree with a capability has none, and is refused by the first
-//!   one's index.
-//! - [`surveyed_layout`] writes those of the value of a message that was surveyed, which it reads where it is.
-//! - [`surveyed_length`] returns their number.
-//! - [`surveyed_layout_counted`] and [`surveyed_length_counted`] do the same to a message whose reads are counted: the
-//!   cost of its value bounds how often they read it. [`surveyed_layout_into_counted`] writes the bytes into a buffer.
+//! - [`layout`] writes the canonical bytes of a tree. A tree with a capability has none, and is refused with the index
+//!   of its first capability.
+//! - [`surveyed_layout`] writes the canonical bytes of a message that was surveyed, whose value it reads in place.
+//! - [`surveyed_length`] returns the number of words in the canonical bytes.
+//! - [`surveyed_layout_counted`] and [`surveyed_length_counted`] do the same to a message whose reads are counted. The
+//!   cost of its value bounds the number of reads. [`surveyed_layout_into_counted`] writes the bytes into a buffer.
 //! - [`target_at`] returns the target of a pointer of a surveyed message, and tests nothing again.
-//! - [`Patch`] is a buffer of words and of holes for what is not known yet, as a pointer whose object has no place so
-//!   far. Nothing here writes to it.
-//! - [`list_pointer`], [`tag_word`] and [`bits_of`] give the words of a layout, for whoever compares bytes with it.
+//! - [`Patch`] is a buffer of words, and of holes for words that are not known yet, such as the pointer to an object
+//!   that has no place so far. Nothing here writes to it.
+//! - [`list_pointer`], [`tag_word`] and [`bits_of`] give the words of a layout, for callers that compare bytes with it.
 //!
-//! A tree and a message are laid out by one writer, over what they have in common: slots with their values. Their first
-//! pass counts the bytes, their second writes them. The memory for them is asked for in between, once. If it is refused
-//! the answer is `Memory`.
+//! A tree and a message are laid out by one writer, over what they have in common: slots with their values. The first
+//! pass counts the bytes, and the second writes them. In between their memory is allocated at once. If it is refused,
+//! the result is `Memory`.
 #![tactic(auto)]
 
 mod bits;

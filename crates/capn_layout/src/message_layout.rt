@@ -21,10 +21,10 @@ use std::alloc::Allocator;
 use std::marker::Brand;
 use std::sync::ledger::{Blank, Ledger};
 
-/// Returns the number of words of the canonical bytes of the value at the root of `space`, a message that was surveyed:
+/// Returns the number of words in the canonical bytes of the value at the root of `space`. The message was surveyed:
 /// the value is at most `depth` objects deep and has no capability.
 ///
-/// It reads the message as the writing of these bytes does, and takes no memory. (Page: canonicalization.)
+/// It reads the message as the layout does, and takes no memory. (Page: canonicalization.)
 pub fn surveyed_length<S: Space>(space: &S, depth: u32) -> u32
     requires { IsReady (HasSlot (S.message space.now)) 0 0 depth 1 }
     ensures { (v : Value) → IsAt (S.message space.now) root v → 8 * result ≡ length (canon v) }
@@ -32,7 +32,7 @@ pub fn surveyed_length<S: Space>(space: &S, depth: u32) -> u32
     length_with_ledger::<S, Brand>(space, depth, Blank::new(1))
 }
 
-/// Does what [`surveyed_length`] does, with a count in the new ledger `blank`.
+/// Returns what [`surveyed_length`] does, with a count in the new ledger `blank`.
 fn length_with_ledger<S: Space, L: Ledger>(space: &S, depth: u32, blank: Blank) -> u32
     requires name { blank.name ≡ L.name }
     requires parts { blank.parts ≡ L.parts }
@@ -44,12 +44,12 @@ fn length_with_ledger<S: Space, L: Ledger>(space: &S, depth: u32, blank: Blank) 
     surveyed_length_counted(&space, depth, &mut reads)
 }
 
-/// Returns what [`surveyed_length`] does, by calls that count in `reads`, as for
-/// [`survey_counted`](capn_walk::survey_counted). With the reads it counts the turns of its loops. The value of the
+/// Returns what [`surveyed_length`] does, and counts its reads in `reads`, as
+/// [`survey_counted`](capn_walk::survey_counted) does. Each turn of its loops counts as a read, too. The value of the
 /// message `space` is at most `depth` objects deep.
 ///
-/// It reads and turns at most twenty times for each word that the value costs, under either tariff, and eleven times
-/// more. A walk pays at least that cost. It takes no memory.
+/// The count grows by at most twenty for each word that the value costs, under either tariff, and by eleven more. A
+/// walk pays at least that cost. It takes no memory.
 pub fn surveyed_length_counted<S: Space, L: Ledger>(
     space: &CountedSpace<'_, S, L>,
     depth: u32,
@@ -57,7 +57,7 @@ pub fn surveyed_length_counted<S: Space, L: Ledger>(
 ) -> u32
     requires { IsReady (HasSlot space.now) 0 0 depth 1 }
     ensures length { (v : Value) → IsAt space.now root v → 8 * result ≡ length (canon v) }
-    // At most twenty reads of the message and turns of a loop for each word of the cost, and eleven more.
+    // The count of reads and turns grows by at most twenty for each word of the cost, and by eleven more.
     ensures reads { (v : Value) → IsAt space.now root v → (base : ℕ)
         → reads.new ≤ reads.old + 20 * cost base v + 11 }
 {
@@ -68,12 +68,12 @@ pub fn surveyed_length_counted<S: Space, L: Ledger>(
     1 + size_of_slot(&source, 0, depth, reads)
 }
 
-/// Writes the canonical bytes of the value at the root of `space`, a message that was surveyed, to the beginning of
-/// `out`, and returns their number. The bytes after them stay as they were. The value is at most `depth` objects deep
-/// and has no capability.
+/// Writes the canonical bytes of the value at the root of `space` to the beginning of `out`, and returns their number.
+/// The bytes after them stay as they were. The message was surveyed: the value is at most `depth` objects deep and has
+/// no capability.
 ///
-/// It reads the message where it is and tests nothing again, by calls that count in `reads`, as for
-/// [`surveyed_length_counted`] and with its bound. It takes no memory but the stack. (Page: canonicalization.)
+/// It reads the message in place and tests nothing again. It counts its reads in `reads`, with the bound of
+/// [`surveyed_length_counted`]. It takes no memory but the stack. (Page: canonicalization.)
 pub fn surveyed_layout_into_counted<S: Space, L: Ledger>(
     space: &CountedSpace<'_, S, L>,
     depth: u32,
@@ -84,7 +84,7 @@ pub fn surveyed_layout_into_counted<S: Space, L: Ledger>(
     requires fits { (v : Value) → IsAt space.now root v → length (canon v) ≤ length out.old }
     ensures written { (v : Value) → IsAt space.now root v
         → (result ≡ length (canon v)) × (out.new ≡ canon v ++ drop (length (canon v)) out.old) }
-    // At most twenty reads of the message and turns of a loop for each word of the cost, and eleven more.
+    // The count of reads and turns grows by at most twenty for each word of the cost, and by eleven more.
     ensures reads { (v : Value) → IsAt space.now root v → (base : ℕ)
         → reads.new ≤ reads.old + 20 * cost base v + 11 }
 {
@@ -97,9 +97,9 @@ pub fn surveyed_layout_into_counted<S: Space, L: Ledger>(
     8 * words
 }
 
-/// Returns a number of bytes that is enough for the canonical bytes of a message that was surveyed: those of the words
-/// `paid` and of one more, if that is no more than twice the message, and else exactly theirs. Of the message the first
-/// segments are taken, as many as words were paid.
+/// Returns a number of bytes that is enough for the canonical bytes of a message that was surveyed. This is the size of
+/// `paid` words and one more, if that is no more than twice the message, else exactly the number of canonical bytes.
+/// The size of the message is that of its first `paid` segments.
 fn room_for<S: Space, L: Ledger>(
     space: &CountedSpace<'_, S, L>,
     depth: u32,
@@ -123,12 +123,12 @@ fn room_for<S: Space, L: Ledger>(
     8 * surveyed_length_counted(space, depth, reads) as usize
 }
 
-/// Writes the canonical bytes of the value at the root of `space`, a message that was surveyed: it is at most `depth`
-/// objects deep, has no capability, and its walk paid `paid` words.
+/// Writes the canonical bytes of the value at the root of `space`. The message was surveyed: the value is at most
+/// `depth` objects deep and has no capability, and its walk paid `paid` words.
 ///
-/// It reads the message where it is and tests nothing again. The memory is asked of `alloc` at once: as many words as
-/// were paid and one more, if that is no more than twice the message (its first `paid` segments); else the bytes are
-/// counted first. `Memory` comes only if that was refused. (Page: canonicalization.)
+/// It reads the message in place and tests nothing again. The memory is allocated on `alloc` at once: `paid` words and
+/// one more, if that is no more than twice the message (its first `paid` segments). Else the bytes are counted first.
+/// `Memory` is returned only if the allocation was refused. (Page: canonicalization.)
 pub fn surveyed_layout<S: Space, A: Allocator>(
     alloc: A,
     space: &S,
@@ -142,7 +142,7 @@ pub fn surveyed_layout<S: Space, A: Allocator>(
     layout_with_ledger::<S, A, Brand>(alloc, space, depth, paid, Blank::new(1))
 }
 
-/// Does what [`surveyed_layout`] does, with a count in the new ledger `blank`.
+/// Writes what [`surveyed_layout`] does, with a count in the new ledger `blank`.
 fn layout_with_ledger<S: Space, A: Allocator, L: Ledger>(
     alloc: A,
     space: &S,
@@ -161,11 +161,11 @@ fn layout_with_ledger<S: Space, A: Allocator, L: Ledger>(
     surveyed_layout_counted(alloc, &space, depth, paid, &mut reads)
 }
 
-/// Writes what [`surveyed_layout`] does of the message `space`, at most `depth` objects deep, by calls that count in
-/// `reads`, as for [`surveyed_length_counted`].
+/// Writes what [`surveyed_layout`] does of the message `space`, and counts its reads in `reads`, as
+/// [`surveyed_length_counted`] does. The value is at most `depth` objects deep.
 ///
-/// It reads and turns at most twice for each word that was `paid`, forty times for each word that the value costs, and
-/// 23 times more.
+/// The count grows by at most two for each word that was `paid`, by forty for each word that the value costs, and by 23
+/// more.
 pub fn surveyed_layout_counted<S: Space, A: Allocator, L: Ledger>(
     alloc: A,
     space: &CountedSpace<'_, S, L>,
@@ -176,7 +176,8 @@ pub fn surveyed_layout_counted<S: Space, A: Allocator, L: Ledger>(
     requires ready { IsReady (HasSlot space.now) 0 0 depth 1 }
     requires paid { (v : Value) → IsAt space.now root v → length (canon v) ≤ 8 * (paid + 1) }
     ensures laid { IfOk result (λ bytes. (v : Value) → IsAt space.now root v → bytes.items ≡ canon v) }
-    // At most twice for each word paid, forty times for each word of the cost, and 23 times more, whatever is answered.
+    // The count of reads and turns grows by at most two for each word paid, by forty for each word of the cost, and by
+    // 23 more, whatever is returned.
     ensures reads { (v : Value) → IsAt space.now root v → (base : ℕ)
         → reads.new ≤ reads.old + 2 * paid + 40 * cost base v + 23 }
 {

@@ -1,4 +1,5 @@
-//! The slots of a surveyed message, as a source.
+//! The slots of a surveyed message, as a source of a layout.
+//! A change of what this writes changes canonical bytes: it is a new version of the form.
 
 ghost use Rattle.std.specs.Prelude.{ℕ, ◌+◌};
 ghost use Rattle.capn_words.specs.Message.{IsMessage};
@@ -20,14 +21,14 @@ use capn_walk::{Shape, Target};
 use capn_words::{Place, Space, Width};
 use std::sync::ledger::Ledger;
 
-/// Slots of a message from a place on, one after the other.
+/// Consecutive slots of a message, from `start` on.
 #[derive(Drop)]
 pub struct MessageSlots<'a, S: Space, L: Ledger> {
     pub space: CountedSpace<'a, S, L>,
     pub start: Place,
 }
 
-/// The first bits of the words from a place on.
+/// The first `bits` bits of the words from `start` on.
 #[derive(Drop)]
 pub struct MessageBits<'a, S: Space, L: Ledger> {
     pub space: CountedSpace<'a, S, L>,
@@ -35,7 +36,7 @@ pub struct MessageBits<'a, S: Space, L: Ledger> {
     pub bits: u64,
 }
 
-/// Rows of a message, one after the other.
+/// Consecutive rows of a message, from `start` on.
 #[derive(Drop)]
 pub struct MessageRows<'a, S: Space, L: Ledger> {
     pub space: CountedSpace<'a, S, L>,
@@ -196,7 +197,7 @@ impl<'a, S: Space, L: Ledger> Source for MessageSlots<'a, S, L> {
         (record { segment = s.start.segment; word = s.start.word + k }) hv.at hw.at };
 }
 
-/// Returns the item of an object of this `shape` whose content starts at `start`.
+/// Returns the item for an object of `shape` whose content starts at `start`.
 #[inline(always)]
 fn item_at<'a, S: Space, L: Ledger>(
     space: &CountedSpace<'a, S, L>,

@@ -14,7 +14,7 @@ use capn_target::counted::{CountedSpace, Reads};
 use capn_words::{Place, Space, Width};
 use std::sync::ledger::Ledger;
 
-/// Returns the bits of an element of this `width`.
+/// Returns the number of bits of an element of `width`.
 pub fn bits_of(width: Width) -> u64
     requires { IsPlain width }
     ensures { result ≡ element_bits width }
@@ -30,8 +30,8 @@ pub fn bits_of(width: Width) -> u64
     }
 }
 
-/// Appends the first `bits` bits of the words from `start` on after the first `len` words of `out`, the bits past them
-/// as 0; returns the number of words then.
+/// Appends the first `bits` bits of the words from `start` on after the first `len` words of `out`. The bits past them,
+/// up to a whole word, are 0. Returns the new number of words.
 pub fn append_bits<S: Space, L: Ledger>(
     space: &CountedSpace<'_, S, L>,
     start: Place,

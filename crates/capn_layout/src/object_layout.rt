@@ -1,4 +1,4 @@
-//! The content of values, object by object, in preorder.
+//! The layout of values, object by object, in preorder.
 //! A change of what this writes changes canonical bytes: it is a new version of the form.
 
 ghost use Rattle.std.specs.Prelude.{◌≡◌, ℕ, ◌+◌, ◌*◌, ◌/◌, ◌^◌, ◌<◌, ◌≤◌, ◌++◌, List, length, drop, IfOk};
@@ -24,8 +24,8 @@ use capn_value::Memory;
 use capn_words::{Pointer, join};
 use std::alloc::Allocator;
 
-/// Writes the canonical bytes of the value in the first slot of `source`, at most `depth` objects deep. They are
-/// counted first, and their memory is asked of `alloc` at once.
+/// Returns the canonical bytes of the value in the first slot of `source`, which is at most `depth` objects deep. The
+/// bytes are counted first, and their memory is allocated on `alloc` at once.
 pub fn canonical_bytes<S: Source, A: Allocator>(
     alloc: A,
     source: S,
@@ -41,8 +41,8 @@ pub fn canonical_bytes<S: Source, A: Allocator>(
     Ok(bytes)
 }
 
-/// Writes the canonical bytes of the value in the first slot of `source` to `out`, the pointer to it and then its
-/// content, and returns their number of words. The bytes after them stay as they were. The value is at most `depth`
+/// Writes the canonical bytes of the value in the first slot of `source` to `out`: the pointer to it and then its
+/// content. Returns the number of words written. The bytes after them stay as they were. The value is at most `depth`
 /// objects deep.
 pub fn lay_root<S: Source>(source: &S, depth: u32, out: &mut [u8], reads: &mut S::Reads) -> usize
     requires ready { IsReadyIn S.has source.now 0 depth 1 (length out.old / 8) }
@@ -55,8 +55,8 @@ pub fn lay_root<S: Source>(source: &S, depth: u32, out: &mut [u8], reads: &mut S
     lay_slot(source, 0, 0, depth, out, len, reads)
 }
 
-/// Puts the pointer to the value in `slot` over word `from`, and appends its content with all below it, at most `depth`
-/// objects deep.
+/// Writes the pointer to the value in `slot` over word `from`, and appends its content with all below it. The value is
+/// at most `depth` objects deep.
 #[cycle(objects)]
 #[inline(always)]
 fn lay_slot<S: Source>(
@@ -119,8 +119,8 @@ fn lay_slot<S: Source>(
     }
 }
 
-/// Puts the pointer to a list of `count` structs over word `from`, and appends its content with all below it, at most
-/// `depth` objects deep. It is a call of its own, so that its part of the stack is not kept at each level of depth.
+/// Writes the pointer to a list of `count` structs over word `from`, and appends its content with all below it, at most
+/// `depth` objects deep. It is a call of its own, so that its stack frame is not kept at each level of depth.
 #[cycle(objects)]
 #[inline(never)]
 fn lay_list<S: Source>(
@@ -157,8 +157,8 @@ fn lay_list<S: Source>(
     )
 }
 
-/// Writes the pointers of the first `count` slots over the words from `first` on, and appends their content with all
-/// below it.
+/// Writes the pointers of the first `count` slots of `source` over the words from `first` on, and appends their
+/// contents with all below them.
 #[cycle(objects)]
 #[inline(always)]
 fn lay_each<S: Source>(
@@ -209,8 +209,8 @@ fn lay_slots<S: Source>(
     lay_each(source, count, first, depth, out, len, reads)
 }
 
-/// Writes the pointers of the slots of `count` rows over their words, row by row, and appends their content with all
-/// below it. The rows begin at `first`, each with `words` words and `slots` slots.
+/// Writes the pointers of the slots of `count` rows over their words, row by row, and appends their contents with all
+/// below them. The rows begin at word `first`, and each has `words` words and `slots` slots.
 #[cycle(objects)]
 #[inline(always)]
 fn lay_rows<S: Source>(

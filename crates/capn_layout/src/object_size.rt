@@ -1,4 +1,4 @@
-//! Sizes of values' contents, with all below them.
+//! The sizes of values' contents, with all below them.
 //! A change of these sizes changes canonical bytes: it is a new version of the form.
 
 ghost use Rattle.std.specs.Prelude.{◌≡◌, ℕ, ◌+◌, ◌*◌, ◌^◌, ◌<◌, ◌≤◌};
@@ -12,8 +12,8 @@ ghost use Rattle.capn_layout.specs.Ready.{IsReady, AreReady, RowsReady};
 
 use crate::source::{Item, Source};
 
-/// Returns the words of the content of the value in `slot` of `source`, with all below it, at most `depth` objects
-/// deep. It counts in `reads`.
+/// Returns the number of words in the content of the value in `slot` of `source`, with all below it. The value is at
+/// most `depth` objects deep. Reads are counted in `reads`.
 #[cycle(sizes)]
 #[inline(always)]
 pub fn size_of_slot<S: Source>(source: &S, slot: u32, depth: u32, reads: &mut S::Reads) -> u32
@@ -42,7 +42,7 @@ pub fn size_of_slot<S: Source>(source: &S, slot: u32, depth: u32, reads: &mut S:
     }
 }
 
-/// Returns the words of the contents of the first `number` slots, with all below them.
+/// Returns the number of words in the contents of the first `number` slots, with all below them.
 #[cycle(sizes)]
 #[inline(never)]
 fn size_of_slots<S: Source>(source: S, number: u32, depth: u32, reads: &mut S::Reads) -> u32
@@ -60,7 +60,7 @@ fn size_of_slots<S: Source>(source: S, number: u32, depth: u32, reads: &mut S::R
     size
 }
 
-/// Returns the words of the contents below `number` rows, of which `slots` slots are kept.
+/// Returns the number of words in the contents below `number` rows, if `slots` slots of each row are kept.
 #[cycle(sizes)]
 #[inline(never)]
 fn size_of_rows<S: Source>(

@@ -1,4 +1,4 @@
-//! An object's own words, ahead of its slots.
+//! The opening of an object: the pointer to it and its own words are written before what its slots name.
 //! A change of what this writes changes canonical bytes: it is a new version of the form.
 
 ghost use Rattle.std.specs.Prelude.{◌^◌, ◌+◌, ◌*◌, ◌<◌, ◌≤◌, length};
@@ -15,8 +15,8 @@ use crate::pointer_words::{list_pointer, struct_pointer, tag_word};
 use crate::source::Source;
 use capn_words::Width;
 
-/// An object whose own words are written: the place of its first row in the layout, the numbers of words and of slots
-/// of each row that are kept, and the end of all rows.
+/// An object whose own words are written: the word at which its first row begins, the end of all rows, and the numbers
+/// of words and of slots that are kept of each row.
 #[derive(Clone, Copy)]
 pub struct Opened {
     pub first: usize,
@@ -25,8 +25,8 @@ pub struct Opened {
     pub slots: u32,
 }
 
-/// Puts the pointer to a struct, `row`, over word `from`, and appends what is kept of it after the first `len` words of
-/// `out`.
+/// Writes the pointer to the struct `row` over word `from`, and appends what is kept of the struct after the first
+/// `len` words of `out`.
 #[inline(always)]
 pub fn open_struct<S: Source>(
     row: &S::Rows,
@@ -59,8 +59,8 @@ pub fn open_struct<S: Source>(
     }
 }
 
-/// Puts the pointer to a list of `count` pointers over word `from`, and appends words in place of its slots after the
-/// first `len` words of `out`.
+/// Writes the pointer to a list of `count` pointers over word `from`, and appends words in place of its elements after
+/// the first `len` words of `out`.
 #[inline(always)]
 pub fn open_links<S: Source>(
     row: &S::Rows,
@@ -91,9 +91,9 @@ pub fn open_links<S: Source>(
     }
 }
 
-/// Puts the pointer to a list of `count` structs, `rows`, over word `from`, and appends its tag and what is kept of
-/// each row after the first `len` words of `out`. All rows are cut alike. It is a call of its own, so that its part of
-/// the stack is not kept at each level of depth.
+/// Writes the pointer to the list of `count` structs `rows` over word `from`, and appends its tag and what is kept of
+/// each row after the first `len` words of `out`. All rows are cut to the same size. It is a call of its own, so that
+/// its stack frame is not kept at each level of depth.
 #[inline(never)]
 pub fn open_rows<S: Source>(
     rows: &S::Rows,

@@ -16,7 +16,7 @@ use std::marker::Model;
 
 /// A list of words and holes. A hole is a word that is not known yet.
 ///
-/// The words are kept as their bytes, and a hole as one bit beside them.
+/// The words are stored as their bytes, and in addition each word has a bit that says whether it is a hole.
 #[derive(Debug, Drop)]
 pub struct Patch<A: Allocator = Global> {
     bytes: Vec<u8, A>,
@@ -98,7 +98,7 @@ impl<A: Allocator> Patch<A> {
 
     /// Appends `word`.
     ///
-    /// Answers `Memory` if a growth was refused, and then nothing has changed.
+    /// Returns `Memory` if a growth was refused, and then nothing has changed.
     pub fn push(&mut self, word: u64) -> Result<(), Memory>
         ensures ok { OnOk result (self.new ≡ self.old ++ Some word ∷ []) }
         ensures err { OnErr result (self.new ≡ self.old) }
@@ -110,9 +110,9 @@ impl<A: Allocator> Patch<A> {
         Ok(())
     }
 
-    /// Appends `n` holes, and returns the place of the first, which for `n` = 0 is the length.
+    /// Appends `n` holes. Returns the place of the first, which is the length that the buffer had.
     ///
-    /// Answers `Memory` if a growth was refused, and then nothing has changed.
+    /// Returns `Memory` if a growth was refused, and then nothing has changed.
     #[inline(always)]
     pub fn leave(&mut self, n: usize) -> Result<usize, Memory>
         ensures ok { IfOk result (λ at. (at ≡ length self.old)
@@ -131,7 +131,8 @@ impl<A: Allocator> Patch<A> {
         Ok(at)
     }
 
-    /// Appends the words of the packed bytes `xs`, eight a word. On `Memory` nothing has changed.
+    /// Appends the bytes `xs`, packed eight to a word. Returns `Memory` if a growth was refused, and then nothing has
+    /// changed.
     pub fn extend_bytes(&mut self, xs: &[u8]) -> Result<(), Memory>
         ensures ok { OnOk result (self.new
             ≡ self.old ++ whole (packed 8 8 (words_for (8 * length xs.now)) xs.now)) }
@@ -143,7 +144,7 @@ impl<A: Allocator> Patch<A> {
         Ok(())
     }
 
-    /// Puts `word` into the hole at `at`.
+    /// Writes `word` into the hole at `at`.
     pub fn fill(&mut self, at: usize, word: u64)
         requires { IsHole self.old at }
         ensures { self.new ≡ set self.old at (Some word) }
@@ -152,10 +153,10 @@ impl<A: Allocator> Patch<A> {
         unmark(&mut self.holes, at);
     }
 
-    /// Returns the bytes of the words, in which no hole is left.
+    /// Returns the bytes of the words, if no hole is left.
     ///
-    /// The buffer is moved, so nothing is copied and no memory is taken. It never answers `Memory`, with which it would
-    /// hand the buffer back.
+    /// The buffer is moved, so nothing is copied and no memory is taken. `Memory`, which would hand the buffer back, is
+    /// never returned.
     pub fn finish(self) -> Result<Vec<u8, A>, (Patch<A>, Memory)>
         requires { IsWhole self }
         ensures ok { IfOk result (λ v. v.items ≡ bytes_of_words (filled self)) }

@@ -18,41 +18,41 @@ pub enum Item<N, R> {
     Nil,
     /// A capability, by its index.
     Cap(u32),
-    /// A list of numbers of one width, and their number.
+    /// A list of numbers: the numbers, their width and their count.
     Numbers(N, Width, u32),
     /// A struct: one row.
     Struct(R),
-    /// A list of pointers: the slots of one row that has no words, and their number.
+    /// A list of pointers: a row that has only slots, and the number of slots.
     Links(R, u32),
     /// A list of structs: its rows, and their number.
     Rows(R, u32),
 }
 
-/// Slots one after the other, each with its value.
+/// Consecutive slots, each with its value.
 ///
-/// There are two: the slots of a [`Value`](capn_value::Value), and words of a message that was surveyed. Those of a
-/// message count what they read. With the reads the turns of loops are counted.
+/// There are two sources: the slots of a [`Value`](capn_value::Value), and the words of a message that was surveyed.
+/// The source over a message counts its reads, and with them the turns of loops.
 pub trait Source: Drop {
-    /// The place of the numbers of a list.
+    /// The type that refers to the numbers of a list.
     type Numbers: Drop;
-    /// The place of rows of equal sizes, each with its words and its slots.
+    /// The type that refers to rows of equal sizes, each with its words and its slots.
     type Rows: Drop;
-    /// The number of reads of the message. It takes no bytes.
+    /// The type that counts reads of the message. It takes no bytes.
     type Reads;
 
-    /// A slot has a value.
+    /// The statement that a slot has a value.
     ghost has: { Self → ℕ → Tree → Type 0 };
 
-    /// Numbers are packed in words.
+    /// The statement that numbers are packed in words.
     ghost packs: { Self.Numbers → List ℕ → Type 0 };
 
-    /// Rows have words, and slots with values.
+    /// The statement that rows have words, and slots with values.
     ghost are: { Self.Rows → Bodies → Type 0 };
 
     /// The number of reads and turns that were counted.
     ghost spent: { Self.Reads → ℕ };
 
-    /// Counts one turn of a loop more in `reads`.
+    /// Counts one more turn of a loop in `reads`.
     fn tick(reads: &mut Self::Reads)
         ensures { spent reads.new ≤ spent reads.old + 1 };
 
@@ -60,14 +60,14 @@ pub trait Source: Drop {
     fn again(rows: &Self::Rows) -> Self::Rows
         ensures { result ≡ rows.now };
 
-    /// Returns the content of `slot`. It counts in `reads`.
+    /// Returns the content of `slot`, and counts its reads in `reads`.
     fn item(&self, slot: u32, reads: &mut Self::Reads) -> Item<Self::Numbers, Self::Rows>
         requires { (v : Tree) × has self.now slot v }
         ensures is { (v : Tree) → has self.now slot v → IsItem packs are result v }
         ensures reads { spent reads.new ≤ spent reads.old + 9 };
 
-    /// Appends the words in which `numbers` are packed after the first `len` words of `out`; bits past the last number
-    /// are 0. Returns the number of words then.
+    /// Appends the words in which `numbers` are packed after the first `len` words of `out`. Bits past the last number
+    /// are 0. Returns the new number of words.
     fn append_numbers(
         numbers: &Self::Numbers,
         out: &mut [u8],
@@ -83,22 +83,22 @@ pub trait Source: Drop {
         requires { (ws : List ℕ) × packs numbers.now ws × (length ws ≤ 2 ^ 29) }
         ensures { (ws : List ℕ) → packs numbers.now ws → result ≡ length ws };
 
-    /// Returns the number of words that are kept of each of `rows`, when all are cut alike.
+    /// Returns the number of words that are kept of each of `rows`, if all are cut to the same size.
     fn kept_words(rows: &Self::Rows, reads: &mut Self::Reads) -> u32
         requires { (bs : Bodies) × are rows.now bs }
         ensures kept { (bs : Bodies) → are rows.now bs → result ≡ kept_words_of_rows bs }
         ensures reads { (bs : Bodies) → are rows.now bs
             → spent reads.new ≤ spent reads.old + count_rows bs + 2 * row_words bs };
 
-    /// Returns the number of slots that are kept of each of `rows`, when all are cut alike.
+    /// Returns the number of slots that are kept of each of `rows`, if all are cut to the same size.
     fn kept_slots(rows: &Self::Rows, reads: &mut Self::Reads) -> u32
         requires { (bs : Bodies) × are rows.now bs }
         ensures kept { (bs : Bodies) → are rows.now bs → result ≡ kept_slots_of_rows bs }
         ensures reads { (bs : Bodies) → are rows.now bs
             → spent reads.new ≤ spent reads.old + count_rows bs + 2 * row_words bs };
 
-    /// Appends the first `words` words of each of `rows`, each followed by any words in place of its first `slots`
-    /// slots, after the first `len` words of `out`. Returns the number of words then.
+    /// Appends each of `rows` after the first `len` words of `out`: its first `words` words, and then any words in
+    /// place of its first `slots` slots. Returns the new number of words.
     fn append_rows(
         rows: &Self::Rows,
         words: u32,
@@ -120,6 +120,6 @@ pub trait Source: Drop {
         ensures { (bs : Bodies) → are rows.now bs → (k : ℕ) → k < count (slots_at bs row)
             → has result k (tree_at (slots_at bs row) k) };
 
-    /// A slot has one value.
+    /// The proof that a slot has no two values.
     ghost one: { (slots : Self) (k : ℕ) (v w : Tree) → has slots k v → has slots k w → v ≡ w };
 }

@@ -13,8 +13,8 @@ use capn_target::counted::{CountedSpace, Reads};
 use capn_words::{Place, Space};
 use std::sync::ledger::Ledger;
 
-/// Appends the first `words` words of the first part of a row, which has `size` words, and the first `slots` words of
-/// the second part, which follows. If the first part is kept whole, both are copied as one piece.
+/// Appends the first `words` words and the first `slots` slots of the row at `start`, whose slots follow `size` words.
+/// If all `size` words are kept, both parts are copied at once.
 #[inline(always)]
 fn push_parts<S: Space, L: Ledger>(
     space: &CountedSpace<'_, S, L>,
@@ -46,8 +46,9 @@ fn push_parts<S: Space, L: Ledger>(
     extend(out, end, space.bytes(below, 8 * slots as usize, reads))
 }
 
-/// Appends `kept` of the `words` words and `below` of the `slots` slots of each of `count` rows, as they stand, after
-/// the first `len` words of `out`; returns the number of words then. Rows that are kept whole are one piece.
+/// Appends the first `kept` of the `words` words and the first `below` of the `slots` slots of each of `count` rows, as
+/// they stand, after the first `len` words of `out`. Returns the new number of words. Rows that are kept whole are
+/// copied at once.
 #[inline(always)]
 pub fn push_rows<S: Space, L: Ledger>(
     space: &CountedSpace<'_, S, L>,

@@ -18,7 +18,7 @@ use std::fmt;
 pub enum LayoutFault {
     /// A growth was refused.
     Memory,
-    /// The tree has a capability, which canonical bytes can't hold. The index is that of the first in
+    /// The tree has a capability, which canonical bytes can't hold. The index is that of the first capability in
     /// preorder.
     Capability(u32),
 }
@@ -44,8 +44,9 @@ const MOST_HEIGHT: u32 = 256;
 
 /// Writes the canonical bytes of `tree`: one segment, its objects in preorder, every struct cut to what it keeps.
 ///
-/// `Capability` comes exactly if the tree has one, with the index of the first in preorder, before any memory is taken.
-/// `Memory` comes only if that for the answer was refused, which is asked of `alloc` at once.
+/// `Capability` is returned exactly if the tree has a capability, before any memory is taken. It has the index of the
+/// first in preorder. `Memory` is returned only if the memory for the bytes, which is allocated on `alloc` at once, was
+/// refused.
 ///
 /// Page: canonicalization. Own: bits past a list's last element are 0, and a list without content points at the next
 /// free word.

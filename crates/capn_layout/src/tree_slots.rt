@@ -1,4 +1,5 @@
-//! The slots of values in memory, as a source.
+//! The slots of values in memory, as a source of a layout.
+//! A change of what this writes changes canonical bytes: it is a new version of the form.
 
 ghost use Rattle.std.specs.Prelude.{◌≡◌, ◌+◌, ◌*◌, ◌≤◌, ◌++◌, length, take, replicate};
 ghost use Rattle.std.proofs.Common.{◌∙◌, sym};
@@ -28,7 +29,7 @@ pub enum TreeNumbers<'a> {
     Octs(&'a [u64]),
 }
 
-/// The rows of a list of structs, or one row: that of a struct, or slots alone.
+/// The rows of a list of structs, or one row: a struct, or slots alone.
 #[derive_where(Clone, Copy)]
 pub enum TreeRows<'a, B: Allocator> {
     Bodies(&'a [Body<B>]),
@@ -56,7 +57,7 @@ impl<'a, B: Allocator> Source for TreeSlots<'a, B> {
 
     ghost are = { λ x bs. AreBodies x bs };
 
-    // No message is read.
+    // A tree is not a message, so no reads are counted.
     ghost spent = { λ _. 0 };
 
     fn tick(_reads: &mut ()) {}
@@ -178,7 +179,7 @@ fn push_bodies<B: Allocator>(
     end
 }
 
-/// Returns the item that `value` is.
+/// Returns `value` as the item of a slot.
 #[tactic(auto, using(capn_value::specs::Views::views))]
 fn item_of<B: Allocator>(value: &Value<B>) -> Item<TreeNumbers<'_>, TreeRows<'_, B>>
     requires { Sound (tree_of value.now) }

@@ -36,7 +36,7 @@ copied-words m s w n is h =
     let k : length (bytes_at m (record { segment = s; word = w }) (8 * n)) / 8 ≡ length ws = omega arith in
     ap₂ words_in k e ∙ words_of_bytes ws (below-take n (drop w seg) (below-drop w seg (is.each s)))
 
--- they are appended as words
+-- the bytes of n words are appended as those words
 pub copy-of : (m : List (List ℕ)) (s w n : ℕ) (p q : List ℕ) (bs : List ℕ) → IsMessage m
     → w + n ≤ length (segment_at m s) → bs ≡ bytes_at m (record { segment = s; word = w }) (8 * n) →
     q ≡ p ++ words_in (length bs / 8) bs → q ≡ p ++ take n (words_from m s w)
@@ -44,18 +44,18 @@ copy-of m s w n p q bs is h eb eq =
     eq ∙ ap (λ (xs : List ℕ). p ++ words_in (length xs / 8) xs) eb
     ∙ ap (λ (xs : List ℕ). p ++ xs) (copied-words m s w n is h)
 
--- the words of a message are words
+-- each word of a message is below 2^64
 pub part-below : (m : List (List ℕ)) (s w : ℕ) → IsMessage m → (i : ℕ) → slice_index (words_from m s w) i < 2 ^ 64
 part-below m s w is = below-drop w (segment_at m s) (is.each s)
 
--- and they are whole words
+-- the bytes of n words are whole words
 pub whole-bytes : (m : List (List ℕ)) (s w n : ℕ) (bs : List ℕ) → w + n ≤ length (segment_at m s)
     → bs ≡ bytes_at m (record { segment = s; word = w }) (8 * n) → length bs % 8 ≡ 0
 whole-bytes m s w n bs h e =
     let l = ap length e ∙ length-bytes_at m (record { segment = s; word = w }) (8 * n) (omega arith) in
     omega arith
 
--- so many
+-- the bytes of n words are 8 * n
 pub length-copied : (m : List (List ℕ)) (s w n : ℕ) (bs : List ℕ) → w + n ≤ length (segment_at m s)
     → bs ≡ bytes_at m (record { segment = s; word = w }) (8 * n) → length bs ≡ 8 * n
 length-copied m s w n bs h e = ap length e ∙ length-bytes_at m (record { segment = s; word = w }) (8 * n) (omega arith)
@@ -65,7 +65,7 @@ pub length-part : (m : List (List ℕ)) (s w n : ℕ) → w + n ≤ length (segm
 length-part m s w n h =
     let d = length-drop w (segment_at m s) in length-take-le n (words_from m s w) (omega arith)
 
--- n words from a place on are appended
+-- the n words from word w on are appended
 module _ (m : List (List ℕ)) (s w n len end : ℕ) (p q bs : List ℕ) (is : IsMessage m)
     (h : w + n ≤ length (segment_at m s)) (e : bs ≡ bytes_at m (record { segment = s; word = w }) (8 * n))
     (a : Appends len end (words_in (length bs / 8) bs) p q) where
@@ -78,7 +78,7 @@ module _ (m : List (List ℕ)) (s w n len end : ℕ) (p q bs : List ℕ) (is : I
       appends-length len end (take n (words_from m s w)) p q copied
       ∙ ap (λ (j : ℕ). len + j) (length-part m s w n h)
 
--- the words of two parts
+-- the number of words in two parts
 pub length-parts : (m : List (List ℕ)) (s w x a b : ℕ) → w + a ≤ length (segment_at m s)
     → x + b ≤ length (segment_at m s)
     → length (take a (words_from m s w) ++ take b (words_from m s x)) ≡ a + b
@@ -88,7 +88,7 @@ length-parts m s w x a b h k =
     let v = length-part m s x b k in
     omega arith
 
--- one more row is among all rows
+-- one more row lies inside all rows
 pub row-room : (n i k : ℕ) → i < n → i * k + k ≤ n * k
 row-room n i k lt =
     let z : n ≡ suc i + (n - suc i) = omega arith in
@@ -100,7 +100,7 @@ length-last : (r : ℕ) (ws : List ℕ) → r < 64 → length (last_bits r ws) �
 length-last zero ws h = omega arith
 length-last (suc r) ws h = omega arith
 
--- the words of the first bits
+-- the number of words that the first bits take
 pub length-first-bits : (m : List (List ℕ)) (s w n : ℕ) → w + words_for n ≤ length (segment_at m s)
     → length (first_bits n (words_from m s w)) ≡ words_for n
 length-first-bits m s w n h =

@@ -17,7 +17,7 @@ use Rattle.capn_layout.specs.Weight.{weight, weights, weights_in_rows}
 use Rattle.capn_layout.proofs.shared.KeptLengths.{kept_words-le, kept_slots-le}
 use Rattle.capn_layout.proofs.shared.Sound.{wide-words}
 
--- fewer times the same
+-- i times k is at most n times k if i is at most n
 pub times-le : (i n k : ℕ) → i ≤ n → i * k ≤ n * k
 times-le i n k le =
     let z : n ≡ i + (n - i) = omega arith in
@@ -25,7 +25,7 @@ times-le i n k le =
     let d : (i + (n - i)) * k ≡ i * k + (n - i) * k = omega arith in
     omega arith
 
--- rows of equal sizes have as many words as one of them, for each
+-- rows of equal sizes have as many words as one of them times their number
 pub rows-words : (m : List (List ℕ)) (bs : Bodies) (a b s w : ℕ) → RowsAt m a b s w bs
     → row_words bs ≡ count_rows bs * (a + b)
 rows-words m no_bodies a b s w i = omega arith
@@ -36,7 +36,7 @@ rows-words m (body ws ss bs) a b s w i =
     let k : suc (count_rows bs) * (a + b) ≡ a + b + count_rows bs * (a + b) = omega arith in
     omega arith
 
--- they are no more than they cost, and neither are the rows
+-- the words of rows, and the rows, are no more than the rows cost
 most-priced : (bs : Bodies) (k : ℕ) → row_words bs ≡ count_rows bs * k
     → max (count_rows bs) (row_words bs) ≤ rows_price bs
 unfolding rows_price
@@ -50,7 +50,7 @@ most-priced bs k e = priced (row_words bs) (count_rows bs) k e
         let q : suc n ≤ r = omega arith in
         grind (arith, nat_tests)
 
--- the words of a layout are among them
+-- the words of a layout are no more than the weight of the value
 mutual
   pub size-weight : (v : Tree) → Sound v → size v ≤ weight v
   size-weight nil h = omega arith

@@ -19,14 +19,14 @@ behind-here x n e = grind (arith, nat_tests)
 behind-above : (b : Bool) (n k : ℕ) → k < n → suc k < kept_behind b n
 behind-above b n k h = grind (arith, nat_tests)
 
--- zeros from a place on are not kept
+-- if all numbers from index n on are zero, at most n are kept
 pub zeros-cut : (xs : List ℕ) (n : ℕ) → ((k : ℕ) → n ≤ k → slice_index xs k ≡ 0) → kept_words xs ≤ n
 zeros-cut [] n h = omega arith
 zeros-cut (x ∷ xs) zero h =
     behind-zero x (kept_words xs) 0 (h 0 (omega arith)) (zeros-cut xs 0 (λ k l. h (suc k) (omega arith)))
 zeros-cut (x ∷ xs) (suc n) h = behind-more (x == 0) (kept_words xs) n (zeros-cut xs n (λ k l. h (suc k) (omega arith)))
 
--- what is not zero is kept
+-- a number that isn't zero is kept
 pub others-kept : (xs : List ℕ) (k : ℕ) → slice_index xs k ≢ 0 → k < kept_words xs
 others-kept [] k h = absurd (omega arith)
 others-kept (x ∷ xs) zero h = behind-here x (kept_words xs) h
@@ -63,7 +63,7 @@ module _ (seg : List ℕ) (w count : ℕ) where
           from (inl a) = at-part k a ∙ h k l a
           from (inr b) = past-part (drop w seg) count k b
 
-  -- the words from the n-th on are zero, and the one before isn't
+  -- if the words of a part from the n-th on are zero and the one before isn't, n words are kept
   pub kept-found : (least n : ℕ) → least < n → n ≤ count → AreZeros n → slice_index seg (w + (n - 1)) ≢ 0
       → n ≡ max least (kept_words part)
   kept-found least n l le h ne =
@@ -72,13 +72,13 @@ module _ (seg : List ℕ) (w count : ℕ) where
       let b = others-kept part (n - 1) (λ z. ne (sym e ∙ z)) in
       omega arith
 
-  -- the words from the least length on are zero
+  -- if the words of a part from the least length on are zero, the least length is kept
   pub kept-least : (least n : ℕ) → n ≤ least → least ≤ n → AreZeros n → n ≡ max least (kept_words part)
   kept-least least n l le h =
       let a = cut n h in
       omega arith
 
--- zeros at the end of a part don't count
+-- zeros at the end of a part do not change what is kept
 zeros-after : (k n : ℕ) (xs : List ℕ) → k ≤ n → ((j : ℕ) → k ≤ j → j < n → slice_index xs j ≡ 0)
     → kept_words (take k xs) ≡ kept_words (take n xs)
 zeros-after zero n xs l h =
@@ -88,7 +88,7 @@ zeros-after (suc k) (suc n) [] l h = refl
 zeros-after (suc k) (suc n) (x ∷ xs) l h =
     ap (kept_behind (x == 0)) (zeros-after k n xs (omega arith) (λ j a b. h (suc j) (omega arith) (omega arith)))
 
--- the last word of a part doesn't count if it is zero
+-- the last word of a part does not change what is kept if it is zero
 pub last-cut : (seg : List ℕ) (w count : ℕ) → 0 < count → slice_index seg (w + (count - 1)) ≡ 0
     → kept_words (take (count - 1) (drop w seg)) ≡ kept_words (take count (drop w seg))
 last-cut seg w count some z =

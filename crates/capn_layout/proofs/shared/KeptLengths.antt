@@ -1,4 +1,4 @@
--- Kept lengths are lengths at most. (For `Blocks`, `Counted`, `Cut`, capn_canon and capn_mismatch.)
+-- A kept length is at most the length itself. (For `Blocks`, `Counted`, `Cut`, capn_canon and capn_mismatch.)
 use Rattle.std.proofs.Common.{ℕ, suc, ◌≤◌, ◌==◌, Bool, List, [], ◌∷◌, length, arith}
 use Rattle.std.proofs.lemmas.Bool.Decides.{nat_tests}
 use Rattle.capn_value.specs.Tree.{Trees, no_trees, tree, count, is_null}

@@ -1,4 +1,4 @@
--- A slot is null exactly where its word is zero. (For `EachRow` and capn_canon.)
+-- A slot is null exactly if its word is zero. (For `EachRow` and capn_canon.)
 use Rattle.std.proofs.Common.{◌≡◌, ◌≢◌, ◌⊎◌, inl, inr, ℕ, suc, ◌+◌, ◌%◌, ◌≤◌, ◌==◌, true, false}
 use Rattle.std.proofs.Common.{List, length, take, Ok, refl, ap, ap₂, sym, subst}
 use Rattle.std.proofs.Common.{◌∙◌, arith}
@@ -37,12 +37,12 @@ module _ (m : List (List ℕ)) where
   other-target at n =
       there-named m at.segment at.word (pointer_in m at.segment at.word) (pointer-other (word_at m at) n)
 
-  -- a word of zeros names nothing
+  -- a word of zeros has the target null
   pub zero-target : (at : Place) → word_at m at ≡ 0 → target m at ≡ Ok targets.Nil
   unfolding target
   zero-target at e = ap (target_of_pointer m at.segment at.word) (pointer-zero (word_at m at) e)
 
-  -- any other word names something, if it isn't a fault
+  -- a word with the target null is zero
   pub other-than-nil : (at : Place) → target m at ≡ Ok targets.Nil → word_at m at ≡ 0
   other-than-nil at e = from (decided (word_at m at))
     where

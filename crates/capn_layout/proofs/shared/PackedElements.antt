@@ -1,4 +1,4 @@
--- Elements that were packed into words, read again. (For capn_canon.)
+-- Elements that were packed into words, and are read from them again. (For capn_canon.)
 use Rattle.std.proofs.Common.{◌≡◌, ℕ, zero, suc, ◌+◌, ◌*◌, ◌/◌, ◌%◌, ◌^◌, ◌<◌, List, [], ◌∷◌, ◌++◌, length, take, drop}
 use Rattle.std.proofs.Common.{slice_index, ap, sym, subst, ◌∙◌, arith}
 use Rattle.std.proofs.Math.Nat.{div-div-eq-div-mul, pow-succ', pow-zero, zero-div, zero-mod, div-add-mod, mod-lt}
@@ -10,7 +10,7 @@ use Rattle.capn_layout.specs.Layout.{number, packed}
 use Rattle.capn_layout.specs.Sound.{AreBelow}
 use Rattle.capn_layout.proofs.shared.LayLengths.{length-packed}
 
--- digit k of the number of a list is its element k
+-- digit k of the number of a list is element k of the list
 digit : (base : ℕ) → 0 < base → (ys : List ℕ) (k : ℕ) → AreBelow base ys
     → number base ys / base ^ k % base ≡ slice_index ys k
 digit base p [] k h = ap (λ (x : ℕ). x % base) (zero-div (base ^ k)) ∙ zero-mod base

@@ -63,6 +63,6 @@ room v f r =
     let d = (fit_parts v f).cheap in
     (a, (λ base. size-cost base v s), omega arith)
 
--- the canonical bytes
+-- the number of canonical bytes
 pub length-canon : (v : Tree) → Sound v → length (canon v) ≡ 8 * (1 + size v)
 length-canon v h = let a = length-bytes (words v) in let b = length_words v h in omega arith

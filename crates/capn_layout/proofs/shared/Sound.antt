@@ -13,7 +13,7 @@ use Rattle.capn_value.specs.InRange.{AllBelow, InRange, EachInRange, RowsInRange
 use Rattle.capn_layout.specs.Sound.{AreBelow, AreWide, Sound, Sounds, SoundRows}
 use Rattle.capn_layout.proofs.shared.KeptLengths.{kept_words-le, kept_slots-le}
 
--- ---- numbers below a base, by index
+-- ---- numbers below a base, given by index
 
 pub below : (base : ℕ) → 0 < base → (xs : List ℕ) → AllBelow base xs → AreBelow base xs
 below base p [] h i = p
@@ -36,7 +36,7 @@ narrow-rows (body ws ss bs) h =
     let rest = narrow-rows bs p.1 in
     (omega (arith, kept_words-le ws, one.0, rest.0), omega (arith, kept_slots-le ss, one.1, rest.1))
 
--- what is kept of even rows is within each row
+-- even rows keep no more than each row has
 even-kept : (w s : ℕ) (bs : Bodies) → are_even w s bs ≡ true → (kept_words_of_rows bs ≤ w) × (kept_slots_of_rows bs ≤ s)
 even-kept w s no_bodies h = (omega arith, omega arith)
 even-kept w s (body ws ss bs) h =

@@ -189,7 +189,7 @@ module _ (v : Tree) (bs : Bodies) (from : ℕ) (p q : List ℕ) (first a b depth
       let m : count_rows bs * (a + b) ≡ a + b = ap (λ (k : ℕ). k * (a + b)) one ∙ omega arith in
       omega arith
 
-  -- the slots of the only row
+  -- the slots of the only row have values
   module _ {S : Type 0} (has : S → ℕ → Tree → Type 0) (source : S) (one : count_rows bs ≡ 1)
       (are : (k : ℕ) → k < count (slots_at bs 0) → has source k (tree_at (slots_at bs 0) k)) where
     long : b ≤ count (slots_at bs 0)
@@ -223,7 +223,7 @@ module _ (v : Tree) (bs : Bodies) (from : ℕ) (p q : List ℕ) (first a b depth
         let l = length-slots b (slots_at bs 0) (first + a) q s in
         omega (arith, ap length (h (slots_at bs 0) long (λ k lt. are k (let l = long in omega arith))), l.0)
 
-  -- the slots of all rows
+  -- the slots of all rows have values
   module _ {R : Type 0} (are : R → Bodies → Type 0) (source : R) (n : ℕ) (en : count_rows bs ≡ n)
       (is : are source bs) where
     pub all-ready : RowsReady are source 0 n a b (depth - 1) (length q) most

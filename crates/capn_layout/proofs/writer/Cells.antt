@@ -14,7 +14,7 @@ unfolding cells
 length-cells [] bs = refl
 length-cells (h ∷ hs) bs = ap suc (length-cells hs (drop 8 bs))
 
--- one more in front
+-- one more word in front
 cells-cons : (h : Bool) (hs : List Bool) (xs ys : List ℕ) → length xs ≡ 8
     → cells (h ∷ hs) (xs ++ ys) ≡ cell h (word_number xs) ∷ cells hs ys
 unfolding cells
@@ -106,7 +106,7 @@ cells-fill (suc at) (h ∷ hs) bs w l lt k =
     ∙ ap (λ (xs : List (Option ℕ)). cell h (word_number (take 8 bs)) ∷ xs) ih
     ∙ ap (λ (xs : List (Option ℕ)). set xs (suc at) (Some w)) (sym (cells-step h hs bs))
 
--- without holes the bytes are those of the words
+-- if there are no holes, the bytes are those of the words
 pub cells-whole : (hs : List Bool) (bs : List ℕ) → AreBytes bs → length bs ≡ 8 * length hs → IsWhole (cells hs bs)
     → bs ≡ bytes (filled (cells hs bs))
 unfolding cells

@@ -1,5 +1,5 @@
--- The words that bytes begin with, as bytes are written over them. (For `bits.rt`, `draft.rt`, `number_list_words.rt`
--- and others.)
+-- The words at the beginning of bytes, as bytes are written over them. (For `bits.rt`, `draft.rt`,
+-- `number_list_words.rt` and others.)
 use Rattle.std.proofs.Common.{◌≡◌, ℕ, zero, suc, ◌+◌, ◌-◌, ◌*◌, ◌^◌, ◌<◌, ◌≤◌, List, [], ◌∷◌, ◌++◌, length, take}
 use Rattle.std.proofs.Common.{drop, set, replicate}
 use Rattle.std.proofs.Common.{refl, ap, ap₂, sym, subst, ◌∙◌, arith, append_assoc, append-nil, length-append}
@@ -14,13 +14,13 @@ use Rattle.capn_layout.specs.inner.Draft.{Writes, IsKept, Appends, Puts}
 use Rattle.capn_layout.proofs.writer.Bytes.{AreBytes-take}
 use Rattle.capn_layout.proofs.writer.PackedBytes.{little_from-number, number-zeros, words-packed, packed-padded}
 
--- a word is read from its 8 bytes alone
+-- the number of a word depends on its 8 bytes alone
 word-front : (xs ys : List ℕ) → 8 ≤ length xs → word_number (xs ++ ys) ≡ word_number xs
 unfolding word_number
 word-front xs ys h =
     little_from-number 8 (xs ++ ys) ∙ ap (number 256) (take-append-le 8 xs ys h) ∙ sym (little_from-number 8 xs)
 
--- the words of bytes are those of their beginning, and those of the others
+-- the first n words depend on the first 8 * n bytes alone
 words-front : (n : ℕ) (xs ys : List ℕ) → 8 * n ≤ length xs → words_in n (xs ++ ys) ≡ words_in n xs
 unfolding words_in
 words-front zero xs ys h = refl
@@ -106,7 +106,7 @@ set-middle [] vs (suc i) x w e = absurd (omega arith)
 set-middle (u ∷ us) vs zero x w e = absurd (omega arith)
 set-middle (u ∷ us) vs (suc i) x w e = ap (λ (xs : List ℕ). u ∷ xs) (set-middle us vs i x w (omega arith))
 
--- a word is put over another
+-- a word is written over another
 pub put-is : (n at w : ℕ) (p q : List ℕ) → at < n → 8 * n ≤ length p → w < 2 ^ 64 → Writes (8 * at) (word_bytes w) p q
     → Puts n at w p q
 put-is n at w p q lt room fits h =
@@ -163,7 +163,7 @@ first-bytes n bs h l =
     ∙ ap (λ (x : List ℕ). x ++ drop (8 * n) bs)
     (sym (bytes_of_words n (take (8 * n) bs) (AreBytes-take (8 * n) bs h) t) ∙ ap bytes (words-begin n bs l))
 
--- one after the other
+-- what is kept by two steps, one after the other, is kept by both
 pub kept-then : (n m : ℕ) (p q r : List ℕ) → n ≤ m → IsKept n p q → IsKept m q r → IsKept m p r
 kept-then n m p q r le a b = record {
   same = b.same ∙ a.same;
@@ -216,7 +216,7 @@ written-over at zs xs p q r room le h k =
     (sym (append_assoc xs (drop (length xs) zs) after)
     ∙ ap (λ (j : ℕ). (xs ++ drop (length xs) zs) ++ drop j p) z)
 
--- zeros are words of zeros
+-- a number whose bytes are zeros is zero
 little-zeros : (n : ℕ) → word_number (replicate n 0) ≡ 0
 unfolding word_number
 little-zeros n = little_from-number 8 (replicate n 0) ∙ number-zeros 256 8 n

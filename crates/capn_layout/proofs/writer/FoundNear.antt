@@ -1,4 +1,4 @@
--- The target of a pointer that is known to have one, near or behind a pad of one word. (For `known_target`.)
+-- The target of a pointer that is known to have one, near or behind a landing pad of one word. (For `known_target`.)
 use Rattle.std.proofs.Common.{◌≡◌, ℕ, ◌+◌, ◌<◌, ◌≤◌, nat_lt, ℤ, Bool, true, false, List, [], length}
 use Rattle.std.proofs.Common.{slice_index, Result, Ok, Err, refl, ap, sym, ◌∙◌, arith, if◌then◌else◌}
 use Rattle.std.specs.Bool.{⊤}
@@ -66,7 +66,7 @@ module _ (m : List (List ℕ)) where
   list-found (Ok start) s pads Link n t p e = plain-found s start pads n (content_words Link n) Link t e
   list-found (Ok start) s pads Rows n t p e = absurd (p tt)
 
-  -- the segment of a word that is there exists
+  -- the segment that has a word exists
   pub has-segment : (s w : ℕ) → w < length (segment_at m s) → s < length m
   has-segment s w h = below (nat_lt s (length m)) refl
     where
@@ -82,13 +82,13 @@ module _ (m : List (List ℕ)) where
       → Found s pads (shapes.Node a b) (content_start w o) (target_from m s w pads (Node o a b))
   struct-near s w pads o a b t e = struct-found (content_start w o) s pads a b t e
 
-  -- the list of one width that it is known to name
+  -- the list, not of rows, that the pointer of a slot or of a pad is known to name
   pub plain-near : (s w pads : ℕ) (o : ℤ) (width : Width) (n : ℕ) (t : Target) → (IsComposite width → ⊥)
       → target_from m s w pads (Many o width n) ≡ Ok t
       → Found s pads (shapes.Many width n) (content_start w o) (target_from m s w pads (Many o width n))
   plain-near s w pads o width n t p e = list-found (content_start w o) s pads width n t p e
 
-  -- a list that is known to be one of rows has its tag in range
+  -- the tag of a composite list that is known to exist lies inside its segment
   tag-inside : (s start pads n : ℕ) (t : Target) → list m s start pads Rows n ≡ Ok t → start < length (segment_at m s)
   tag-inside s start pads n t e = by_test (nat_lt (length (segment_at m s)) (start + (1 + n))) refl e
     where
@@ -105,7 +105,7 @@ module _ (m : List (List ℕ)) where
   rows-from (Ok start) s pads n t e = (start, refl, tag-inside s start pads n t e)
   rows-from (Err f) s pads n t e = absurd (cc)
 
-  -- the tag of the rows that it is known to name
+  -- the composite list that the pointer of a slot or of a pad is known to name has its tag in range
   pub rows-near : (s w pads : ℕ) (o : ℤ) (n : ℕ) (t : Target) → target_from m s w pads (Many o Rows n) ≡ Ok t
       → (start : ℕ) × (content_start w o ≡ Ok start) × (start < length (segment_at m s))
   rows-near s w pads o n t e = rows-from (content_start w o) s pads n t e

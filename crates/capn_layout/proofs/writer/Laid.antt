@@ -21,7 +21,7 @@ pub length-laid : (t : Tree) (p : List ℕ) → Sound t → length (laid t p) �
 unfolding laid
 length-laid t p h = let a = length-append p (lay t (length p)) in let c = length-lay t (length p) h in omega arith
 
--- ---- one more slot, and one more row
+-- ---- the next slot, and the next row
 
 pub slots-none : (ts : Trees) (first : ℕ) (p : List ℕ) → laid_slots 0 ts first p ≡ p
 unfolding laid_slots
@@ -42,7 +42,7 @@ pub rows-next : (a b : ℕ) (ws : List ℕ) (ss : Trees) (bs : Bodies) (at : ℕ
 unfolding laid_rows
 rows-next a b ws ss bs at p = refl
 
--- what is past a slot, and past a row
+-- the values past slot i begin with that of slot i
 pub past-next : (i : ℕ) (ts : Trees) → i < count ts → past i ts ≡ tree (tree_at ts i) (past (suc i) ts)
 past-next i no_trees h = absurd (omega arith)
 past-next zero (tree t ts) h = refl
@@ -58,7 +58,7 @@ height-at i no_trees = omega arith
 height-at zero (tree t ts) = omega arith
 height-at (suc i) (tree t ts) = let e = height-at i ts in omega arith
 
--- a row and those past it
+-- row i, and the rows past it
 pub record IsRowAt (a b i : ℕ) (bs : Bodies) : Type 0 where
   pub words : List ℕ
   pub next : rows_past i bs ≡ body words (slots_at bs i) (rows_past (suc i) bs)
@@ -74,7 +74,7 @@ row-at a b (suc i) (body ws ss bs) h w s =
     let r = row-at a b i bs (omega arith) w.2 s.1 in
     record { words = r.words; next = r.next; long = r.long; sound = r.sound; low = let l = r.low in omega arith }
 
--- no fewer words are there, and no more than there are below
+-- the buffer doesn't shrink, and grows by at most the words below the slots
 pub length-slots : (n : ℕ) (ts : Trees) (first : ℕ) (p : List ℕ) → Sounds ts
     → (length p ≤ length (laid_slots n ts first p)) × (length (laid_slots n ts first p) ≤ length p + sizes ts)
 unfolding laid_slots
@@ -114,7 +114,7 @@ none-kept false n h = absurd (grind (arith, nat_tests))
 pub one-fewer : (b : Bool) (n k : ℕ) → kept_behind b n ≤ suc k → n ≤ k
 one-fewer b n k h = grind (arith, nat_tests)
 
--- below slots of which none is kept there is nothing
+-- slots of which none is kept have nothing below them
 pub nothing-below : (ts : Trees) (at : ℕ) → kept_slots ts ≤ 0 → (lays ts at ≡ []) × (sizes ts ≡ 0)
 nothing-below no_trees at h = (refl, refl)
 nothing-below (tree t ts) at h =
@@ -129,7 +129,7 @@ set-front : (q r : List ℕ) (x y : ℕ) → set (q ++ (x ∷ r)) (length q) y �
 set-front [] r x y = refl
 set-front (z ∷ q) r x y = ap (λ (xs : List ℕ). z ∷ xs) (set-front q r x y)
 
--- the first n slots, which are all that are kept, have words that come after q
+-- if all kept slots are among the first n, laying them out appends the contents of all slots
 pub laid-slots-is : (n : ℕ) (ts : Trees) (q hs r : List ℕ) (m to : ℕ) → Sounds ts → kept_slots ts ≤ n → length hs ≡ n
     → n ≤ count ts → length q ≡ m → length q + n + length r ≡ to
     → laid_slots n ts m (q ++ (hs ++ r)) ≡ q ++ (take n (points ts m to) ++ (r ++ lays ts to))
@@ -189,7 +189,7 @@ length-over a b (body ws ss bs) cs h o =
     let m : suc (count_rows bs) * (a + b) ≡ a + b + count_rows bs * (a + b) = omega arith in
     ap length o.2 ∙ u ∙ omega arith
 
--- the rows have words for their slots, and come after q
+-- if all kept slots have words in the rows, laying these out appends the contents below all rows
 pub laid-rows-is : (a b : ℕ) (bs : Bodies) (q cs r : List ℕ) (m to : ℕ) → SoundRows bs → AreWide a b bs
     → kept_slots_of_rows bs ≤ b → AreRowsOver a b bs cs → length q ≡ m → length q + length cs + length r ≡ to
     → laid_rows a b bs m (q ++ (cs ++ r)) ≡ q ++ (row_contents a b bs m to ++ (r ++ lays_in_rows bs to))

@@ -146,7 +146,7 @@ row-slots m a b s w (body ws ss bs) (suc i) h lt =
     let z : w + a + b + (i * (a + b) + a) ≡ w + (suc i * (a + b) + a) = omega arith in
     (r.0, subst (λ (j : ℕ). AreAt m s j (slots_at bs i)) z r.1)
 
--- a row is within all rows
+-- row i lies inside all rows
 pub row-within : (n i a b : ℕ) → i < n → i * (a + b) + a + b ≤ n * (a + b)
 row-within (suc n) zero a b h = let d : suc n * (a + b) ≡ a + b + n * (a + b) = omega arith in omega arith
 row-within (suc n) (suc i) a b h =

@@ -1,4 +1,5 @@
--- The own words of an object are appended. (For the cycle `sizes`, `open_links`, `open_rows` and `open_struct`.)
+-- The own words of an object, as they are appended. (For the cycle `sizes`, `open_links`, `open_rows` and
+-- `open_struct`.)
 use Rattle.std.proofs.Common.{◌≡◌, ℕ, ◌+◌, ◌*◌, ◌^◌, ◌<◌, ◌≤◌, List, [], ◌∷◌, ◌++◌, length, set, ap, ap₂, sym}
 use Rattle.std.proofs.Common.{subst, ◌∙◌, arith, append-nil, length-append}
 use Rattle.std.specs.Prelude.{pos}
@@ -130,7 +131,7 @@ module _ (n : ℕ) (v : Tree) (bs : Bodies) (h : AreStructs n v bs) (sound : Sou
       (er ∙ ap₂ (λ (x : List ℕ) (y : ℕ). x ++ y ∷ []) eq tagged) g
       (let l = ap length er ∙ length-append q (tag ∷ []) in omega arith)
 
--- nothing is taken away
+-- the buffer doesn't shrink
 pub grown-end : (a b : ℕ) (bs : Bodies) (n m : ℕ) (p q : List ℕ) → IsGrown a b bs (words_in n p) (words_in m q) → n ≤ m
 grown-end a b bs n m p q g =
     let l = ap length g.grown ∙ length-append (words_in n p) g.cells in

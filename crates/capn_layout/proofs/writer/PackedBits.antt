@@ -6,7 +6,7 @@ use Rattle.std.proofs.lemmas.List.{drop_more, drop-map, drop-drop, take-map, tak
 use Rattle.std.specs.Int.{from_bool}
 use Rattle.capn_layout.specs.Layout.{number, packed}
 
--- the number of the bits from the one before on
+-- the number of the last i + 1 bits, given that of the last i
 pub bits-next : (bits : List Bool) (i : ℕ) → i < length bits
     → number 2 (map from_bool (drop (length bits - (i + 1)) bits)) ≡ from_bool (get_or bits (length bits - 1 - i) false)
     + 2 * number 2 (map from_bool (drop (length bits - i) bits))
@@ -45,7 +45,7 @@ packed-next bits n i lt =
     (drop-map from_bool 64 (drop (64 * i) bits)
     ∙ ap (map from_bool) (drop-drop 64 (64 * i) bits ∙ ap (λ (k : ℕ). drop k bits) b))
 
--- 64 bits, or those that are left
+-- the next chunk is 64 bits, or all that are left
 pub chunk-is : (bits : List Bool) (start end : ℕ) → end ≡ min (length bits) (start + 64)
     → map from_bool (take (end - start) (drop start bits)) ≡ take 64 (map from_bool (drop start bits))
 chunk-is bits start end e =

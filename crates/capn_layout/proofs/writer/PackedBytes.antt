@@ -1,4 +1,4 @@
--- Packed lists by their bytes. (For `append_bytes`, `extend_octs`, `extend_pairs` and `extend_quads`.)
+-- Packed lists, given by their bytes. (For `append_bytes`, `extend_octs`, `extend_pairs` and `extend_quads`.)
 use Rattle.std.proofs.Common.{◌≡◌, ℕ, zero, suc, ◌+◌, ◌-◌, ◌*◌, ◌^◌, ◌<◌, List, [], ◌∷◌, ◌++◌, length, take, drop}
 use Rattle.std.proofs.Common.{replicate, slice_index, refl, ap, ap₂, sym, ◌∙◌, arith, append-nil, length-append, false}
 use Rattle.std.proofs.Common.{Option, Some}
@@ -111,7 +111,7 @@ AreBytes-numbers w [] i = omega arith
 AreBytes-numbers w (x ∷ xs) i =
     AreBytes-append (little_bytes w x) (flat_map (little_bytes w) xs) (low_first-bytes 0 w x) (AreBytes-numbers w xs) i
 
--- each number is below the base
+-- each number is below `base`
 abbrev pub AreAllBelow : ℕ → List ℕ → Type 0
 AreAllBelow base xs = (i : ℕ) → slice_index xs i < base
 
@@ -156,7 +156,7 @@ AreAllBelow-take base (suc n) [] h i = h i
 AreAllBelow-take base (suc n) (x ∷ xs) h zero = h 0
 AreAllBelow-take base (suc n) (x ∷ xs) h (suc i) = AreAllBelow-take base n xs (λ j. h (suc j)) i
 
--- words of the bytes of numbers are those that pack the numbers, a word having the bytes of `each` of them
+-- the bytes of numbers pack the same words as the numbers do, if a word has the bytes of `each` of them
 pub packed-numbers : (w each width k : ℕ) (xs : List ℕ) → 8 ≡ each * w → 256 ^ w ≡ 2 ^ width → AreAllBelow (256 ^ w) xs
     → packed 8 8 k (flat_map (little_bytes w) xs) ≡ packed each width k xs
 packed-numbers w each width zero xs e b h = refl
@@ -169,7 +169,7 @@ packed-numbers w each width (suc k) xs e b h =
     (ap (packed 8 8 k) (drop-numbers w each 8 xs e)
     ∙ packed-numbers w each width k (drop each xs) e b (AreAllBelow-drop (256 ^ w) each xs h))
 
--- a word alone is itself
+-- 64-bit numbers are packed as themselves
 pub packed-words : (xs : List ℕ) → packed 1 64 (length xs) xs ≡ xs
 packed-words [] = refl
 packed-words (x ∷ xs) = ap₂ (λ (y : ℕ) (ys : List ℕ). y ∷ ys) (omega arith) (packed-words xs)

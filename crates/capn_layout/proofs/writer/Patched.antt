@@ -127,13 +127,13 @@ module _ (ms ns bs cs : List ℕ) (at w : ℕ) (is : IsPatched ms bs) (lt : at <
       written
       ∙ cells-fill at (flags 0 n ms) bs w e (omega arith) fits
 
--- without holes the bytes are those of the words
+-- if there are no holes, the bytes are those of the words
 pub patched-whole : (ms bs : List ℕ) → IsPatched ms bs → IsWhole (patched ms bs) → bs ≡ bytes (filled (patched ms bs))
 patched-whole ms bs is h =
     let lf = length-flags 0 (length bs / 8) ms in
     cells-whole (flags 0 (length bs / 8) ms) bs is.bytes (let e = is.even in omega arith) h
 
--- what holds whatever the result, holds of an error
+-- a statement that holds whatever the result holds for an error
 pub OnErr-always : {T E P : Type 0} (r : Result T E) → P → OnErr r P
 OnErr-always (Ok x) p = tt
 OnErr-always (Err e) p = p
@@ -145,7 +145,7 @@ filled_up bs to k e =
     let d : to - length bs ≡ k = omega arith in
     ap₂ (λ (xs : List ℕ) (j : ℕ). xs ++ replicate j 0) (take_all to bs (omega arith)) d
 
--- the next of some words is made a hole
+-- the next of the words that are left is made a hole
 pub next_hole : (p : List (Option ℕ)) (n i at : ℕ) → i < n → at ≡ length p + i
     → set (p ++ (replicate i None ++ replicate (n - i) (Some 0))) at None ≡ p
     ++ (replicate (i + 1) None ++ replicate (n - (i + 1)) (Some 0))
@@ -182,7 +182,7 @@ module _ (ms ns bs content : List ℕ) (k : ℕ) (is : IsPatched ms bs) (same : 
       is-appended ms ns bs (padded content) k is padded-length same room
       (AreBytes-append content (replicate (pad (length content)) 0) are (AreBytes-zeros (pad (length content))))
 
--- the bytes have grown by these
+-- the bytes have grown by the content and its zeros
 module _ (ms ns bs content items : List ℕ) (k : ℕ) (is : IsPatched ms bs) (same : (i : ℕ)
     → is_marked ns i ≡ is_marked ms i) (l : 8 * k ≡ length content + pad (length content))
     (grown : items ≡ bs ++ padded content) where

@@ -11,7 +11,7 @@ use Rattle.capn_layout.specs.Sound.{AreWide, SoundRows}
 use Rattle.capn_layout.proofs.writer.Stepwise.{rows-over}
 use Rattle.capn_layout.proofs.writer.Laid.{nothing-below, one-fewer, past-next, row-at, sound-at, height-at}
 
--- past the slots that are kept there is nothing
+-- the slots past those that are kept have nothing below them
 pub past-kept : (n : ℕ) (ts : Trees) → kept_slots ts ≤ n → sizes (past n ts) ≡ 0
 past-kept zero ts h = (nothing-below ts 0 h).1
 past-kept (suc n) no_trees h = refl
@@ -30,7 +30,7 @@ rows-nothing (body ws ss bs) h =
     let b = rows-nothing bs (omega arith) in
     omega arith
 
--- the slots of the only row
+-- the words below the only row are those below its slots
 one-sizes : (bs : Bodies) → count_rows bs ≡ 1 → sizes_in_rows bs ≡ sizes (slots_at bs 0)
 one-sizes no_bodies e = absurd (omega arith)
 one-sizes (body ws ss no_bodies) e = omega arith
@@ -87,7 +87,7 @@ module _ (v : Tree) (tag : List ℕ) (a b depth : ℕ) (bs : Bodies) (o : IsBloc
         let m : count_rows bs * (a + b) ≡ n * (a + b) = ap (λ (k : ℕ). k * (a + b)) en in
         omega arith
 
--- the next slot
+-- the size of the next slot is added
 module _ {S : Type 0} (has : S → ℕ → Tree → Type 0) (source : S) (n depth i len : ℕ) (lt : i < n)
     (r : AreReady has source 0 n depth 0 (2 ^ 29))
     (rest : (ts : Trees) → n ≤ count ts → ((k : ℕ) → k < n → has source k (tree_at ts k))
@@ -132,7 +132,7 @@ pub rows-sized : (i len : ℕ) (bs : Bodies) → count_rows bs ≤ i → len + s
     → len ≡ sizes_in_rows bs
 rows-sized i len bs le h = let e = ap sizes_in_rows (rows-over i bs le) in omega arith
 
--- the next row
+-- the size below the next row is added
 module _ {S R : Type 0} (has : S → ℕ → Tree → Type 0) (are : R → Bodies → Type 0) (rows : R) (source : S)
     (n a b depth i len : ℕ) (lt : i < n) (r : RowsReady are rows 0 n a b depth 0 (2 ^ 29))
     (slots : (bs : Bodies) → are rows bs → (k : ℕ) → k < count (slots_at bs i)

@@ -1,4 +1,4 @@
--- One slot after the other is laid out, and one row after the other. (For the cycle `objects` and `lay_root`.)
+-- Slots are laid out one after the other, and so are rows. (For the cycle `objects` and `lay_root`.)
 use Rattle.std.proofs.Common.{◌≡◌, ℕ, zero, suc, ◌+◌, ◌-◌, ◌*◌, ◌<◌, ◌≤◌, List, [], ◌∷◌, ◌++◌, length, set, refl}
 use Rattle.std.proofs.Common.{ap, sym, subst, ◌∙◌, arith, append-nil}
 use Rattle.std.proofs.lemmas.List.{length-set}
@@ -13,7 +13,7 @@ use Rattle.capn_layout.specs.Sound.{AreWide, SoundRows}
 use Rattle.capn_layout.proofs.writer.Laid.{laid-is, length-laid, slots-none, slots-next, rows-none, rows-next}
 use Rattle.capn_layout.proofs.writer.Laid.{past-next, sound-at, height-at, row-at, length-slots}
 
--- the next slot
+-- the next slot is laid out
 module _ {S : Type 0} (has : S → ℕ → Tree → Type 0) (source : S) (n depth i : ℕ) (lt : i < n) where
   module _ (len : ℕ) {most : ℕ} (r : AreReady has source i n depth len most) where
     pub next-sizes : sizes (past i r.values) ≡ size (tree_at r.values i) + sizes (past (suc i) r.values)
@@ -86,7 +86,7 @@ slots-end n i ts first p le =
     let z : n - i ≡ 0 = omega arith in
     ap (λ (j : ℕ). laid_slots j (past i ts) (first + i) p) z ∙ slots-none (past i ts) (first + i) p
 
--- the next row
+-- the slots of the next row are laid out
 module _ {S R : Type 0} (has : S → ℕ → Tree → Type 0) (are : R → Bodies → Type 0) (rows : R) (source : S)
     (n a b depth i : ℕ) (lt : i < n)
     (slots : (bs : Bodies) → are rows bs → (k : ℕ) → k < count (slots_at bs i)
@@ -213,7 +213,7 @@ laid-cap v k word from p q e w eq =
     laid-plain v from word [] p q q (ap (λ (x : Tree). point x from (length p)) e ∙ sym w)
     (λ at. ap (λ (x : Tree). lay x at) e) eq (sym (append-nil q))
 
--- the next row is within the rows that are left
+-- the next row lies inside the rows that are left
 pub one-more : (next a b n i most : ℕ) → i < n → next + (n - i) * (a + b) ≤ most → next + a + b ≤ most
 one-more next a b n i most lt h =
     let z : n - i ≡ suc (n - (i + 1)) = omega arith in

@@ -31,7 +31,7 @@ voids-list v n e s = record {
   content = λ at. ap (λ (x : Tree). lay x at) e;
 }
 
--- the words of such a list
+-- the words that pack a list of numbers
 abbrev number_words : NumberWidth → List ℕ → List ℕ
 number_words oct xs = xs
 number_words a xs = packed (per_word a) (bits_in a) (content_words (list_width a) (length xs)) xs

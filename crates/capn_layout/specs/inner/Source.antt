@@ -1,4 +1,4 @@
--- The values that a source holds.
+-- The values that a source of a layout holds.
 use Rattle.std.specs.Prelude.{◌≡◌, ℕ, ◌^◌, ◌<◌, List, [], ◌++◌}
 use Rattle.capn_words.specs.declared.pointer.Width.{Width}
 use Rattle.capn_value.specs.Tree.{Tree, nil, node, links, rows, cap, Trees, count, Bodies, no_bodies, body, count_rows}
@@ -7,26 +7,26 @@ use Rattle.capn_layout.specs.declared.source.Item.TheVariants as items
 use Rattle.capn_layout.specs.Layout.{point, list_to, lay}
 use Rattle.capn_layout.specs.LayoutSteps.{AreRowsOver}
 
--- n numbers of a width are packed to words, which are all of the value's content (Own.)
+-- `v` is a list of n numbers of a width, and the words `ws` are all of its content (Own.)
 pub record IsListOf (v : Tree) (width : Width) (n : ℕ) (ws : List ℕ) : Type 0 where
   pub few : n < 2 ^ 29
   pub pointer : (from to : ℕ) → point v from to ≡ list_to from to width n
   pub content : (at : ℕ) → lay v at ≡ ws
 
--- a struct is one row (Own.)
+-- `v` is a struct, and `bs` is its one row (Own.)
 abbrev pub IsStruct : Tree → Bodies → Type 0
 IsStruct v bs = (ws : List ℕ) × (ss : Trees) × (v ≡ node ws ss) × (bs ≡ body ws ss no_bodies)
 
--- a list of n pointers is one row without words (Own.)
+-- `v` is a list of n pointers, and `bs` is one row with these slots and no words (Own.)
 abbrev pub AreLinks : ℕ → Tree → Bodies → Type 0
 AreLinks n v bs = (ts : Trees) × (v ≡ links ts) × (count ts ≡ n) × (bs ≡ body [] ts no_bodies)
 
--- a list of n structs is its rows (Own.)
+-- `v` is a list of n structs, and `bs` are its rows (Own.)
 abbrev pub AreStructs : ℕ → Tree → Bodies → Type 0
 AreStructs n v bs = (v ≡ rows bs) × (count_rows bs ≡ n)
 
 module _ {N R : Type 0} (packs : N → List ℕ → Type 0) (are : R → Bodies → Type 0) where
-  -- the content of a slot is a value (Own.)
+  -- the item is the content of a slot with the value `v` (Own.)
   abbrev pub IsItem : Item N R → Tree → Type 0
   IsItem items.Nil v = v ≡ nil
   IsItem (items.Cap k) v = v ≡ cap k
@@ -35,7 +35,7 @@ module _ {N R : Type 0} (packs : N → List ℕ → Type 0) (are : R → Bodies 
   IsItem (items.Links x n) v = (bs : Bodies) × AreLinks n v bs × are x bs
   IsItem (items.Rows x n) v = (bs : Bodies) × AreStructs n v bs × are x bs
 
--- the first a words of each row were appended, with b words after them (Own.)
+-- the first a words of each row are appended, with any b words after them (Own.)
 pub record IsGrown (a b : ℕ) (bs : Bodies) (p q : List ℕ) : Type 0 where
   pub cells : List ℕ
   pub over : AreRowsOver a b bs cells
