@@ -1,4 +1,4 @@
--- The steps of a comparison.
+-- Lemmas about the steps of a comparison.
 pub mod Words
 pub mod Bits
 pub mod Numbers

@@ -1,10 +1,10 @@
-//! Two messages on which one task is done, by calls that count.
+//! Tasks on two messages, which are read only by calls that count.
 //!
-//! As [`Asked`](capn_target::counted::Asked) is for one message: a call that takes an [`AskedFirst`] and an
-//! [`AskedSecond`] in place of two `Space`s can do one task on them and no more, since both are moved. The task has
-//! them by calls that count alone ([`PairTask`]), and asks each no more often than it allows. So two clauses
-//! `requires first { A.allows a n }` and `requires second { B.allows b n }` are such on the work of the call. A
-//! reference to a `Space` allows all, so callers have nothing to show.
+//! [`Asked`](capn_target::counted::Asked) does this for one message. A call that takes an [`AskedFirst`] and an
+//! [`AskedSecond`] in place of two `Space`s can do one task on them and no more, since both are moved. The task, a
+//! [`PairTask`], reads each message only by calls that count, and no more often than it states. So two clauses
+//! `requires first { A.allows a n }` and `requires second { B.allows b n }` bound the work of the call. A reference to
+//! a `Space` allows any number, so its callers have nothing to prove.
 
 ghost use Rattle.std.specs.Prelude.{◌≡◌, ℕ, ◌+◌, ◌<◌, ◌≤◌, List};
 
@@ -13,18 +13,18 @@ use capn_words::Space;
 use std::marker::Brand;
 use std::sync::ledger::{Blank, Ledger};
 
-/// A task on two messages, done by calls that count.
+/// A task on two messages, which it reads by calls that count.
 pub trait PairTask {
-    /// The answer.
+    /// The type of the result.
     type Told;
 
-    /// The answer that the task gives of two messages.
+    /// The statement that a result is what the task gives for two messages.
     ghost tells: { Self → List (List ℕ) → List (List ℕ) → Self.Told → Type 0 };
 
-    /// The most times that it asks each message and turns its loops, whatever the messages.
+    /// The greatest number of reads of each message and turns of loops, whatever the messages.
     ghost most: { Self → ℕ };
 
-    /// Does the task on the messages `a` and `b`, whose reads count in `first` and `second`.
+    /// Does the task on the messages `a` and `b`, whose reads are counted in `first` and `second`.
     fn run<S: Space, T: Space, L: Ledger, M: Ledger>(
         self,
         a: &CountedSpace<'_, S, L>,
@@ -37,16 +37,16 @@ pub trait PairTask {
         ensures second { second.new ≤ second.old + most self };
 }
 
-/// A message on which one task is done beside another message.
+/// The second message of a task on two messages.
 pub trait AskedSecond {
-    /// The segments, each the list of its words.
+    /// The segments of the message, each the list of its words.
     ghost message: { Self → List (List ℕ) };
 
-    /// The message may be asked so often.
+    /// The statement that the message allows a number of reads.
     ghost allows: { Self → ℕ → Type 0 };
 
-    /// Does `task` on `other`, with reads that count in `reads`, and on this message with a new count. One read of the
-    /// number of segments opens that count: the one more that is allowed.
+    /// Does `task` on `other`, whose reads are counted in `reads`, and on this message with a new count. One read of
+    /// the number of segments opens that count. So this message has to allow one read more than the task makes.
     fn ask_beside<S: Space, L: Ledger, T: PairTask>(
         self,
         other: &CountedSpace<'_, S, L>,
@@ -58,16 +58,16 @@ pub trait AskedSecond {
         ensures reads { reads.new ≤ reads.old + T.most task };
 }
 
-/// A message on which one task is done, with another message beside it.
+/// The first message of a task on two messages.
 pub trait AskedFirst {
-    /// The segments, each the list of its words.
+    /// The segments of the message, each the list of its words.
     ghost message: { Self → List (List ℕ) };
 
-    /// The message may be asked so often.
+    /// The statement that the message allows a number of reads.
     ghost allows: { Self → ℕ → Type 0 };
 
-    /// Does `task` on this message with a new count, which is opened by one read of the number of segments, and on
-    /// `other`.
+    /// Does `task` on this message and on `other`. Each has a new count, which one read of the number of segments
+    /// opens.
     fn ask_pair<B: AskedSecond, T: PairTask>(self, other: B, task: T) -> T::Told
         requires first { allows self (T.most task + 1) }
         requires second { B.allows other (T.most task + 1) }

@@ -1,4 +1,4 @@
-//! Lists of elements without pointers, compared where they are.
+//! The comparison of lists of elements without pointers, in place.
 
 ghost use Rattle.std.specs.Prelude.{◌≡◌, ◌↔◌, ℕ, ◌+◌, ◌*◌, ◌^◌, ◌<◌, ◌≤◌, IsTrue};
 ghost use Rattle.capn_words.specs.Message.{IsMessage};
@@ -13,8 +13,8 @@ use capn_target::counted::{CountedSpace, Reads};
 use capn_words::{Place, Space};
 use std::sync::ledger::Ledger;
 
-/// Returns `true` if the first `bits` bits of the words of `a` from `at` on are those of `b` from `beside` on. The bits
-/// past them, up to a whole word, count for nothing.
+/// Tests whether the first `bits` bits of the words from `at` on in `a` equal those from `beside` on in `b`. The bits
+/// past them, up to a whole word, are ignored.
 pub fn are_same_bits<S: Space, T: Space, L: Ledger, M: Ledger>(
     a: &CountedSpace<'_, S, L>,
     at: Place,

@@ -1,4 +1,4 @@
-//! The values of two messages, object by object, in preorder.
+//! The comparison of two messages' values, object by object, in preorder.
 
 ghost use Rattle.std.specs.Prelude.{◌↔◌, ℕ, ◌+◌, ◌*◌, ◌≤◌, List, IsTrue};
 ghost use Rattle.capn_value.specs.Tree.{Tree, Trees, Bodies, row_words};
@@ -18,8 +18,8 @@ use capn_walk::{Shape, Target};
 use capn_words::{Place, Space, Width};
 use std::sync::ledger::Ledger;
 
-/// Returns `true` if the value in the slot of `a` at `at` is the same as that in the slot of `b` at `beside`, both at
-/// most `depth` objects deep.
+/// Tests whether the value in the slot of `a` at `at` is the same as the value in the slot of `b` at `beside`. Both are
+/// at most `depth` objects deep.
 #[cycle(sameness)]
 #[inline(always)]
 pub fn is_same_slot<S: Space, T: Space, L: Ledger, M: Ledger>(
@@ -76,8 +76,8 @@ pub fn is_same_slot<S: Space, T: Space, L: Ledger, M: Ledger>(
     }
 }
 
-/// Returns `true` if the content of `a` at `at`, of this `shape`, is the same as that of `b` at `beside`, of this
-/// `form`, both at most `depth` objects deep.
+/// Tests whether the content of `a` at `at`, of the shape `shape`, is the same as the content of `b` at `beside`, of
+/// the shape `form`. Both are at most `depth` objects deep.
 #[cycle(sameness)]
 #[inline(always)]
 fn is_same_content<S: Space, T: Space, L: Ledger, M: Ledger>(
@@ -179,8 +179,8 @@ fn is_same_content<S: Space, T: Space, L: Ledger, M: Ledger>(
     }
 }
 
-/// Returns `true` if the row `one` of `a` is the same as the row `two` of `b`, whatever their sizes, the values in
-/// their slots at most `depth` objects deep.
+/// Tests whether the row `one` of `a` is the same as the row `two` of `b`, whatever their sizes. The values in their
+/// slots are at most `depth` objects deep.
 #[cycle(sameness)]
 #[inline(always)]
 fn is_same_row<S: Space, T: Space, L: Ledger, M: Ledger>(
@@ -207,8 +207,8 @@ fn is_same_row<S: Space, T: Space, L: Ledger, M: Ledger>(
     are_same_slots(a, slots_of(one), b, slots_of(two), depth, first, second)
 }
 
-/// Returns `true` if the values in the slots `one` of `a` and `two` of `b`, at most `depth` objects deep, are the same,
-/// null past the end.
+/// Tests whether the values in the slots `one` of `a` and the slots `two` of `b` are the same, where slots past the end
+/// count as null. The values are at most `depth` objects deep.
 #[cycle(sameness)]
 #[inline(never)]
 fn are_same_slots<S: Space, T: Space, L: Ledger, M: Ledger>(
@@ -245,7 +245,7 @@ fn are_same_slots<S: Space, T: Space, L: Ledger, M: Ledger>(
     are_zero(b, behind(two.start, shared), two.count - shared, second)
 }
 
-/// Returns `true` if `count` rows of `a`, from `one` on, are the same as those of `b` from `two` on, row by row.
+/// Tests whether `count` rows of `a`, from `one` on, are the same as `count` rows of `b`, from `two` on, row by row.
 #[cycle(sameness)]
 #[inline(never)]
 fn are_same_rows<S: Space, T: Space, L: Ledger, M: Ledger>(

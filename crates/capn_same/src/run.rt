@@ -1,17 +1,17 @@
-//! Words of a message, one after the other.
+//! Consecutive words and rows of a message.
 
 ghost use Rattle.std.specs.Prelude.{◌≡◌, ◌+◌, ◌^◌, ◌<◌};
 
 use capn_words::Place;
 
-/// Words from a place on: those of a struct, its slots, or elements of a list of pointers.
+/// Consecutive words: the data words or the slots of a struct, or the elements of a list of pointers.
 #[derive(Clone, Copy)]
 pub struct Run {
     pub start: Place,
     pub count: u32,
 }
 
-/// Returns the place `steps` words behind `start`.
+/// Returns the place `steps` words after `start`.
 #[inline(always)]
 pub fn behind(start: Place, steps: u32) -> Place
     requires { start.word + steps < 2 ^ 32 }
@@ -23,7 +23,7 @@ pub fn behind(start: Place, steps: u32) -> Place
     }
 }
 
-/// Rows of equal sizes, one after the other, each with its words and then its slots.
+/// Consecutive rows of equal sizes: the start of the first, and the numbers of words and of slots of each.
 #[derive(Clone, Copy)]
 pub struct Rows {
     pub start: Place,

@@ -1,4 +1,4 @@
-//! Words of two messages, compared where they are.
+//! The comparison of words of two messages, in place.
 
 ghost use Rattle.std.specs.Prelude.{◌≡◌, ◌↔◌, ℕ, ◌+◌, ◌*◌, ◌<◌, ◌≤◌, List, length, IsTrue};
 ghost use Rattle.capn_words.specs.Message.{IsMessage, segment_at};
@@ -12,7 +12,7 @@ use capn_target::counted::{CountedSpace, Reads};
 use capn_words::{Place, Space};
 use std::sync::ledger::Ledger;
 
-/// Returns `true` if the `count` words of `a` from `at` on are those of `b` from `beside` on.
+/// Tests whether the `count` words of `a` from `at` on equal those of `b` from `beside` on.
 pub fn are_equal<S: Space, T: Space, L: Ledger, M: Ledger>(
     a: &CountedSpace<'_, S, L>,
     at: Place,
@@ -42,7 +42,7 @@ pub fn are_equal<S: Space, T: Space, L: Ledger, M: Ledger>(
     true
 }
 
-/// Returns `true` if the `count` words from `at` on are zero.
+/// Tests whether the `count` words from `at` on are zero.
 pub fn are_zero<S: Space, L: Ledger>(
     space: &CountedSpace<'_, S, L>,
     at: Place,
@@ -63,7 +63,7 @@ pub fn are_zero<S: Space, L: Ledger>(
     true
 }
 
-/// Returns `true` if word i of each run is equal, 0 past its end.
+/// Tests whether the words of the runs `one` and `two` are equal one by one. Words past the end of a run count as 0.
 pub fn are_same<S: Space, T: Space, L: Ledger, M: Ledger>(
     a: &CountedSpace<'_, S, L>,
     one: Run,

@@ -16,7 +16,7 @@ use Rattle.capn_target.specs.Target.{target, list_width}
 use Rattle.capn_target.specs.Shapes.{RowsFit}
 use Rattle.capn_walk.specs.ValueAt.{IsAt, IsInside}
 
--- a number for each width
+-- a number that marks each width
 abbrev pub width_mark : Width → ℕ
 width_mark W0 = 2
 width_mark W1 = 3
@@ -45,7 +45,7 @@ width-back Rows = refl
 pub same-width : (w v : Width) → width_mark w ≡ width_mark v → w ≡ v
 same-width w v e = sym (width-back w) ∙ ap width_of e ∙ width-back v
 
--- one for each kind of value, of content and of target
+-- a number that marks each kind of value, of content and of target
 abbrev pub mark : Tree → ℕ
 mark nil = 0
 mark (node ws ss) = 1
@@ -65,7 +65,7 @@ target_mark targets.Nil = 0
 target_mark (targets.Cap k) = 10
 target_mark (targets.Content s start shape pads) = shape_mark shape
 
--- the number of elements by the shape of content
+-- the number of elements, given the shape of content
 abbrev pub shape_count : Shape → ℕ
 shape_count (shapes.Node a b) = 0
 shape_count (shapes.Many width n) = n
@@ -123,7 +123,7 @@ rows-count no_bodies no_bodies h = refl
 rows-count (body ws ss bs) (body vs ts cs) h = ap suc (rows-count bs cs h.2)
 rows-count _ _ h = absurd h
 
--- and of one number of elements
+-- values that are the same have the same number of elements
 pub same-count : (v w : Tree) → Same v w → elements v ≡ elements w
 same-count nil nil h = refl
 same-count (node ws ss) (node vs ts) h = refl
@@ -134,7 +134,7 @@ same-count (rows bs) (rows cs) h = rows-count bs cs h
 same-count (cap j) (cap k) h = refl
 same-count _ _ h = absurd h
 
--- the marks of targets and shapes that are not of a kind
+-- the range of the marks of widths
 width-low : (w : Width) → (2 ≤ width_mark w) × (width_mark w ≤ 9)
 width-low W0 = (omega arith, omega arith)
 width-low W1 = (omega arith, omega arith)
@@ -172,7 +172,7 @@ not-node (shapes.Node a b) n e = n a b refl
 not-node (shapes.Many width k) n e = let l = width-low width in omega arith
 not-node (shapes.Rows k a b span) n e = omega arith
 
--- a list that isn't composite says so
+-- the mark of the width of a list that isn't composite
 many-low : (width : Width) (n : ℕ) → RowsFit (shapes.Many width n) → width_mark width ≤ 8
 many-low W0 n r = omega arith
 many-low W1 n r = omega arith

@@ -1,4 +1,4 @@
--- Lists of numbers of one width and length are equal exactly where their bits are. (For `is_same_content`.)
+-- Lists of numbers of one width and length are equal exactly if their bits are. (For `is_same_content`.)
 use Rattle.std.proofs.Common.{◌≡◌, ◌↔◌, ◌⊎◌, inl, inr, ℕ, ◌*◌, ◌/◌, ◌%◌, ◌<◌, ◌≤◌, ◌^◌, List, [], ◌++◌}
 use Rattle.std.proofs.Common.{length}
 use Rattle.std.proofs.Common.{slice_index, refl, ap, sym, subst, ◌∙◌, arith}
@@ -31,7 +31,7 @@ below each width ws xs p h i = by (cases_lt i (length xs))
         let m = mod-lt (slice_index ws (i / each) / (2 ^ width) ^ (i % each)) p in let e = h i lt in omega arith
     by (inr le) = let e = get_or_past xs i 0 le in omega arith
 
--- what is packed to equal words is equal
+-- elements that are packed to equal words are equal
 unpacked : (each width : ℕ) (size : ℕ → ℕ) (xs ys ws vs : List ℕ) → 0 < each → 0 < 2 ^ width
     → ((n i : ℕ) → i < n → i / each < size n) → AreElements each width ws xs → AreElements each width vs ys
     → length xs ≡ length ys
@@ -56,7 +56,7 @@ laid pair xs ys ws vs h k l e =
 laid quad xs ys ws vs h k l e =
     unpacked 2 32 (content_words W32) xs ys ws vs (omega arith) (omega arith) (λ n i lt. omega arith) h k l e
 
--- two values are laid out alike exactly where they are the same
+-- two values are laid out alike exactly if they are the same
 abbrev AreAlike : Tree → Tree → Type 0
 AreAlike x y = (lay x 0 ≡ lay y 0) ↔ Same x y
 
@@ -66,7 +66,7 @@ numbers-alike a b xs ys ws vs e l h =
     subst (λ (c : NumberWidth). AreNumbers c vs ys → AreAlike (numbers a xs) (numbers c ys)) e
     (λ k. ((λ q. (refl, laid a xs ys ws vs h k l q)), (λ q. ap (λ (zs : List ℕ). lay (numbers a zs) 0) q.1)))
 
--- a list of n elements of a width that are numbers, or none
+-- `x` is a list of n elements of a width, whose elements are numbers or have no size
 record IsNumbers (width : Width) (n : ℕ) (ws : List ℕ) (x : Tree) : Type 0 where
   pub of : NumberWidth
   pub list : List ℕ
@@ -111,7 +111,7 @@ pub record IsList (m : List (List ℕ)) (width : Width) (n s w : ℕ) (x : Tree)
   pub room : words_for (element_bits width * n) ≤ length (words_from m s w)
   pub is : IsInside m (shapes.Many width n) s w x
 
--- two lists are the same exactly where their bits are equal
+-- two lists are the same exactly if their bits are equal
 pub same-bits : (m k : List (List ℕ)) (width : Width) (n s w t v : ℕ) (x y : Tree) → IsPlain width
     → IsList m width n s w x → IsList k width n t v y
     → (first_bits (element_bits width * n) (words_from m s w)

@@ -18,7 +18,7 @@ use Rattle.capn_same.specs.inner.Runs.{AreZeros}
 use Rattle.capn_same.specs.inner.Held.{HasValue, AreIn, HasValues}
 
 module _ (m : List (List ℕ)) where
-  -- the value in a slot
+  -- the value in slot k
   pub slot-at : (s w : ℕ) (ts : Trees) (k : ℕ) → AreAt m s w ts → k < count ts
       → IsAt m (record { segment = s; word = w + k }) (tree_at ts k)
   slot-at s w no_trees k h lt = absurd (omega arith)
@@ -41,7 +41,7 @@ module _ (m : List (List ℕ)) where
   null-word : (at : Place) (t : Tree) → IsAt m at t → t ≡ nil → slice_index (segment_at m at.segment) at.word ≡ 0
   null-word at t h e = other-than-nil m at (subst (λ (x : Tree). IsAt m at x) e h)
 
-  -- no slot holds anything exactly where all words are zero
+  -- slots are all null exactly if all their words are zero
   pub zeros-of_null : (s w : ℕ) (ts : Trees) → AreAt m s w ts → AllNull ts → AreZeros (segment_at m s) w (count ts)
   zeros-of_null s w no_trees h a i lt = absurd (omega arith)
   zeros-of_null s w (tree t ts) h a zero lt =
@@ -78,7 +78,7 @@ weights-past no_trees k lt = absurd (omega arith)
 weights-past (tree t ts) zero lt = refl
 weights-past (tree t ts) (suc k) lt = weights-past ts k (omega arith)
 
--- the slots past the first k, by the first of them and the others
+-- the slots past the first k are the same exactly if the first of them and the others are
 pub same-step : (ss ts : Trees) (k : ℕ) → k < count ss → k < count ts
     → SameSlots (past k ss) (past k ts)
     ↔ (Same (tree_at ss k) (tree_at ts k) × SameSlots (past (suc k) ss) (past (suc k) ts))
@@ -98,7 +98,7 @@ no-right (tree s ss) no_trees e =
     ((λ h. ((h.0, (r.0 h.1).0), tt)), (λ h. (h.0.0, r.1 (h.0.1, tt))))
 no-right ss (tree t ts) e = absurd (omega arith)
 
--- where either has no more, all are null
+-- if one side has no slot left, the slots that are left are the same exactly if all are null
 pub same-end : (ss ts : Trees) (k : ℕ) → k ≡ min (count ss) (count ts)
     → SameSlots (past k ss) (past k ts) ↔ (AllNull (past k ss) × AllNull (past k ts))
 same-end ss ts k e = by (cases_lt (count ts) (count ss))
@@ -114,7 +114,7 @@ same-end ss ts k e = by (cases_lt (count ts) (count ss))
     by (inl lt) = no-right (past k ss) (past k ts) (omega (arith, a, b))
     by (inr le) = no-left (past k ss) (past k ts) (omega (arith, a, b))
 
--- as many slots are the same exactly where each is
+-- equal numbers of slots are the same exactly if each slot is
 pub slots-each : (ss ts : Trees) → count ss ≡ count ts → SameSlots ss ts ↔ SameEach ss ts
 slots-each no_trees no_trees e = ((λ h. tt), (λ h. tt))
 slots-each no_trees (tree t ts) e = absurd (omega arith)
@@ -122,7 +122,7 @@ slots-each (tree s ss) no_trees e = absurd (omega arith)
 slots-each (tree s ss) (tree t ts) e =
     let r = slots-each ss ts (omega arith) in ((λ h. (h.0, r.0 h.1)), (λ h. (h.0, r.1 h.1)))
 
--- the step to the next slot
+-- the comparison continues with the next slot
 pub same-next : (ss ts : Trees) (k j : ℕ) → j ≡ k + 1 → k < count ss → k < count ts
     → SameSlots (past k ss) (past k ts) ↔ (Same (tree_at ss k) (tree_at ts k) × SameSlots (past j ss) (past j ts))
 same-next ss ts k j e l r =
@@ -137,7 +137,7 @@ weights-next ts k j e lt =
     subst (λ (x : ℕ). weights (past k ts) ≡ weight (tree_at ts k) + weights (past x ts)) z (weights-past ts k lt)
 
 module _ (m : List (List ℕ)) (start : Place) (n : ℕ) where
-  -- a slot of these, and its value
+  -- slot i of the slots at a place, and its value
   pub has-slot : (p : Place) (i : ℕ) (ts : Trees) → AreIn m start n ts → i < n
       → p ≡ record { segment = start.segment; word = start.word + i } → HasSlot m p.segment p.word (tree_at ts i)
   has-slot p i ts h lt e =
@@ -159,7 +159,7 @@ module _ (m : List (List ℕ)) (start : Place) (n : ℕ) where
       let o = low-at h.values i (omega arith) in
       record { value = tree_at h.values i; is = has-slot p i h.values h.are lt e; low = omega arith }
 
-  -- the slots past the first i are null exactly where their words are zero
+  -- the slots past the first i are null exactly if their words are zero
   pub rest-null : (i : ℕ) (ts : Trees) → AreIn m start n ts → i ≤ n
       → AllNull (past i ts) ↔ AreZeros (segment_at m start.segment) (start.word + i) (n - i)
   rest-null i ts h le =
@@ -172,7 +172,7 @@ module _ (m : List (List ℕ)) (start : Place) (n : ℕ) where
         null-of_zeros m start.segment (start.word + i) (past i ts) a,
       )
 
--- where the slots that both have are the same, all are if what either has more is null
+-- if the slots that both sides have are the same, all slots are the same exactly if the others are null
 module _ (m k : List (List ℕ)) (start beside : Place) (n l s i : ℕ) (ss ts : Trees) (h : AreIn m start n ss)
     (g : AreIn k beside l ts) (es : s ≡ min n l) (ei : i ≡ s)
     (so : SameSlots ss ts ↔ SameSlots (past i ss) (past i ts)) where

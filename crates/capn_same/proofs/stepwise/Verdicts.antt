@@ -1,4 +1,4 @@
--- What is answered of content of one kind, whichever shapes say so. (For `is_same_content`.)
+-- The result for content of one kind, whatever shapes it has. (For `is_same_content`.)
 use Rattle.std.proofs.Common.{◌≡◌, ◌↔◌, ℕ, ◌+◌, ◌*◌, ◌≤◌, Bool, IsTrue, List, sym, subst}
 use Rattle.capn_words.specs.declared.space.Place.{Place}
 use Rattle.capn_words.specs.declared.pointer.Width.{Width}
@@ -16,7 +16,7 @@ use Rattle.capn_same.proofs.stepwise.Numbers.{same-bits}
 use Rattle.capn_same.proofs.stepwise.Contents.{same-links, same-rows, are-in, are-rows, is-list, is-plain, list-weighs}
 
 module _ (m k : List (List ℕ)) (at beside : Place) (depth : ℕ) (r : Bool) where
-  -- both are content of these shapes, and the answer says so of their values
+  -- for content of these shapes, the result says whether the values are the same
   abbrev pub Says : Shape → Shape → Type 0
   Says x y = HasContent m x at depth → HasContent k y beside depth → (v w : Tree)
       → IsInside m x at.segment at.word v → IsInside k y beside.segment beside.word w → IsTrue r ↔ Same v w
@@ -65,7 +65,7 @@ bits-weigh m x width n bits depth at v e ne eb c h =
     subst (λ (b : ℕ). words_for b ≤ weight v) (sym eb)
     (list-weighs m width n at.segment at.word v (is-plain m width n depth at ne d) i)
 
--- what is said of rows at two places is said of those at the same places
+-- the result for rows at two places is that for rows at places that equal them
 pub rows-there : (m k : List (List ℕ)) (p q s t : Place) (n a b c d : ℕ) (r : Bool) → p ≡ s → q ≡ t
     → ((bs cs : Bodies) → AreRowsIn m p n a b bs → AreRowsIn k q n c d cs → IsTrue r ↔ SameRows bs cs)
     → (bs cs : Bodies) → AreRowsIn m s n a b bs → AreRowsIn k t n c d cs → IsTrue r ↔ SameRows bs cs
