@@ -1,4 +1,4 @@
--- The check that makes no copy: what is expected at each slot, and what the pass over the words finds.
+-- Lemmas on the check that makes no copy: what it must find at each slot, and what the pass over the words finds.
 pub mod DueWords
 pub mod DueSlots
 pub mod DueObjects

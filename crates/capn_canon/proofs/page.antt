@@ -1,4 +1,4 @@
--- The canonical form by the rules of the encoding page.
+-- Lemmas on the canonical form by the rules of the encoding page.
 pub mod Rules
 pub mod Ends
 pub mod PointerWords

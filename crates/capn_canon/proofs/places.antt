@@ -1,4 +1,4 @@
--- Objects that are where their layout has them.
+-- Lemmas on objects that are where their layout has them.
 pub mod Standing
 pub mod Compared
 pub mod ComparedList

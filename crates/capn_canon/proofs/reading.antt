@@ -1,4 +1,4 @@
--- Canonical words, read again: what their pointers name, and the value that they denote.
+-- Lemmas on reading canonical words again: the targets of their pointers, and the value that they denote.
 pub mod StandsIn
 pub mod OneSegment
 pub mod LaidPointers

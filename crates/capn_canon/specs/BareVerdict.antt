@@ -1,4 +1,4 @@
--- The answers of the check of canonical bytes.
+-- The results of the tests whether bare bytes are canonical.
 use Rattle.std.specs.Prelude.{◌≡◌, ◌↔◌, ℕ, List, [], ◌∷◌, None, Bool}
 use Rattle.std.specs.Bool.{IsTrue}
 use Rattle.capn_words.specs.Message.{bytes}
@@ -11,16 +11,15 @@ use Rattle.capn_canon.specs.declared.form.Form.TheVariants as forms
 use Rattle.capn_canon.specs.Denotes.{Denotes}
 use Rattle.capn_layout.specs.Layout.{canon}
 
--- the bytes denote a value without capabilities, and the answer is yes if and only if they are its canonical bytes
+-- `bs`, read bare, denote a value without capabilities, and `yes` is true if and only if they are its canonical bytes
 pub record SaysCanonical (bs : List ℕ) (limits : Bounds) (yes : Bool) : Type 0 where
   pub value : Tree
   pub is : Denotes forms.Bare bs limits value
   pub free : first_cap value ≡ None
   pub answer : IsTrue yes ↔ (canon value ≡ bs)
 
--- the words are an accepted message; the check reports the words that its walk pays, the number of its visits and the
--- first capability of its value, and says yes if and only if the value has none and the bytes of the words are its
--- canonical bytes
+-- `words` are an accepted message; `c` has the words that its walk pays, the number of its visits, the first capability
+-- of its value, and whether the value has none and the words have its canonical bytes
 pub record IsBareSurvey (words : List ℕ) (limits : Bounds) (c : SurveyedBare) : Type 0 where
   pub value : Tree
   pub is : IsValueOf (words ∷ []) limits value

@@ -7,8 +7,8 @@ use Rattle.capn_walk.specs.Limits.{Bounds}
 use Rattle.capn_layout.specs.Layout.{canon}
 use Rattle.capn_canon.specs.declared.length.CanonicalLength.{CanonicalLength}
 
--- the message is accepted with this value, which has no capability; the length is that of its canonical bytes, and the
--- walk of the message pays and visits so much
+-- `message` is accepted with the value `v`, which has no capability; `c` has the length of its canonical bytes, the
+-- words that the walk pays, and the number of visits
 pub record IsCanonicalLength (message : List (List ℕ)) (limits : Bounds) (v : Tree) (c : CanonicalLength)
     : Type 0 where
   pub is : IsValueOf message limits v
@@ -19,6 +19,6 @@ pub record IsCanonicalLength (message : List (List ℕ)) (limits : Bounds) (v : 
 
 -- ---- read to here for the theorem
 
--- the message is accepted with a value that has no capability
+-- `message` is accepted with a value that has no capability, and so has canonical bytes
 abbrev pub HasBytes : List (List ℕ) → Bounds → Type 0
 HasBytes message limits = (v : Tree) × IsValueOf message limits v × (first_cap v ≡ None)

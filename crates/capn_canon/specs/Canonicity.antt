@@ -13,26 +13,26 @@ use Rattle.capn_canon.specs.Reads.{Reads}
 use Rattle.capn_canon.specs.Denotes.{Denotes}
 use Rattle.capn_layout.specs.Layout.{canon}
 
--- read bare under the limits, the bytes denote the trimmed value, which is the same value
+-- read bare under the limits, the bytes `bs` denote the trimmed value of `v`, which is the same value
 pub record ReadsBack (bs : List ℕ) (limits : Bounds) (v : Tree) : Type 0 where
   pub denotes : Denotes forms.Bare bs limits (trimmed v)
   pub same : Same (trimmed v) v
 
--- so read, they pay exactly the cost of the trimmed value
+-- read bare under the limits, the bytes `bs` pay exactly the cost of the trimmed value of `v`
 abbrev pub PaysItsCost : List ℕ → Bounds → Tree → Type 0
 PaysItsCost bs limits v =
     (message : List (List ℕ)) → Reads forms.Bare bs limits.message_words message
     → paid message limits ≡ cost (base limits.tariff) (trimmed v)
 
--- the canonical bytes of the trimmed value are these bytes again
+-- the canonical bytes of the trimmed value of `v` are `bs` again
 abbrev pub IsItsOwnForm : List ℕ → Tree → Type 0
 IsItsOwnForm bs v = canon (trimmed v) ≡ bs
 
--- a second value has these canonical bytes if and only if it is the same value
+-- a second value has the canonical bytes `bs` if and only if it is the same value as `v`
 abbrev pub IsFormExactlyOf : List ℕ → Tree → Type 0
 IsFormExactlyOf bs v = (w : Tree) → Fits w → InRange w → (canon w ≡ bs) ↔ Same v w
 
--- the four together
+-- `bs` have all four properties of the canonical form of `v`
 pub record IsCanonicalForm (bs : List ℕ) (limits : Bounds) (v : Tree) : Type 0 where
   pub reads_back : ReadsBack bs limits v
   pub pays : PaysItsCost bs limits v

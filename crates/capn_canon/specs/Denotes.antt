@@ -1,4 +1,4 @@
--- The value that bytes denote within limits, and the answer for it: its canonical bytes and a price.
+-- The value that bytes denote within limits, and its canonical bytes with the price of the walk.
 use Rattle.std.specs.Prelude.{◌≡◌, ℕ, List, None}
 use Rattle.capn_value.specs.Tree.{Tree}
 use Rattle.capn_value.specs.FirstCap.{first_cap}
@@ -8,13 +8,13 @@ use Rattle.capn_canon.specs.declared.form.Form.{Form}
 use Rattle.capn_layout.specs.Layout.{canon}
 use Rattle.capn_canon.specs.Reads.{Reads}
 
--- the bytes are read as a message, which is accepted with the value at its root
+-- `bs` are read as a message, which is accepted with the value `v` at its root
 pub record Denotes (form : Form) (bs : List ℕ) (limits : Bounds) (v : Tree) : Type 0 where
   pub message : List (List ℕ)
   pub reads : Reads form bs limits.message_words message
   pub value : IsValueOf message limits v
 
--- the message is accepted, its value has no capability, these are its canonical bytes, and its walk pays the price
+-- `message` is accepted, its value has no capability, `bytes` are its canonical bytes, and its walk pays `price`
 pub record AnswersMessage (message : List (List ℕ)) (limits : Bounds) (bytes : List ℕ) (price : ℕ) : Type 0 where
   pub value : Tree
   pub is : IsValueOf message limits value
@@ -22,7 +22,7 @@ pub record AnswersMessage (message : List (List ℕ)) (limits : Bounds) (bytes :
   pub canonical : bytes ≡ canon value
   pub priced : price ≡ paid message limits
 
--- the bytes are read as a message with that answer
+-- `bs` are read as a message whose value has the canonical bytes `bytes`, and whose walk pays `price`
 pub record Answers (form : Form) (bs : List ℕ) (limits : Bounds) (bytes : List ℕ) (price : ℕ) : Type 0 where
   pub message : List (List ℕ)
   pub reads : Reads form bs limits.message_words message

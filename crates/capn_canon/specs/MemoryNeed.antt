@@ -11,18 +11,18 @@ use Rattle.capn_canon.specs.Denotes.{Denotes}
 use Rattle.capn_canon.specs.declared.form.Form.{Form}
 use Rattle.capn_canon.specs.declared.form.Form.TheVariants as forms
 
--- memory may be needed: never of bare words; of a stream, if a whole frame of more than 64 segments comes first; of a
--- packed text, only if a whole group within the maximum comes first
+-- reading `bs` in a form may need memory: never for bare words; for a stream, if a whole frame of more than 64 segments
+-- comes first; for a packed text, only if a whole group within the maximum comes first
 abbrev pub MayNeedMemory : Form → List ℕ → Bounds → Type 0
 MayNeedMemory forms.Bare bs limits = ⊥
 MayNeedMemory forms.Stream bs limits = HasTable bs limits.message_words
 MayNeedMemory forms.Packed bs limits = StartsWithin bs (limits.message_words + most_table_words)
 
--- memory may be needed to lay out a message: it has canonical bytes
+-- laying out `message` may need memory, since it has canonical bytes
 abbrev pub MayNeedBytes : List (List ℕ) → Bounds → Type 0
 MayNeedBytes message limits = (v : Tree) × IsValueOf message limits v × (first_cap v ≡ None)
 
--- memory may be needed for bytes that are read in a form: it may be needed to survey them, or they have canonical bytes
+-- canonicalising `bs` may need memory: to read them, or since they have canonical bytes
 abbrev pub MayNeedBytesIn : Form → List ℕ → Bounds → Type 0
 MayNeedBytesIn form bs limits =
     MayNeedMemory form bs limits ⊎ ((v : Tree) × Denotes form bs limits v × (first_cap v ≡ None))

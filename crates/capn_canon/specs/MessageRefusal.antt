@@ -9,17 +9,18 @@ use Rattle.capn_canon.specs.declared.message_refusal.MessageRefusal.TheVariants 
 use Rattle.capn_canon.specs.declared.message_refusal.IntoRefusal.{IntoRefusal}
 use Rattle.capn_canon.specs.declared.message_refusal.IntoRefusal.TheVariants as intos
 
--- the walk of the message stops here, or it is accepted and this is the first capability of its value
+-- the walk of `message` stops as the refusal says, or it is accepted and the refusal has the first capability of its
+-- value
 abbrev pub HasNoBytes : List (List ℕ) → Bounds → MessageRefusal → Type 0
 HasNoBytes message limits (messages.Walk s) = IsWalkRefused message limits s.fault s.place s.paid s.visits
 HasNoBytes message limits (messages.Capability k) = (v : Tree) × IsValueOf message limits v × (first_cap v ≡ Some k)
 
--- a refusal reports as paid a number within a budget, and at most one visit more
+-- the words that a refusal reports as paid are at most `budget`, and its visits at most one more
 abbrev pub IsMessagePaidWithin : ℕ → MessageRefusal → Type 0
 IsMessagePaidWithin budget (messages.Walk s) = IsBounded budget s.paid s.visits
 IsMessagePaidWithin budget (messages.Capability k) = ⊤
 
--- a refusal of a buffer reports as paid a number within a budget, and at most one visit more
+-- the words that a refusal to write into a buffer reports as paid are at most `budget`, and its visits at most one more
 abbrev pub IsIntoPaidWithin : ℕ → IntoRefusal → Type 0
 IsIntoPaidWithin budget (intos.Walk s) = IsBounded budget s.paid s.visits
 IsIntoPaidWithin budget (intos.NoRoom n p) = p ≤ budget

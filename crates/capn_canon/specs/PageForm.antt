@@ -1,5 +1,5 @@
--- The canonical form by the rules of the encoding page, one by one. It names no layout: it says of the words of one
--- segment what their pointers have to be, followed in preorder. (Page: canonicalization; what is own is marked.)
+-- The canonical form by the rules of the encoding page, one by one. It cites no definition of the layout: it says what
+-- the pointers of one segment must be, followed in preorder. (Page: canonicalization; what is our own is marked.)
 use Rattle.std.specs.Prelude.{◌≡◌, ◌≢◌, ℕ, zero, ◌+◌, ◌-◌, ◌*◌, ◌/◌, ◌%◌, ◌^◌, ◌<◌, List, [], ◌∷◌, ◌++◌, length}
 use Rattle.std.specs.Prelude.{slice_index, Ok, ⊤}
 use Rattle.std.specs.List.{AllByRecursion}
@@ -13,7 +13,7 @@ use Rattle.capn_walk.specs.Accepted.{root}
 use Rattle.capn_walk.specs.Visits.{slots}
 use Rattle.capn_layout.specs.FirstBits.{element_bits}
 
--- a pointer that is met: null, or at a word, to an object of a shape whose content starts at a word
+-- a pointer that is visited: null, or at the word `pointer`, to an object of a shape whose content starts at a word
 pub data Met : Type 0 where
   null : Met
   object : (pointer start : ℕ) (shape : Shape) → Met
@@ -34,8 +34,8 @@ IsWhole (object pointer start (shapes.Rows n a b span)) = span ≡ n * (a + b)
 IsWhole _ = ⊤
 
 module _ (words : List ℕ) where
-  -- these are the pointers that are met from some places on: each with those of its object, in order, before the
-  -- others, which is preorder; all in one segment, and so without far pointers (Page: canonicalization.); none is a
+  -- the visited pointers begin at some places; each comes with the pointers of its object, in order, before the others,
+  -- which is preorder; all are in one segment, and so without far pointers (Page: canonicalization.); none is a
   -- capability (Own.)
   abbrev pub InPreorder : List Place → List Met → Type 0
   InPreorder [] [] = ⊤
@@ -45,24 +45,25 @@ module _ (words : List ℕ) where
       × InPreorder (slots 0 start shape ++ others) rest
   InPreorder _ _ = ⊥
 
-  -- the contents follow one another in this order, without a gap or an overlap, from a word to the end; one without
-  -- words has its place too, unless it is a struct (Page: canonicalization.)
+  -- the contents follow one another in this order, without a gap or an overlap, from the word `next` to the end; an
+  -- object without words has its place, too, unless it is a struct (Page: canonicalization.)
   abbrev pub WithoutGaps : (next : ℕ) → List Met → Type 0
   WithoutGaps next [] = next ≡ length words
   WithoutGaps next (null ∷ rest) = WithoutGaps next rest
   WithoutGaps next (object pointer start shape ∷ rest) =
       ((IsEmpty shape → ⊥) → start ≡ next) × WithoutGaps (next + extent shape) rest
 
-  -- of n words from a word on the last isn't zero, if there are any
+  -- the last of `n` words from the word `from` on isn't zero, if there are any
   abbrev pub EndsInSome : (from n : ℕ) → Type 0
   EndsInSome from n = 0 < n → slice_index words (from + (n - 1)) ≢ 0
 
-  -- nor is it in one at least of `many` rows, the first of which starts there, each `step` words after the one before
+  -- in one at least of `many` rows, each `step` words after the one before, the last of the `n` words from `from` on
+  -- isn't zero
   abbrev pub OneEndsInSome : (many step from n : ℕ) → Type 0
   OneEndsInSome many step from n = 0 < n → (i : ℕ) × (i < many) × (slice_index words (from + i * step + (n - 1)) ≢ 0)
 
   -- no section of a struct, data words or pointers, ends in a zero word, and no section of the structs of a list ends
-  -- in one that is zero in each of them (Page: canonicalization.)
+  -- in a word that is zero in all of them (Page: canonicalization.)
   abbrev pub IsTruncated : Met → Type 0
   IsTruncated (object pointer start (shapes.Node a b)) = EndsInSome start a × EndsInSome (start + a) b
   IsTruncated (object pointer start (shapes.Rows n a b span)) =
@@ -76,7 +77,7 @@ module _ (words : List ℕ) where
       0 < bits % 64 → slice_index words (start + bits / 64) < 2 ^ (bits % 64)
   IsPadded _ = ⊤
 
-  -- the words follow all rules: their pointers, from that to the root at word 0 on, and the contents from word 1 on
+  -- `words` follow all rules: their pointers from the root at word 0 on, and the contents from word 1 on
   pub record IsPageForm : Type 0 where
     pub pointers : List Met
     pub preorder : InPreorder (root ∷ []) pointers

@@ -13,7 +13,7 @@ use Rattle.capn_canon.specs.declared.same_refusal.SameRefusal.{SameRefusal}
 use Rattle.capn_canon.specs.declared.same_refusal.Side.{Side}
 use Rattle.capn_canon.specs.declared.same_refusal.Side.TheVariants.{First, Second}
 
--- both messages are accepted with values that have no capability, and the answer is true if and only if these are the
+-- `a` and `b` are accepted with values that have no capability, and `same` is true if and only if the values are the
 -- same, up to trailing zero words and trailing null slots of structs
 pub record SaysSame (a b : List (List ℕ)) (limits : Bounds) (same : Bool) : Type 0 where
   pub one : Tree
@@ -24,20 +24,20 @@ pub record SaysSame (a b : List (List ℕ)) (limits : Bounds) (same : Bool) : Ty
   pub second_free : first_cap two ≡ None
   pub answer : IsTrue same ↔ Same one two
 
--- the walk of a message stops, or it is accepted and its value has a capability
+-- `message` has no canonical bytes for the reason `e`: its walk stops, or it is accepted and its value has a capability
 abbrev pub IsUnfit : List (List ℕ) → Bounds → Refusal → Type 0
 IsUnfit message limits e = IsRefusedMessage message limits e × (e ≢ refusals.Memory)
 
--- the first message is refused, or it isn't and the second is
+-- `e` refuses the message on one side: the first, or the second if the first is not refused
 abbrev pub IsRefusedOn : List (List ℕ) → List (List ℕ) → Bounds → Side → Refusal → Type 0
 IsRefusedOn a b limits First e = IsUnfit a limits e
 IsRefusedOn a b limits Second e = HasBytes a limits × IsUnfit b limits e
 
--- what two messages are not compared for
+-- `e` is the reason why `a` and `b` are not compared, and names the side that it refuses
 abbrev pub IsNotCompared : List (List ℕ) → List (List ℕ) → Bounds → SameRefusal → Type 0
 IsNotCompared a b limits e = IsRefusedOn a b limits e.side e.refusal
 
--- a call says whether two messages are the same, or why they are not compared, and no walk pays beyond its budget
+-- `r` says whether `a` and `b` have the same value, or why they are not compared, and no walk pays beyond its budget
 pub record IsSameTold (a b : List (List ℕ)) (limits : Bounds) (r : Result Bool SameRefusal) : Type 0 where
   pub found : IfOk r (λ same. SaysSame a b limits same)
   pub refused : IfErr r (λ e. IsNotCompared a b limits e)

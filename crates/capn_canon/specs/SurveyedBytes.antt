@@ -1,4 +1,4 @@
--- The report of a survey of bytes.
+-- The survey of the message that bytes are read as.
 use Rattle.std.specs.Prelude.{ℕ, List}
 use Rattle.capn_walk.specs.declared.survey_answer.Surveyed.{Surveyed}
 use Rattle.capn_walk.specs.Limits.{Bounds}
@@ -6,7 +6,7 @@ use Rattle.capn_walk.specs.Surveyed.{IsSurvey}
 use Rattle.capn_canon.specs.declared.form.Form.{Form}
 use Rattle.capn_canon.specs.Reads.{Reads}
 
--- the bytes are read as an accepted message, of which the survey is
+-- `bs` are read as an accepted message, and `s` is its survey
 pub record Surveys (form : Form) (bs : List ℕ) (limits : Bounds) (s : Surveyed) : Type 0 where
   pub message : List (List ℕ)
   pub reads : Reads form bs limits.message_words message

@@ -1,4 +1,4 @@
-//! The test for canonical bytes, without a buffer.
+//! The tests whether bare bytes are canonical, with or without a survey: they make no canonical bytes to compare with.
 
 ghost use Rattle.std.specs.Prelude.{◌≡◌, ◌↔◌, ◌≢◌, ◌+◌, ◌*◌, ◌<◌, ◌≤◌, [], ◌∷◌, ◌⊎◌, None, IsTrue, IfOk, IfErr};
 ghost use Rattle.std.specs.Prelude.{MatchResult, length};
@@ -25,7 +25,8 @@ use capn_words::{Bare, Place, Space};
 use std::alloc::Allocator;
 use std::sync::ledger::Ledger;
 
-/// The survey of a message of one segment, with the test for canonical bytes, within limits.
+/// The task of `survey_bare_of`: surveys a message of one segment within limits, and tests whether its bytes are
+/// canonical.
 #[derive(Drop)]
 struct BareTask {
     limits: Limits,
@@ -58,82 +59,82 @@ impl CountedTask for BareTask {
     }
 }
 
-/// Surveys the message `space` of one segment within `limits`, as [`survey_bare`] does, by questions through a counter
-/// alone. It has no allocator, and so takes no memory.
+/// Does what [`survey_bare`] does for the message `space` of one segment within `limits`, and reads it through a
+/// counter alone. It has no allocator, and so takes no memory.
 pub fn survey_bare_of<M: Asked>(space: M, limits: Limits) -> Result<SurveyedBare, Stopped>
     requires one { length (M.message space) ≡ 1 }
-    // It asks the message and turns its loops at most 24 * (budget + 1) + 1 times, and once more to open the count: it
-    // is done on any message that allows this, and a reference to a `Space` allows all.
+    // `space` must allow 24 * (budget + 1) + 1 reads and turns of loops, and one more to open the count. A reference to
+    // a `Space` allows any number.
     requires work { M.allows space (24 * (limits.budget + 1) + 1 + 1) }
-    // An answer: the message is accepted, with the words that its walk pays, and whether its bytes are those of its
-    // value.
+    // If `result` is `Ok`, the message is accepted. `paid` has the words that its walk pays, and `is_canonical` says
+    // whether its bytes are its canonical bytes.
     ensures found { IfOk result (λ c. IsBareSurvey (segment_at (M.message space) 0) limits c) }
-    // A message that is accepted is answered, or a growth was refused;
+    // If the message is accepted, `result` is `Ok`, unless a growth was refused.
     ensures only { (v : Value) → IsValueOf (M.message space) limits v
         → MatchResult result (λ c. c.capability ≡ first_cap v) (λ s. s.fault ≡ faults.Memory) }
-    // any other refusal is the first stop.
+    // If no growth was refused, an `Err` is the first stop of the walk.
     ensures refused { IfErr result (λ s. (s.fault ≡ faults.Memory)
         ⊎ IsStopped (M.message space) limits s.fault s.place s.paid s.visits) }
-    // No growth is needed, whatever the depth.
+    // No growth is refused, since none is needed, whatever the depth.
     ensures no_memory { IfErr result (λ s. s.fault ≢ faults.Memory) }
-    // No walk pays beyond its budget.
+    // The walk pays at most the budget, also if it is refused.
     ensures bounded { MatchResult result (λ c. IsBounded limits.budget c.paid c.visits)
         (λ s. IsBounded limits.budget s.paid s.visits) }
 {
     space.ask(BareTask { limits })
 }
 
-/// Surveys the bare message `space` within `limits`: returns the words that its walk pays, the number of its visits,
-/// its first capability, and whether its bytes are canonical. One pass over the words finds that; the message is
-/// surveyed only if it doesn't begin with canonical bytes.
+/// Surveys the bare message `space` within `limits`. Returns the words that its walk pays, the number of its visits,
+/// its first capability, and whether its bytes are canonical. One pass over the words finds all of that if the message
+/// begins with canonical bytes. Otherwise a survey follows.
 ///
-/// It refuses what the walk refuses, in the same way. It takes no memory, and doesn't use the allocator.
+/// It refuses what the walk refuses, with the same stop. It takes no memory, and doesn't use the allocator.
 pub fn survey_bare<A: Allocator + Copy>(
     _alloc: A,
     space: &Bare<'_>,
     limits: Limits,
 ) -> Result<SurveyedBare, Stopped>
-    // An answer: the message is accepted, with the words that its walk pays, and whether its bytes are those of its
-    // value.
+    // If `result` is `Ok`, the message is accepted. `paid` has the words that its walk pays, and `is_canonical` says
+    // whether its bytes are its canonical bytes.
     ensures found { IfOk result (λ c. IsBareSurvey space.now limits c) }
-    // A message that is accepted is answered, or a growth was refused;
+    // If the message is accepted, `result` is `Ok`, unless a growth was refused.
     ensures only { (v : Value) → IsValueOf (space.now ∷ []) limits v
         → MatchResult result (λ c. c.capability ≡ first_cap v) (λ s. s.fault ≡ faults.Memory) }
-    // any other refusal is the first stop.
+    // If no growth was refused, an `Err` is the first stop of the walk.
     ensures refused { IfErr result (λ s. (s.fault ≡ faults.Memory)
         ⊎ IsStopped (space.now ∷ []) limits s.fault s.place s.paid s.visits) }
-    // No growth is needed, whatever the depth.
+    // No growth is refused, since none is needed, whatever the depth.
     ensures no_memory { IfErr result (λ s. s.fault ≢ faults.Memory) }
-    // No walk pays beyond its budget.
+    // The walk pays at most the budget, also if it is refused.
     ensures bounded { MatchResult result (λ c. IsBounded limits.budget c.paid c.visits)
         (λ s. IsBounded limits.budget s.paid s.visits) }
 {
     survey_bare_of(space, limits)
 }
 
-/// Surveys the message `space` of one segment within `limits`, as [`survey_bare`] does, by calls that count in `reads`,
-/// as for [`survey_canonical_counted`](crate::survey_canonical_counted) and [`survey_counted`]. It takes no memory.
+/// Does what [`survey_bare`] does for the message `space` of one segment within `limits`, and counts its reads and the
+/// turns of its loops in `reads`, as [`survey_counted`] does. It takes no memory.
 pub fn survey_bare_counted<S: Space, L: Ledger>(
     space: &CountedSpace<'_, S, L>,
     limits: Limits,
     reads: &mut Reads<L>,
 ) -> Result<SurveyedBare, Stopped>
     requires one { length space.now ≡ 1 }
-    // An answer: the message is accepted, with the words that its walk pays, and whether its bytes are those of its
-    // value.
+    // If `result` is `Ok`, the message is accepted. `paid` has the words that its walk pays, and `is_canonical` says
+    // whether its bytes are its canonical bytes.
     ensures found { IfOk result (λ c. IsBareSurvey (segment_at space.now 0) limits c) }
-    // A message that is accepted is answered, or a growth was refused;
+    // If the message is accepted, `result` is `Ok`, unless a growth was refused.
     ensures only { (v : Value) → IsValueOf space.now limits v
         → MatchResult result (λ c. c.capability ≡ first_cap v) (λ s. s.fault ≡ faults.Memory) }
-    // any other refusal is the first stop.
+    // If no growth was refused, an `Err` is the first stop of the walk.
     ensures refused { IfErr result (λ s. (s.fault ≡ faults.Memory)
         ⊎ IsStopped space.now limits s.fault s.place s.paid s.visits) }
-    // No growth is needed, whatever the depth.
+    // No growth is refused, since none is needed, whatever the depth.
     ensures no_memory { IfErr result (λ s. s.fault ≢ faults.Memory) }
-    // No walk pays beyond its budget.
+    // The walk pays at most the budget, also if it is refused.
     ensures bounded { MatchResult result (λ c. IsBounded limits.budget c.paid c.visits)
         (λ s. IsBounded limits.budget s.paid s.visits) }
-    // The budget bounds the reads of the message and the turns of loops, whatever is answered.
+    // The budget bounds the reads of the message and the turns of loops, whatever the result is.
     ensures work { reads.new ≤ reads.old + 24 * (limits.budget + 1) }
 {
     let words = CountedWords::of(space);
@@ -152,15 +153,16 @@ pub fn survey_bare_counted<S: Space, L: Ledger>(
 /// Tests whether `bytes`, read bare within `limits`, are the canonical bytes of the value that they denote. It has no
 /// allocator, and so takes no memory.
 pub fn are_canonical(bytes: &[u8], limits: Limits) -> Result<bool, Refusal>
-    // The answer is on the one value that the bytes denote, which has no capability.
+    // If `result` is `Ok`, the bytes denote one value, which has no capability, and `result` says whether they are its
+    // canonical bytes.
     ensures found { IfOk result (λ yes. SaysCanonical bytes.now limits yes) }
-    // Bytes that denote such a value are answered, unless memory runs out.
+    // If the bytes denote a value without capabilities, `result` is `Ok`, unless memory runs out.
     ensures only { (v : Value) → Denotes forms.Bare bytes.now limits v → first_cap v ≡ None
         → MatchResult result (λ yes. IsTrue yes ↔ (canon v ≡ bytes.now)) (λ e. e ≡ refusals.Memory) }
-    // The meaning of each refusal.
+    // If `result` is `Err(e)`, the reason that `e` gives is true.
     ensures refused { IfErr result (λ e. IsRefused forms.Bare bytes.now limits e) }
     ensures bounded { IfErr result (λ e. IsPaidWithin limits.budget e) }
-    // No memory is needed, whatever the depth.
+    // `Memory` is never returned, whatever the depth.
     ensures no_memory { IfErr result (λ e. e ≢ refusals.Memory) }
 {
     let space = Bare::new(bytes)?;
@@ -171,22 +173,22 @@ pub fn are_canonical(bytes: &[u8], limits: Limits) -> Result<bool, Refusal>
     }
 }
 
-/// Tests whether `bytes`, read bare within `limits`, are canonical, as [`are_canonical`] does. It doesn't use the
-/// allocator.
+/// Does what [`are_canonical`] does for `bytes` within `limits`. It doesn't use the allocator.
 pub fn is_canonical<A: Allocator + Copy>(
     _alloc: A,
     bytes: &[u8],
     limits: Limits,
 ) -> Result<bool, Refusal>
-    // The answer is on the one value that the bytes denote, which has no capability.
+    // If `result` is `Ok`, the bytes denote one value, which has no capability, and `result` says whether they are its
+    // canonical bytes.
     ensures found { IfOk result (λ yes. SaysCanonical bytes.now limits yes) }
-    // Bytes that denote such a value are answered, unless memory runs out.
+    // If the bytes denote a value without capabilities, `result` is `Ok`, unless memory runs out.
     ensures only { (v : Value) → Denotes forms.Bare bytes.now limits v → first_cap v ≡ None
         → MatchResult result (λ yes. IsTrue yes ↔ (canon v ≡ bytes.now)) (λ e. e ≡ refusals.Memory) }
-    // The meaning of each refusal.
+    // If `result` is `Err(e)`, the reason that `e` gives is true.
     ensures refused { IfErr result (λ e. IsRefused forms.Bare bytes.now limits e) }
     ensures bounded { IfErr result (λ e. IsPaidWithin limits.budget e) }
-    // No memory is needed, whatever the depth.
+    // `Memory` is never returned, whatever the depth.
     ensures no_memory { IfErr result (λ e. e ≢ refusals.Memory) }
 {
     are_canonical(bytes, limits)

@@ -1,4 +1,4 @@
-//! Canonical bytes of messages, without a tree.
+//! The canonical bytes of a message, laid out from the message itself: no tree is made.
 
 ghost use Rattle.std.specs.Prelude.{◌≡◌, ◌*◌, ◌+◌, ◌<◌, ◌≤◌, None, length, IfOk, IfErr, IsErrOf, MatchResult};
 ghost use Rattle.capn_value.specs.Tree.{Tree as Value};
@@ -30,7 +30,7 @@ pub struct Canonical<A: Allocator = Global> {
     pub paid: u32,
 }
 
-/// Writes the canonical bytes of the message `space`, read by calls that count.
+/// Makes the canonical bytes of the message `space`, whose reads are counted in `reads`.
 fn canonical_of_inner<A: Allocator + Copy, S: Space, L: Ledger>(
     alloc: A,
     space: &CountedSpace<'_, S, L>,
@@ -51,8 +51,8 @@ fn canonical_of_inner<A: Allocator + Copy, S: Space, L: Ledger>(
     })
 }
 
-/// Writes the canonical bytes of the message `space`. If it has one segment, it is read as its words alone, which is
-/// faster.
+/// Makes the canonical bytes of the message `space`. If `space` has one segment, it is read as that segment's words
+/// alone, which is faster.
 fn canonical_by_segments<A: Allocator + Copy, S: Space, L: Ledger>(
     alloc: A,
     space: &CountedSpace<'_, S, L>,
@@ -68,7 +68,7 @@ fn canonical_by_segments<A: Allocator + Copy, S: Space, L: Ledger>(
     }
 }
 
-/// The task of the canonical bytes of a message within limits.
+/// The task of `canonical_of`: makes the canonical bytes of the message that it is run on.
 #[derive(Drop)]
 struct BytesTask<A: Allocator + Copy> {
     alloc: A,
@@ -96,90 +96,92 @@ impl<A: Allocator + Copy> CountedTask for BytesTask<A> {
     }
 }
 
-/// Writes the canonical bytes of the value that the message `space` denotes within `limits`; returns them with the
-/// words that its walk paid.
+/// Makes the canonical bytes of the value that the message `space` denotes within `limits`. Returns them with the words
+/// that the walk paid.
 ///
-/// `Walk`: the message is not accepted. `Capability`: its value has capabilities; the index is that of the first in
-/// preorder. `Memory` comes only if a growth on `alloc` was refused; no other refusal comes.
+/// It refuses by `Walk` if the message is not accepted. It refuses by `Capability`, with the index of the first in
+/// preorder, if the value has capabilities. `Memory` is returned only if a growth on `alloc` was refused. There is no
+/// other refusal.
 pub fn canonical_of<A: Allocator + Copy, M: Asked>(
     alloc: A,
     space: M,
     limits: Limits,
 ) -> Result<Canonical<A>, Refusal>
-    // All passes ask the message and turn their loops at most 56 * (budget + 1) times, and once more to open the count:
-    // it is done on any message that allows this, and a reference to a `Space` allows all.
+    // `space` must allow 56 * (budget + 1) reads and turns of loops, for all passes, and one more to open the count. A
+    // reference to a `Space` allows any number.
     requires work { M.allows space (56 * (limits.budget + 1) + 1) }
-    // The answer: the canonical bytes of the one value that the message denotes, and the words that its walk pays.
+    // If `result` is `Ok`, it has the canonical bytes of the one value that the message denotes, and the words that its
+    // walk pays.
     ensures found { IfOk result (λ c. AnswersMessage (M.message space) limits c.bytes.items c.paid) }
-    // A value without capabilities is answered, unless memory runs out.
+    // If the message denotes a value without capabilities, `result` has its canonical bytes, unless memory runs out.
     ensures only { (v : Value) → IsValueOf (M.message space) limits v → first_cap v ≡ None
         → MatchResult result (λ c. c.bytes.items ≡ canon v) (λ e. e ≡ refusals.Memory) }
-    // The meaning of each refusal.
+    // If `result` is `Err(e)`, the reason that `e` gives is true.
     ensures refused { IfErr result (λ e. IsRefusedMessage (M.message space) limits e) }
-    // Memory is needed only for canonical bytes.
+    // `Memory` is returned only if the message has canonical bytes.
     ensures memory { IsErrOf result refusals.Memory → MayNeedBytes (M.message space) limits }
-    // No walk pays beyond its budget.
+    // The walk pays at most the budget, also if it is refused.
     ensures bounded { MatchResult result (λ c. c.paid ≤ limits.budget) (λ e. IsPaidWithin limits.budget e) }
     ensures short { IfOk result (λ c. length c.bytes.items ≤ 8 * (c.paid + 1)) }
-    // Read bare under the same limits, the bytes denote the trimmed value, which is the same value,
+    // Read bare under the same limits, the canonical bytes denote the trimmed value, which is the same value.
     ensures reads_back { IfOk result (λ c. (v : Value) → IsValueOf (M.message space) limits v
         → ReadsBack c.bytes.items limits v) }
-    // and pay exactly its cost;
+    // A walk of the canonical bytes, read bare, pays exactly the cost of the trimmed value.
     ensures pays { IfOk result (λ c. (v : Value) → IsValueOf (M.message space) limits v
         → PaysItsCost c.bytes.items limits v) }
-    // its canonical bytes are these again;
+    // The canonical bytes of the trimmed value are the same bytes again.
     ensures own { IfOk result (λ c. (v : Value) → IsValueOf (M.message space) limits v
         → IsItsOwnForm c.bytes.items v) }
-    // and a second value has these canonical bytes if and only if it is the same value.
+    // A second value has equal canonical bytes if and only if it is the same value.
     ensures exactly { IfOk result (λ c. (v : Value) → IsValueOf (M.message space) limits v
         → IsFormExactlyOf c.bytes.items v) }
 {
-    // The clauses need what they promise of limits.
+    // The proof of the clauses needs the ranges that these calls promise.
     let _budget = limits.budget();
     let _depth = limits.depth();
     space.ask(BytesTask { alloc, limits })
 }
 
-/// Writes the canonical bytes of the value that the message `space` denotes within `limits`, as [`canonical_of`] does,
-/// by calls that count in `reads`, as for [`canonical_length_counted`](crate::canonical_length_counted). With the reads
-/// it counts the turns of its loops.
+/// Does what [`canonical_of`] does for the message `space` within `limits`, and counts its reads and the turns of its
+/// loops in `reads`, as [`canonical_length_counted`](crate::canonical_length_counted) does.
 ///
-/// It reads and turns at most 56 times for each word that it pays, and 56 times more: 14 times in the walk, twice to
-/// ask for the lengths of the segments, 20 times to measure, if it does, and 20 times to write. If it refuses, it does
-/// so at most that often for the whole budget. So the budget alone bounds its work, whatever the message says.
+/// There are at most 56 reads and turns for each word paid, and 56 more: 14 in the walk, 2 to find the lengths of the
+/// segments, 20 to measure, if it measures, and 20 to write. A refusal costs at most that many for the whole budget. So
+/// the budget alone bounds the work, whatever the message is.
 pub fn canonical_of_counted<A: Allocator + Copy, S: Space, L: Ledger>(
     alloc: A,
     space: &CountedSpace<'_, S, L>,
     limits: Limits,
     reads: &mut Reads<L>,
 ) -> Result<Canonical<A>, Refusal>
-    // The answer: the canonical bytes of the one value that the message denotes, and the words that its walk pays.
+    // If `result` is `Ok`, it has the canonical bytes of the one value that the message denotes, and the words that its
+    // walk pays.
     ensures found { IfOk result (λ c. AnswersMessage space.now limits c.bytes.items c.paid) }
-    // A value without capabilities is answered, unless memory runs out.
+    // If the message denotes a value without capabilities, `result` has its canonical bytes, unless memory runs out.
     ensures only { (v : Value) → IsValueOf space.now limits v → first_cap v ≡ None
         → MatchResult result (λ c. c.bytes.items ≡ canon v) (λ e. e ≡ refusals.Memory) }
-    // The meaning of each refusal.
+    // If `result` is `Err(e)`, the reason that `e` gives is true.
     ensures refused { IfErr result (λ e. IsRefusedMessage space.now limits e) }
-    // Memory is needed only for canonical bytes.
+    // `Memory` is returned only if the message has canonical bytes.
     ensures memory { IsErrOf result refusals.Memory → MayNeedBytes space.now limits }
-    // No walk pays beyond its budget.
+    // The walk pays at most the budget, also if it is refused.
     ensures bounded { MatchResult result (λ c. c.paid ≤ limits.budget) (λ e. IsPaidWithin limits.budget e) }
     ensures short { IfOk result (λ c. length c.bytes.items ≤ 8 * (c.paid + 1)) }
-    // Read bare under the same limits, the bytes denote the trimmed value, which is the same value,
+    // Read bare under the same limits, the canonical bytes denote the trimmed value, which is the same value.
     ensures reads_back { IfOk result (λ c. (v : Value) → IsValueOf space.now limits v
         → ReadsBack c.bytes.items limits v) }
-    // and pay exactly its cost;
+    // A walk of the canonical bytes, read bare, pays exactly the cost of the trimmed value.
     ensures pays { IfOk result (λ c. (v : Value) → IsValueOf space.now limits v
         → PaysItsCost c.bytes.items limits v) }
-    // its canonical bytes are these again;
+    // The canonical bytes of the trimmed value are the same bytes again.
     ensures own { IfOk result (λ c. (v : Value) → IsValueOf space.now limits v
         → IsItsOwnForm c.bytes.items v) }
-    // and a second value has these canonical bytes if and only if it is the same value.
+    // A second value has equal canonical bytes if and only if it is the same value.
     ensures exactly { IfOk result (λ c. (v : Value) → IsValueOf space.now limits v
         → IsFormExactlyOf c.bytes.items v) }
-    // All passes read the message and turn at most 56 times for each word paid, and 56 times more.
+    // All passes together do at most 56 reads and turns of loops for each word paid, and 56 more.
     ensures reads { IfOk result (λ c. reads.new ≤ reads.old + 56 * (c.paid + 1)) }
-    // So the budget bounds them, whatever the message says and whatever is answered.
+    // The budget bounds the reads and turns, whatever the message and the result are.
     ensures work { reads.new ≤ reads.old + 56 * (limits.budget + 1) }
 {
     space.bounds();

@@ -1,4 +1,4 @@
-//! Canonical bytes of a message in each form.
+//! The call `canonicalise`: the canonical bytes of a message in any of the three forms.
 
 ghost use Rattle.std.specs.Prelude.{◌≡◌, ℕ, ◌*◌, ◌+◌, ◌≤◌, None, length, IfOk, IfErr, IsErrOf, MatchResult};
 ghost use Rattle.capn_value.specs.Tree.{Tree as Value};
@@ -20,7 +20,7 @@ use capn_walk::Limits;
 use capn_words::Space;
 use std::alloc::Allocator;
 
-/// The task of the canonical bytes of a message.
+/// The task of `canonicalise`: makes the canonical bytes of the message that was read.
 #[derive(Clone, Copy)]
 struct CanonicalBytes;
 
@@ -39,50 +39,53 @@ impl<A: Allocator + Copy> MessageTask<A> for CanonicalBytes {
     }
 }
 
-/// Writes the canonical bytes of the value that `bytes` denote in this `form`, within `limits`; returns them with the
+/// Makes the canonical bytes of the value that `bytes` denote in this `form`, within `limits`. Returns them with the
 /// words that the walk paid.
 ///
-/// The refusals are tested in this order. The bytes are read: `Bare` for the form `Bare`; `Packed`, of which at most
-/// the message words and those of the longest table are unpacked; then `Frame` and, if bytes follow the message,
-/// `Trailing`. The message is walked: `Walk`, never because memory ran out. Its value is laid out: `Capability`, with
-/// the index of the first in preorder. `Memory` comes only if a growth on `alloc` was refused, which no clause can say.
+/// The refusals are tested in three steps. First the bytes are read. The form `Bare` is refused by `Bare`. The form
+/// `Packed` is refused by `Packed`, and is unpacked to at most the message words and those of the longest table. A
+/// frame is refused by `Frame` or, if bytes follow the message, by `Trailing`. Then the message is walked, and refused
+/// by `Walk`, whose fault is never memory. Last its value is laid out, and refused by `Capability`, with the index of
+/// the first in preorder. `Memory` is returned only if a growth on `alloc` was refused, which no clause can say.
 pub fn canonicalise<A: Allocator + Copy>(
     alloc: A,
     form: Form,
     bytes: &[u8],
     limits: Limits,
 ) -> Result<Canonical<A>, Refusal>
-    // The answer: the canonical bytes of the one value that the bytes denote, and the words that the walk pays.
+    // If `result` is `Ok`, it has the canonical bytes of the one value that the bytes denote, and the words that the
+    // walk pays.
     ensures found { IfOk result (λ c. Answers form bytes.now limits c.bytes.items c.paid) }
-    // A value without capabilities is answered, or `Memory` is.
+    // If the bytes denote a value without capabilities, `result` has its canonical bytes or is `Memory`.
     ensures only { (v : Value) → Denotes form bytes.now limits v → first_cap v ≡ None
         → MatchResult result (λ c. c.bytes.items ≡ canon v) (λ e. e ≡ refusals.Memory) }
-    // The meaning of each refusal.
+    // If `result` is `Err(e)`, the reason that `e` gives is true.
     ensures refused { IfErr result (λ e. IsRefused form bytes.now limits e) }
-    // Memory is needed only if a survey of the bytes may need it, and for canonical bytes.
+    // `Memory` is returned only if a survey of the bytes may need memory, or if they have canonical bytes.
     ensures memory { IsErrOf result refusals.Memory → MayNeedBytesIn form bytes.now limits }
-    // No walk reports more paid than its budget.
+    // The walk pays at most the budget, also if it is refused.
     ensures bounded { MatchResult result (λ c. c.paid ≤ limits.budget) (λ e. IsPaidWithin limits.budget e) }
     ensures short { IfOk result (λ c. length c.bytes.items ≤ 8 * (c.paid + 1)) }
-    // Read bare under the same limits, the answer denotes the trimmed value, which is the same value,
+    // Read bare under the same limits, the canonical bytes denote the trimmed value, which is the same value.
     ensures reads_back { IfOk result (λ c. (v : Value) → Denotes form bytes.now limits v
         → ReadsBack c.bytes.items limits v) }
-    // and pays exactly its cost;
+    // A walk of the canonical bytes, read bare, pays exactly the cost of the trimmed value.
     ensures pays { IfOk result (λ c. (v : Value) → Denotes form bytes.now limits v
         → PaysItsCost c.bytes.items limits v) }
-    // its canonical bytes are the answer again;
+    // The canonical bytes of the trimmed value are the same bytes again.
     ensures own { IfOk result (λ c. (v : Value) → Denotes form bytes.now limits v → IsItsOwnForm c.bytes.items v) }
-    // and a second value has these canonical bytes if and only if it is the same value.
+    // A second value has equal canonical bytes if and only if it is the same value.
     ensures exactly { IfOk result (λ c. (v : Value) → Denotes form bytes.now limits v
         → IsFormExactlyOf c.bytes.items v) }
-    // The theorem of the README, sentence by sentence: unless it answers `Memory`, it answers if and only if the bytes
-    // denote a value without capabilities;
+    // The four sentences of the README's theorem follow. Unless `result` is `Memory`, it is `Ok` if and only if the
+    // bytes denote a value without capabilities.
     ensures answered { Answered form bytes.now limits result }
-    // any two answers are equal if and only if the values denoted are the same;
+    // Any two results are equal if and only if the values denoted are the same.
     ensures equal { IfOk result (λ c. EqualExactly form bytes.now limits c.bytes.items) }
-    // each denotes the same value, and a second call, bare and under the same limits, answers it or `Memory`;
+    // The canonical bytes denote the same value. A second call on them, bare and under the same limits, returns them
+    // again or `Memory`.
     ensures second { IfOk result (λ c. OwnForm form bytes.now limits c) }
-    // no walk reports more paid than its budget.
+    // The words paid, also those in a refusal, are at most the budget.
     ensures within { WithinBudget limits result }
 {
     let _words = limits.message_words();

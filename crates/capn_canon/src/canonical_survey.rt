@@ -1,4 +1,4 @@
-//! The one pass over canonical bytes, with its price.
+//! The one pass that accepts canonical bytes alone, with the words that their walk pays and their depth.
 
 ghost use Rattle.std.specs.Prelude.{◌≡◌, ◌+◌, ◌*◌, ◌<◌, ◌≤◌, [], ◌∷◌, length, IsTrue, IfSome, IsSome, None};
 ghost use Rattle.capn_words.specs.Message.{IsMessage, bytes, segment_at};
@@ -19,10 +19,10 @@ use capn_words::{Bare, Space};
 use std::marker::Brand;
 use std::sync::ledger::{Blank, Ledger};
 
-/// Surveys the bare message `space` within `limits`, if it is accepted, its value has no capability and its bytes are
-/// canonical; otherwise `None`. (Own.)
+/// Surveys the bare message `space` within `limits`. Returns `None` if it is not accepted, its value has a capability,
+/// or its bytes are not canonical. (Own.)
 ///
-/// It takes no memory. If it answers nothing, [`survey_bare`](crate::survey_bare) says why.
+/// It takes no memory. If it returns `None`, [`survey_bare`](crate::survey_bare) gives the reason.
 pub fn survey_canonical(space: &Bare<'_>, limits: Limits) -> Option<SurveyedBare>
     requires { IsMessage (space.now ∷ []) }
     ensures found { IfSome result (λ c. IsBareSurvey space.now limits c) }
@@ -51,11 +51,11 @@ fn survey_with_ledger<L: Ledger>(
     survey_canonical_counted(&space, limits, &mut reads)
 }
 
-/// Surveys the message `space` of one segment within `limits`, as [`survey_canonical`] does, by calls that count in
-/// `reads`, as for [`survey_counted`](capn_walk::survey_counted). With the reads it counts the turns of its loops.
+/// Does what [`survey_canonical`] does for the message `space` of one segment within `limits`, and counts its reads and
+/// the turns of its loops in `reads`, as [`survey_counted`](capn_walk::survey_counted) does.
 ///
-/// It reads and turns at most ten times for each word that it pays, and eight times more; if it answers nothing, at
-/// most so often for the whole budget. So the budget alone bounds its work, whatever the words are. It takes no memory.
+/// There are at most ten reads and turns for each word paid, and eight more. A `None` costs at most that many for the
+/// whole budget. So the budget alone bounds the work, whatever the words are. It takes no memory.
 pub fn survey_canonical_counted<S: Space, L: Ledger>(
     space: &CountedSpace<'_, S, L>,
     limits: Limits,
@@ -66,9 +66,9 @@ pub fn survey_canonical_counted<S: Space, L: Ledger>(
     ensures only { (v : Value) → IsValueOf space.now limits v → first_cap v ≡ None
         → canon v ≡ bytes (segment_at space.now 0) → IsSome result }
     ensures bounded { IfSome result (λ c. IsBounded limits.budget c.paid c.visits) }
-    // At most ten reads of the message and turns of a loop for each word paid, and eight more.
+    // The pass does at most ten reads and turns of loops for each word paid, and eight more.
     ensures reads { IfSome result (λ c. reads.new ≤ reads.old + 10 * c.paid + 8) }
-    // So the budget bounds them, whatever the message says and whatever is answered.
+    // The budget bounds the reads and turns, whatever the message and the result are.
     ensures work { reads.new ≤ reads.old + 10 * limits.budget + 8 }
 {
     let words = CountedWords::of(space);
@@ -83,16 +83,16 @@ pub fn survey_canonical_counted<S: Space, L: Ledger>(
     }
 }
 
-/// Surveys the bare message `space` within `limits`, as [`survey_canonical`] does, and also finds the least depth under
-/// which it is accepted with the other limits as they are: the greatest number of objects one below another, the root's
+/// Does what [`survey_canonical`] does for the bare message `space` within `limits`, and also finds its depth: the
+/// least limit on depth under which it is accepted. That is the greatest number of objects one below another, the root
 /// among them. (Own.)
 ///
-/// It takes no memory. If it answers nothing, [`survey_bare`](crate::survey_bare) and
+/// It takes no memory. If it returns `None`, [`survey_bare`](crate::survey_bare) and
 /// [`survey_depth`](capn_walk::survey_depth) report more.
 pub fn measure_canonical(space: &Bare<'_>, limits: Limits) -> Option<MeasuredBare>
     requires { IsMessage (space.now ∷ []) }
     ensures found { IfSome result (λ m. IsBareSurvey space.now limits m.survey) }
-    // Under this depth the message is accepted, and under no lower one.
+    // Under the depth returned the message is accepted, and under no lower one.
     ensures depth { IfSome result (λ m. IsDepth (space.now ∷ []) limits m.depth) }
     ensures within { IfSome result (λ m. m.depth ≤ limits.depth) }
     ensures only { (v : Value) → IsValueOf (space.now ∷ []) limits v → first_cap v ≡ None → canon v ≡ bytes space.now
@@ -112,7 +112,7 @@ fn measure_with_ledger<L: Ledger>(
     requires parts { blank.parts ≡ L.parts }
     requires one { 0 < blank.parts }
     ensures found { IfSome result (λ m. IsBareSurvey space.now limits m.survey) }
-    // Under this depth the message is accepted, and under no lower one.
+    // Under the depth returned the message is accepted, and under no lower one.
     ensures depth { IfSome result (λ m. IsDepth (space.now ∷ []) limits m.depth) }
     ensures within { IfSome result (λ m. m.depth ≤ limits.depth) }
     ensures only { (v : Value) → IsValueOf (space.now ∷ []) limits v → first_cap v ≡ None → canon v ≡ bytes space.now
@@ -123,8 +123,8 @@ fn measure_with_ledger<L: Ledger>(
     measure_canonical_counted(&space, limits, &mut reads)
 }
 
-/// Surveys the message `space` of one segment within `limits`, as [`measure_canonical`] does, by calls that count in
-/// `reads`, as for [`survey_canonical_counted`] and with its bounds. It takes no memory.
+/// Does what [`measure_canonical`] does for the message `space` of one segment within `limits`, and counts in `reads`
+/// within the bounds of [`survey_canonical_counted`]. It takes no memory.
 pub fn measure_canonical_counted<S: Space, L: Ledger>(
     space: &CountedSpace<'_, S, L>,
     limits: Limits,
@@ -132,15 +132,15 @@ pub fn measure_canonical_counted<S: Space, L: Ledger>(
 ) -> Option<MeasuredBare>
     requires one { length space.now ≡ 1 }
     ensures found { IfSome result (λ m. IsBareSurvey (segment_at space.now 0) limits m.survey) }
-    // Under this depth the message is accepted, and under no lower one.
+    // Under the depth returned the message is accepted, and under no lower one.
     ensures depth { IfSome result (λ m. IsDepth space.now limits m.depth) }
     ensures within { IfSome result (λ m. m.depth ≤ limits.depth) }
     ensures only { (v : Value) → IsValueOf space.now limits v → first_cap v ≡ None
         → canon v ≡ bytes (segment_at space.now 0) → IsSome result }
     ensures bounded { IfSome result (λ m. IsBounded limits.budget m.survey.paid m.survey.visits) }
-    // At most ten reads of the message and turns of a loop for each word paid, and eight more.
+    // The pass does at most ten reads and turns of loops for each word paid, and eight more.
     ensures reads { IfSome result (λ m. reads.new ≤ reads.old + 10 * m.survey.paid + 8) }
-    // So the budget bounds them, whatever the message says and whatever is answered.
+    // The budget bounds the reads and turns, whatever the message and the result are.
     ensures work { reads.new ≤ reads.old + 10 * limits.budget + 8 }
 {
     let words = CountedWords::of(space);
@@ -155,9 +155,9 @@ pub fn measure_canonical_counted<S: Space, L: Ledger>(
     }
 }
 
-/// Makes the one pass over the words of `space` within `limits`: it finds canonical bytes, or such bytes with words
-/// after them, which are not canonical and cost the same. If `DEEP`, it also finds how deep the objects are: it keeps
-/// the least depth that was left below one of them. It counts in `reads`.
+/// Makes the one pass over the words of `space` within `limits`, and counts its reads in `reads`. The pass accepts
+/// canonical bytes, also if words follow them. Such words cost nothing, and `is_canonical` is then `false`. If `DEEP`,
+/// the pass also finds the depth of the objects, from the least depth that was left below one of them.
 #[inline(always)]
 pub fn measure_root<S: Space, L: Ledger, const DEEP: bool>(
     space: &CountedWords<'_, S, L>,

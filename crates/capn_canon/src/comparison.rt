@@ -1,4 +1,4 @@
-//! The comparison of two messages by their values.
+//! The call `same_messages`: the comparison of the values of two messages.
 
 ghost use Rattle.std.specs.Prelude.{◌≡◌, ◌↔◌, ◌+◌, ◌*◌, ◌≤◌, IsOk, IfOk, IfErr, IsTrue};
 ghost use Rattle.capn_value.specs.Tree.{Tree as Value};
@@ -19,7 +19,7 @@ use capn_walk::Limits;
 use capn_words::Space;
 use std::sync::ledger::Ledger;
 
-/// Surveys the message `space` within `limits`. A refusal is reported for this `side`.
+/// Surveys the message `space` within `limits`. A refusal names `side` as the side of the message.
 fn survey_side<S: Space, L: Ledger>(
     space: &CountedSpace<'_, S, L>,
     side: Side,
@@ -40,7 +40,7 @@ fn survey_side<S: Space, L: Ledger>(
     }
 }
 
-/// Surveys the message `b`, and compares its value with that of `a`, which was surveyed.
+/// Surveys the message `b` within `limits`, and compares its value with that of `a`, which was surveyed.
 fn same_beside<S: Space, T: Space, L: Ledger, M: Ledger>(
     a: &CountedSpace<'_, S, L>,
     b: &CountedSpace<'_, T, M>,
@@ -62,7 +62,7 @@ fn same_beside<S: Space, T: Space, L: Ledger, M: Ledger>(
     Ok(surveyed_same_counted(a, b, depth, first, second))
 }
 
-/// Does what [`same_beside`] does. If `b` has one segment, it is read as its words alone, which is faster.
+/// Does what [`same_beside`] does. If `b` has one segment, it is read as that segment's words alone, which is faster.
 fn same_by_segments<S: Space, T: Space, L: Ledger, M: Ledger>(
     a: &CountedSpace<'_, S, L>,
     b: &CountedSpace<'_, T, M>,
@@ -82,7 +82,7 @@ fn same_by_segments<S: Space, T: Space, L: Ledger, M: Ledger>(
     }
 }
 
-/// Surveys the message `a` and then `b`, and compares their values.
+/// Surveys the message `a` and then `b` within `limits`, and compares their values.
 fn same_of<S: Space, T: Space, L: Ledger, M: Ledger>(
     a: &CountedSpace<'_, S, L>,
     b: &CountedSpace<'_, T, M>,
@@ -102,7 +102,7 @@ fn same_of<S: Space, T: Space, L: Ledger, M: Ledger>(
     same_by_segments(a, b, limits, first, second)
 }
 
-/// Compares the values of `a` and `b`. If `a` has one segment, it is read as its words alone, which is faster.
+/// Does what [`same_of`] does. If `a` has one segment, it is read as that segment's words alone, which is faster.
 fn same_by_first<S: Space, T: Space, L: Ledger, M: Ledger>(
     a: &CountedSpace<'_, S, L>,
     b: &CountedSpace<'_, T, M>,
@@ -121,13 +121,13 @@ fn same_by_first<S: Space, T: Space, L: Ledger, M: Ledger>(
     }
 }
 
-/// Returns what [`same_messages`] does of the messages `a` and `b` within `limits`, by calls that count in `first` and
-/// `second`, as for [`canonical_length_counted`](crate::canonical_length_counted). With the reads it counts the turns
-/// of its loops.
+/// Does what [`same_messages`] does for the messages `a` and `b` within `limits`. It counts the reads of `a` and `b`
+/// and the turns of its loops in `first` and `second`, as [`canonical_length_counted`](crate::canonical_length_counted)
+/// does.
 ///
-/// It reads each message and turns at most as often as `canonical_length_counted` may: 34 times for each word that the
-/// walk of the message pays, and 34 times more. If it refuses, it does so at most that often for the whole budget, and
-/// reads nothing of `b` where it refuses `a`. It takes no memory but the stack.
+/// The bounds for each message are those of `canonical_length_counted`: at most 34 reads and turns for each word that
+/// its walk pays, and 34 more. A refusal costs at most that many for the whole budget. If `a` is refused, nothing of
+/// `b` is read. It takes no memory but the stack.
 pub fn same_messages_counted<S: Space, T: Space, L: Ledger, M: Ledger>(
     a: &CountedSpace<'_, S, L>,
     b: &CountedSpace<'_, T, M>,
@@ -135,23 +135,24 @@ pub fn same_messages_counted<S: Space, T: Space, L: Ledger, M: Ledger>(
     first: &mut Reads<L>,
     second: &mut Reads<M>,
 ) -> Result<bool, SameRefusal>
-    // There is an answer if and only if both messages denote values without capabilities within the limits:
+    // `result` is `Ok` if and only if both messages denote values without capabilities within the limits.
     ensures answered { IsOk result ↔ (HasBytes a.now limits × HasBytes b.now limits) }
-    // whether these are the same, up to trailing zero words and trailing null slots of structs, rows too.
+    // If `result` is `Ok`, it says whether the two values are the same, up to trailing zero words and trailing null
+    // slots of structs and rows.
     ensures found { IfOk result (λ same. SaysSame a.now b.now limits same) }
-    // That is exactly where their canonical bytes are equal.
+    // If `result` is `Ok`, it is `true` if and only if the canonical bytes of the two values are equal.
     ensures equal { IfOk result (λ same. (v w : Value) → IsValueOf a.now limits v → IsValueOf b.now limits w
         → IsTrue same ↔ (canon v ≡ canon w)) }
-    // The meaning of each refusal: that of the first message, or of the second where the first isn't refused.
+    // An `Err` is the refusal of the first message. If the first is not refused, it is the refusal of the second.
     ensures refused { IfErr result (λ e. IsNotCompared a.now b.now limits e) }
-    // The second message isn't read where the first is refused.
+    // If the first message is refused, the second is not read.
     ensures unread { IfErr result (λ e. e.side ≡ First → second.new ≡ second.old) }
-    // No walk pays beyond its budget.
+    // The walk pays at most the budget, also if it is refused.
     ensures bounded { IfErr result (λ e. IsPaidWithin limits.budget e.refusal) }
-    // It reads each message and turns at most 34 times for each word that its walk pays, and 34 times more.
+    // For each message there are at most 34 reads and turns of loops for each word that its walk pays, and 34 more.
     ensures first_paid { IfOk result (λ _. first.new ≤ first.old + 34 * (price a.now limits + 1)) }
     ensures second_paid { IfOk result (λ _. second.new ≤ second.old + 34 * (price b.now limits + 1)) }
-    // So the budget bounds the reads of each, whatever the messages say and whatever is answered.
+    // The budget bounds the reads of each message and the turns, whatever the messages and the result are.
     ensures first { first.new ≤ first.old + 34 * (limits.budget + 1) }
     ensures second { second.new ≤ second.old + 34 * (limits.budget + 1) }
 {
@@ -162,7 +163,7 @@ pub fn same_messages_counted<S: Space, T: Space, L: Ledger, M: Ledger>(
     same_by_first(a, b, limits, first, second)
 }
 
-/// The task of a comparison of two messages within limits.
+/// The task of `same_messages`: compares the two messages that it is run on.
 #[derive(Drop)]
 struct SameTask {
     limits: Limits,
@@ -193,32 +194,34 @@ impl PairTask for SameTask {
 }
 
 /// Returns `true` if the messages `a` and `b` have the same value within `limits`, up to trailing zero words and
-/// trailing null slots of structs: if and only if their canonical bytes are equal.
+/// trailing null slots of structs. That is so if and only if their canonical bytes are equal.
 ///
-/// Both are walked, `a` first, and the first that is not accepted or has capabilities is refused, by `Walk` or
-/// `Capability`, with its side; no word of `b` is read if `a` is refused. No other refusal comes. Their values are then
-/// read in step, up to the first difference. No canonical bytes are made, and no memory is taken but the stack. (Own.)
+/// Both messages are walked, `a` first. A message that is not accepted or has capabilities is refused, by `Walk` or
+/// `Capability`, with its side. If `a` is refused, no word of `b` is read. There is no other refusal. The values are
+/// then read in step, up to the first difference. No canonical bytes are made, and no memory is taken but the stack.
+/// (Own.)
 pub fn same_messages<A: AskedFirst, B: AskedSecond>(
     a: A,
     b: B,
     limits: Limits,
 ) -> Result<bool, SameRefusal>
-    // Each message is asked at most as often as `canonical_length` may ask it: 34 * (budget + 1) times with the turns
-    // of loops, and once more to open the count. References to a `Space` allow all.
+    // Each message must allow 34 * (budget + 1) reads and turns of loops, as for `canonical_length`, and one more to
+    // open the count. A reference to a `Space` allows any number.
     requires work { A.allows a (34 * (limits.budget + 1) + 1) × B.allows b (34 * (limits.budget + 1) + 1) }
-    // There is an answer if and only if both messages denote values without capabilities within the limits:
+    // `result` is `Ok` if and only if both messages denote values without capabilities within the limits.
     ensures answered { IsOk result ↔ (HasBytes (A.message a) limits × HasBytes (B.message b) limits) }
-    // whether these are the same, up to trailing zero words and trailing null slots of structs, rows too.
+    // If `result` is `Ok`, it says whether the two values are the same, up to trailing zero words and trailing null
+    // slots of structs and rows.
     ensures found { IfOk result (λ same. SaysSame (A.message a) (B.message b) limits same) }
-    // That is exactly where their canonical bytes are equal.
+    // If `result` is `Ok`, it is `true` if and only if the canonical bytes of the two values are equal.
     ensures equal { IfOk result (λ same. (v w : Value) → IsValueOf (A.message a) limits v
         → IsValueOf (B.message b) limits w → IsTrue same ↔ (canon v ≡ canon w)) }
-    // The meaning of each refusal: that of the first message, or of the second where the first isn't refused.
+    // An `Err` is the refusal of the first message. If the first is not refused, it is the refusal of the second.
     ensures refused { IfErr result (λ e. IsNotCompared (A.message a) (B.message b) limits e) }
-    // No walk pays beyond its budget.
+    // The walk pays at most the budget, also if it is refused.
     ensures bounded { IfErr result (λ e. IsPaidWithin limits.budget e.refusal) }
 {
-    // The clauses need what they promise of limits.
+    // The proof of the clauses needs the ranges that these calls promise.
     let _budget = limits.budget();
     let _depth = limits.depth();
     a.ask_pair(b, SameTask { limits })

@@ -1,4 +1,4 @@
-//! The words of one segment, with every read counted.
+//! The words of a message's only segment, with every read counted.
 
 ghost use Rattle.std.specs.Prelude.{◌≡◌, ◌+◌, ◌<◌, [], ◌∷◌, length, slice_index};
 ghost use Rattle.capn_words.specs.Message.{IsMessage, segment_at};
@@ -8,7 +8,7 @@ use capn_words::{Place, Space};
 use std::marker::Model;
 use std::sync::ledger::Ledger;
 
-/// The words of the one segment of a message, read by calls that count, and in no other way. It takes the bytes of a
+/// The words of the only segment of a message, which can be read only by calls that count. The type has the size of a
 /// reference. Contracts see it as the list of the words.
 #[derive(Drop)]
 pub struct CountedWords<'s, S: Space, L: Ledger> {
@@ -41,7 +41,7 @@ impl<'s, S: Space, L: Ledger> CountedWords<'s, S, L> {
         }
     }
 
-    /// Returns the words again, for a function that takes them by value: a reference to them would be one to a
+    /// Returns the words again, for a function that takes them by value. A reference to them would be a reference to a
     /// reference.
     #[inline(always)]
     pub fn again(&self) -> CountedWords<'s, S, L>

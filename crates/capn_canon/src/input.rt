@@ -1,4 +1,4 @@
-//! Messages read from bytes in any form, for a task.
+//! The reading of bytes in any form as a message, and the run of a task on it.
 
 ghost use Rattle.std.specs.Prelude.{◌≡◌, ◌<◌, ◌≤◌, ℕ, List, Result, None, [], ◌∷◌, length};
 ghost use Rattle.std.specs.Prelude.{IfOk, OnOk, IfErr, IfSome};
@@ -16,15 +16,15 @@ use capn_walk::Limits;
 use capn_words::{Bare, Space};
 use std::alloc::Allocator;
 
-/// A task on the message that bytes hold, whichever of the three forms they are in. (Own.)
+/// A task on the message that bytes in any of the three forms hold. (Own.)
 pub trait MessageTask<A: Allocator + Copy> {
-    /// The answer.
+    /// The type of the task's answer.
     type Answer;
 
-    /// The answer or the refusal that the task gives of a message within limits, and the task after it.
+    /// The relation of the task, the message, the limits, the result, and the task after the run.
     ghost answers: { Self → List (List ℕ) → Bounds → Result Self.Answer Refusals → Self → Type 0 };
 
-    /// Does the task on `message` within `limits`: returns the answer, or the refusal.
+    /// Does the task on `message` within `limits`. Returns the answer, or the refusal.
     fn run<S: Space>(
         &mut self,
         alloc: A,
@@ -34,7 +34,7 @@ pub trait MessageTask<A: Allocator + Copy> {
         ensures { answers self.old (S.message message.now) limits result self.new };
 }
 
-/// Refuses the bytes that follow a frame, which comes first in `bytes` and takes `taken` of them.
+/// Refuses `bytes` by `Trailing` if they go on after the frame at their front, which has `taken` bytes.
 fn refuse_trailing(taken: usize, bytes: &[u8]) -> Result<(), Refusal>
     ensures ends { OnOk result (length bytes.now ≤ taken) }
     ensures refused { IfErr result (λ e. (taken < length bytes.now) × (e ≡ Refusals.Trailing taken)) }
@@ -45,8 +45,8 @@ fn refuse_trailing(taken: usize, bytes: &[u8]) -> Result<(), Refusal>
     Ok(())
 }
 
-/// Returns the message of one segment that `bytes` are in this `form`, which isn't packed: bare words, or a frame. For
-/// any other frame it returns `None`.
+/// Reads `bytes` in this `form`, bare words or a frame, as a message of one segment. Returns `None` for a frame that is
+/// cut or has more segments. The form isn't packed.
 fn one_segment<'b>(form: Form, bytes: &'b [u8], limits: Limits) -> Result<Option<Bare<'b>>, Refusal>
     requires plain { form ≡ forms.Packed → ⊥ }
     ensures read { IfOk result (λ o. IfSome o (λ w. Reads form bytes.now limits.message_words (w ∷ []))) }
@@ -63,7 +63,7 @@ fn one_segment<'b>(form: Form, bytes: &'b [u8], limits: Limits) -> Result<Option
     Ok(Some(message))
 }
 
-/// Does the task on a frame of any number of segments.
+/// Reads the frame `bytes`, of any number of segments, and does the `task` on its message.
 fn of_frame<T: MessageTask<A>, A: Allocator + Copy>(
     alloc: A,
     task: &mut T,
@@ -77,8 +77,8 @@ fn of_frame<T: MessageTask<A>, A: Allocator + Copy>(
     task.run(alloc, &message, limits)
 }
 
-/// Does the task on the message that `bytes` are in this `form`, which isn't packed. One segment is read as its words
-/// alone, which is faster, and the task is called for it in one place, so that it is compiled into this.
+/// Does the `task` on the message that `bytes` hold in this `form`, which isn't packed. A single segment is read as its
+/// words alone, which is faster. The task is called for it in one place, so that the compiler inlines it.
 fn of_plain<T: MessageTask<A>, A: Allocator + Copy>(
     alloc: A,
     task: &mut T,
@@ -95,7 +95,7 @@ fn of_plain<T: MessageTask<A>, A: Allocator + Copy>(
     }
 }
 
-/// Does the task on the packed text of a frame.
+/// Does the `task` on the message of the frame that the packed text `bytes` unpacks to.
 fn of_packed<T: MessageTask<A>, A: Allocator + Copy>(
     alloc: A,
     task: &mut T,
@@ -108,11 +108,11 @@ fn of_packed<T: MessageTask<A>, A: Allocator + Copy>(
     of_plain(alloc, task, Form::Stream, text.as_slice(), limits)
 }
 
-/// Reads `bytes` in this `form` as a message, once, and returns the answer of `task` to it, within `limits`.
+/// Reads `bytes` in this `form` as a message, once, and returns the answer of `task` for it, within `limits`.
 ///
-/// It refuses what the task refuses, and bytes that are no message of the form: these before the task is run, and then
-/// that is as it was. Reading asks `alloc` for memory only for the ends of more than 64 segments, and for what is
-/// unpacked. (Own.)
+/// It refuses what the task refuses. Bytes that are no message of the form are refused before the task is run, and
+/// `task` is then as it was. Reading asks `alloc` for memory only for the ends of more than 64 segments, and for the
+/// words that are unpacked. (Own.)
 pub fn run_task<T: MessageTask<A>, A: Allocator + Copy>(
     alloc: A,
     task: &mut T,

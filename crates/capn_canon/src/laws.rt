@@ -11,8 +11,8 @@ ghost use Rattle.capn_canon.specs.Laws.{AnswersTellTheSame};
 
 use std::alloc::Allocator;
 
-/// States the theorem of the README: each of its sentences holds of all that is answered and refused as the clauses
-/// `found` and `refused` of `canonicalise` say.
+/// States the theorem of the README. Each of its sentences holds of every result that the clauses `found` and `refused`
+/// of `canonicalise` allow.
 pub fn theorem<A: Allocator>()
     ensures answered { EachIsAnswered A }
     ensures equal { AnswersAreEqualExactly A }
@@ -20,21 +20,21 @@ pub fn theorem<A: Allocator>()
     ensures within { WalksAreWithinBudgets A }
 {}
 
-/// States: the message, the limits and the buffer decide what `canonical_into` gives: its clauses `written`, `refused`
-/// and `unchanged` leave one result, and one buffer after it.
+/// States that the message, the limits and the buffer decide the result of `canonical_into`. Its clauses `written`,
+/// `refused` and `unchanged` allow one result, and one buffer after it.
 pub fn decision()
     ensures { IntoIsDecided }
 {}
 
-/// States: canonical bytes read back the trimmed value, are their own form, and are equal exactly for values that are
-/// the same.
+/// States that canonical bytes read back as the trimmed value and are their own canonical form. Two values have equal
+/// canonical bytes if and only if they are the same.
 pub fn canonicity()
     ensures form { CanonIsForm }
     ensures exactly { EqualExactlySame }
 {}
 
-/// States: bytes denote one value at most, which fits, costs at most what its walk pays, and is not refused if it has
-/// no capability. Bytes are refused for one reason, unless memory runs out.
+/// States that bytes denote at most one value. The value fits, costs at most what its walk pays, and is not refused if
+/// it has no capability. Bytes are refused for one reason, unless memory runs out.
 pub fn denotation()
     ensures form { DenotedHaveForms }
     ensures one { DenoteOne }
@@ -42,14 +42,15 @@ pub fn denotation()
     ensures refused { RefusedForOneReason }
 {}
 
-/// States: a word has the same 8 bytes in a message that is read and in one that is packed.
+/// States that a word has the same 8 bytes in a message that is read and in one that is packed.
 pub fn spelling()
     ensures { WordsHaveTheSameBytes }
 {}
 
-/// States: words are the canonical bytes of the value that they denote if and only if they follow the rules of the
-/// encoding page. Words that follow these denote a value without capabilities, and each such value has one form that
-/// does. So each answer follows them, and the check says yes if and only if they are followed.
+/// States that words are the canonical bytes of the value that they denote if and only if they follow the rules of the
+/// encoding page. Words that follow the rules denote a value without capabilities, and each value without capabilities
+/// has one form that follows them. So each result follows the rules, and the check returns `true` if and only if its
+/// input does.
 pub fn page()
     ensures exactly { CanonicalExactlyByPage }
     ensures denoted { PageFormsDenote }
@@ -59,8 +60,8 @@ pub fn page()
     ensures survey { SurveyIsOfThePage }
 {}
 
-/// States: two answers, and any two words that follow the rules of the encoding page, are equal if and only if the
-/// getters give the same of the values denoted, along every path. Each answer reads as its message does.
+/// States when two results are equal, and any two words that follow the rules of the encoding page. They are equal if
+/// and only if the getters return the same along every path, from both values. Each result reads like its message.
 pub fn readers<A: Allocator>()
     ensures canon { CanonIsWhatIsTold }
     ensures page { PageFormsAreWhatIsTold }

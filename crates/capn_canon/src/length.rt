@@ -1,4 +1,4 @@
-//! The length of canonical bytes.
+//! The call `canonical_length`: the length of a message's canonical bytes, which are not made.
 
 ghost use Rattle.std.specs.Prelude.{◌≡◌, ◌↔◌, ◌+◌, ◌*◌, ◌<◌, ◌≤◌, None, length, IsOk, IfOk, IfErr, MatchResult};
 ghost use Rattle.capn_value.specs.Tree.{Tree as Value};
@@ -28,8 +28,8 @@ pub struct CanonicalLength {
     pub visits: u32,
 }
 
-/// Returns the length of the canonical bytes of `space`, a message that was surveyed, if it is above `room`. They are
-/// counted only if `room` is less than was `paid` for.
+/// Returns the length of the canonical bytes of `space`, a surveyed message, if it is above `room`. The survey `paid`
+/// that many words. If `room` is surely enough for these, the canonical bytes are not counted.
 pub(crate) fn length_beyond<S: Space, L: Ledger>(
     space: &CountedSpace<'_, S, L>,
     limits: Limits,
@@ -55,7 +55,7 @@ pub(crate) fn length_beyond<S: Space, L: Ledger>(
     Some(length)
 }
 
-/// Returns the length of the canonical bytes of the message `space`, read by calls that count.
+/// Returns the length of the canonical bytes of the message `space`, whose reads are counted in `reads`.
 fn length_of<S: Space, L: Ledger>(
     space: &CountedSpace<'_, S, L>,
     limits: Limits,
@@ -76,8 +76,8 @@ fn length_of<S: Space, L: Ledger>(
     })
 }
 
-/// Returns the length of the canonical bytes of the message `space`. If it has one segment, it is read as its words
-/// alone, which is faster.
+/// Returns the length of the canonical bytes of the message `space`. If `space` has one segment, it is read as that
+/// segment's words alone, which is faster.
 fn length_by_segments<S: Space, L: Ledger>(
     space: &CountedSpace<'_, S, L>,
     limits: Limits,
@@ -92,7 +92,7 @@ fn length_by_segments<S: Space, L: Ledger>(
     }
 }
 
-/// The task of the length of the canonical bytes of a message within limits.
+/// The task of `canonical_length`: measures the canonical bytes of the message that it is run on.
 #[derive(Drop)]
 struct LengthTask {
     limits: Limits,
@@ -121,56 +121,58 @@ impl CountedTask for LengthTask {
 
 /// Returns the length of the canonical bytes of the value that the message `space` denotes within `limits`.
 ///
-/// The message is walked, and refused by `Walk` if it is not accepted, by `Capability` if its value has capabilities.
-/// No other refusal comes. It reads the message twice and takes no memory but the stack, whatever the depth. (Own.)
+/// It refuses by `Walk` if the message is not accepted, and by `Capability` if its value has capabilities. There is no
+/// other refusal. It reads the message twice and takes no memory but the stack, whatever the depth. (Own.)
 pub fn canonical_length<M: Asked>(
     space: M,
     limits: Limits,
 ) -> Result<CanonicalLength, MessageRefusal>
-    // All passes ask the message and turn their loops at most 34 * (budget + 1) times, and once more to open the count:
-    // it is done on any message that allows this, and a reference to a `Space` allows all.
+    // `space` must allow 34 * (budget + 1) reads and turns of loops, for both passes, and one more to open the count. A
+    // reference to a `Space` allows any number.
     requires work { M.allows space (34 * (limits.budget + 1) + 1) }
-    // There is an answer if and only if the message denotes a value without capabilities within the limits:
+    // `result` is `Ok` if and only if the message denotes a value without capabilities within the limits.
     ensures answered { IsOk result ↔ HasBytes (M.message space) limits }
-    // the length of the canonical bytes of that value, the words that the walk of the message pays, and its visits.
+    // If `result` is `Ok`, it has the length of the value's canonical bytes, the words that the walk of the message
+    // pays, and its visits.
     ensures found { IfOk result (λ c. (v : Value) × IsCanonicalLength (M.message space) limits v c) }
-    // The meaning of each refusal.
+    // If `result` is `Err(e)`, the reason that `e` gives is true.
     ensures refused { IfErr result (λ e. HasNoBytes (M.message space) limits e) }
-    // No walk pays beyond its budget.
+    // The walk pays at most the budget, also if it is refused.
     ensures bounded { MatchResult result (λ c. IsBounded limits.budget c.paid c.visits)
         (λ e. IsMessagePaidWithin limits.budget e) }
     ensures short { IfOk result (λ c. c.length ≤ 8 * (c.paid + 1)) }
 {
-    // The clauses need what they promise of limits.
+    // The proof of the clauses needs the ranges that these calls promise.
     let _budget = limits.budget();
     let _depth = limits.depth();
     space.ask(LengthTask { limits })
 }
 
-/// Returns what [`canonical_length`] does of the message `space` within `limits`, by calls that count in `reads`, as
-/// for [`survey_counted`](capn_walk::survey_counted). With the reads it counts the turns of its loops.
+/// Does what [`canonical_length`] does for the message `space` within `limits`, and counts its reads and the turns of
+/// its loops in `reads`, as [`survey_counted`](capn_walk::survey_counted) does.
 ///
-/// It reads and turns at most 34 times for each word that it pays, and 34 times more: 14 times in the walk, 20 times to
-/// measure. If it refuses, it does so at most that often for the whole budget. So the budget alone bounds its work,
-/// whatever the message says. It takes no memory but the stack.
+/// There are at most 34 reads and turns for each word paid, and 34 more: 14 in the walk and 20 to measure. A refusal
+/// costs at most that many for the whole budget. So the budget alone bounds the work, whatever the message is. It takes
+/// no memory but the stack.
 pub fn canonical_length_counted<S: Space, L: Ledger>(
     space: &CountedSpace<'_, S, L>,
     limits: Limits,
     reads: &mut Reads<L>,
 ) -> Result<CanonicalLength, MessageRefusal>
-    // There is an answer if and only if the message denotes a value without capabilities within the limits:
+    // `result` is `Ok` if and only if the message denotes a value without capabilities within the limits.
     ensures answered { IsOk result ↔ HasBytes space.now limits }
-    // the length of the canonical bytes of that value, the words that the walk of the message pays, and its visits.
+    // If `result` is `Ok`, it has the length of the value's canonical bytes, the words that the walk of the message
+    // pays, and its visits.
     ensures found { IfOk result (λ c. (v : Value) × IsCanonicalLength space.now limits v c) }
-    // The meaning of each refusal.
+    // If `result` is `Err(e)`, the reason that `e` gives is true.
     ensures refused { IfErr result (λ e. HasNoBytes space.now limits e) }
-    // No walk pays beyond its budget.
+    // The walk pays at most the budget, also if it is refused.
     ensures bounded { MatchResult result (λ c. IsBounded limits.budget c.paid c.visits)
         (λ e. IsMessagePaidWithin limits.budget e) }
     ensures short { IfOk result (λ c. c.length ≤ 8 * (c.paid + 1)) }
-    // Both passes read the message and turn at most 34 times for each word paid, and 34 times more.
+    // Both passes together do at most 34 reads and turns of loops for each word paid, and 34 more.
     ensures reads { IfOk result (λ c. reads.new ≤ reads.old + 34 * (c.paid + 1)) }
-    // So the budget bounds them, whatever the message says and whatever is answered.
+    // The budget bounds the reads and turns, whatever the message and the result are.
     ensures work { reads.new ≤ reads.old + 34 * (limits.budget + 1) }
 {
     space.bounds();

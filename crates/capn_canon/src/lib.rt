@@ -1,53 +1,55 @@
-//! Canonical bytes: one spelling for each value, so that equal values have equal bytes.
+//! Canonical bytes, one encoding for each value: equal values have equal bytes.
 //!
-//! - [`canonicalise`] writes the canonical bytes of the value that bytes denote, whichever of the three forms they are
-//!   in, and returns them with the words that its walk paid. [`canonical_of`] does so for any message that is a
-//!   `Space`.
-//! - [`canonical_into`] writes them into a buffer that is there, and [`canonical_length`] returns their number. Both
-//!   take no memory, and no allocator.
-//! - [`is_canonical`] tests whether the bytes of a bare message are its canonical bytes, and makes no copy;
-//!   [`survey_bare`] also reports its price, its visits and its first capability. [`survey_canonical`] is the one pass
-//!   that they make first: it reports on canonical bytes alone. [`measure_canonical`] is the same pass, and also finds
-//!   their depth. [`are_canonical`] and [`survey_bare_of`] do the same without an allocator, the second of a message
-//!   that is asked through a counter alone.
-//! - [`survey_bare_counted`], [`survey_canonical_counted`] and [`measure_canonical_counted`] do the same to a message
-//!   of one segment whose reads are counted: the budget bounds how often they read it.
+//! - [`canonicalise`] writes the canonical bytes of the value that bytes denote, in any of the three forms. It returns
+//!   them with the words that the walk paid. [`canonical_of`] does so for any message that is a `Space`.
+//! - [`canonical_into`] writes the canonical bytes into a buffer of the caller, and [`canonical_length`] returns their
+//!   number. Both take no memory, and no allocator.
+//! - [`is_canonical`] tests whether the bytes of a bare message are its canonical bytes, and makes no copy.
+//!   [`survey_bare`] also reports the message's price, its visits and its first capability. [`survey_canonical`] is the
+//!   one pass that both make first, and reports on canonical bytes alone. [`measure_canonical`] is the same pass, and
+//!   also finds the depth. [`are_canonical`] and [`survey_bare_of`] work without an allocator; the latter reads any
+//!   message of one segment through a counter.
+//! - [`survey_bare_counted`], [`survey_canonical_counted`] and [`measure_canonical_counted`] do the same for a message
+//!   of one segment whose reads are counted. The budget bounds the number of reads.
 //! - [`canonical_of_counted`], [`canonical_into_counted`] and [`canonical_length_counted`] do the same as the calls
-//!   without this word to a message whose reads are counted: the words that they pay bound how often all their passes
-//!   read it.
-//! - [`same_messages`] tests whether two messages have the same value, and so equal canonical bytes, and makes none.
-//!   [`same_messages_counted`] does so to two messages whose reads are counted.
-//! - [`own_canonical`] returns the bytes of a message if they are its canonical bytes already, so that nothing is
-//!   copied; [`measure`] reports the words that its walk pays, its visits, its depth, and whether it is canonical.
-//! - [`run_task`] reads bytes in a form as a message, and returns the answer of a [`MessageTask`] to it.
-//! - [`survey_bytes`] and [`survey`] report the words that the walk of a message pays, and its visits, and write
-//!   nothing.
-//! - [`layout`] writes the canonical bytes of a tree: one segment, its objects in preorder, every struct cut to what it
-//!   keeps. A tree with a capability has none, and is refused by the first one's index.
-//! - [`Patch`] is a buffer of words and of holes for what is not known yet, as a pointer whose object has no place so
-//!   far. Nothing here writes to it.
+//!   without `_counted`, for a message whose reads are counted. The words that they pay bound the reads of all their
+//!   passes.
+//! - [`same_messages`] tests whether two messages have the same value, and so equal canonical bytes, without making the
+//!   bytes. [`same_messages_counted`] does so for two messages whose reads are counted.
+//! - [`own_canonical`] returns the bytes of a message if they are already its canonical bytes, and copies nothing.
+//!   [`measure`] reports the words that the walk of a message pays, its visits, its depth, and whether it is canonical.
+//! - [`run_task`] reads bytes in a form as a message, and returns the answer of a [`MessageTask`] for it.
+//! - [`survey_bytes`] and [`survey`] report the words that the walk of a message pays, its visits and its first
+//!   capability. They write nothing.
+//! - [`layout`] writes the canonical bytes of a tree: one segment, its objects in preorder, every struct without its
+//!   trailing zero words and trailing null pointers. A tree with a capability is refused with the index of the first
+//!   one.
+//! - [`Patch`] is a buffer of words, with holes for words that are not known yet, such as a pointer to an object that
+//!   has no place so far. No call of this crate writes to one.
 //!
-//! For any bytes, form and limits, unless it answers that memory ran out, `canonicalise` succeeds if and only if the
-//! bytes denote a value without capabilities within the limits. Two answers, from any two forms, inputs and limits, are
-//! byte for byte equal if and only if the values denoted are the same up to trailing zero words and trailing null
-//! pointers of structs. Each answer, read bare under the same limits, denotes a value that is the same in this sense,
-//! and canonicalises to itself: the second call answers those bytes, or that memory ran out. No walk reports more paid
-//! than its budget. The clauses `answered`, `equal`, `second` and `within` of `canonicalise` say so, in the definitions
-//! of `specs/Theorem.antt`; [`laws::theorem`] says it of all answers.
+//! For any bytes, form and limits, unless memory runs out, `canonicalise` succeeds if and only if the bytes denote a
+//! value without capabilities within the limits. Two results, from any two forms, inputs and limits, are byte for byte
+//! equal if and only if the values denoted are the same up to trailing zero words and trailing null pointers of
+//! structs. Each result, read bare under the same limits, denotes a value that is the same in this sense, and
+//! canonicalises to itself: a second call returns the same bytes, or an error that memory ran out. No walk pays more
+//! than its budget. The clauses `answered`, `equal`, `second` and `within` of `canonicalise` say so, by the definitions
+//! of `specs/Theorem.antt`. [`laws::theorem`] states it of all results.
 //!
 //! For any message, limits and buffer, `canonical_into` succeeds if and only if the message denotes a value without
-//! capabilities within the limits and its canonical bytes have room. It writes exactly these; else it names the first
-//! refusal, and the buffer is as it was. No memory can run out. Its clauses `answered`, `written`, `refused` and
-//! `unchanged` say so, in the same file; [`laws::decision`] says that they leave one result.
+//! capabilities within the limits and the buffer has room for its canonical bytes. It writes exactly the canonical
+//! bytes. Otherwise it returns the first refusal, and the buffer is as it was. It cannot run out of memory. Its clauses
+//! `answered`, `written`, `refused` and `unchanged` say so, in the same file. [`laws::decision`] states that they allow
+//! only one result.
 //!
 //! For any two messages and limits, `same_messages` succeeds if and only if both denote values without capabilities
-//! within the limits, and answers whether these are the same: exactly where their canonical bytes are equal. Else it
-//! names the refusal of the first, or of the second where the first has none. No memory can run out. Its clauses
-//! `answered`, `found`, `equal` and `refused` say so, in the definitions of `specs/SameMessages.antt`.
+//! within the limits. It then returns whether the two values are the same, which is whether their canonical bytes are
+//! equal. Otherwise it returns the refusal of the first message, or of the second if the first has none. It cannot run
+//! out of memory. Its clauses `answered`, `found`, `equal` and `refused` say so, by the definitions of
+//! `specs/SameMessages.antt`.
 //!
-//! A tree and a message are laid out by one writer, over what they have in common: slots with their values.
+//! One writer lays out trees and messages, since both give it slots with their values.
 //!
-//! `layout` takes memory for the bytes that it answers. If a growth is refused the answer is `Memory`.
+//! `layout` takes memory for the bytes that it returns. If a growth is refused, it returns `Memory`.
 //!
 //! ```rust
 //! let input = [0, 0, 0, 0, 2, 0, 0, 0, 5, 0, 0, 0, 0, 0, 0, 0, 0, 0, 0, 0, 0, 0, 0, 0];

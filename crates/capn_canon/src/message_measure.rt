@@ -1,4 +1,4 @@
-//! The price and depth of a message, and its canonicity.
+//! The call `measure`: the price and depth of a message, and whether it is canonical.
 
 ghost use Rattle.std.specs.Prelude.{◌≡◌, ◌≢◌, [], ◌∷◌, IfOk, IfErr, IsOk, MatchResult};
 ghost use Rattle.capn_value.specs.Tree.{Tree as Value};
@@ -39,7 +39,7 @@ fn measure_other<S: Space, A: Allocator + Copy>(
     })
 }
 
-/// Surveys the message `space` of one segment within `limits`: by one pass if its bytes are canonical, else by a
+/// Surveys the message `space` of one segment within `limits`, by one pass if its bytes are canonical, else by a
 /// survey.
 fn measure_bare<A: Allocator + Copy>(
     alloc: A,
@@ -60,26 +60,26 @@ fn measure_bare<A: Allocator + Copy>(
     }
 }
 
-/// Surveys the message `space` within `limits`: returns the words that its walk pays, the number of its visits, its
-/// first capability, the least depth under which it is accepted with the other limits as they are, and whether it has
-/// one segment whose bytes are its canonical bytes. (Own.)
+/// Surveys the message `space` within `limits`. Returns the words that its walk pays, the number of its visits, its
+/// first capability, its depth, and whether it has one segment whose bytes are its canonical bytes. The depth is the
+/// least limit on depth under which it is accepted, with the other limits unchanged. (Own.)
 ///
-/// A message that is canonical is walked once, another of one segment twice at most, and one of more segments once. It
-/// refuses what the walk refuses, in the same way. It takes no memory.
+/// A canonical message is walked once, any other of one segment at most twice, and one of more segments once. It
+/// refuses what the walk refuses, with the same stop. It takes no memory.
 pub fn measure<S: Space, A: Allocator + Copy>(
     alloc: A,
     space: &S,
     limits: Limits,
 ) -> Result<MeasuredBare, Stopped>
-    // An answer: the message is accepted, and these are its numbers.
+    // If `result` is `Ok`, the message is accepted, and `result` has its numbers.
     ensures found { IfOk result (λ m. IsMeasure (S.message space.now) limits m) }
-    // A message that is accepted is answered.
+    // If the message is accepted, `result` is `Ok`.
     ensures only { (v : Value) → IsValueOf (S.message space.now) limits v → IsOk result }
-    // Any other is refused as its walk is,
+    // If `result` is an `Err`, it is the stop of the message's walk.
     ensures refused { IfErr result (λ s. IsStopped (S.message space.now) limits s.fault s.place s.paid s.visits) }
-    // and never for memory.
+    // No refusal is for memory.
     ensures no_memory { IfErr result (λ s. s.fault ≢ faults.Memory) }
-    // No walk reports more paid than its budget.
+    // The walk pays at most the budget, also if it is refused.
     ensures bounded { MatchResult result (λ m. IsBounded limits.budget m.survey.paid m.survey.visits)
         (λ s. IsBounded limits.budget s.paid s.visits) }
 {

@@ -1,4 +1,4 @@
-//! The types of the reasons why a message has no canonical bytes, or a buffer gets none.
+//! The reasons why a message has no canonical bytes, or why they are not written into a buffer.
 
 use crate::refusal::Refusal;
 use capn_walk::Stopped;
@@ -7,22 +7,22 @@ use std::fmt;
 
 /// The reason why a message has no canonical bytes within the limits, in the order in which the tests are made. (Own.)
 ///
-/// There is no variant for memory, since none is taken. The fault of a walk has one, for walks that make a tree: no
-/// clause lets it come here.
+/// There is no variant for memory, since none is taken. The fault of a walk has such a variant, for walks that make a
+/// tree, but the clauses exclude it here.
 #[derive(Clone, Copy, Debug, PartialEq, Eq)]
 pub enum MessageRefusal {
-    /// The message is not accepted: the place and the reason at which its walk stopped. The fault is never `Memory`.
+    /// The place and the reason at which the walk stopped, if the message is not accepted. The fault is never `Memory`.
     Walk(Stopped),
-    /// The value has capabilities, which have no canonical form: the index of the first in preorder.
+    /// The index of the first capability in preorder, if the value has any: a capability has no canonical form.
     Capability(u32),
 }
 
 /// The reason why canonical bytes are not written into a buffer, in the order in which the tests are made. (Own.)
 #[derive(Clone, Copy, Debug, PartialEq, Eq)]
 pub enum IntoRefusal {
-    /// The message is not accepted: the place and the reason at which its walk stopped. The fault is never `Memory`.
+    /// The place and the reason at which the walk stopped, if the message is not accepted. The fault is never `Memory`.
     Walk(Stopped),
-    /// The value has capabilities, which have no canonical form: the index of the first in preorder.
+    /// The index of the first capability in preorder, if the value has any: a capability has no canonical form.
     Capability(u32),
     /// The buffer is too short.
     NoRoom {

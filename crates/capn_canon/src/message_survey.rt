@@ -1,4 +1,4 @@
-//! The survey of a whole message.
+//! The call `survey`: the survey of a whole message.
 
 ghost use Rattle.std.specs.Prelude.{◌≡◌, ◌≢◌, ℕ, ◌≤◌, IfOk, IfErr, MatchResult};
 ghost use Rattle.capn_value.specs.Tree.{Tree as Value};
@@ -13,26 +13,27 @@ use capn_walk::{Limits, Surveyed, survey_of};
 use capn_words::Space;
 use std::alloc::Allocator;
 
-/// Surveys the message `space` within `limits`: returns the words that its walk pays, the number of its visits, and its
+/// Surveys the message `space` within `limits`. Returns the words that its walk pays, the number of its visits, and its
 /// first capability.
 ///
-/// `Walk`: the message is not accepted. No other refusal comes. It takes no memory, and doesn't use the allocator.
+/// It refuses by `Walk` if the message is not accepted, and in no other way. It takes no memory, and doesn't use the
+/// allocator.
 pub fn survey<A: Allocator + Copy, S: Space>(
     _alloc: A,
     space: &S,
     limits: Limits,
 ) -> Result<Surveyed, Refusal>
-    // The answer: the words that the walk of the accepted message pays, its visits, and the first capability of its
-    // value.
+    // If `result` is `Ok`, it has the words that the walk of the accepted message pays, its visits, and the first
+    // capability of its value.
     ensures found { IfOk result (λ s. IsSurvey (S.message space.now) limits s) }
-    // An accepted message is answered, unless memory runs out.
+    // If the message is accepted, `result` is `Ok`, unless memory runs out.
     ensures only { (v : Value) → IsValueOf (S.message space.now) limits v
         → MatchResult result (λ s. s.capability ≡ first_cap v) (λ e. e ≡ refusals.Memory) }
-    // The meaning of each refusal.
+    // If `result` is `Err(e)`, the reason that `e` gives is true.
     ensures refused { IfErr result (λ e. IsUnaccepted (S.message space.now) limits e) }
-    // No memory is needed, whatever the depth.
+    // `Memory` is never returned, whatever the depth.
     ensures no_memory { IfErr result (λ e. e ≢ refusals.Memory) }
-    // No walk pays beyond its budget.
+    // The walk pays at most the budget, also if it is refused.
     ensures bounded { MatchResult result (λ s. IsBounded limits.budget s.paid s.visits)
         (λ e. IsPaidWithin limits.budget e) }
 {

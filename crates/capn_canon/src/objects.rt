@@ -1,5 +1,4 @@
-//! Single objects at the next free word of a pass.
-//! Each is tested, paid, and opened for what is below it.
+//! The objects of the one pass, each at the next free word: tested, paid for, and opened for the objects below it.
 
 ghost use Rattle.std.specs.Prelude.{◌≡◌, ◌+◌, ◌-◌, ◌*◌, ◌%◌, ◌^◌, ◌<◌, ◌≤◌, [], ◌∷◌, slice_index, IfSome, IsSome};
 ghost use Rattle.capn_words.specs.Message.{IsMessage};
@@ -17,8 +16,9 @@ use capn_target::counted::Reads;
 use capn_words::{Space, Width};
 use std::sync::ledger::Ledger;
 
-/// Opens the struct at the next free word to which the first slot in hand, `word`, points: returns its slots, if all of
-/// its words and slots are kept.
+/// Opens the struct at the next free word, to which `word`, the first slot of `pass`, points. Returns its slots, or
+/// `None` if its last data word or last slot is zero, if it has neither, if it is out of range, or if it costs too
+/// much.
 #[inline(always)]
 pub fn open_struct<S: Space, L: Ledger>(
     space: &CountedWords<'_, S, L>,
@@ -60,8 +60,8 @@ pub fn open_struct<S: Space, L: Ledger>(
     }
 }
 
-/// Tests the list of `count` numbers at the next free word to which the first slot in hand points: returns the progress
-/// of the `pass` after it.
+/// Tests the list of `count` numbers at the next free word, to which the first slot of `pass` points. Returns the
+/// progress after it.
 #[inline(always)]
 pub fn check_numbers<S: Space, L: Ledger>(
     space: &CountedWords<'_, S, L>,
@@ -89,7 +89,7 @@ pub fn check_numbers<S: Space, L: Ledger>(
     pass.paid(base as u64 + words + without_size as u64, end as u32, 0)
 }
 
-/// Opens the list of `count` pointers at the next free word to which the first slot in hand points: returns its
+/// Opens the list of `count` pointers at the next free word, to which the first slot of `pass` points. Returns its
 /// elements.
 #[inline(always)]
 pub fn open_pointers<S: Space, L: Ledger>(
@@ -123,8 +123,8 @@ pub fn open_pointers<S: Space, L: Ledger>(
     }
 }
 
-/// Opens the list of structs of `span` words at the next free word to which the first slot in hand points: returns its
-/// rows, if all of their words and slots are kept.
+/// Opens the list of structs of `span` words at the next free word, to which the first slot of `pass` points. Returns
+/// its rows if canonical rows would have the sizes in its tag.
 #[inline(never)]
 pub fn open_composite<S: Space, L: Ledger>(
     space: CountedWords<'_, S, L>,

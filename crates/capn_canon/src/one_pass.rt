@@ -1,11 +1,11 @@
-//! The one-pass test for a canonical layout, with the words that the walk of it pays.
+//! The one pass that tests whether words are a canonical layout, and finds the words that their walk pays.
 //!
-//! Every object of a layout is at the next free word, so if each pointer is the one to that word, nothing is out of
-//! range and nothing is read twice: the pass follows the words in order, and needs no survey before it.
+//! In a canonical layout every object begins at the next free word. So if each pointer leads to that word, nothing is
+//! out of range and nothing is read twice. The pass follows the words in order, and needs no survey before it.
 //!
-//! A slot costs at most seven reads and turns: its turn, its word, and five to test the object that it names. The
-//! further cost of a list of structs is paid with its rows: at most two for each word of theirs, to see that all are
-//! kept, and a turn for each row with slots.
+//! A slot costs at most seven reads and turns: its turn, its word, and five to test the object that it points to. The
+//! price of a list of structs covers its further cost: at most two for each word of its rows, to see that all are kept,
+//! and a turn for each row with slots.
 
 ghost use Rattle.std.specs.Prelude.{◌≡◌, ◌+◌, ◌-◌, ◌*◌, ◌%◌, ◌^◌, ◌<◌, ◌≤◌, [], ◌∷◌, slice_index, IfSome};
 ghost use Rattle.capn_words.specs.Message.{IsMessage};
@@ -23,10 +23,10 @@ use capn_target::counted::Reads;
 use capn_words::{Pointer, Space, Width, split};
 use std::sync::ledger::Ledger;
 
-/// Tests all that is below the slots of an object: returns the progress of the `pass` after it; `None` if a word isn't
-/// in place, at a capability, or if the depth or what may be paid is passed.
+/// Tests everything below the slots of the object that `pass` has opened. Returns the progress after it, or `None` if a
+/// word is not in its canonical place, at a capability, or past the limit on depth or price.
 ///
-/// Each level of depth takes one frame of the stack: that of this function, or of [`check_rows`].
+/// Each level of depth takes one frame of the stack, of this function or of [`check_rows`].
 #[cycle(pass)]
 #[inline(never)]
 pub fn check_object<S: Space, L: Ledger, const DEEP: bool>(
@@ -44,7 +44,7 @@ pub fn check_object<S: Space, L: Ledger, const DEEP: bool>(
     check_slots::<S, L, DEEP>(&space, base, pass, least, reads)
 }
 
-/// Tests all that is below the slots in hand.
+/// Tests everything below the slots of `pass`. Returns the progress after it, or `None` as [`check_object`] does.
 #[cycle(pass)]
 #[inline(always)]
 fn check_slots<S: Space, L: Ledger, const DEEP: bool>(
@@ -70,8 +70,9 @@ fn check_slots<S: Space, L: Ledger, const DEEP: bool>(
     Some(left.here())
 }
 
-/// Tests the first slot in hand with all below it: returns what is left of the `pass` after it; after the last one, the
-/// slots of the struct that it names.
+/// Tests the first slot of `pass` with everything below it. Returns the rest of `pass`. If the last slot points to a
+/// struct or a list of pointers, the slots of that object are returned instead, untested, and the loop of the caller
+/// continues with them.
 #[cycle(pass)]
 #[inline(always)]
 fn check_slot<S: Space, L: Ledger, const DEEP: bool>(
@@ -114,7 +115,7 @@ fn check_slot<S: Space, L: Ledger, const DEEP: bool>(
     None
 }
 
-/// Tests the first slot in hand, `word`, which is the pointer to a struct at the next free word, with all below it.
+/// Tests the first slot of `pass`, `word`, a pointer to a struct at the next free word, with everything below it.
 #[cycle(pass)]
 #[inline(always)]
 fn check_struct<S: Space, L: Ledger, const DEEP: bool>(
@@ -140,7 +141,8 @@ fn check_struct<S: Space, L: Ledger, const DEEP: bool>(
     }
 }
 
-/// Tests all below the first slot in hand, once the slots of its object, `below`, are known.
+/// Tests everything below the first slot of `pass`, whose object has the slots `below`. If it is the last slot, `below`
+/// is returned untested.
 #[cycle(pass)]
 #[inline(always)]
 fn check_below<S: Space, L: Ledger, const DEEP: bool>(
@@ -172,8 +174,8 @@ fn check_below<S: Space, L: Ledger, const DEEP: bool>(
     }
 }
 
-/// Tests all `below` an object after which more slots are in hand. They are copied for the call here, so that nothing
-/// is written to the stack if no call is made.
+/// Tests everything `below` an object that is not in the last slot. The pass is copied here for the call, so that
+/// nothing is written to the stack if no call is made.
 #[cycle(pass)]
 #[inline(always)]
 fn check_first<S: Space, L: Ledger, const DEEP: bool>(
@@ -202,7 +204,7 @@ fn check_first<S: Space, L: Ledger, const DEEP: bool>(
     check_object::<S, L, DEEP>(space.again(), base, object, least, reads)
 }
 
-/// Tests the first slot in hand, `word`, which is the pointer to a list at the next free word, with all below it.
+/// Tests the first slot of `pass`, `word`, a pointer to a list at the next free word, with everything below it.
 #[cycle(pass)]
 #[inline(always)]
 fn check_list<S: Space, L: Ledger, const DEEP: bool>(
@@ -249,8 +251,8 @@ fn check_list<S: Space, L: Ledger, const DEEP: bool>(
     }
 }
 
-/// Tests the list of structs at the next free word to which the first slot in hand points, with all below it: returns
-/// the progress of the `pass` after it.
+/// Tests the list of structs at the next free word, to which the first slot of `pass` points, with everything below it.
+/// Returns the progress after it.
 #[cycle(pass)]
 #[inline(always)]
 fn check_composite<S: Space, L: Ledger, const DEEP: bool>(
@@ -289,8 +291,8 @@ fn check_composite<S: Space, L: Ledger, const DEEP: bool>(
     }
 }
 
-/// Tests all that is below the slots of `count` rows, which are the words in hand: returns the progress of the `pass`
-/// after it.
+/// Tests everything below the slots of `count` rows, which `pass` covers, each of `words` words and `slots` slots.
+/// Returns the progress after it.
 #[cycle(pass)]
 #[inline(never)]
 fn check_rows<S: Space, L: Ledger, const DEEP: bool>(

@@ -1,4 +1,4 @@
-//! Messages of one segment, and already canonical ones.
+//! Messages of one segment: their bytes, and the call `own_canonical`, which finds out that they are canonical already.
 
 ghost use Rattle.std.specs.Prelude.{◌≡◌, ◌≢◌, ℕ, ◌^◌, ◌<◌, ◌≤◌, List, [], ◌∷◌, None, length, IfSome, IfNone, IsSome};
 ghost use Rattle.capn_words.specs.Message.{IsBare, bytes as bytes_of};
@@ -34,7 +34,8 @@ fn only_bytes<S: Space>(space: &S) -> Option<&[u8]>
     Some(space.bytes(Place::ROOT, 8 * words as usize))
 }
 
-/// Returns the message `space` of one segment as its bytes alone, which are faster to read; `None` if it has more.
+/// Returns the message `space` as the bytes of its only segment, which are faster to read. Returns `None` if it has
+/// more than one.
 pub(crate) fn alone<S: Space>(space: &S) -> Option<Bare<'_>>
     ensures one { IfSome result (λ words. S.message space.now ≡ words ∷ []) }
     ensures other { IfNone result (length (S.message space.now) ≢ 1) }
@@ -48,7 +49,8 @@ pub(crate) fn alone<S: Space>(space: &S) -> Option<Bare<'_>>
     }
 }
 
-/// Returns `bytes`, if they are a message of one segment and its canonical bytes. One pass over them finds it out.
+/// Returns `bytes` if, read bare, they are the canonical bytes of their value within `limits`. One pass over them finds
+/// it out.
 fn own_words(bytes: &[u8], limits: Limits) -> Option<OwnCanonical<'_>>
     ensures own { IfSome result (λ own. (words : List ℕ) → IsBare bytes.now words
         → AnswersMessage (words ∷ []) limits own.bytes.now own.paid) }
@@ -76,18 +78,18 @@ fn own_words(bytes: &[u8], limits: Limits) -> Option<OwnCanonical<'_>>
     }
 }
 
-/// Returns the bytes of the message `space` of one segment, if they are its canonical bytes, and the words that its
-/// walk pays, within `limits`. (Own.)
+/// Returns the bytes of the message `space`, with the words that its walk pays, if it has one segment, is accepted
+/// within `limits`, and its bytes are its canonical bytes. (Own.)
 ///
-/// One pass finds it out, which is [`survey_canonical`]'s. It takes no memory and copies nothing.
+/// The one pass of [`survey_canonical`] finds it out. It takes no memory and copies nothing.
 pub fn own_canonical<S: Space>(space: &S, limits: Limits) -> Option<OwnCanonical<'_>>
-    // They are its canonical bytes.
+    // If `result` is `Some`, its bytes are the canonical bytes of the message.
     ensures own { IfSome result (λ own. AnswersMessage (S.message space.now) limits own.bytes.now own.paid) }
-    // Those of any such message are answered.
+    // If the message has one segment and its bytes are canonical, `result` is `Some`.
     ensures only { (words : List ℕ) (v : Value) → S.message space.now ≡ words ∷ []
         → IsValueOf (words ∷ []) limits v → first_cap v ≡ None → canon v ≡ bytes_of words → IsSome result }
     ensures short { IfSome result (λ own. length own.bytes.now < 2 ^ 34) }
-    // No walk reports more paid than its budget.
+    // The walk pays at most the budget, also if it is refused.
     ensures bounded { IfSome result (λ own. own.paid ≤ limits.budget) }
 {
     match only_bytes(space) {

@@ -1,4 +1,4 @@
-//! Tests of an object's own words for canonical layout.
+//! Tests whether the words of a single object, in place, are laid out canonically.
 
 ghost use Rattle.std.specs.Prelude.{◌≡◌, ◌+◌, ◌*◌, ◌/◌, ◌^◌, ◌<◌, ◌≤◌, IsTrue, ◌↔◌, [], ◌∷◌};
 ghost use Rattle.std.specs.Prelude.{length, take, drop, slice_index, pos, ◌-◌, ◌%◌};
@@ -18,7 +18,7 @@ use capn_target::counted::Reads;
 use capn_words::{Space, Width};
 use std::sync::ledger::Ledger;
 
-/// Returns `true` if the `count` words from word `at` on are all kept: the last of them, if any, is not zero.
+/// Tests whether none of the `count` words from word `at` on would be trimmed: there are none, or the last is not zero.
 #[inline(always)]
 pub fn is_kept<S: Space, L: Ledger>(
     space: &CountedWords<'_, S, L>,
@@ -34,11 +34,11 @@ pub fn is_kept<S: Space, L: Ledger>(
     count == 0 || word_at(space, at + count - 1, reads) != 0
 }
 
-/// The pointer to a struct of no words and no slots: its offset is -1. (Page: canonicalization.)
+/// The canonical pointer to a struct without words and slots: its offset is -1. (Page: canonicalization.)
 pub const EMPTY: u64 = 0xffff_fffc;
 
-/// Returns `true` if the pointer at word `from` is the one to a list at the next free word, and there is room for its
-/// `words` words.
+/// Tests whether the word at `from` is the pointer to a list of `count` elements at word `next`, and there is room for
+/// its `words` words.
 fn is_list_at<S: Space, L: Ledger>(
     space: &CountedWords<'_, S, L>,
     width: Width,
@@ -62,7 +62,8 @@ fn is_list_at<S: Space, L: Ledger>(
     word_at(space, from, reads) == word && next + words <= words_of(space, reads)
 }
 
-/// Returns `true` if the bits past the first `bits` of the words from word `next` on are 0, up to a whole word.
+/// Tests whether the bits after a list are zero, up to the end of its last word. The list has `bits` bits from word
+/// `next` on.
 pub fn are_bits_at<S: Space, L: Ledger>(
     space: &CountedWords<'_, S, L>,
     bits: u64,
@@ -83,7 +84,7 @@ pub fn are_bits_at<S: Space, L: Ledger>(
     last == last % (1 << rest)
 }
 
-/// The number of rows of a list of structs, and the numbers of words and slots of each.
+/// The tag word of a list of structs: the number of rows, and the numbers of words and slots of each.
 #[derive(Clone, Copy)]
 pub struct Tag {
     pub count: u32,
@@ -91,7 +92,7 @@ pub struct Tag {
     pub slots: u16,
 }
 
-/// Reads `word` as a tag.
+/// Reads `word` as a tag word, whatever its kind is.
 #[inline(always)]
 pub fn tag_of(word: u64) -> Tag
     ensures { result ≡ record { count = field 2 30 word; words = field 32 16 word; slots = field 48 16 word } }
@@ -103,8 +104,8 @@ pub fn tag_of(word: u64) -> Tag
     }
 }
 
-/// Returns `true` if some row keeps all `size` words of a part of it: the last of them isn't zero. There are `count`
-/// rows, one every `step` words from word `start` on, and the part begins `inset` words into its row.
+/// Tests whether all `size` words of one section of the rows are kept: in some row its last word isn't zero. There are
+/// `count` rows, one every `step` words from word `start` on, and the section begins `inset` words into its row.
 fn is_part_kept<S: Space, L: Ledger>(
     space: &CountedWords<'_, S, L>,
     start: u32,
@@ -135,8 +136,9 @@ fn is_part_kept<S: Space, L: Ledger>(
     false
 }
 
-/// Returns `true` if each row keeps all of its words and slots, the `tag` says so, the pointer at word `from` is the
-/// one to the next free word, and there is room for the rows.
+/// Tests whether the list of structs at word `next` is canonical, but for what is below its slots. Canonical rows must
+/// have the sizes in the `tag`, the tag word must be the one of `tag`, the word at `from` must point to `next`, and
+/// there must be room for the rows.
 pub fn are_rows_at<S: Space, L: Ledger>(
     space: &CountedWords<'_, S, L>,
     tag: Tag,

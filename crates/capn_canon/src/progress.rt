@@ -1,4 +1,4 @@
-//! The progress of one pass over a layout's words.
+//! The progress of the one pass over the words of a layout: the next free word, the words left to pay, and open slots.
 
 ghost use Rattle.std.specs.Prelude.{◌≡◌, ◌+◌, ◌-◌, ◌^◌, ◌<◌, ◌≤◌, IfSome, IsSome, IsTrue, min};
 
@@ -11,7 +11,7 @@ pub struct Progress {
     pub next: u32,
     /// The words that may still be paid.
     pub left: u32,
-    /// The number of slots met.
+    /// The number of slots visited.
     pub visits: u32,
 }
 
@@ -22,26 +22,27 @@ pub struct Pass {
     pub from: u32,
     /// The word after the last slot.
     pub end: u32,
-    /// The most objects that may be one below another, from each of these on.
+    /// The limit on depth below the object: the most objects that may be one below another, from a target of its slots
+    /// on.
     pub depth: u32,
-    /// The next free word, at which the objects below them have to begin.
+    /// The next free word, at which the objects below the slots have to begin.
     pub next: u32,
     /// The words that may still be paid.
     pub left: u32,
-    /// The number of slots met, these included.
+    /// The number of slots visited, with the slots of this object.
     pub visits: u32,
 }
 
-/// Rows of equal sizes whose slots are still to be checked.
+/// Rows of a list of structs whose slots are still to be checked.
 #[derive(Clone, Copy)]
 pub struct RowPass {
     /// The number of rows, and the numbers of words and slots of each.
     pub tag: Tag,
-    /// The words of the rows, and the progress of the pass that checks their slots.
+    /// The words of all rows, and the progress of the pass that checks their slots.
     pub pass: Pass,
 }
 
-/// Lowers `least`, the least depth that was left, to the `depth` below an object, if depths are asked for (`DEEP`).
+/// Lowers `least`, the least depth that was left so far, to the `depth` left below an object, if `DEEP`.
 #[inline(always)]
 pub fn lower<const DEEP: bool>(least: &mut u32, depth: u32)
     ensures { IsTrue DEEP → least.new ≡ min least.old depth }
@@ -52,7 +53,7 @@ pub fn lower<const DEEP: bool>(least: &mut u32, depth: u32)
 }
 
 impl Pass {
-    /// Returns its progress.
+    /// Returns the progress of the pass, without its slots.
     #[inline(always)]
     pub fn here(self) -> Progress
         ensures { result ≡ record { next = self.next; left = self.left; visits = self.visits } }
@@ -64,7 +65,7 @@ impl Pass {
         }
     }
 
-    /// Returns the slots after the first, with the `progress` once all below that is checked.
+    /// Returns the slots after the first, with the `progress` after everything below the first.
     #[inline(always)]
     pub fn behind(self, progress: Progress) -> Pass
         requires { self.from < 2 ^ 29 }
@@ -87,8 +88,8 @@ impl Pass {
         }
     }
 
-    /// Returns the progress once an object is paid that ends at word `end` and has this number of `slots`; `None` if
-    /// its `price` is more than is left.
+    /// Returns the progress after an object that ends at word `end`, costs `price` and has `slots` slots. Returns
+    /// `None` if the `price` is more than what is left.
     #[inline(always)]
     pub fn paid(self, price: u64, end: u32, slots: u32) -> Option<Progress>
         requires { self.visits + slots < 2 ^ 32 }

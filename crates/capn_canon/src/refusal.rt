@@ -1,4 +1,4 @@
-//! The type of the reasons why an input has no canonical bytes.
+//! The reasons why an input has no canonical bytes.
 
 use capn_pack::UnpackFault;
 use capn_stream::FrameFault;
@@ -8,24 +8,25 @@ use capn_words::BareFault;
 use std::error::Error;
 use std::fmt;
 
-/// The reason why no canonical bytes are answered, in the order in which the tests are made: the bytes are read in
-/// their form, the message is walked, and its value is looked through for a capability. (Own.)
+/// The reason why bytes in a form have no canonical bytes, in the order in which the tests are made. The bytes are read
+/// in their form, the message is walked, and its value is searched for a capability. (Own.)
 #[derive(Clone, Copy, Debug, PartialEq, Eq)]
 pub enum Refusal {
-    /// The bytes of the form `Bare` are no whole words, or too many.
+    /// A fault of the form `Bare`: the bytes are not whole words, or are too many.
     Bare(BareFault),
-    /// The bytes of the form `Packed` are cut in a group, or unpack to more words than the limit on message
-    /// words and the longest table.
+    /// A fault of the form `Packed`: the bytes end within a group, or unpack to more words than the limit on message
+    /// words and the longest table allow.
     Packed(UnpackFault),
-    /// The bytes, or what they unpack to, are no frame within the limit on message words.
+    /// A fault of the frame: the bytes, or those that they unpack to, are no frame within the limit on message words.
     Frame(FrameFault),
-    /// Bytes follow the frame: the offset of the first, for the form `Packed` in the bytes that were unpacked.
+    /// The offset of the first byte that follows the frame. For the form `Packed` it is an offset in the unpacked
+    /// bytes.
     Trailing(u64),
-    /// The message is not accepted within the limits.
+    /// The place and the reason at which the walk stopped, if the message is not accepted within the limits.
     Walk(Stopped),
-    /// The value has capabilities, which have no canonical form: the index of the first in preorder.
+    /// The index of the first capability in preorder, if the value has any: a capability has no canonical form.
     Capability(u32),
-    /// A growth was refused.
+    /// A refused growth of memory.
     Memory,
 }
 

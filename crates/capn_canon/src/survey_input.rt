@@ -1,4 +1,4 @@
-//! A survey of a message in each form.
+//! The call `survey_bytes`: the survey of a message in any of the three forms.
 
 ghost use Rattle.std.specs.Prelude.{◌≡◌, ◌≤◌, ◌+◌, ◌*◌, length, IfOk, IfErr, IsErrOf, MatchResult};
 ghost use Rattle.capn_value.specs.Tree.{Tree as Value};
@@ -20,7 +20,7 @@ use capn_walk::{Limits, Surveyed};
 use capn_words::Space;
 use std::alloc::Allocator;
 
-/// The task of a survey of a message.
+/// The task of `survey_bytes`: surveys the message that was read.
 #[derive(Clone, Copy)]
 struct Survey;
 
@@ -39,34 +39,35 @@ impl<A: Allocator + Copy> MessageTask<A> for Survey {
     }
 }
 
-/// Surveys the message that `bytes` encode in this `form`, within `limits`: returns the words that its walk pays, the
+/// Surveys the message that `bytes` encode in this `form`, within `limits`. Returns the words that its walk pays, the
 /// number of its visits and its first capability.
 ///
-/// It refuses as [`crate::canonicalise`] does, but never for a capability. `Memory` comes only if a growth on `alloc`
-/// was refused: for the ends of more than 64 segments, or for what is unpacked.
+/// It refuses what [`crate::canonicalise`] refuses, but for a capability. `Memory` is returned only if a growth on
+/// `alloc` was refused, for the ends of more than 64 segments or for the words that are unpacked.
 pub fn survey_bytes<A: Allocator + Copy>(
     alloc: A,
     form: Form,
     bytes: &[u8],
     limits: Limits,
 ) -> Result<Surveyed, Refusal>
-    // The answer: the bytes are an accepted message, and these are its price, its visits and its first capability.
+    // If `result` is `Ok`, the bytes are an accepted message, and `result` has its price, its visits and its first
+    // capability.
     ensures found { IfOk result (λ s. Surveys form bytes.now limits s) }
-    // Bytes that denote a value are answered, unless memory runs out.
+    // If the bytes denote a value, `result` is `Ok`, unless memory runs out.
     ensures only { (v : Value) → Denotes form bytes.now limits v
         → MatchResult result (λ s. s.capability ≡ first_cap v) (λ e. e ≡ refusals.Memory) }
-    // The meaning of each refusal.
+    // If `result` is `Err(e)`, the reason that `e` gives is true.
     ensures refused { IfErr result (λ e. IsUnacceptedIn form bytes.now limits e) }
-    // Memory is needed only for the ends of more than 64 segments, and for what a text packs.
+    // `Memory` is returned only for the ends of more than 64 segments, or for the words that a packed text unpacks to.
     ensures memory { IsErrOf result refusals.Memory → MayNeedMemory form bytes.now limits }
-    // No walk pays beyond its budget.
+    // The walk pays at most the budget, also if it is refused.
     ensures bounded { MatchResult result (λ s. IsBounded limits.budget s.paid s.visits)
         (λ e. IsPaidWithin limits.budget e) }
     // The canonical bytes of the value are at most 8 for each word paid, and 8 more.
     ensures short { IfOk result (λ s. (v : Value) → Denotes form bytes.now limits v
         → length (canon v) ≤ 8 * (s.paid + 1)) }
 {
-    // The clause on the length needs what they promise of limits.
+    // The proof of `short` needs the ranges that these calls promise.
     let _words = limits.message_words();
     let _budget = limits.budget();
     let _depth = limits.depth();

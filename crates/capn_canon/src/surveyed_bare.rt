@@ -1,6 +1,6 @@
-//! The answers of the check of a bare message.
+//! The results of the check whether a bare message is canonical.
 
-/// The words that the walk of a bare message pays, and whether its bytes are canonical.
+/// The survey of a message, and whether its bytes are canonical.
 #[derive(Clone, Copy, Debug, PartialEq, Eq)]
 pub struct SurveyedBare {
     /// The words paid, at most the budget.
@@ -13,11 +13,11 @@ pub struct SurveyedBare {
     pub is_canonical: bool,
 }
 
-/// The answer of the check of canonical bytes, with their depth.
+/// The survey of a message, with its depth.
 #[derive(Clone, Copy, Debug, PartialEq, Eq)]
 pub struct MeasuredBare {
-    /// The words that their walk pays, and its visits.
+    /// The survey: the price, the visits, the first capability, and whether the bytes are canonical.
     pub survey: SurveyedBare,
-    /// The least depth under which they are accepted with the other limits as they are.
+    /// The least limit on depth under which the message is accepted, with the other limits unchanged.
     pub depth: u32,
 }

@@ -1,4 +1,4 @@
-//! Canonical bytes, written into the caller's buffer.
+//! The call `canonical_into`: canonical bytes, written into the caller's buffer.
 
 ghost use Rattle.std.specs.Prelude.{◌≡◌, ◌+◌, ◌*◌, ◌<◌, ◌≤◌, length, take, drop, IfOk, IfErr, OnErr, MatchResult};
 ghost use Rattle.capn_value.specs.Tree.{Tree as Value};
@@ -18,7 +18,7 @@ use capn_walk::Limits;
 use capn_words::Space;
 use std::sync::ledger::Ledger;
 
-/// Writes the canonical bytes of the message `space`, read by calls that count, to `out`.
+/// Writes the canonical bytes of the message `space`, whose reads are counted in `reads`, to `out`.
 fn write_message<S: Space, L: Ledger>(
     space: &CountedSpace<'_, S, L>,
     limits: Limits,
@@ -44,7 +44,7 @@ fn write_message<S: Space, L: Ledger>(
     })
 }
 
-/// Writes the canonical bytes of the message `space`. If it has one segment, it is read as its words alone, which is
+/// Does what [`write_message`] does. If `space` has one segment, it is read as that segment's words alone, which is
 /// faster.
 fn write_by_segments<S: Space, L: Ledger>(
     space: &CountedSpace<'_, S, L>,
@@ -61,7 +61,7 @@ fn write_by_segments<S: Space, L: Ledger>(
     }
 }
 
-/// The task of the canonical bytes of a message within limits, for a buffer.
+/// The task of `canonical_into`: writes the canonical bytes of the message that it is run on into a buffer.
 #[derive(Drop)]
 struct IntoTask {
     limits: Limits,
@@ -91,104 +91,103 @@ impl CountedWriter for IntoTask {
     }
 }
 
-/// Writes the canonical bytes of the value that the message `space` denotes within `limits` to the beginning of `out`,
-/// and returns their number, the words that the walk pays, and its visits. The bytes after them stay as they were.
+/// Writes the canonical bytes of the value that the message `space` denotes within `limits` to the beginning of `out`.
+/// Returns their number, the words that the walk pays, and its visits. The rest of `out` stays as it was.
 ///
-/// The refusals are tested in this order, and after each `out` is as it was. The message is walked: `Walk` if it is not
-/// accepted. Its value is laid out: `Capability`, with the index of the first in preorder. `NoRoom`, with the length of
-/// the canonical bytes and the words that the walk pays, if `out` is shorter than that length.
+/// The refusals are tested in this order, and each leaves `out` as it was. `Walk` refuses a message that is not
+/// accepted. `Capability` refuses a value with capabilities, with the index of the first in preorder. `NoRoom` refuses
+/// an `out` that is shorter than the canonical bytes, with their length and the words that the walk pays.
 ///
 /// It takes no memory but the stack, whatever the depth. `8 * (paid + 1)` bytes are always enough, and so are `8 *
-/// (budget + 1)`; the bytes are counted before they are written only if there are fewer. (Own.)
+/// (budget + 1)`. The canonical bytes are counted before they are written only if `out` has fewer. (Own.)
 pub fn canonical_into<M: Asked>(
     space: M,
     limits: Limits,
     out: &mut [u8],
 ) -> Result<CanonicalLength, IntoRefusal>
-    // All passes ask the message and turn their loops at most 54 * (budget + 1) times, and once more to open the count:
-    // it is done on any message that allows this, and a reference to a `Space` allows all.
+    // `space` must allow 54 * (budget + 1) reads and turns of loops, for all passes, and one more to open the count. A
+    // reference to a `Space` allows any number.
     requires work { M.allows space (54 * (limits.budget + 1) + 1) }
-    // The theorem. There is an answer if and only if the message denotes a value without capabilities within the
-    // limits, and its canonical bytes have room;
+    // The theorem: `result` is `Ok` if and only if the message denotes a value without capabilities within the limits,
+    // and `out` has room for its canonical bytes.
     ensures answered { AnsweredInto (M.message space) limits (length out.old) result }
-    // they are written to the beginning, with what was there after them;
+    // If `result` is `Ok`, the canonical bytes are at the beginning of `out`, and the bytes after them are as before.
     ensures written { IfOk result (λ c. WrittenInto (M.message space) limits out.old out.new c) }
-    // else the first refusal in order,
+    // If `result` is an `Err`, it is the first refusal in the order of the tests.
     ensures refused { IfErr result (λ e. RefusedInto (M.message space) limits (length out.old) e) }
-    // which leaves all as it was.
+    // A refusal leaves `out` as it was.
     ensures unchanged { OnErr result (out.new ≡ out.old) }
-    // No walk pays beyond its budget.
+    // The walk pays at most the budget, also if it is refused.
     ensures bounded { MatchResult result (λ c. IsBounded limits.budget c.paid c.visits)
         (λ e. IsIntoPaidWithin limits.budget e) }
-    // The bytes that are written, as the other calls answer them.
+    // The bytes written are those that `canonical_of` returns for the same message.
     ensures found { IfOk result (λ c. AnswersMessage (M.message space) limits (take c.length out.new) c.paid) }
     ensures past { IfOk result (λ c. drop c.length out.new ≡ drop c.length out.old) }
     ensures inside { IfOk result (λ c. c.length ≤ length out.new) }
     ensures short { IfOk result (λ c. c.length ≤ 8 * (c.paid + 1)) }
-    // Read bare under the same limits, the bytes denote the trimmed value, which is the same value,
+    // Read bare under the same limits, the canonical bytes denote the trimmed value, which is the same value.
     ensures reads_back { IfOk result (λ c. (v : Value) → IsValueOf (M.message space) limits v
         → ReadsBack (take c.length out.new) limits v) }
-    // and pay exactly its cost;
+    // A walk of the canonical bytes, read bare, pays exactly the cost of the trimmed value.
     ensures pays { IfOk result (λ c. (v : Value) → IsValueOf (M.message space) limits v
         → PaysItsCost (take c.length out.new) limits v) }
-    // its canonical bytes are these again;
+    // The canonical bytes of the trimmed value are the same bytes again.
     ensures own { IfOk result (λ c. (v : Value) → IsValueOf (M.message space) limits v
         → IsItsOwnForm (take c.length out.new) v) }
-    // and a second value has these canonical bytes if and only if it is the same value.
+    // A second value has equal canonical bytes if and only if it is the same value.
     ensures exactly { IfOk result (λ c. (v : Value) → IsValueOf (M.message space) limits v
         → IsFormExactlyOf (take c.length out.new) v) }
 {
-    // The clauses need what they promise of limits.
+    // The proof of the clauses needs the ranges that these calls promise.
     let _budget = limits.budget();
     let _depth = limits.depth();
     space.ask_into(IntoTask { limits }, out)
 }
 
-/// Writes and returns what [`canonical_into`] does of the message `space` within `limits` to `out`, by calls that count
-/// in `reads`, as for [`canonical_length_counted`](crate::canonical_length_counted). With the reads it counts the turns
-/// of its loops.
+/// Does what [`canonical_into`] does for the message `space` within `limits` and the buffer `out`. It counts the reads
+/// and the turns of its loops in `reads`, as [`canonical_length_counted`](crate::canonical_length_counted) does.
 ///
-/// It reads and turns at most 54 times for each word that it pays, and 54 times more: 14 times in the walk, 20 times to
-/// measure, if it does, and 20 times to write. If it refuses, it does so at most that often for the whole budget. So
-/// the budget alone bounds its work, whatever the message says. It takes no memory but the stack.
+/// There are at most 54 reads and turns for each word paid, and 54 more: 14 in the walk, 20 to measure, if it measures,
+/// and 20 to write. A refusal costs at most that many for the whole budget. So the budget alone bounds the work,
+/// whatever the message is. It takes no memory but the stack.
 pub fn canonical_into_counted<S: Space, L: Ledger>(
     space: &CountedSpace<'_, S, L>,
     limits: Limits,
     out: &mut [u8],
     reads: &mut Reads<L>,
 ) -> Result<CanonicalLength, IntoRefusal>
-    // The theorem. There is an answer if and only if the message denotes a value without capabilities within the
-    // limits, and its canonical bytes have room;
+    // The theorem: `result` is `Ok` if and only if the message denotes a value without capabilities within the limits,
+    // and `out` has room for its canonical bytes.
     ensures answered { AnsweredInto space.now limits (length out.old) result }
-    // they are written to the beginning, with what was there after them;
+    // If `result` is `Ok`, the canonical bytes are at the beginning of `out`, and the bytes after them are as before.
     ensures written { IfOk result (λ c. WrittenInto space.now limits out.old out.new c) }
-    // else the first refusal in order,
+    // If `result` is an `Err`, it is the first refusal in the order of the tests.
     ensures refused { IfErr result (λ e. RefusedInto space.now limits (length out.old) e) }
-    // which leaves all as it was.
+    // A refusal leaves `out` as it was.
     ensures unchanged { OnErr result (out.new ≡ out.old) }
-    // No walk pays beyond its budget.
+    // The walk pays at most the budget, also if it is refused.
     ensures bounded { MatchResult result (λ c. IsBounded limits.budget c.paid c.visits)
         (λ e. IsIntoPaidWithin limits.budget e) }
-    // The bytes that are written, as the other calls answer them.
+    // The bytes written are those that `canonical_of` returns for the same message.
     ensures found { IfOk result (λ c. AnswersMessage space.now limits (take c.length out.new) c.paid) }
     ensures past { IfOk result (λ c. drop c.length out.new ≡ drop c.length out.old) }
     ensures inside { IfOk result (λ c. c.length ≤ length out.new) }
     ensures short { IfOk result (λ c. c.length ≤ 8 * (c.paid + 1)) }
-    // Read bare under the same limits, the bytes denote the trimmed value, which is the same value,
+    // Read bare under the same limits, the canonical bytes denote the trimmed value, which is the same value.
     ensures reads_back { IfOk result (λ c. (v : Value) → IsValueOf space.now limits v
         → ReadsBack (take c.length out.new) limits v) }
-    // and pay exactly its cost;
+    // A walk of the canonical bytes, read bare, pays exactly the cost of the trimmed value.
     ensures pays { IfOk result (λ c. (v : Value) → IsValueOf space.now limits v
         → PaysItsCost (take c.length out.new) limits v) }
-    // its canonical bytes are these again;
+    // The canonical bytes of the trimmed value are the same bytes again.
     ensures own { IfOk result (λ c. (v : Value) → IsValueOf space.now limits v
         → IsItsOwnForm (take c.length out.new) v) }
-    // and a second value has these canonical bytes if and only if it is the same value.
+    // A second value has equal canonical bytes if and only if it is the same value.
     ensures exactly { IfOk result (λ c. (v : Value) → IsValueOf space.now limits v
         → IsFormExactlyOf (take c.length out.new) v) }
-    // All passes read the message and turn at most 54 times for each word paid, and 54 times more.
+    // All passes together do at most 54 reads and turns of loops for each word paid, and 54 more.
     ensures reads { IfOk result (λ c. reads.new ≤ reads.old + 54 * (c.paid + 1)) }
-    // So the budget bounds them, whatever the message says and whatever is answered.
+    // The budget bounds the reads and turns, whatever the message and the result are.
     ensures work { reads.new ≤ reads.old + 54 * (limits.budget + 1) }
 {
     space.bounds();

@@ -1,5 +1,5 @@
--- The report of a survey on a message is true of the bytes that are read as it, and of any value that they denote. (For
--- `survey_bytes`.)
+-- The survey of a message is the survey of the bytes that are read as it, and is true of any value that they denote.
+-- (For `survey_bytes`.)
 use Rattle.std.proofs.Common.{◌≡◌, ◌≢◌, ℕ, ◌+◌, ◌*◌, ◌^◌, ◌≤◌, List, length, refl, ap, subst, arith, ◌∙◌, Result, Ok}
 use Rattle.std.proofs.Common.{Err, IfOk, IfErr, MatchResult}
 use Rattle.std.proofs.lemmas.Result.{IfOk-weaker, IfErr-weaker}
@@ -21,7 +21,7 @@ use Rattle.capn_layout.specs.Layout.{canon}
 use Rattle.capn_canon.proofs.calls.Answered.{denoted_here}
 use Rattle.capn_canon.proofs.theorem.Headline.{denoted_length}
 
--- why a message is not accepted is why the bytes are not that are read as it
+-- if bytes are read as a message, the reason why it is not accepted is a reason why they are not
 unaccepted_as : (form : Form) (bs : List ℕ) (limits : Bounds) (m : List (List ℕ)) → Reads form bs limits.message_words m
     → (e : Refusal) → IsUnaccepted m limits e → IsUnacceptedIn form bs limits e
 unaccepted_as form bs limits m is (refusals.Walk s) h = (m, is, h)
@@ -32,7 +32,7 @@ unaccepted_as form bs limits m is (refusals.Trailing at) h = absurd h
 unaccepted_as form bs limits m is (refusals.Bare e) h = absurd h
 unaccepted_as form bs limits m is (refusals.Packed e) h = absurd h
 
--- what a survey reports of a message is so for the bytes that are read as it
+-- the result of the survey of a message is that of the survey of the bytes that are read as it
 pub surveyed_as : (r : Result Surveyed Refusal) (form : Form) (bs : List ℕ) (limits : Bounds) (m : List (List ℕ))
     → Reads form bs limits.message_words m → IsSurveyed m limits r → AreSurveyed form bs limits r
 surveyed_as r form bs limits m is h = record {
@@ -42,7 +42,7 @@ surveyed_as r form bs limits m is h = record {
   bounded = h.bounded;
 }
 
--- a call that answers and refuses like this speaks of any value that the bytes denote
+-- a survey of bytes is true of any value that they denote
 pub surveyed_only : (r : Result Surveyed Refusal) (form : Form) (bs : List ℕ) (limits : Bounds) →
     IfOk r (λ s. Surveys form bs limits s) → IfErr r (λ e. IsUnacceptedIn form bs limits e) →
     (v : Tree) → Denotes form bs limits v → MatchResult r (λ s. s.capability ≡ first_cap v) (λ e. e ≡ refusals.Memory)
@@ -53,7 +53,7 @@ surveyed_only (Ok s) form bs limits h g v d =
     (record { message = h.message; reads = h.reads; value = h.survey.is }) d)
 surveyed_only (Err e) form bs limits h g v d = not_unaccepted form bs limits v e d g
 
--- and bounds the length of its canonical bytes
+-- a survey of bytes bounds the length of the canonical bytes of any value that they denote
 pub surveyed_short : (r : Result Surveyed Refusal) (form : Form) (bs : List ℕ) (limits : Bounds) →
     limits.message_words ≤ 2 ^ 28 → limits.budget ≤ 2 ^ 28 → limits.depth ≤ 256 →
     IfOk r (λ s. Surveys form bs limits s)

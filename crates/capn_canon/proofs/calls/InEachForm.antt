@@ -1,4 +1,4 @@
--- An answer or a refusal for a message is one for bytes that are read as it. (For `canonicalise`.)
+-- The result for a message is a result for the bytes that are read as it. (For `canonicalise`.)
 use Rattle.std.proofs.Common.{◌≡◌, ℕ, ◌+◌, ◌*◌, ◌^◌, ◌≤◌, List, [], length, Result}
 use Rattle.std.proofs.Common.{Ok, Err, MatchResult, IfOk, IfErr, IsErrOf, None}
 use Rattle.std.proofs.lemmas.Result.{IfOk-weaker, IfErr-weaker}
@@ -19,7 +19,7 @@ use Rattle.capn_canon.specs.inner.Outcomes.{AreCanonicalised}
 use Rattle.capn_canon.proofs.calls.Answered.{answers_only, answers_length, answers_form}
 use Rattle.capn_canon.proofs.shared.NotRefused.{not_refused}
 
--- why a message is refused is why the bytes are that are read as it
+-- if bytes are read as a message, the reason why it is refused is a reason why they are
 refused_as : (form : Form) (bs : List ℕ) (limits : Bounds) (m : List (List ℕ)) → Reads form bs limits.message_words m
     → (e : Refusal) → IsRefusedMessage m limits e → IsRefused form bs limits e
 refused_as form bs limits m is (refusals.Walk s) h = (m, is, h)
@@ -32,7 +32,7 @@ refused_as form bs limits m is (refusals.Packed e) h = absurd h
 
 -- ---- results of calls
 
--- what a call answers or refuses for a message is so for the bytes that are read as it
+-- a result for a message is one for the bytes that are read as it
 pub canonicalised_as : {T : Type 0} (r : Result T Refusal) (bytes_of : T → List ℕ) (price_of : T → ℕ) (form : Form)
     (bs : List ℕ) (limits : Bounds) (m : List (List ℕ)) → Reads form bs limits.message_words m
     → (MayNeedBytes m limits → MayNeedBytesIn form bs limits)
@@ -47,8 +47,7 @@ canonicalised_as r bytes_of price_of form bs limits m is want f e w b = record {
   bounded = b;
 }
 
--- a call that answers and refuses so answers the canonical bytes of any value without capabilities that the bytes
--- denote
+-- for any value without capabilities that the bytes denote, the result is its canonical bytes, unless memory runs out
 pub found_only : {T : Type 0} (r : Result T Refusal) (bytes_of : T → List ℕ) (price_of : T
     → ℕ) (form : Form) (bs : List ℕ) (limits : Bounds) →
     IfOk r (λ c. Answers form bs limits (bytes_of c) (price_of c)) → IfErr r (λ e. IsRefused form bs limits e) →
@@ -58,7 +57,7 @@ found_only (Ok c) bytes_of price_of form bs limits h g v d n =
     answers_only form bs limits (bytes_of c) (price_of c) h v d
 found_only (Err e) bytes_of price_of form bs limits h g v d n = not_refused form bs limits v e d n g
 
--- its answer is at most 8 bytes for each word paid and 8 more,
+-- the resulting bytes are at most 8 for each word paid, and 8 more
 pub found_short : {T : Type 0} (r : Result T Refusal) (bytes_of : T → List ℕ) (price_of : T
     → ℕ) (form : Form) (bs : List ℕ) (limits : Bounds) →
     limits.message_words ≤ 2 ^ 28 → limits.budget ≤ 2 ^ 28 → limits.depth ≤ 256 →
@@ -67,7 +66,7 @@ pub found_short : {T : Type 0} (r : Result T Refusal) (bytes_of : T → List ℕ
 found_short r bytes_of price_of form bs limits few small shallow =
     IfOk-weaker r _ _ (λ c h. answers_length form bs limits (bytes_of c) (price_of c) h few small shallow)
 
--- and has all that a canonical form has
+-- the resulting bytes have the four properties of the canonical form
 pub found_form : {T : Type 0} (r : Result T Refusal) (bytes_of : T → List ℕ) (price_of : T
     → ℕ) (form : Form) (bs : List ℕ) (limits : Bounds) (Q : T → Tree → Type 0) →
     ((c : T) (v : Tree) → IsCanonicalForm (bytes_of c) limits v → Q c v) →

@@ -1,4 +1,4 @@
--- The bytes of a message that are written into a buffer, or the reason why none are. (For `length.rt` and
+-- The results of calls that measure canonical bytes, or write them into a buffer. (For `length.rt` and
 -- `written_bytes.rt`.)
 use Rattle.std.proofs.Common.{◌≡◌, ◌↔◌, ℕ, ◌*◌, ◌+◌, ◌^◌, ◌≤◌, List, length, take, drop, Some, None}
 use Rattle.std.proofs.Common.{Result, Ok, Err, IsOk, IfOk, IfErr, IsErrAnd, refl, ap, sym, subst, ◌∙◌, arith}
@@ -36,7 +36,7 @@ no_bytes m limits (messages.Capability k) (w, also, e) (v, is, free) =
     let f : Some k ≡ None = sym e ∙ ap first_cap (unique m w v root also.is is.is) ∙ free in
     absurd cc
 
--- and into a buffer only if it has none, or they have no room
+-- a call refuses to write into a buffer only if the message has no canonical bytes, or they have no room
 pub no_bytes_into : (m : List (List ℕ)) (limits : Bounds) (room : ℕ) (e : IntoRefusal) → RefusedInto m limits room e
     → (v : Tree) → IsValueOf m limits v → first_cap v ≡ None → length (canon v) ≤ room → ⊥
 no_bytes_into m limits room (intos.Walk s) h v is free fits = no_bytes m limits (messages.Walk s) h (v, is, free)
@@ -72,14 +72,14 @@ not_written m limits old (Err e) a is h b = record {
 
 -- ---- results of calls
 
--- a call that finds the length and refuses so answers if and only if there is one
+-- a call for the length succeeds if and only if the message has canonical bytes
 pub length_answered : (m : List (List ℕ)) (limits : Bounds) (r : Result CanonicalLength MessageRefusal)
     → IfOk r (λ c. (v : Tree) × IsCanonicalLength m limits v c) → IfErr r (λ e. HasNoBytes m limits e)
     → IsOk r ↔ HasBytes m limits
 length_answered m limits (Ok c) f e = ((λ k. (f.0, f.1.is, f.1.free)), (λ d. refl))
 length_answered m limits (Err x) f e = ((λ k. absurd cc), (λ d. absurd (no_bytes m limits x e d)))
 
--- a call that writes and refuses so answers if and only if there are bytes and room
+-- a call for a buffer succeeds if and only if the message has canonical bytes and the buffer has room for them
 pub into_answered : (m : List (List ℕ)) (limits : Bounds) (old new : List ℕ) (r : Result CanonicalLength IntoRefusal)
     → IfOk r (λ c. WrittenInto m limits old new c) → IfErr r (λ e. RefusedInto m limits (length old) e)
     → AnsweredInto m limits (length old) r
@@ -93,14 +93,14 @@ into_answered m limits old new (Err x) f e = (
 
 module _ (m : List (List ℕ)) (limits : Bounds) (old new : List ℕ) (c : CanonicalLength)
     (h : WrittenInto m limits old new c) where
-  -- they are the first of the buffer,
+  -- the first bytes of the buffer are the canonical bytes of the value
   first_bytes : take c.length new ≡ canon h.value
   first_bytes =
       let bs : List ℕ = canon h.value in
       ap (λ (n : ℕ). take n new) h.is.long ∙ ap (take (length bs)) h.written
       ∙ take-append_seam bs (drop (length bs) old)
 
-  -- as another call answers them;
+  -- the first bytes of the buffer are the result that another call gives for the message
   pub into_answers : AnswersMessage m limits (take c.length new) c.paid
   into_answers = record {
     value = h.value;
@@ -110,14 +110,14 @@ module _ (m : List (List ℕ)) (limits : Bounds) (old new : List ℕ) (c : Canon
     priced = h.is.pays;
   }
 
-  -- the others are as they were,
+  -- the bytes of the buffer after the canonical bytes are as they were
   pub into_past : drop c.length new ≡ drop c.length old
   into_past =
       let bs : List ℕ = canon h.value in
       ap (λ (n : ℕ). drop n new) h.is.long ∙ ap (drop (length bs)) h.written
       ∙ drop-append_seam bs (drop (length bs) old) ∙ ap (λ (n : ℕ). drop n old) (sym h.is.long)
 
-  -- and the length is inside
+  -- the number of canonical bytes is at most the length of the buffer
   pub into_inside : c.length ≤ length new
   into_inside =
       let bs : List ℕ = canon h.value in

@@ -1,5 +1,5 @@
--- A message of one segment is what its bytes are read as, and may be its own canonical bytes. (For `only_bytes`,
--- `own_canonical` and `own_words`.)
+-- The bytes of a message of one segment are read as that message, and may be its own canonical bytes. (For
+-- `only_bytes`, `own_canonical` and `own_words`.)
 use Rattle.std.proofs.Common.{◌≡◌, ℕ, ◌*◌, ◌^◌, ◌<◌, List, [], ◌∷◌, length, true, refl, ap, sym, ◌∙◌, subst, arith}
 use Rattle.std.proofs.Common.{Result, Ok}
 use Rattle.std.proofs.lemmas.List.{take_all}
@@ -14,11 +14,11 @@ use Rattle.capn_canon.specs.Denotes.{AnswersMessage}
 use Rattle.capn_canon.specs.declared.surveyed_bare.SurveyedBare.{SurveyedBare}
 use Rattle.capn_canon.specs.inner.OneSegment.{IsOnlySegment}
 
--- what bytes are read as
+-- the result of reading bytes as these words
 abbrev ok : List ℕ → Result (List ℕ) BareFault
 ok ws = Ok ws
 
--- all bytes of the first segment
+-- bytes that are all those of the first segment are its bytes
 all_bytes : (m : List (List ℕ)) (bs : List ℕ) → bs ≡ bytes_at m root (8 * length (segment_at m 0))
     → bs ≡ bytes (segment_at m 0)
 all_bytes m bs is =
@@ -26,7 +26,7 @@ all_bytes m bs is =
     let l = length-bytes seg in
     is ∙ take_all (8 * length seg) (bytes seg) (omega arith)
 
--- the bytes of the only segment
+-- the bytes of the only segment are read as the message
 pub one_segment : (m : List (List ℕ)) (bs : List ℕ) → IsMessage m → length m ≡ 1
     → bs ≡ bytes_at m root (8 * length (segment_at m 0)) → IsOnlySegment m bs
 one_segment [] bs is e eb = absurd (omega arith)
@@ -41,7 +41,7 @@ one_segment (ws ∷ []) bs is e eb = (
 )
 one_segment (ws ∷ (vs ∷ m)) bs is e eb = absurd (omega arith)
 
--- bytes are the canonical ones, since a survey of their words says so
+-- bytes are the canonical bytes of their value if a survey of their words says so
 pub own_answer : (bs ws vs : List ℕ) → IsBare bs ws → ok vs ≡ ok ws → (limits : Bounds) (c : SurveyedBare)
     → IsBareSurvey vs limits c → c.is_canonical ≡ true → AnswersMessage (ws ∷ []) limits bs c.paid
 own_answer bs ws vs bare same limits c told so =
@@ -56,13 +56,13 @@ own_answer bs ws vs bare same limits c told so =
       priced = here.pays;
     }
 
--- the answer of the only segment is that of the message
+-- the result for the words of the only segment is that for the message
 pub own_message : (m : List (List ℕ)) (bs : List ℕ) (price : ℕ) (limits : Bounds) (only : IsOnlySegment m bs)
     (own : List ℕ) → AnswersMessage (only.0 ∷ []) limits own price → AnswersMessage m limits own price
 own_message m bs price limits only own answer =
     subst (λ (n : List (List ℕ)). AnswersMessage n limits own price) (sym only.1) answer
 
--- there are less than 2^34 of them
+-- the bytes of a segment are fewer than 2^34
 pub own_short : (bs ws : List ℕ) → IsBare bs ws → length bs < 2 ^ 34
 own_short bs ws bare =
     let l = length-bytes ws in let e = ap length bare.same in let r = bare.room in omega arith

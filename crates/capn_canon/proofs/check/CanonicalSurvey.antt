@@ -1,5 +1,5 @@
--- Words whose root is in place are accepted; if they end with all below it, they are canonical, and as deep as the pass
--- came. (For `measure_root`.)
+-- Words whose root is in its canonical place are accepted. If they end with everything below it, they are canonical,
+-- and as deep as the pass found. (For `measure_root`.)
 use Rattle.std.proofs.Common.{◌≡◌, ℕ, ◌+◌, ◌-◌, ◌^◌, ◌<◌, ◌≤◌, Bool, true, List, [], ◌∷◌, ◌++◌, length, Option, Some}
 use Rattle.std.proofs.Common.{None, IsTrue, refl, ap, sym, subst, ◌∙◌, arith}
 use Rattle.std.specs.Option.{option_or}
@@ -25,7 +25,7 @@ use Rattle.capn_canon.proofs.check.DepthOfCanonical.{depth-of-canonical}
 use Rattle.capn_canon.proofs.theorem.Headline.{denoted_cost}
 use Rattle.capn_canon.proofs.reading.ReadBare.{root-alone}
 
--- one value
+-- a list of one value has a value and no other
 one-of : (ts : Trees) → count ts ≡ 1 → (v : Tree) × (ts ≡ tree v no_trees)
 one-of no_trees e = absurd (omega arith)
 one-of (tree v no_trees) e = (v, refl)
@@ -35,7 +35,7 @@ none-first : (a : Option ℕ) → option_or a None ≡ None → a ≡ None
 none-first None e = refl
 none-first (Some k) e = e
 
--- a value without capabilities may be a root
+-- a value without capabilities is allowed at the root
 pub free-root : (v : Tree) → first_cap v ≡ None → is_root v ≡ true
 free-root nil e = refl
 free-root (node ws ss) e = refl
@@ -48,7 +48,7 @@ free-root (rows bs) e = refl
 pays-nil : (vs : List Visit) (p n : ℕ) → Pays (vs ++ []) p n → Pays vs p n
 pays-nil vs p n h = subst (λ (us : List Visit). Pays us p n) (append-nil vs) h
 
--- what is found under the numbers that limits have is found under the limits
+-- what a pass finds under the numbers of the limits it finds under the limits
 pub under-limits : (all : List ℕ) (limits : Bounds) (deep : Bool) (b d l : ℕ) (q : Progress) (low : ℕ)
     → b ≡ base limits.tariff → d ≡ limits.depth → l ≡ limits.budget → FindsSlots all b deep 0 1 1 d l 1 d q low
     → FindsSlots all (base limits.tariff) deep 0 1 1 limits.depth limits.budget 1 limits.depth q low
@@ -98,7 +98,7 @@ module _ (all : List ℕ) (limits : Bounds) (deep : Bool) (some : 0 < length all
         is = in_place.are.0;
       }
 
-  -- what is counted so is what a survey of the words finds, and they are canonical if they end there
+  -- the counts of the pass are those of a survey of the words, and the words are canonical if they end there
   pub canonical-survey : (c : SurveyedBare) → c.paid ≡ limits.budget - q.left → c.visits ≡ q.visits
       → c.capability ≡ None → (IsTrue c.is_canonical → q.next ≡ length all)
       → ((v : Tree) → IsValueOf (all ∷ []) limits v → first_cap v ≡ None → canon v ≡ bytes all → IsTrue c.is_canonical)
@@ -117,7 +117,7 @@ module _ (all : List ℕ) (limits : Bounds) (deep : Bool) (some : 0 < length all
         answer = ((λ t. (free, ap bytes (words-are (ends t)))), (λ e. says value at-root e.0 e.1));
       }
 
-  -- and where the pass learned how deep it came, it was as deep as the words are
+  -- if the pass finds the depth, it is the depth of the words
   pub canonical-depth : q.next ≡ length all → IsMessage (all ∷ []) → limits.budget ≤ 2 ^ 28 → limits.depth ≤ 256
       → IsTrue deep → IsDepth (all ∷ []) limits (limits.depth - low) × (low ≤ limits.depth)
   canonical-depth ends is small shallow on =

@@ -1,5 +1,5 @@
--- The expectation at a slot whose word is the pointer to a list of structs: its tag and rows are at the next free word,
--- there is room for them, they can be paid, and all below them is expected. (For `open_composite`.)
+-- What a pass must find at a slot whose word is the pointer to a list of structs. The tag and the rows are at the next
+-- free word, there is room for them, they can be paid, and a layout follows below them. (For `open_composite`.)
 use Rattle.std.proofs.Common.{◌≡◌, ℕ, ◌+◌, ◌-◌, ◌*◌, ◌^◌, ◌<◌, ◌≤◌, List, [], ◌∷◌, length, slice_index, Ok}
 use Rattle.std.proofs.Common.{pos, refl, ap, sym, subst, ◌∙◌, arith}
 use Rattle.capn_words.specs.Message.{segment_at}
@@ -25,7 +25,7 @@ use Rattle.capn_canon.proofs.check.DueWords.{rows-of, same-number}
 use Rattle.capn_canon.proofs.reading.LaidPointers.{rows-names}
 use Rattle.capn_canon.proofs.reading.OneSegment.{here}
 
--- n rows of a words and b slots are expected after their tag at the next free word
+-- `n` rows of `a` words and `b` slots, laid out after their tag at the next free word
 pub record DueTagged (all : List ℕ) (base from to d left span : ℕ) : Type 0 where
   pub n : ℕ
   pub a : ℕ
@@ -174,7 +174,7 @@ module _ (all : List ℕ) (base from to d left span : ℕ) (h : DueValue all bas
         };
       }
 
--- what the fields of its tag say
+-- the fields of the tag word are the sizes of the rows
 pub tag-fields : (x n a b : ℕ) → n < 2 ^ 29 → a < 2 ^ 16 → b < 2 ^ 16 → x ≡ word_of (Node (pos n) a b)
     → (field 2 30 x ≡ n) × (field 32 16 x ≡ a) × (field 48 16 x ≡ b)
 tag-fields x n a b hn ha hb e = (omega arith, omega arith, omega arith)

@@ -1,5 +1,5 @@
--- The expectation at a slot whose word points to an object: the object is at the next free word, there is room for it,
--- it can be paid, and all below it is expected. (For the cycle `pass` and `open_struct`.)
+-- What a pass must find at a slot whose word points to an object. The object is at the next free word, there is room
+-- for it, it can be paid, and a layout follows below it. (For the cycle `pass` and `open_struct`.)
 use Rattle.std.proofs.Common.{◌≡◌, ◌≢◌, inl, inr, ℕ, ◌+◌, ◌-◌, ◌*◌, ◌%◌, ◌^◌, ◌<◌, ◌≤◌, List, []}
 use Rattle.std.proofs.Common.{◌∷◌, length, take, drop, slice_index, Ok, refl, ap, sym, subst, ◌∙◌, arith}
 use Rattle.capn_words.specs.Message.{segment_at}
@@ -32,20 +32,20 @@ module _ (all : List ℕ) (base from to d left : ℕ) (h : DueValue all base fro
   not-nil : slice_index all from ≢ 0 → h.value ≡ nil → ⊥
   not-nil ne e = ne (h.due.laid.pointer ∙ point-nil h.value from to e)
 
-  -- no object is expected where no depth is left
+  -- no object is laid out below a slot if no depth is left
   pub due-deep : slice_index all from ≢ 0 → d ≡ 0 → ⊥
   due-deep ne z =
       let c = content-of only (here from) h.value h.due.is h.due.free (not-nil ne) in
       subst (λ (vs : List Visit). AllPay vs) (visits-deep only base (here from) c.0 c.1 c.2 c.3 c.4 d z) h.due.pays.all
 
-  -- the word is one of those that point to the next free word
+  -- the word is one of the three pointers to the next free word
   pub due-near : from < to → to ≤ 2 ^ 29 → slice_index all from ≢ 0 → IsNear (slice_index all from) (to - from - 1)
   due-near order room ne =
       let e = h.due.laid.pointer in
       subst (λ (x : ℕ). IsNear x (to - from - 1)) (sym e)
       (near-word from to order room h.value h.due.free (λ z. ne (e ∙ z)))
 
-  -- an object can be paid, and then what is below it
+  -- the price of an object can be paid, and then that of what is below it
   pub due-price : (start : ℕ) (shape : Shape) → target only (here from) ≡ Ok (targets.Content 0 start shape 0) → 0 < d
       → (price base shape ≤ left)
       × IsWithin (left - price base shape) (visits_of only base (d - 1) (slots 0 start shape))
@@ -57,7 +57,7 @@ module _ (all : List ℕ) (base from to d left : ℕ) (h : DueValue all base fro
 
 -- ---- a struct
 
--- a struct of a words and b slots is expected at the next free word
+-- a struct of `a` words and `b` slots, laid out at the next free word
 pub record DueStruct (all : List ℕ) (base from to d left : ℕ) : Type 0 where
   pub a : ℕ
   pub b : ℕ
@@ -177,7 +177,7 @@ module _ (all : List ℕ) (base from to d left : ℕ) (h : DueValue all base fro
         };
       }
 
--- what the fields of its pointer say
+-- the fields of the pointer are the sizes of the struct
 pub struct-tag : (all : List ℕ) (base from to d left x a b : ℕ) (k : DueStruct all base from to d left) → from < to
     → to ≤ 2 ^ 29 → x ≡ slice_index all from → a ≡ field 32 16 x → b ≡ field 48 16 x → (a ≡ k.a) × (b ≡ k.b)
 struct-tag all base from to d left x a b k order room e ea eb =

@@ -1,5 +1,5 @@
--- The value to which a word of a layout points, by its lowest bits, and its fields. (For `DueComposite`, `DueLists` and
--- `DueObjects`.)
+-- The kind of the value that a word of a layout points to, by the word's lowest bits, and the fields of the word. (For
+-- `DueComposite`, `DueLists` and `DueObjects`.)
 use Rattle.std.proofs.Common.{◌≡◌, ◌≢◌, ◌⊎◌, inl, inr, ℕ, zero, suc, ◌+◌, ◌-◌, ◌*◌, ◌%◌, ◌^◌, ◌<◌, ◌≤◌, ◌==◌, ◌&&◌}
 use Rattle.std.proofs.Common.{Bool, true, false, if◌then◌else◌, List, length, None, Ok, pos, negsuc, refl, ap, sym}
 use Rattle.std.proofs.Common.{◌∙◌, arith}
@@ -37,7 +37,7 @@ abbrev pub IsNear : ℕ → ℕ → Type 0
 IsNear x n = (x ≡ 0xffff_fffc) ⊎ ((x % 2 ^ 32 ≡ 4 * n) ⊎ (x % 2 ^ 32 ≡ 4 * n + 1))
 
 module _ (from to : ℕ) (order : from < to) (room : to ≤ 2 ^ 29) where
-  -- a word of a layout that isn't null is one of the three
+  -- a word of a layout that isn't null is one of the three pointers to the next free word
   pub near-word : (v : Tree) → first_cap v ≡ None → point v from to ≢ 0 → IsNear (point v from to) (to - from - 1)
   unfolding point
   near-word nil e z = absurd (z refl)
@@ -53,7 +53,7 @@ module _ (from to : ℕ) (order : from < to) (room : to ≤ 2 ^ 29) where
   near-word (links ts) e z = inr (inr (omega arith))
   near-word (rows bs) e z = inr (inr (omega arith))
 
-  -- one whose lowest bits are 0 is a struct's
+  -- a word whose lowest bits are 0 points to a struct
   pub struct-of : (v : Tree) → first_cap v ≡ None → point v from to ≢ 0 → point v from to % 4 ≡ 0
       → (ws : List ℕ) × (ss : Trees) × (v ≡ node ws ss)
   unfolding point
@@ -78,7 +78,7 @@ module _ (from to : ℕ) (order : from < to) (room : to ≤ 2 ^ 29) where
       (grind (arith, nat_tests))) in
       (ap (field 32 16) e ∙ omega arith, ap (field 48 16) e ∙ omega arith)
 
-  -- the pointers to two lists are equal only if they say the same
+  -- the pointers to two lists are equal only if the lists have the same width and count
   module _ (k l : Width) (n m : ℕ) (hn : n < 2 ^ 29) (hm : m < 2 ^ 29)
       (e : list_to from to k n ≡ list_to from to l m) where
     same-pointer : Many (pos (to - suc from)) k n ≡ Many (pos (to - suc from)) l m
@@ -94,7 +94,7 @@ module _ (from to : ℕ) (order : from < to) (room : to ≤ 2 ^ 29) where
 
 -- ---- the target of a value that isn't null
 
--- content is named at a place
+-- the pointer at a place has content for a target
 abbrev pub HasContent : List (List ℕ) → Place → Type 0
 HasContent m at = (s start pads : ℕ) × (shape : Shape) × (target m at ≡ Ok (targets.Content s start shape pads))
 
@@ -114,7 +114,7 @@ point-nil v from to e = ap (λ (x : Tree). point x from to) e
 
 -- ---- the target of a list
 
--- a list that isn't composite is named at a place
+-- the pointer at a place has a list that isn't composite for a target
 abbrev pub NamesList : List (List ℕ) → Place → Width → ℕ → Type 0
 NamesList m at k n = (s start pads : ℕ) × (target m at ≡ Ok (targets.Content s start (shapes.Many k n) pads))
 

@@ -1,5 +1,5 @@
--- The finding of a pass at the slots in hand, from those at the first of them, below it and after it. (For `objects.rt`
--- and `one_pass.rt`.)
+-- What a pass finds at its slots, from what it finds at the first of them, below it and after it. (For `objects.rt` and
+-- `one_pass.rt`.)
 use Rattle.std.proofs.Common.{◌≡◌, ℕ, zero, suc, ◌+◌, ◌-◌, ◌*◌, ◌^◌, ◌<◌, ◌≤◌, ◌==◌, List, [], ◌∷◌, length, take, drop}
 use Rattle.std.proofs.Common.{Option, Some, None, IfSome, slice_index, refl, sym, subst, ◌∙◌, arith, pos, negsuc}
 use Rattle.std.proofs.Common.{if◌then◌else◌, Bool}
@@ -20,12 +20,12 @@ use Rattle.capn_canon.proofs.places.InPlace.{empty-in-place}
 use Rattle.capn_canon.proofs.places.InPlace.{links-in-place, no-rows-in-place, rows-in-place, composite-in-place}
 use Rattle.capn_canon.proofs.places.InPlace.{composite-ends}
 
--- what is said of an answer, from what is known of it
+-- if one property implies another, and an option's value has the one, it has the other
 pub if-some : {A : Type 0} {P Q : A → Type 0} → (r : Option A) → ((x : A) → P x → Q x) → IfSome r P → IfSome r Q
 if-some (Some x) f h = f x h
 if-some None f h = tt
 
--- the slots after the first
+-- the pass at the slots after the first
 abbrev pub behind : Pass → Progress → Pass
 behind p g = record {
   from = p.from + 1;
@@ -36,12 +36,12 @@ behind p g = record {
   visits = g.visits;
 }
 
--- how far it has come
+-- the progress of a pass
 abbrev pub come : Pass → Progress
 come p = record { next = p.next; left = p.left; visits = p.visits }
 
 module _ (all : List ℕ) (base : ℕ) (deep : Bool) where
-  -- where no slot is left, nothing is found
+  -- if no slot is left, nothing is found
   pub finds-none : (p : Pass) (least : ℕ) → p.end ≤ p.from → IsOpen all p → Finds all base deep p least (come p) least
   finds-none p least le o = record {
     values = no_trees;
@@ -59,7 +59,7 @@ module _ (all : List ℕ) (base : ℕ) (deep : Bool) where
     lowered = λ on le. omega arith;
   }
 
-  -- a null slot
+  -- a null slot has the null value, in place
   pub finds-null : (p : Pass) (least : ℕ) → IsOpen all p → slice_index all p.from ≡ 0
       → FindsFirst all base deep p least (come p) least
   finds-null p least o z = record {
@@ -121,7 +121,7 @@ module _ (all : List ℕ) (base : ℕ) (deep : Bool) where
               let first = v.lowered on le in let others = f.lowered on (omega arith) in omega arith;
         }
 
-  -- the pass goes on with those after it
+  -- the pass continues with the slots after the first
   pub goes-behind : (p : Pass) (least here : ℕ) → p.from < p.end → IsOpen all p → (g : Progress)
       → FindsFirst all base deep p least g here → (r : Pass) → r ≡ behind p g
       → (p.from < r.from) × IsOpen all r × Leads all base deep p least r here
@@ -129,7 +129,7 @@ module _ (all : List ℕ) (base : ℕ) (deep : Bool) where
       subst (λ (s : Pass). (p.from < s.from) × IsOpen all s × Leads all base deep p least s here) (sym e)
       (omega arith, behind-opened p least here some o g v, behind-leads p least here some o g v)
 
-  -- where the first is the last, what is found at it is all
+  -- if the first slot is the last, what is found at it is all that is found
   pub last-leads : (p : Pass) (least : ℕ) → p.from + 1 ≡ p.end → IsOpen all p → (q : Progress) (low : ℕ)
       → FindsFirst all base deep p least q low → Finds all base deep p least q low
   last-leads p least e o q low v =
@@ -268,7 +268,7 @@ module _ (all : List ℕ) (base : ℕ) (deep : Bool) where
 
   -- ---- rows
 
-  -- where no row is left, nothing is found
+  -- if no row is left, nothing is found
   pub finds-no-rows : (a b from d least : ℕ) (g : Progress) → g.next ≤ length all → g.visits ≤ g.next
       → FindsRows all base deep a b from 0 g.next d g.left g.visits least g least
   finds-no-rows a b from d least g fits few = record {
@@ -322,7 +322,7 @@ module _ (all : List ℕ) (base : ℕ) (deep : Bool) where
             let first = v.lowered on le in let others = f.lowered on (omega arith) in omega arith;
       }
 
-  -- where rows have no slots, nothing is found below them
+  -- if rows have no slots, nothing is found below them
   pub finds-bare-rows : (a b from n d least : ℕ) (g : Progress) → b ≡ 0 → from + n * a ≤ length all
       → g.next ≤ length all → g.visits ≤ g.next
       → FindsRows all base deep a b from n g.next d g.left g.visits least g least

@@ -34,7 +34,7 @@ module _ (all : List ℕ) where
   AtPlaces (at ∷ ps) (tree t ts) = IsAt only at t × (first_cap t ≡ None) × AtPlaces ps ts
   AtPlaces _ _ = ⊥
 
-  -- those at the first places, and those at the others
+  -- the values at the first places, and those at the others
   record Parted (ps qs : List Place) : Type 0 where
     pub first : Trees
     pub others : Trees
@@ -48,7 +48,7 @@ module _ (all : List ℕ) where
       let k = parted ps qs ts h.2 in
       record { first = tree t k.first; others = k.others; at_first = (h.0, h.1, k.at_first); at_others = k.at_others }
 
-  -- values at slots that follow one another
+  -- values at the places of slots that follow one another are values at the slots
   slots-at : (w n : ℕ) (ts : Trees) → AtPlaces (places 0 w n) ts → AreAt only 0 w ts × (count ts ≡ n)
       × (first_in ts ≡ None)
   slots-at w zero no_trees h = (tt, refl, refl)
@@ -62,7 +62,7 @@ module _ (all : List ℕ) where
         none-or (first_cap t) (first_in ts) h.1 k.2,
       )
 
-  -- and at those of rows
+  -- values at the places of the slots of rows are values at the rows
   rows-at : (a b n w : ℕ) (ts : Trees) → w + n * (a + b) ≤ length all → AtPlaces (row_places 0 w a b n) ts
       → (bs : Bodies) × RowsAt only a b 0 w bs × (count_rows bs ≡ n) × (first_in_rows bs ≡ None)
   rows-at a b zero w ts le h = (no_bodies, tt, refl, refl)
@@ -79,7 +79,7 @@ module _ (all : List ℕ) where
         none-or (first_in p.first) (first_in_rows bs) k.2 free,
       )
 
-  -- a value is inside the content of a shape
+  -- a value that has the content of a shape
   abbrev Held : ℕ → Shape → Type 0
   Held start shape = (v : Tree) × IsInside only shape 0 start v × (first_cap v ≡ None)
 
@@ -108,7 +108,7 @@ module _ (all : List ℕ) where
     refl,
   )
 
-  -- that of an object whose slots have values
+  -- an object whose slots have values has a value
   held : (start : ℕ) (shape : Shape) (ts : Trees) → start + extent shape ≤ length all → RowsFit shape
       → AtPlaces (slots 0 start shape) ts → Held start shape
   held start (shapes.Node a b) ts le fit h =
@@ -138,7 +138,7 @@ module _ (all : List ℕ) where
         free,
       )
 
-  -- where pointers are met in preorder, each has a value
+  -- if pointers are visited in preorder, each has a value
   valued : (met : List Met) (todo : List Place) → InPreorder all todo met → (ts : Trees) × AtPlaces todo ts
   valued [] [] h = (no_trees, tt)
   valued [] (at ∷ todo) h = absurd h

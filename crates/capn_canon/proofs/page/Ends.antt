@@ -1,4 +1,4 @@
--- Words that are kept whole end in one that isn't zero, and words without bits past their end are their first bits.
+-- Words that are all kept end in one that isn't zero, and words that have no bits past their end are their first bits.
 -- (For `LaidFollows` and `Stands`.)
 use Rattle.std.proofs.Common.{◌≡◌, ◌≢◌, ◌⊎◌, inl, inr, ℕ, zero, suc, ◌+◌, ◌-◌, ◌*◌, ◌/◌, ◌%◌, ◌^◌, ◌<◌, ◌≤◌, List, []}
 use Rattle.std.proofs.Common.{◌∷◌, length, take, drop, slice_index, ap, sym, subst, ◌∙◌, arith}

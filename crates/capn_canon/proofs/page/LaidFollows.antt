@@ -55,11 +55,12 @@ module _ (all : List ℕ) (message : IsMessage (all ∷ [])) where
   few-words : length all ≤ 2 ^ 29
   few-words = small all message
 
-  -- the pointers from the slot on follow the rules, if those after it do from the end of what is below it
+  -- if the pointers after the slot follow the rules from the end of what is below it, so do the pointers from the slot
+  -- on
   abbrev pub Goes : ℕ → ℕ → List Place → Type 0
   Goes to end todo = (met : List Met) × Follows all to todo met
 
-  -- an object that is met
+  -- the pointers from a slot that names an object
   meets : (from to start : ℕ) (shape : Shape) (others : List Place)
       → target only (here from) ≡ Ok (targets.Content 0 start shape 0) → IsRight all to from start shape
       → (met : List Met) × Follows all (to + extent shape) (slots 0 start shape ++ others) met
@@ -85,7 +86,7 @@ module _ (all : List ℕ) (message : IsMessage (all ∷ [])) where
         × (slice_index all from ≡ struct_to from to a b) × (to + (a + b) ≤ length all)
     passes = struct-passes all a b s w from to pads e few-words lies order (node ws ss) it o fits laid
 
-    -- where the struct is: at the next free word, or at its pointer if it has no words
+    -- the place of the struct: the next free word, or its pointer if it has no words
     struct-named : (start : ℕ) × (target only (here from) ≡ Ok (targets.Content 0 start (shapes.Node a b) 0))
         × (((IsEmpty (shapes.Node a b) → ⊥) × (start ≡ to)) ⊎ ((start ≡ from) × (a ≡ 0) × (b ≡ 0)))
     struct-named =

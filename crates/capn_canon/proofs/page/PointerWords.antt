@@ -1,4 +1,4 @@
--- The word of a pointer to content of the one segment, from what it names. (For `Stands`.)
+-- The word of a pointer to content of the only segment, from the target that it has. (For `Stands`.)
 use Rattle.std.proofs.Common.{◌≡◌, ◌⊎◌, inl, inr, ℕ, zero, suc, ◌+◌, ◌-◌, ◌%◌, ◌^◌, ◌<◌, ◌==◌, ◌&&◌}
 use Rattle.std.proofs.Common.{List, [], ◌∷◌, slice_index, Ok, nat_lt, Bool, true, false, ℤ, pos, negsuc}
 use Rattle.std.proofs.Common.{if◌then◌else◌, refl, ap, sym, subst, ◌∙◌, arith}
@@ -23,7 +23,7 @@ use Rattle.capn_canon.proofs.reading.OneSegment.{here}
 
 -- ---- a word is that of the pointer that it holds
 
--- the word is that of a pointer to a struct or a list
+-- the word is the encoding of a pointer to a struct or a list
 abbrev IsWordOf : ℕ → Pointer → Type 0
 IsWordOf w (Node o a b) = w ≡ word_of (Node o a b)
 IsWordOf w (Many o k n) = w ≡ word_of (Many o k n)
@@ -82,7 +82,7 @@ ahead from to (negsuc n) lt e = absurd (back (nat_lt from n) e)
     back true f = cc
     back false f = let g : from - n ≡ to = cc in omega arith
 
--- one that leads to the pointer itself is -1
+-- an offset that leads to the pointer itself is -1
 itself : (from : ℕ) (o : ℤ) → content_start from o ≡ Ok from → o ≡ negsuc 0
 itself from (pos n) e = absurd (let f : from + 1 + n ≡ from = cc in omega arith)
 itself from (negsuc n) e = back (nat_lt from n) refl e
@@ -156,7 +156,7 @@ module _ (all : List ℕ) (from start : ℕ) where
   near-rows n a b span (Cap k) l d = absurd l
   near-rows n a b span (Reserved k) l d = absurd l
 
-  -- what is named without a pad is named by the pointer's own offset
+  -- a target without a pad is named by the pointer's own offset
   own-offset : (shape : Shape) → target only (here from) ≡ Ok (targets.Content 0 start shape 0)
       → LeadsTo from (pointer_of (slice_index all from)) start
       × Describes only (pointer_of (slice_index all from)) 0 start shape
@@ -207,7 +207,7 @@ module _ (all : List ℕ) (each : (k : ℕ) → slice_index all k < 2 ^ 64) (fro
       both zero (suc b) ea eb = absurd (omega arith)
       both (suc a) b ea eb = absurd (omega arith)
 
-  -- that of the pointer to a list that isn't composite
+  -- the word of the pointer to a list that isn't composite
   pub list-pointer : (to n : ℕ) (width : Width) → from < to
       → target (all ∷ []) (here from) ≡ Ok (targets.Content 0 to (shapes.Many width n) 0)
       → slice_index all from ≡ list_to from to width n
@@ -216,7 +216,7 @@ module _ (all : List ℕ) (each : (k : ℕ) → slice_index all k < 2 ^ 64) (fro
       let (o, is, leads) = near-list all from to width n (pointer_of (slice_index all from)) k.0 k.1 in
       held (Many (pos (to - suc from)) width n) (is ∙ ap (λ (z : ℤ). Many z width n) (ahead from to o lt leads))
 
-  -- and that of the pointer to a list of structs, with its tag
+  -- the word of the pointer to a list of structs, with its tag word
   pub rows-pointer : (to n a b span : ℕ) → from < to
       → target (all ∷ []) (here from) ≡ Ok (targets.Content 0 to (shapes.Rows n a b span) 0)
       → (slice_index all from ≡ list_to from to Rows span) × (slice_index all to ≡ word_of (Node (pos n) a b))

@@ -1,5 +1,5 @@
--- An object's own words are those of its layout if and only if the pointer is the one to the next free word, and so on
--- below it. (For `check_numbers`, `open_composite`, `open_struct` and `survey_bare_counted`.)
+-- An object's own words are those of its layout if and only if its pointer leads to the next free word, and the same
+-- holds of each object below it. (For `check_numbers`, `open_composite`, `open_struct` and `survey_bare_counted`.)
 use Rattle.std.proofs.Common.{◌≡◌, ◌⊎◌, inl, inr, ℕ, zero, suc, ◌+◌, ◌^◌, ◌<◌, ◌≤◌, List, [], ◌∷◌, ◌++◌}
 use Rattle.std.proofs.Common.{length, take, slice_index, Ok, refl, ap, ap₂, sym, subst, ◌∙◌, arith}
 use Rattle.std.proofs.Common.{false}
@@ -104,7 +104,7 @@ module _ (all : List ℕ) (a b s w from to pads : ℕ)
   narrow = let x = struct-sound.0 in let y = struct-sound.1 in let c = struct-is.count in let d = struct-is.number in
       (omega arith, omega arith)
 
-  -- where the words are those of the layout, the test is passed
+  -- if the words are those of the layout, the test is passed
   pub struct-passes : IsLaidAt all v from to →
       (kept_words (take a (words_from (all ∷ []) s w)) ≡ a)
       × (kept_words (take b (words_from (all ∷ []) s (w + a))) ≡ b) × (slice_index all from ≡ struct_to from to a b)
@@ -140,7 +140,7 @@ module _ (all : List ℕ) (a b s w from to pads : ℕ)
           → b ≡ y
       same-b start x y f = cc
 
-  -- where it is passed, the object is at the next free word, if it has words
+  -- if the test is passed, the object is at the next free word, unless it has no words
   module _ (ka : kept_words (take a (words_from (all ∷ []) s w)) ≡ a)
       (kb : kept_words (take b (words_from (all ∷ []) s (w + a))) ≡ b)
       (p : slice_index all from ≡ struct_to from to a b) (room : to + (a + b) ≤ length all) where
@@ -201,7 +201,7 @@ module _ (all : List ℕ) (a b s w from to pads : ℕ)
     ks : kept_slots struct-is.slots ≡ b
     ks = sym kept-below ∙ kb
 
-    -- the layout: all words, all pointers, and what is below
+    -- the layout of the struct is all its words, all its pointers, and the layout of what is below
     lay-is : lay (node struct-is.words struct-is.slots) to ≡ struct-is.words
         ++ (points struct-is.slots (to + a) (to + a + b) ++ lays struct-is.slots (to + a + b))
     lay-is =

@@ -1,5 +1,5 @@
--- Rows are their layout if and only if they keep all their words and slots, at the next free word, and so on below
--- them. (For `DueComposite`, `DueSlots`, `InPlace` and others.)
+-- The words of rows are their layout if and only if all words and slots are kept, the rows are at the next free word,
+-- and the same holds of each object below them. (For `DueComposite`, `DueSlots`, `InPlace` and others.)
 use Rattle.std.proofs.Common.{◌≡◌, ℕ, suc, ◌+◌, ◌*◌, ◌^◌, ◌<◌, ◌≤◌, List, [], ◌∷◌, ◌++◌}
 use Rattle.std.proofs.Common.{length, slice_index, Ok, refl, ap, ap₂, sym, subst, ◌∙◌, arith}
 use Rattle.std.specs.Prelude.{pos}

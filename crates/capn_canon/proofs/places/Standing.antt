@@ -1,4 +1,5 @@
--- Words that are in others, cut and joined. (For `CanonicalWords`, `Compared`, `ComparedRows` and others.)
+-- Words that are found in other words, when either are cut and joined. (For `CanonicalWords`, `Compared`,
+-- `ComparedRows` and others.)
 use Rattle.std.proofs.Common.{◌≡◌, ℕ, zero, suc, ◌+◌, ◌<◌, ◌≤◌, List, [], ◌∷◌, ◌++◌, length}
 use Rattle.std.proofs.Common.{take, drop, slice_index, refl, ap, ap₂, sym, ◌∙◌, arith, length-append}
 use Rattle.std.proofs.Common.{length-drop}
@@ -66,7 +67,7 @@ module _ (all : List ℕ) (at : ℕ) where
   pub stand-back : (xs ys : List ℕ) → Stand all at (xs ++ ys) → Stand all (at + length xs) ys
   stand-back xs ys h = (both xs ys h).1
 
-  -- one word, and those after it
+  -- a word and others after it are found at a place, if each is found where it has to be
   pub stand-cons : (x : ℕ) (xs : List ℕ) → at < length all → slice_index all at ≡ x → Stand all (suc at) xs
       → Stand all at (x ∷ xs)
   stand-cons x xs lt e h = ap (λ (zs : List ℕ). take (suc (length xs)) zs) (drop-cons all at 0 lt)

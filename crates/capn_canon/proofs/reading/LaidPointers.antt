@@ -47,7 +47,7 @@ module _ (all : List ℕ) (small : length all ≤ 2 ^ 29) where
         inl refl,
       )
 
-  -- words or slots that are at a place are also at any other, if there are none of them
+  -- words that are at a place are also at another, if the places are equal or there are no words
   moved-words : (start at : ℕ) (xs : List ℕ) → (start ≡ at) ⊎ (length xs ≡ 0) → AreWordsAt only 0 at xs
       → AreWordsAt only 0 start xs
   moved-words start at xs (inl e) h = subst (λ (p : ℕ). AreWordsAt only 0 p xs) (sym e) h
@@ -78,7 +78,7 @@ module _ (all : List ℕ) (small : length all ≤ 2 ^ 29) where
         inside = (moved-words start at xs one ws, moved-slots (start + length xs) (at + a) ts two ss);
       }
 
-  -- so is a list that is not composite
+  -- a list that is not composite is the target of the pointer that names its place
   pub list-names : (from at c : ℕ) (k : Width) → IsPlain k → from < at → at + content_words k c ≤ length all
       → c < 2 ^ 29 →
       slice_index all from ≡ list_to from at k c
@@ -88,7 +88,7 @@ module _ (all : List ℕ) (small : length all ≤ 2 ^ 29) where
       names-list all from (at - suc from) c k p e (omega arith) hc (omega arith)
       ∙ ap (λ (q : ℕ). Ok (targets.Content 0 q (shapes.Many k c) 0)) s
 
-  -- and one whose elements are packed into words
+  -- a list whose elements are packed into words is read from the pointer that names its place
   pub elements-at : (from at : ℕ) (k : Width) (each width c n : ℕ) (xs : List ℕ) → IsPlain k → content_words k c ≡ n →
       0 < each → 0 < 2 ^ width → AreBelow (2 ^ width) xs → ((i : ℕ) → i < length xs → i / each < n) → from < at
       → c < 2 ^ 29 →
@@ -106,7 +106,7 @@ module _ (all : List ℕ) (small : length all ≤ 2 ^ 29) where
             (packed-elements each width n xs has.behind some base below room);
       }
 
-  -- and a struct list with its tag
+  -- a composite list with its tag is the target of the pointer that names its place
   pub rows-names : (from at c a b : ℕ) → from < at → at + (1 + c * (a + b)) ≤ length all → c < 2 ^ 29 → a < 2 ^ 16
       → b < 2 ^ 16 → c * (a + b) < 2 ^ 29 →
       slice_index all from ≡ list_to from at Rows (c * (a + b)) → slice_index all at ≡ word_of (Node (pos c) a b) →

@@ -1,4 +1,4 @@
--- Canonical words, read again, have the trimmed value at the root, and are paid exactly its cost. (For
+-- Canonical words, read again, have the trimmed value at the root, and their walk pays exactly its cost. (For
 -- `EqualExactlySame`, `ReadBare` and `ThePage`.)
 use Rattle.std.proofs.Common.{◌≡◌, ℕ, zero, suc, ◌+◌, ◌*◌, ◌^◌, ◌<◌, ◌≤◌, List, [], ◌∷◌, ◌++◌}
 use Rattle.std.proofs.Common.{length, take, slice_index, Ok, pos, refl, ap, sym, subst, ◌∙◌, arith}
@@ -200,7 +200,7 @@ reads_tight v h small =
 pub read_back : (v : Tree) → Sound v → length (words v) ≤ 2 ^ 29 → IsAt (words v ∷ []) (here 0) (trimmed v)
 read_back v h small = loosen (words v ∷ []) (trimmed v) (here 0) (reads_tight v h small)
 
--- its visits have no fault and pay exactly the cost of the trimmed value
+-- the visits of the canonical words have no fault and pay exactly the cost of the trimmed value
 pub pays_cost : (v : Tree) (base d : ℕ) → Sound v → length (words v) ≤ 2 ^ 29 → height (trimmed v) ≤ d →
     Pays (words v ∷ []) base (visits (words v ∷ []) base d (here 0)) (cost base (trimmed v))
 pays_cost v base d h small tall = exact (words v ∷ []) base (trimmed v) (here 0) d tall (reads_tight v h small)

@@ -1,4 +1,4 @@
--- Canonical bytes, read bare, denote the trimmed value, and are paid exactly its cost. (For `CanonicalSurvey`,
+-- Canonical bytes, read bare, denote the trimmed value, and their walk pays exactly its cost. (For `CanonicalSurvey`,
 -- `DepthOfCanonical`, `DueRoot` and `Headline`.)
 use Rattle.std.proofs.Common.{◌≡◌, ℕ, ◌^◌, ◌≤◌, List, [], ◌∷◌, length, true, refl, ap, sym, ◌∙◌, arith}
 use Rattle.capn_words.proofs.shared.OneSegment.{bare_only}
@@ -24,7 +24,7 @@ use Rattle.capn_canon.proofs.reading.Tight.{Pays}
 use Rattle.capn_canon.proofs.reading.ReadBack.{read_back, pays_cost}
 use Rattle.capn_canon.proofs.shared.BareCanon.{canon_is_bare, words_in_canon}
 
--- the root's visits are those of its slot, where a value that may be a root is there
+-- the visits of the root are those of its slot, if the value there is allowed at the root
 pub root-alone : (m : List (List ℕ)) (base depth : ℕ) (v : Tree) → is_root v ≡ true → IsAt m root v
     → root_visits m base depth ≡ visits m base depth root
 unfolding root_visits

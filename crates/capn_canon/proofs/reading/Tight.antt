@@ -24,15 +24,15 @@ use Rattle.capn_walk.proofs.shared.Costs.{paid-append}
 use Rattle.capn_walk.proofs.shared.Numbers.{no-slots, numbers-price}
 
 module _ (m : List (List ℕ)) where
-  -- by a near pointer
+  -- a target that is named by a near pointer, without a landing pad
   pub record Close (at : Place) (shape : Shape) (Inside : ℕ → ℕ → Type 0) : Type 0 where
     pub segment : ℕ
     pub start : ℕ
     pub is : target m at ≡ Ok (targets.Content segment start shape 0)
     pub inside : Inside segment start
 
-  -- the value is at the place, each of its parts named by a near pointer, and the words of struct lists being those
-  -- of the rows
+  -- the value is at the place, each of its parts is named by a near pointer, and the words of each composite list are
+  -- exactly those of its rows
   abbrev mutual
     pub TightAt : Place → Tree → Type 0
     TightAt at nil = target m at ≡ Ok targets.Nil
@@ -55,7 +55,7 @@ module _ (m : List (List ℕ)) where
     TightRows a b s w (body ws ss bs) =
         (length ws ≡ a) × (count ss ≡ b) × AreWordsAt m s w ws × AreTight s (w + a) ss × TightRows a b s (w + a + b) bs
 
-  -- such a value is at the place
+  -- a value without landing pads and slack at a place is a value at the place
   mutual
     pub loosen : (v : Tree) (at : Place) → TightAt at v → IsAt m at v
     loosen nil at h = h
@@ -126,7 +126,7 @@ rows-price bs a b e =
         omega arith in grind (arith, nat_tests)
 
 module _ (m : List (List ℕ)) (base : ℕ) where
-  -- no fault, and a sum
+  -- visits without a fault, which pay `n` words together
   pub record Pays (vs : List Visit) (n : ℕ) : Type 0 where
     pub all : AllPay vs
     pub sum : paid_of vs ≡ n
@@ -148,7 +148,7 @@ module _ (m : List (List ℕ)) (base : ℕ) where
   alone p c e = omega arith
 
   mutual
-    -- the visits of such a value have no fault and pay exactly its cost
+    -- the visits of a value without landing pads and slack have no fault and pay exactly its cost
     pub exact : (v : Tree) (at : Place) (d : ℕ) → height v ≤ d → TightAt m at v
         → Pays (visits m base d at) (cost base v)
     exact nil at d l h = let e = visits-null m base at d h in record { all = rw e tt; sum = ap paid_of e ∙ omega arith }

@@ -30,12 +30,12 @@ use Rattle.capn_target.specs.Target.{list_width}
 
 -- ---- lists of numbers below a bound
 
--- what is below a bound in two lists is so in the joined one
+-- if the numbers in two lists are below a bound, so are those in the joined list
 pub below-append : (most : ℕ) (xs ys : List ℕ) → AllBelow most xs → AllBelow most ys → AllBelow most (xs ++ ys)
 below-append most [] ys h k = k
 below-append most (x ∷ xs) ys h k = (h.0, below-append most xs ys h.1 k)
 
--- and in what is left of a list
+-- if the numbers in a list are below a bound, so are those after the first `n`
 pub below-drop : (most n : ℕ) (xs : List ℕ) → AllBelow most xs → AllBelow most (drop n xs)
 below-drop most zero xs h = h
 below-drop most (suc n) [] h = tt
@@ -43,7 +43,7 @@ below-drop most (suc n) (x ∷ xs) h = below-drop most n xs h.1
 
 -- ---- elements packed into words
 
--- at most n digits are a number below the n-th power of their base
+-- at most `n` digits make a number below the `n`-th power of their base
 digits-below : (base n : ℕ) (xs : List ℕ) → 0 < base → AllBelow base xs → number base (take n xs) < base ^ n
 digits-below base zero xs p h = omega (arith, pow-zero base)
 digits-below base (suc n) [] p h = omega (arith, one-le-pow (suc n) base p)
@@ -71,7 +71,7 @@ struct-below : (from to a b : ℕ) → to ≤ 2 ^ 29 → a < 2 ^ 16 → b < 2 ^ 
 struct-below from to a b ht ha hb =
     pick (λ (p : Pointer). word_of p < 2 ^ 64) ((a == 0) && (b == 0)) _ _ (λ e. omega arith) (λ e. omega arith)
 
--- a pointer to content that starts at word 2^29 at the latest
+-- the word of a pointer to content that starts at word 2^29 at the latest is below 2^64
 point-below : (v : Tree) (from to : ℕ) → Sound v → to ≤ 2 ^ 29 → point v from to < 2 ^ 64
 unfolding point
 point-below nil from to h l = omega arith
@@ -164,15 +164,16 @@ words_are_words v f r =
       lay-below v 1 s r (omega arith),
     )
 
--- its canonical bytes are those of a bare message, whose words are the canonical words
+-- the canonical bytes of a value that fits and is in range are those of a bare message, whose words are its canonical
+-- words
 pub canon_is_bare : (v : Tree) → Fits v → InRange v → IsBare (canon v) (words v)
 canon_is_bare v f r = record { same = refl; each = words_are_words v f r; room = (room v f r).2 }
 
--- the words in the canonical bytes are the canonical words
+-- the words that the canonical bytes encode are the canonical words
 pub words_in_canon : (v : Tree) → Fits v → InRange v → words_in (length (canon v) / 8) (canon v) ≡ words v
 words_in_canon v f r = bare_only (canon v) (words v) (canon_is_bare v f r)
 
--- there are 8 canonical bytes for the root's pointer, and at most 8 for each word of the cost, under either tariff
+-- the canonical bytes are 8 for the root's pointer, and at most 8 for each word of the cost, under either tariff
 pub canon_length : (v : Tree) (base : ℕ) → Fits v → InRange v → (length (canon v) ≡ 8 * (1 + size v))
     × (length (canon v) ≤ 8 * (cost base v + 1))
 canon_length v base f r =

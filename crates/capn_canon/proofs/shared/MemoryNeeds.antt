@@ -24,12 +24,12 @@ starts (g ∷ gs) b text max each is same some fits = record {
       omega (arith, length_content g each.0, ap length same, length-append (group_bytes g) (contents gs));
 }
 
--- a text that packs bytes begins with a whole group
+-- a packed text that unpacks to any bytes begins with a whole group
 pub starts_within : (b text : List ℕ) (max : ℕ) → Packs b text → 0 < length text → length text ≤ 8 * max
     → StartsWithin b max
 starts_within b text max p some fits = starts p.groups b text max p.each p.is_text p.are_bytes some fits
 
--- memory is needed for a packed text if it is for what it unpacks to
+-- memory may be needed for a packed text if it is needed for the bytes that it unpacks to
 pub packed_wanted : (bs text : List ℕ) (limits : Bounds) → Unpacks bs limits.message_words text
     → MayNeedMemory forms.Stream text limits → MayNeedMemory forms.Packed bs limits
 packed_wanted bs text limits u h =
@@ -37,7 +37,7 @@ packed_wanted bs text limits u h =
 
 -- ---- canonical bytes
 
--- what is needed for a message is needed for the bytes that are read as it
+-- memory that may be needed for a message may be needed for the bytes that are read as it
 pub bytes_wanted : (form : Form) (bs : List ℕ) (limits : Bounds) (m : List (List ℕ))
     → Reads form bs limits.message_words m → MayNeedBytes m limits → MayNeedBytesIn form bs limits
 bytes_wanted form bs limits m r (v, is, free) = inr (v, record { message = m; reads = r; value = is }, free)

@@ -41,7 +41,7 @@ unpacked-read bs most m r (t, h, k) (u, i, j) =
     let same = one_reading bs u t i.packs h.packs in
     framed-read t most m r k (subst (λ (x : List ℕ). IsMisframed x most r) same j)
 
--- what is read isn't misread
+-- bytes that are read as a message have no refusal of reading
 pub read-not_misread : (form : Form) (bs : List ℕ) (most : ℕ) (m : List (List ℕ)) (r : Refusal) → Reads form bs most m
     → IsMisread form bs most r → ⊥
 read-not_misread forms.Bare bs most m (refusals.Bare e) (ws, h, i) r = bare_not_refused bs ws e h r
@@ -94,7 +94,7 @@ not_refused form bs limits v (refusals.Frame e) h n r =
 not_refused form bs limits v (refusals.Trailing at) h n r =
     absurd (read-not_misread form bs limits.message_words h.message (refusals.Trailing at) h.reads r)
 
--- a message that is read and refused is a refusal of the bytes
+-- the refusal of the message that bytes are read as is a refusal of the bytes
 pub refused_message : (form : Form) (bs : List ℕ) (limits : Bounds) (m : List (List ℕ)) (r : Refusal)
     → Reads form bs limits.message_words m → IsRefusedMessage m limits r → IsRefused form bs limits r
 refused_message form bs limits m (refusals.Walk s) h r = (m, h, r)

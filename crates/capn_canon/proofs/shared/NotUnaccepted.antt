@@ -12,7 +12,7 @@ use Rattle.capn_canon.specs.Refusal.{IsUnaccepted, IsUnacceptedIn}
 use Rattle.capn_canon.proofs.shared.OneReading.{one_message}
 use Rattle.capn_canon.proofs.shared.NotRefused.{read-not_misread, accepted-not_refused}
 
--- bytes that denote a value are not read or not accepted only if memory runs out
+-- bytes that denote a value have only memory for a reason not to be read and accepted
 pub not_unaccepted : (form : Form) (bs : List ℕ) (limits : Bounds) (v : Tree) (r : Refusal) → Denotes form bs limits v
     → IsUnacceptedIn form bs limits r → r ≡ refusals.Memory
 not_unaccepted form bs limits v refusals.Memory h r = refl
@@ -30,7 +30,7 @@ not_unaccepted form bs limits v (refusals.Frame e) h r =
 not_unaccepted form bs limits v (refusals.Trailing at) h r =
     absurd (read-not_misread form bs limits.message_words h.message (refusals.Trailing at) h.reads r)
 
--- a message that is read and not accepted makes the bytes so
+-- if the message that bytes are read as is not accepted, the bytes are not, for the same reason
 pub unaccepted_message : (form : Form) (bs : List ℕ) (limits : Bounds) (m : List (List ℕ)) (r : Refusal)
     → Reads form bs limits.message_words m → IsUnaccepted m limits r → IsUnacceptedIn form bs limits r
 unaccepted_message form bs limits m (refusals.Walk s) h r = (m, h, r)

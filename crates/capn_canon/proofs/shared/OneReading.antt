@@ -1,5 +1,5 @@
--- Bytes in a form are read as one message at most, and it is a message. (For `denotation`, capn_answers, capn_c and
--- capn_commands.)
+-- Bytes in a form are read as one message at most, which is within the bounds of messages. (For `denotation`,
+-- capn_answers, capn_c and capn_commands.)
 use Rattle.std.proofs.Common.{◌≡◌, ℕ, ◌≤◌, List, [], ◌∷◌, length, ap, sym, subst, ◌∙◌, arith}
 use Rattle.capn_words.specs.Message.{most_message_words, IsMessage}
 use Rattle.capn_words.proofs.shared.OneSegment.{bare_only, bare_message}
@@ -21,7 +21,7 @@ one-framed bs most m n h k =
     (one_frame bs most most m n (length bs) (length bs) (stands_alone bs most m h.frame h.room)
     (stands_alone bs most n k.frame k.room)).0
 
--- at most one message
+-- bytes in a form are read as one message at most
 pub one_message : (form : Form) (bs : List ℕ) (most : ℕ) (m n : List (List ℕ)) → Reads form bs most m
     → Reads form bs most n → m ≡ n
 one_message forms.Bare bs most m n (ws, h, e) (vs, k, f) =
@@ -39,7 +39,7 @@ framed-message bs most m l h =
     let r = h.room in
     record { some = f.some; few = f.few; room = omega arith; each = f.each }
 
--- what is read is a message
+-- the message that bytes are read as is within the bounds of messages
 pub is_message : (form : Form) (bs : List ℕ) (most : ℕ) (m : List (List ℕ)) → most ≤ most_message_words
     → Reads form bs most m → IsMessage m
 is_message forms.Bare bs most m l (ws, h, e) = subst IsMessage (sym e) (bare_message ws h.each h.room)
@@ -53,7 +53,7 @@ one_value form bs limits v w h k =
     let e = one_message form bs limits.message_words k.message h.message k.reads h.reads in
     unique h.message v w root h.value.is (subst (λ (m : List (List ℕ)). IsAt m root w) e k.value.is)
 
--- what is answered for bytes is canonical for whatever they denote
+-- the canonical bytes returned for an input are those of any value that it denotes
 pub answers_only : (form : Form) (bs : List ℕ) (limits : Bounds) (out : List ℕ) (n : ℕ) → Answers form bs limits out n
     → (v : Tree) → Denotes form bs limits v → out ≡ canon v
 answers_only form bs limits out n h v k =

@@ -1,5 +1,5 @@
--- Bytes are refused for one reason, and not where they are read. (For `denotation`, capn_archive and
--- capn_commands.)
+-- Bytes are refused for one reason at most, and have no refusal of reading if they are read. (For `denotation`,
+-- capn_archive and capn_commands.)
 use Rattle.std.proofs.Common.{◌≡◌, ◌⊎◌, inl, inr, ℕ, ◌+◌, List, length, Some, Err, refl, ap, sym, subst, ◌∙◌, arith}
 use Rattle.capn_words.specs.Message.{ReadsBare}
 use Rattle.capn_words.specs.declared.bare.BareFault.{BareFault}
@@ -35,25 +35,25 @@ use Rattle.capn_canon.proofs.shared.NotRefused.{accepted-not_refused}
 
 -- ---- the parts of a refusal
 
--- it refuses bytes that are no bare segment
+-- the refusal is for bytes that are no bare segment
 abbrev BarePart : List ℕ → Refusal → Type 0
 BarePart bs r = (e : BareFault) × (r ≡ refusals.Bare e) × ReadsBare bs (Err e)
 
--- it refuses bytes with which no frame begins
+-- the refusal is for bytes that begin with no frame
 abbrev FramePart : List ℕ → ℕ → Refusal → Type 0
 FramePart bs most r = (e : FrameFault) × (r ≡ refusals.Frame e) × (e ≡ frame_faults.Memory → ⊥)
     × frames.IsFrameRefused bs most e
 
--- it refuses bytes after a frame
+-- the refusal is for bytes after a frame
 abbrev TrailPart : List ℕ → ℕ → Refusal → Type 0
 TrailPart bs most r = (at : ℕ) × (r ≡ refusals.Trailing at) × Trails bs most at
 
--- it refuses bytes that are no packed text
+-- the refusal is for bytes that are no packed text
 abbrev PackedPart : List ℕ → ℕ → Refusal → Type 0
 PackedPart bs most r = (e : UnpackFault) × (r ≡ refusals.Packed e) × (e ≡ unpack_faults.Memory → ⊥)
     × packs.IsUnpackRefused bs (most + most_table_words) e
 
--- it refuses what a packed text unpacks to
+-- the refusal is for the bytes that a packed text unpacks to
 abbrev UnpackedPart : List ℕ → ℕ → Refusal → Type 0
 UnpackedPart bs most r = (text : List ℕ) × Unpacks bs most text × IsMisframed text most r
 
@@ -153,7 +153,7 @@ same_stopped : (s t : Stopped) → s.fault ≡ t.fault → s.place ≡ t.place �
 same_stopped s t a b c d = λ i. record { fault = a i; place = b i; paid = c i; visits = d i }
 
 module _ (m : List (List ℕ)) (limits : Bounds) where
-  -- a walk stops at one place
+  -- a walk stops at one place, for one reason
   pub one_stop : (s t : Stopped) → walks.IsWalkRefused m limits s.fault s.place s.paid s.visits
       → walks.IsWalkRefused m limits t.fault t.place t.paid t.visits → s ≡ t
   one_stop s t (inl h) (inl k) = same_stopped s t (h.1 ∙ sym k.1) (h.2 ∙ sym k.2) (h.3 ∙ sym k.3) (h.4 ∙ sym k.4)
@@ -166,17 +166,17 @@ module _ (m : List (List ℕ)) (limits : Bounds) where
       ∙ stop-refused limits.budget visits t.fault t.place t.paid t.visits k.1 in
       same_stopped s t (cc) (cc) (cc) (cc)
 
--- it says where and why the walk of a message stops
+-- the refusal has the place and the reason at which the walk of a message stops
 abbrev WalkPart : List (List ℕ) → Bounds → Refusal → Type 0
 WalkPart m limits r = (s : Stopped) × (r ≡ refusals.Walk s)
     × walks.IsWalkRefused m limits s.fault s.place s.paid s.visits
 
--- it names the first capability of the message's value
+-- the refusal has the index of the first capability of the message's value
 abbrev CapPart : List (List ℕ) → Bounds → Refusal → Type 0
 CapPart m limits r = (k : ℕ) × (r ≡ refusals.Capability k)
     × ((v : Tree) × walks.IsValueOf m limits v × (first_cap v ≡ Some k))
 
--- a message is refused by its walk, or for a capability
+-- a message is refused by its walk or for a capability, unless memory runs out
 pub message_part : (m : List (List ℕ)) (limits : Bounds) (r : Refusal) → (r ≡ refusals.Memory → ⊥)
     → IsRefusedMessage m limits r → WalkPart m limits r ⊎ CapPart m limits r
 message_part m limits (refusals.Walk s) n h = inl (s, refl, h)
@@ -209,7 +209,7 @@ one_message_refusal m limits r s nr ns h k =
 
 -- ---- bytes in a form
 
--- it refuses the message that the bytes are read as
+-- the refusal is for the message that the bytes are read as
 abbrev MessagePart : Form → List ℕ → Bounds → Refusal → Type 0
 MessagePart form bs limits r = (m : List (List ℕ)) × Reads form bs limits.message_words m × IsRefusedMessage m limits r
 

@@ -26,7 +26,7 @@ behind-zero : (e : Bool) (k : ℕ) → kept_behind e k ≡ 0 → (e ≡ true) ×
 behind-zero true k h = (refl, grind (arith, nat_tests))
 behind-zero false k h = absurd (grind (arith, nat_tests))
 
--- what is kept of a cut list
+-- a list that is cut behind the words that it keeps still keeps the same number
 kept-take : (a : ℕ) (ws : List ℕ) → kept_words ws ≤ a → kept_words (take a ws) ≡ kept_words ws
 kept-take zero ws h = let e : kept_words ws ≡ 0 = omega arith in sym e
 kept-take (suc a) [] h = refl
@@ -57,7 +57,7 @@ kept-rows_slots : (a b : ℕ) (bs : Bodies) → kept_slots_of_rows bs ≤ b
 kept-rows_slots a b no_bodies h = refl
 kept-rows_slots a b (body ws ss bs) h = ap₂ max (kept-front b ss (omega arith)) (kept-rows_slots a b bs (omega arith))
 
--- what is cut takes no words
+-- a value that the test calls null is null
 null-is : (t : Tree) → is_null t ≡ true → t ≡ nil
 null-is nil h = refl
 null-is (node ws ss) h = absurd cc
@@ -153,7 +153,7 @@ points-cut (suc b) (tree t ts) from to =
     (ap (λ (n : ℕ). points (front b (trimmed_each ts)) (suc from) (to + n)) (size-trimmed t)
     ∙ points-cut b ts (suc from) (to + size t))
 
--- the same, cut again
+-- the pointers in slots that are cut are the same when they are cut again
 points-again : (b : ℕ) (ss : Trees) (from to : ℕ)
     → take b (points (front b (trimmed_each ss)) from to) ≡ take b (points ss from to)
 points-again b ss from to = ap (take b) (points-cut b ss from to) ∙ take-again b (points ss from to)
@@ -167,7 +167,7 @@ rows-cut a b (body ws ss bs) from to h =
     (ap (λ (n : ℕ). row_contents a b (trimmed_rows a b bs) (from + a + b) (to + n)) (sizes-cut b ss (omega arith))
     ∙ rows-cut a b bs (from + a + b) (to + sizes ss) (omega arith)))
 
--- the parts of a struct's content, by its kept lengths
+-- the layout of a struct's content, by the numbers of words and slots that are kept
 struct-lay : ℕ → ℕ → List ℕ → Trees → ℕ → List ℕ
 struct-lay a b ws ss at = take a ws ++ (take b (points ss (at + a) (at + (a + b))) ++ lays ss (at + (a + b)))
 

@@ -21,7 +21,8 @@ use Rattle.capn_canon.proofs.reading.ReadBack.{read_back}
 use Rattle.capn_canon.proofs.shared.BareCanon.{words_in_canon}
 use Rattle.capn_canon.proofs.theorem.CanonOfTrimmed.{words-trimmed}
 
--- canonical words are equal if and only if the trimmed values are: each is what is read at the root of the words
+-- canonical words are equal if and only if the trimmed values are, since the value read at the root of the words is the
+-- trimmed one
 pub same_words : (v w : Tree) → Sound v → Sound w → length (words v) ≤ 2 ^ 29 → length (words w) ≤ 2 ^ 29
     → words v ≡ words w ↔ trimmed v ≡ trimmed w
 same_words v w hv hw sv sw = (

@@ -1,4 +1,4 @@
--- The clauses of a call that writes into a buffer leave one result, and one buffer after it. (For `decision`.)
+-- The clauses of `canonical_into` allow one result, and one buffer after it. (For `decision`.)
 use Rattle.std.proofs.Common.{◌≡◌, ℕ, List, ◌++◌, length, drop, Some, None, Result, Ok, Err, ap, sym, ◌∙◌}
 use Rattle.capn_value.specs.Tree.{Tree}
 use Rattle.capn_value.specs.FirstCap.{first_cap}
@@ -30,7 +30,7 @@ module _ (m : List (List ℕ)) (limits : Bounds) where
   no_cap k v w is also e f =
       let same : Some k ≡ None = sym e ∙ ap first_cap (unique m v w root is.is also.is) ∙ f in absurd cc
 
-  -- there is one refusal
+  -- two refusals that are true of a message are equal
   one_into : (room : ℕ) (e f : IntoRefusal) → RefusedInto m limits room e → RefusedInto m limits room f → e ≡ f
   one_into room (intos.Walk s) (intos.Walk t) h k = ap (λ (x : Stopped). intos.Walk x) (one_stop m limits s t h k)
   one_into room (intos.Walk s) (intos.Capability k) h (w, also, f) =
@@ -52,7 +52,7 @@ module _ (m : List (List ℕ)) (limits : Bounds) where
       let paid_so = c ∙ sym d in
       λ i. intos.NoRoom (same i) (paid_so i)
 
-  -- and one answer, with one buffer after it
+  -- two results that are written are equal, and so are the buffers after them
   one_written : (old p q : List ℕ) (c d : CanonicalLength) → WrittenInto m limits old p c
       → WrittenInto m limits old q d → (c ≡ d) × (p ≡ q)
   one_written old p q c d h k =

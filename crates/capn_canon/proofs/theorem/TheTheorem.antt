@@ -1,4 +1,4 @@
--- The theorem follows from what a call finds and refuses. (For `canonicalise`, `readers` and `theorem`.)
+-- The theorem follows from the clauses `found` and `refused`. (For `canonicalise`, `readers` and `theorem`.)
 use Rattle.std.proofs.Common.{◌≡◌, ℕ, ◌^◌, ◌≤◌, List, None, Result, Ok, Err, IfOk, IfErr, MatchResult}
 use Rattle.std.proofs.Common.{refl, ap, sym, subst, ◌∙◌, arith, inl, inr}
 use Rattle.capn_value.specs.Tree.{Tree}
@@ -24,14 +24,14 @@ use Rattle.capn_canon.proofs.theorem.EqualExactlySame.{equal_exactly_same}
 use Rattle.capn_canon.proofs.calls.Answered.{answers_only, answers_form}
 use Rattle.capn_canon.proofs.theorem.CapOfTrimmed.{cap-trimmed}
 
--- what is answered is denoted, and has no capability
+-- if there is a result, the input denotes a value, which has no capability
 pub answer_denotes : (form : Form) (bs : List ℕ) (limits : Bounds) (out : List ℕ) (n : ℕ)
     → Answers form bs limits out n → (v : Tree) × Denotes form bs limits v × (first_cap v ≡ None)
 answer_denotes form bs limits out n h =
     (h.answer.value, record { message = h.message; reads = h.reads; value = h.answer.is }, h.answer.free)
 
 module _ {A : Type 0} (form : Form) (bs : List ℕ) (limits : Bounds) where
-  -- a call that finds and refuses so answers if and only if there is what it may answer, unless memory runs out
+  -- a call succeeds if and only if the bytes denote a value without capabilities, unless memory runs out
   pub answered : (r : Result (Canonical A) Refusal) → IfOk r (λ c. Answers form bs limits c.bytes.items c.paid)
       → IfErr r (λ e. IsRefused form bs limits e) → Answered form bs limits r
   answered (Ok c) f e n = ((λ k. answer_denotes form bs limits c.bytes.items c.paid f), (λ d. refl))
@@ -40,7 +40,7 @@ module _ {A : Type 0} (form : Form) (bs : List ℕ) (limits : Bounds) where
     (λ d. absurd (n (ap Err (not_refused form bs limits d.0 x d.1 d.2 e)))),
   )
 
--- one that gives a refusal where there is something to answer gives that memory ran out
+-- if bytes denote a value without capabilities, a refusal of them is `Memory`
 memory_only : (A : Type 0) (form : Form) (bs : List ℕ) (limits : Bounds) (v : Tree) (e : Refusal)
     → Denotes form bs limits v → first_cap v ≡ None → Answered {A = A} form bs limits (Err e) → e ≡ refusals.Memory
 memory_only A form bs limits v refusals.Memory d n a = refl
@@ -51,7 +51,7 @@ memory_only A form bs limits v (refusals.Trailing x) d n a = absurd (let k = (a 
 memory_only A form bs limits v (refusals.Walk x) d n a = absurd (let k = (a (λ p. absurd cc)).1 (v, d, n) in cc)
 memory_only A form bs limits v (refusals.Capability x) d n a = absurd (let k = (a (λ p. absurd cc)).1 (v, d, n) in cc)
 
--- where bytes denote a value without capabilities whose canonical bytes are these, a call answers these
+-- if bytes denote a value without capabilities, a call returns its canonical bytes or `Memory`
 call_gives : (A : Type 0) (form : Form) (bs out : List ℕ) (limits : Bounds) (v : Tree) → Denotes form bs limits v
     → first_cap v ≡ None → ((b : List ℕ) (n : ℕ) → Answers form bs limits b n → b ≡ out)
     → (r : Result (Canonical A) Refusal) → IfOk r (λ d. Answers form bs limits d.bytes.items d.paid)
@@ -61,7 +61,7 @@ call_gives A form bs out limits v d n only (Err e) found answered = memory_only 
 
 module _ (form : Form) (bs : List ℕ) (limits : Bounds) (few : limits.message_words ≤ 2 ^ 28)
     (small : limits.budget ≤ 2 ^ 28) (shallow : limits.depth ≤ 256) where
-  -- what bytes denote fits and is in range
+  -- the value that bytes denote fits and is in range
   parts : (v : Tree) → Denotes form bs limits v → Fits v × InRange v
   parts v h =
       let m = is_message form bs limits.message_words h.message few h.reads in (
@@ -71,7 +71,7 @@ module _ (form : Form) (bs : List ℕ) (limits : Bounds) (few : limits.message_w
 
 module _ (form : Form) (bs : List ℕ) (limits : Bounds) (few : limits.message_words ≤ 2 ^ 28)
     (small : limits.budget ≤ 2 ^ 28) (shallow : limits.depth ≤ 256) where
-  -- two answers are equal if and only if the values denoted are the same
+  -- two results are equal if and only if the values denoted are the same
   pub equal_exactly : (out : List ℕ) (n : ℕ) → Answers form bs limits out n → EqualExactly form bs limits out
   equal_exactly out n h g ds m other q v w are k d e =
       let a = parts form bs limits few small shallow v d in
@@ -81,7 +81,7 @@ module _ (form : Form) (bs : List ℕ) (limits : Bounds) (few : limits.message_w
       let y = answers_only g ds m other q k w e in
       ((λ p. s.0 (sym x ∙ p ∙ y)), (λ p. x ∙ s.1 p ∙ sym y))
 
-  -- and each is its own canonical form
+  -- each result is its own canonical form
   pub own_form : {A : Type 0} (c : Canonical A) → Answers form bs limits c.bytes.items c.paid
       → OwnForm form bs limits c
   own_form {A} c h =
@@ -99,7 +99,7 @@ module _ (form : Form) (bs : List ℕ) (limits : Bounds) (few : limits.message_w
             (λ b n k. answers_only forms.Bare c.bytes.items limits b n k (trimmed a.0) f.reads_back.denotes ∙ f.own);
       }
 
--- a walk that is refused paid at most the budget
+-- the walk of a message that is refused paid at most the budget
 refused_within : (m : List (List ℕ)) (limits : Bounds) (s : Stopped)
     → walks.IsWalkRefused m limits s.fault s.place s.paid s.visits → s.paid ≤ limits.budget
 refused_within m limits s (inl (a, b, c, p, q)) = omega arith

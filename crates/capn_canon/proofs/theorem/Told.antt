@@ -1,5 +1,5 @@
--- Canonical bytes are equal if and only if the getters give the same answers, which are those of the message. (For
--- `readers`.)
+-- Canonical bytes are equal if and only if the getters return the same from both values, and from the canonical bytes
+-- they return the same as from the message. (For `readers`.)
 use Rattle.std.proofs.Common.{◌≡◌, ◌↔◌, ℕ, List, [], ◌∷◌, ap, sym, ◌∙◌}
 use Rattle.capn_words.specs.Message.{IsBare}
 use Rattle.capn_words.proofs.shared.OneSegment.{bare_message}
@@ -48,7 +48,7 @@ tells_the_same form bs limits c h v d = (
       ∙ ap (λ (t : Tree). get t p) (one_value form bs limits h.denoted v h.is d)),
 )
 
--- words that follow the rules of the page, and denote values that fit
+-- two lists of words follow the rules of the page, and denote values that fit
 module _ (bs ds ws us : List ℕ) (v w : Tree) (bare : IsBare bs ws) (bare-other : IsBare ds us)
     (at : IsAt (ws ∷ []) root v) (at-other : IsAt (us ∷ []) root w) (fv : Fits v) (fw : Fits w) where
   pub forms_are_what_is_told : IsPageForm ws → IsPageForm us → (bs ≡ ds) ↔ ((p : List Step) → get v p ≡ get w p)

@@ -1,4 +1,4 @@
--- Small messages computed from the definitions: from bytes to what they denote, and to its canonical bytes.
+-- Worked examples: small messages, from their bytes to the value that they denote, and to its canonical bytes.
 use Rattle.std.proofs.Common.{◌≡◌, ℕ, zero, suc, ◌^◌, ◌<◌, List, [], ◌∷◌, ◌++◌, length, refl, arith, inl, inr}
 use Rattle.std.specs.Prelude.{slice_index}
 use Rattle.capn_words.specs.Message.{IsBare, word_bytes, segment_at}
@@ -40,7 +40,7 @@ tour_words = 0x200000000 ∷ 5 ∷ 0 ∷ []
 abbrev tour_value : Tree
 tour_value = node (5 ∷ 0 ∷ []) no_trees
 
--- its canonical bytes: one word fewer in the pointer, and the last word is gone
+-- the canonical bytes of the message: one word fewer in the pointer, and the last word is gone
 abbrev tour_form : List ℕ
 tour_form = 0 ∷ 0 ∷ 0 ∷ 0 ∷ 1 ∷ 0 ∷ 0 ∷ 0 ∷ 5 ∷ 0 ∷ 0 ∷ 0 ∷ 0 ∷ 0 ∷ 0 ∷ 0 ∷ []
 
@@ -87,7 +87,7 @@ tour_canon : canon tour_value ≡ tour_form
 unfolding words point word_bytes
 tour_canon = refl
 
--- so this is the answer, and its price is 3
+-- the result for the message: its canonical bytes, and the price 3
 tour_answers : Answers forms.Stream tour usual tour_form 3
 unfolding words point word_bytes root_visits visits target pointer_of
 tour_answers = record {
@@ -102,7 +102,7 @@ tour_answers = record {
   };
 }
 
--- the value without its last word, which is zero, is the same,
+-- the value without its last word, which is zero, is the same value
 tour_same : Same tour_value (node (5 ∷ []) no_trees)
 tour_same = (five, tt)
   where
@@ -111,7 +111,7 @@ tour_same = (five, tt)
     five (suc zero) = refl
     five (suc (suc i)) = refl
 
--- and has these canonical bytes too; read bare, they denote it
+-- the value without its last word has the same canonical bytes, which denote it if read bare
 short_canon : canon (node (5 ∷ []) no_trees) ≡ tour_form
 unfolding words point word_bytes
 short_canon = refl
@@ -182,7 +182,7 @@ far_framed = record {
   room = omega arith;
 }
 
--- the answer is the same, and the price is 3, one of it for the pad
+-- the result for the message with a far pointer has the same bytes and the price 3, of which one is for the pad
 far_answers : Answers forms.Stream far usual tour_form 3
 unfolding words point word_bytes root_visits visits target pointer_of
 far_answers = record {

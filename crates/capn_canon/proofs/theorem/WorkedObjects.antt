@@ -1,4 +1,4 @@
--- Small messages with several objects, computed to their canonical words; and values that are not the same.
+-- Worked examples: small messages with several objects, to their canonical words, and values that are not the same.
 use Rattle.std.proofs.Common.{◌≡◌, ℕ, zero, suc, ◌^◌, ◌<◌, List, [], ◌∷◌, ◌++◌, length, refl, sym, arith}
 use Rattle.std.specs.Prelude.{slice_index, replicate}
 use Rattle.capn_words.specs.Message.{IsBare, word_bytes, bytes, segment_at}
@@ -30,11 +30,12 @@ abbrev family : Tree
 family =
     node [] (tree (node (1 ∷ []) (tree (node (2 ∷ []) no_trees) no_trees)) (tree (node (3 ∷ []) no_trees) no_trees))
 
--- here they stand level by level: both children, 1 and 3, and then the grandchild, 2
+-- the words of the message have the structs level by level: both children, 1 and 3, and then the grandchild, 2
 abbrev family_words : List ℕ
 family_words = 0x2000000000000 ∷ 0x1000100000004 ∷ 0x100000008 ∷ 1 ∷ 0x100000004 ∷ 3 ∷ 2 ∷ []
 
--- canonically in preorder: the first child with all below it, 1 and 2, and then the second, 3
+-- the canonical words have the structs in preorder: the first child with everything below it, 1 and 2, and then the
+-- second, 3
 abbrev family_form : List ℕ
 family_form = 0x2000000000000 ∷ 0x1000100000004 ∷ 0x10000000c ∷ 1 ∷ 0x100000000 ∷ 2 ∷ 3 ∷ []
 
@@ -114,11 +115,12 @@ abbrev mixed : Tree
 mixed = node [] (tree (node [] no_trees) (tree (numbers bit (1 ∷ 0 ∷ 1 ∷ []))
     (tree (links (tree (node [] no_trees) (tree nil no_trees))) no_trees)))
 
--- here the first empty struct is at the offset 2, and bits are set past the third: the word 29, in place of 5
+-- in the words of the message the first empty struct is at the offset 2, and bits are set past the third: the word 29,
+-- in place of 5
 abbrev mixed_words : List ℕ
 mixed_words = 0x3000000000000 ∷ 8 ∷ 0x1900000005 ∷ 0x1600000005 ∷ 29 ∷ 0xfffffffc ∷ 0 ∷ []
 
--- canonically an empty struct has the offset -1, bits past the last are 0, and a null element stays
+-- in the canonical words an empty struct has the offset -1, bits past the last are 0, and a null element stays
 abbrev mixed_form : List ℕ
 mixed_form = 0x3000000000000 ∷ 0xfffffffc ∷ 0x1900000005 ∷ 0x1600000005 ∷ 5 ∷ 0xfffffffc ∷ 0 ∷ []
 
@@ -249,14 +251,14 @@ double_answers = record {
 
 -- ---- values that are not the same
 
--- null is no empty struct, not even in the last slot of a struct,
+-- null is not the same as an empty struct, not even in the last slot of a struct
 null_is_not_empty : Same nil (node [] no_trees) → ⊥
 null_is_not_empty same = same
 
 last_slot_is_not_null : Same (node [] (tree (node [] no_trees) no_trees)) (node [] no_trees) → ⊥
 last_slot_is_not_null same = let is = same.1.0 in absurd cc
 
--- and so their canonical words differ;
+-- the canonical words of a struct with an empty struct in its slot, and of one with a null slot, differ
 with_a_slot : words (node [] (tree (node [] no_trees) no_trees)) ≡ 0x1000000000000 ∷ 0xfffffffc ∷ []
 unfolding words point
 with_a_slot = refl
@@ -265,7 +267,7 @@ without_a_slot : words (node [] no_trees) ≡ 0xfffffffc ∷ []
 unfolding words point
 without_a_slot = refl
 
--- and a zero word that is not the last counts
+-- a zero word that is not the last word of a struct is kept, and makes values differ
 zero_word_before_five : Same (node (0 ∷ 5 ∷ []) no_trees) (node (5 ∷ []) no_trees) → ⊥
 zero_word_before_five same = differ (same.0 0)
   where

@@ -1,4 +1,4 @@
--- A packed message, computed from its bytes to its canonical bytes.
+-- A worked example: a packed message, from its bytes to its canonical bytes.
 use Rattle.std.proofs.Common.{◌≡◌, ℕ, zero, suc, ◌^◌, ◌<◌, List, [], ◌∷◌, length, refl, arith}
 use Rattle.std.specs.Prelude.{slice_index}
 use Rattle.capn_words.specs.Message.{word_bytes, segment_at}
@@ -20,7 +20,7 @@ use Rattle.capn_layout.specs.Layout.{words, point}
 abbrev usual : Bounds
 usual = record { message_words = 8388608; budget = 8388608; depth = 64; tariff = Strict }
 
--- sixteen bytes: two words by the bytes that their tags name, one word whole with none behind it, and a word of zeros
+-- sixteen bytes: two words of tagged bytes, one word whole with none behind it, and a word of zeros
 abbrev packed_bytes : List ℕ
 packed_bytes = 16 ∷ 3 ∷ 16 ∷ 2 ∷ 255 ∷ 1 ∷ 2 ∷ 3 ∷ 4 ∷ 5 ∷ 6 ∷ 7 ∷ 8 ∷ 0 ∷ 0 ∷ 0 ∷ []
 
@@ -31,7 +31,7 @@ groups =
     ∷ Raw (1 ∷ 2 ∷ 3 ∷ 4 ∷ 5 ∷ 6 ∷ 7 ∷ 8 ∷ []) 0 []
     ∷ Zeros 0 ∷ []
 
--- what they pack: the table of one segment of three words, then a struct of two words
+-- the bytes that they unpack to: the table of one segment of three words, then a struct of two words
 abbrev framed : List ℕ
 framed =
     0 ∷ 0 ∷ 0 ∷ 0 ∷ 3 ∷ 0 ∷ 0 ∷ 0 ∷ 0 ∷ 0 ∷ 0 ∷ 0 ∷ 2 ∷ 0 ∷ 0 ∷ 0 ∷ 1 ∷ 2 ∷ 3 ∷ 4 ∷ 5 ∷ 6 ∷ 7 ∷ 8
@@ -82,15 +82,15 @@ is_framed = record {
   room = omega arith;
 }
 
--- so the packed bytes are read as this message,
+-- the packed bytes are read as the message of one segment of three words
 reads_packed : Reads forms.Packed packed_bytes 8388608 (framed_words ∷ [])
 reads_packed = (framed, record { packs = packs; room = omega arith }, is_framed)
 
--- its canonical bytes: one word fewer in the pointer, and the last word is gone
+-- the canonical bytes of the message: one word fewer in the pointer, and the last word is gone
 abbrev form : List ℕ
 form = 0 ∷ 0 ∷ 0 ∷ 0 ∷ 1 ∷ 0 ∷ 0 ∷ 0 ∷ 1 ∷ 2 ∷ 3 ∷ 4 ∷ 5 ∷ 6 ∷ 7 ∷ 8 ∷ []
 
--- which are the answer, at the price 3
+-- the result for the packed bytes: the canonical bytes, and the price 3
 answers_packed : Answers forms.Packed packed_bytes usual form 3
 unfolding words point word_bytes root_visits visits target pointer_of
 answers_packed = record {

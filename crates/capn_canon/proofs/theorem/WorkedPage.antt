@@ -1,4 +1,4 @@
--- Words that follow the rules of the page, and words that break one of them.
+-- Worked examples: words that follow the rules of the page, and words that break one of them.
 use Rattle.std.proofs.Common.{◌≡◌, ℕ, zero, suc, ◌+◌, ◌-◌, ◌*◌, ◌<◌, ◌++◌, List, [], ◌∷◌, length, slice_index, Ok, refl}
 use Rattle.std.proofs.Common.{subst, arith}
 use Rattle.capn_words.specs.Pointers.{pointer_of}
@@ -94,7 +94,7 @@ two_rows = record {
 
 -- ---- words that break one of them
 
--- what the rules say of the object of a slot, and of the pointers after it
+-- the rules at a slot: of its object, and of the pointers after it
 record AtSlot (ws : List ℕ) (next : ℕ) (at : Place) (others : List Place) (start : ℕ) (shape : Shape) : Type 0 where
   pub right : IsRight ws next at.word start shape
   pub rest : List Met
@@ -116,7 +116,7 @@ at-slot ws next at others start shape e (object pointer begin x ∷ met) f =
       follows = f.3;
     }))
 
--- of the root's
+-- words that follow the rules do so at the root's slot
 at-root : (ws : List ℕ) (start : ℕ) (shape : Shape) → target (ws ∷ []) root ≡ Ok (targets.Content 0 start shape 0)
     → IsPageForm ws → AtSlot ws 1 root [] start shape
 at-root ws start shape e p = let (met, f) = form-follows ws p in at-slot ws 1 root [] start shape e met f
@@ -135,7 +135,7 @@ trailing_zero p =
     let r = at-root (0x200000000 ∷ 5 ∷ 0 ∷ []) 1 (shapes.Node 2 0) refl p in
     r.right.truncated.0 (omega arith) refl
 
--- a null pointer at its end
+-- a null pointer at the end of a struct
 pub trailing_null : IsPageForm (0x1000000000000 ∷ 0 ∷ []) → ⊥
 unfolding target pointer_of
 trailing_null p =
@@ -149,7 +149,7 @@ gap p =
     let e = r.right.begins (λ x. x) in
     omega arith
 
--- and after the last one
+-- a word that no pointer leads to, after the last object
 pub word_left : IsPageForm (0x100000000 ∷ 5 ∷ 9 ∷ []) → ⊥
 unfolding target pointer_of
 word_left p =

@@ -1,4 +1,4 @@
--- The report of the survey of a message of one segment, whether it counts or not.
+-- The result of the survey of a message of one segment, with or without a count of its reads.
 use Rattle.std.specs.Prelude.{◌≡◌, ◌≢◌, ◌⊎◌, ℕ, List, Result, IfOk, IfErr, MatchResult}
 use Rattle.capn_words.specs.Message.{segment_at}
 use Rattle.capn_value.specs.Tree.{Tree}
@@ -10,8 +10,8 @@ use Rattle.capn_walk.specs.Limits.{Bounds}
 use Rattle.capn_canon.specs.declared.surveyed_bare.SurveyedBare.{SurveyedBare}
 use Rattle.capn_canon.specs.BareVerdict.{IsBareSurvey}
 
--- the report has the words that the walk of an accepted message pays, and whether its words are canonical; or it is the
--- first stop, and never for memory
+-- `r` has the survey of an accepted message of one segment, and whether it is canonical; or it is the first stop of the
+-- walk, never for memory
 pub record IsBareTold (message : List (List ℕ)) (limits : Bounds) (r : Result SurveyedBare Stopped) : Type 0 where
   pub found : IfOk r (λ c. IsBareSurvey (segment_at message 0) limits c)
   pub only : (v : Tree) → IsValueOf message limits v

@@ -1,5 +1,5 @@
--- Slots as a canonical layout has them, within the depth and the words that are left: one pass over words has to find
--- them so.
+-- The values that one pass over the words `all` must find: laid out canonically from some slots on, within the depth
+-- and the words that may still be paid.
 use Rattle.std.specs.Prelude.{◌≡◌, ℕ, ◌+◌, ◌-◌, ◌≤◌, List, [], ◌∷◌, length, Option, Some, None}
 use Rattle.capn_value.specs.Tree.{Tree, Trees, Bodies, count, count_rows}
 use Rattle.capn_value.specs.FirstCap.{first_cap, first_in, first_in_rows}
@@ -13,8 +13,8 @@ use Rattle.capn_layout.specs.Sound.{Sound, Sounds, SoundRows}
 use Rattle.capn_canon.specs.inner.WordsOfLayout.{IsLaidAt, AreLaidAt, RowsLaidAt}
 
 module _ (all : List ℕ) (base : ℕ) where
-  -- a value without capabilities is at a slot, and its content where its layout has it; its walk, at most `depth`
-  -- objects deep, pays no more than is left (Own.)
+  -- the value `v`, without capabilities, is at the slot `from`, and its content at `to`, where its layout has it; its
+  -- walk, at most `depth` objects deep, pays at most `left` (Own.)
   pub record IsDue (from to depth left : ℕ) (v : Tree) : Type 0 where
     pub is : IsAt (all ∷ []) (record { segment = 0; word = from }) v
     pub laid : IsLaidAt all v from to
@@ -23,7 +23,8 @@ module _ (all : List ℕ) (base : ℕ) where
     pub fits : to + size v ≤ length all
     pub pays : IsWithin left (visits (all ∷ []) base depth (record { segment = 0; word = from }))
 
-  -- so do those at slots one after the other (Own.)
+  -- the values `ts` are at slots one after the other from `from` on, and their contents from `to` on, where their
+  -- layout has them; their walk, at most `depth` objects deep, pays at most `left` (Own.)
   pub record AreDue (from to depth left : ℕ) (ts : Trees) : Type 0 where
     pub are : AreAt (all ∷ []) 0 from ts
     pub laid : AreLaidAt all ts from to
@@ -32,7 +33,8 @@ module _ (all : List ℕ) (base : ℕ) where
     pub fits : to + sizes ts ≤ length all
     pub pays : IsWithin left (visits_of (all ∷ []) base depth (places 0 from (count ts)))
 
-  -- and those at the slots of rows of a words and b slots (Own.)
+  -- the rows `bs`, of `a` words and `b` slots each, begin at `from`, and the contents below their slots at `to`, where
+  -- their layout has them; their walk, at most `depth` objects deep, pays at most `left` (Own.)
   pub record RowsAreDue (a b from to depth left : ℕ) (bs : Bodies) : Type 0 where
     pub are : RowsAt (all ∷ []) a b 0 from bs
     pub laid : RowsLaidAt all a b bs from to
@@ -41,37 +43,37 @@ module _ (all : List ℕ) (base : ℕ) where
     pub fits : to + sizes_in_rows bs ≤ length all
     pub pays : IsWithin left (visits_of (all ∷ []) base depth (row_places 0 from a b (count_rows bs)))
 
-  -- some value is expected at a slot (Own.)
+  -- some value is laid out at the slot `from` (Own.)
   pub record DueValue (from to depth left : ℕ) : Type 0 where
     pub value : Tree
     pub due : IsDue from to depth left value
 
-  -- some values are expected at `number` slots (Own.)
+  -- some values are laid out at `number` slots from `from` on (Own.)
   pub record DueSlots (from number to depth left : ℕ) : Type 0 where
     pub values : Trees
     pub count : count values ≡ number
     pub due : AreDue from to depth left values
 
-  -- and at the slots of `number` rows (Own.)
+  -- some `number` rows, with what is below their slots, are laid out from `from` on (Own.)
   pub record DueRows (a b from number to depth left : ℕ) : Type 0 where
     pub values : Bodies
     pub count : count_rows values ≡ number
     pub due : RowsAreDue a b from to depth left values
 
-  -- at the first slot in hand (Own.)
+  -- a value is laid out at the first slot of the pass `p` (Own.)
   abbrev pub DueFirst : Pass → Type 0
   DueFirst p = DueValue p.from p.next p.depth p.left
 
-  -- at all slots in hand (Own.)
+  -- values are laid out at all slots of the pass `p` (Own.)
   abbrev pub Due : Pass → Type 0
   Due p = DueSlots p.from (p.end - p.from) p.next p.depth p.left
 
-  -- at those of the pass that goes on, if one does (Own.)
+  -- there is a pass, and values are laid out at all its slots (Own.)
   abbrev pub DueIn : Option Pass → Type 0
   DueIn (Some r) = Due r
   DueIn None = ⊥
 
-  -- at the slots of the rows in hand, if there are any (Own.)
+  -- there are rows, and values are laid out at all their slots (Own.)
   abbrev pub DueRowsIn : Option RowPass → Type 0
   DueRowsIn (Some r) =
       DueRows r.tag.words r.tag.slots r.pass.from r.tag.count r.pass.next r.pass.depth r.pass.left

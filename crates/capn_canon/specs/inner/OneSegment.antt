@@ -1,7 +1,7 @@
--- A message of one segment.
+-- The bytes of a message of one segment.
 use Rattle.std.specs.Prelude.{◌≡◌, ℕ, List, [], ◌∷◌}
 use Rattle.capn_words.specs.Message.{IsBare}
 
--- the message has one segment, whose bytes these are
+-- `message` has one segment, whose bytes are `bs`
 abbrev pub IsOnlySegment : List (List ℕ) → List ℕ → Type 0
 IsOnlySegment message bs = (words : List ℕ) × (message ≡ words ∷ []) × IsBare bs words

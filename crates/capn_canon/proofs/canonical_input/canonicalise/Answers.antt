@@ -1,4 +1,4 @@
--- The clauses on the bytes follow from what is answered and refused, by the laws of canonical forms.
+-- The clauses on the bytes follow from the clauses `found` and `refused`, by the laws of canonical forms.
 use Rattle.std.proofs.Common.{arith}
 use Rattle.capn_canon.proofs.calls.InEachForm.{found_only, found_short, found_form}
 use Rattle.capn_canon.proofs.calls.ReadInput.{canonicalised}

@@ -1,4 +1,4 @@
--- The message of a frame stands first, or none does; bytes that follow it are refused.
+-- The message of a frame comes first in the bytes, or no message does. Bytes that follow it are refused.
 use Rattle.std.proofs.Common.{subst, ℕ, ap, Err}
 use Rattle.capn_stream.specs.FrameRefusal.{HasTable, IsFrameRefused}
 use Rattle.capn_stream.specs.declared.fault.FrameFault.{FrameFault}

@@ -1,4 +1,4 @@
--- A packed text is the message of the frame that it packs.
+-- A packed text is read as the message of the frame that it unpacks to.
 use Rattle.std.proofs.Common.{ℕ, ◌+◌, ap, subst, arith, Err}
 use Rattle.capn_pack.specs.UnpackRefusal.{IsUnpackRefused, StartsWithin}
 use Rattle.capn_pack.specs.declared.fault.UnpackFault.{UnpackFault}

@@ -45,12 +45,12 @@ check_slots-returns-in-None g t c = record {
 
 -- ---- a slot
 
--- what the slots after the first may cost
+-- the bound on the reads for the slots after the first
 behind-reads : (p : Pass) (q : Progress) (r : Pass) → p.from < p.end → r ≡ behind p q
     → may_read r + 7 ≡ 7 * (p.end - p.from) + 10 * q.left
 behind-reads p q r some e = let f = ap may_read e in omega arith
 
--- the pass goes on with the slots after the first
+-- the pass continues with the slots after the first
 record GoesOn (all : List ℕ) (base : ℕ) (deep : Bool) (p : Pass) (least : ℕ) (r : Pass) (here : ℕ) : Type 0 where
   found : (p.from < r.from) × IsOpen all r × Leads all base deep p least r here
   only : Due all base p → Due all base r
