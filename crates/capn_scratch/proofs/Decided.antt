@@ -1,5 +1,5 @@
--- The clauses of a call that is lent its scratch leave one result, and one buffer after it; and no more words are asked
--- for than are enough. (For `decision` and `enough`.)
+-- The clauses of `canonical_into_form` allow one result, and one buffer after it, and no number of words needed is
+-- above what is enough. (For `decision` and `enough`.)
 use Rattle.std.proofs.Common.{◌≡◌, ◌⊎◌, inl, inr, ℕ, ◌+◌, ◌-◌, ◌*◌, ◌<◌, ◌≤◌, Bool, true, false, if◌then◌else◌}
 use Rattle.std.proofs.Common.{List, length}
 use Rattle.std.proofs.Common.{Result, Ok, Err, refl, ap, sym, subst, ◌∙◌, arith}
@@ -34,7 +34,7 @@ use Rattle.capn_scratch.specs.declared.refusal.FormRefusal.{FormRefusal}
 use Rattle.capn_scratch.specs.declared.refusal.FormRefusal.TheVariants as told
 use Rattle.capn_scratch.proofs.Forms.{not_refused, not_short, one_need}
 
--- ---- the words that are asked for
+-- ---- the number of words needed
 
 chosen : (b : Bool) (n most : ℕ) → n ≤ most → (if b then n else 0) ≤ most
 chosen true n most h = h
@@ -47,7 +47,7 @@ few_ends bs most m h =
     chosen (nat_lt 64 (announced_segments bs)) (announced_segments bs - 1) (most_segments - 1)
     (omega (arith, a.count, h.frame.fits.few))
 
--- what is asked for is more than there is, and no more than is enough
+-- the number of words in `NoScratch` is more than the scratch has, and at most what is enough for the form
 pub bounded : (form : Form) (bs : List ℕ) (limits : Bounds) (scratch room n : ℕ)
     → IsFormRefused form bs limits scratch room (told.NoScratch n)
     → (scratch < n) × (n ≤ most_scratch form limits.message_words)
@@ -63,7 +63,7 @@ bounded forms.Packed bs limits scratch room n (inr (m, (t, u, is), holds, (s, q,
     let long = ap (λ (xs : List ℕ). length xs + 8 * table_need (announced_segments xs)) same in
     (short, omega (arith, f, long, u.room, ends))
 
--- ---- what has no room in the scratch is told as that
+-- ---- a refusal for lack of scratch excludes the others
 
 text_held : (form : Form) (bs : List ℕ) (most scratch n : ℕ) → LacksText form bs most scratch n
     → HoldsText form bs scratch → ⊥
@@ -97,7 +97,7 @@ table_held : (form : Form) (bs : List ℕ) (most scratch n : ℕ) → LacksTable
 table_held form bs most scratch n (m, is, holds, need, short) (k, also, fits) =
     omega (arith, one_need form bs n k need also, short, fits)
 
--- words are asked for only if the scratch has fewer than the bytes take
+-- `NoScratch` is true only if the scratch has fewer words than the bytes take
 pub lacks : (form : Form) (bs : List ℕ) (limits : Bounds) (scratch room n : ℕ)
     → IsFormRefused form bs limits scratch room (told.NoScratch n) → HasScratch form bs scratch → ⊥
 lacks form bs limits scratch room n (inl h) has = not_short form bs limits.message_words scratch n h has
@@ -145,7 +145,7 @@ module _ (form : Form) (bs : List ℕ) (limits : Bounds) (scratch room : ℕ) wh
 
 -- ---- the parts of a refusal
 
--- the refusal for one of bytes; that of memory, which is never told, is given no meaning
+-- the `FormRefusal` for a refusal of bytes; for `Memory`, which is never returned, any will do
 abbrev of_refusal : Refusal → FormRefusal
 of_refusal (refusals.Bare e) = told.Bare e
 of_refusal (refusals.Packed e) = told.Packed e
@@ -160,17 +160,17 @@ of_into (intos.Walk s) = told.Walk s
 of_into (intos.Capability k) = told.Capability k
 of_into (intos.NoRoom n p) = told.NoRoom n p
 
--- the bytes are not read
+-- the refusal is for bytes that are not read
 abbrev ReadPart : Form → List ℕ → Bounds → FormRefusal → Type 0
 ReadPart form bs limits e = (r : Refusal) × (e ≡ of_refusal r) × (r ≡ refusals.Memory → ⊥)
     × IsMisread form bs limits.message_words r × IsRefused form bs limits r
 
--- they are read as a message, which is refused
+-- the refusal is for the message that the bytes are read as
 abbrev MessagePart : Form → List ℕ → Bounds → ℕ → FormRefusal → Type 0
 MessagePart form bs limits room e = (m : List (List ℕ)) × Reads form bs limits.message_words m
     × ((x : IntoRefusal) × (e ≡ of_into x) × RefusedInto m limits room x)
 
--- the scratch has too few words
+-- the refusal is for a scratch of too few words
 abbrev ScratchPart : Form → List ℕ → Bounds → ℕ → ℕ → FormRefusal → Type 0
 ScratchPart form bs limits scratch room e = (n : ℕ) × (e ≡ told.NoScratch n)
     × IsFormRefused form bs limits scratch room (told.NoScratch n)

@@ -1,4 +1,4 @@
--- What is told of a message is so of the bytes that are read as it. (For `canonical_form.rt` and `framed.rt`.)
+-- The result for a message is that for the bytes that are read as it. (For `canonical_form.rt` and `framed.rt`.)
 use Rattle.std.proofs.Common.{◌≡◌, ℕ, ◌+◌, ◌-◌, ◌*◌, ◌<◌, ◌≤◌, inl}
 use Rattle.std.proofs.Common.{inr, List, length, take, refl, ap, sym}
 use Rattle.std.proofs.Common.{subst, ◌∙◌, arith, Result, Ok, Err, IsErrAnd, None, Some}
@@ -52,7 +52,7 @@ within_as budget (intos.Walk s) e is h = subst (λ (y : FormRefusal). IsFormPaid
 within_as budget (intos.Capability k) e is h = subst (λ (y : FormRefusal). IsFormPaidWithin budget y) (sym is) tt
 within_as budget (intos.NoRoom n p) e is h = subst (λ (y : FormRefusal). IsFormPaidWithin budget y) (sym is) h
 
--- a message that is refused, in the words of a form
+-- the refusal of a message is a result, mapped to a `FormRefusal`
 pub told_refused : (m : List (List ℕ)) (limits : Bounds) (old new : List ℕ) (r : Result CanonicalLength FormRefusal)
     (x : IntoRefusal) → IsErrAnd r (IsOfInto x) → RefusedInto m limits (length old) x → new ≡ old
     → IsIntoPaidWithin limits.budget x → IsTold m limits old new r
@@ -104,11 +104,11 @@ frame_reads bs most m taken h l =
     let all : take taken bs ≡ bs = ap (λ (n : ℕ). take n bs) e ∙ take-length bs in
     record { frame = subst (λ (xs : List ℕ). Frames xs m) all h.frame; room = h.room }
 
--- few segments take no scratch,
+-- at most 64 segments take no scratch
 pub few_need : (count : ℕ) → count < 64 → table_need (count + 1) ≡ 0
 few_need count few = rw (le-ltb 64 (count + 1) (omega (arith, few))) refl
 
--- and others a word for each but the last
+-- more than 64 segments take a word for each but the last
 pub many_need : (count : ℕ) → 64 ≤ count → table_need (count + 1) ≡ count
 many_need count many =
     let less : count + 1 - 1 ≡ count = omega arith in
@@ -124,7 +124,7 @@ pub has_many : (bs : List ℕ) (count scratch : ℕ) → count ≡ entry_number 
 has_many bs count scratch is many fits =
     (count, sym (ap (λ (n : ℕ). table_need (n + 1)) (sym is) ∙ many_need count many), fits)
 
--- the ends of many segments have no room
+-- the ends of more than 64 segments lack room in the scratch
 pub lacks_table : (bs : List ℕ) (most count scratch : ℕ) (m : List (List ℕ)) → IsFramed bs most m
     → count ≡ entry_number bs → 64 ≤ count → scratch < count → LacksTable forms.Stream bs most scratch count
 lacks_table bs most count scratch m read is many short =
@@ -142,7 +142,7 @@ after_refused before bs limits scratch room m (told.Frame e) is has h = absurd h
 after_refused before bs limits scratch room m (told.Trailing at) is has h = absurd h
 after_refused before bs limits scratch room m (told.NoScratch n) is has h = absurd h
 
--- what is told of the message is so of its frame
+-- the result for the message is that for its frame
 pub frame_told : (before : ℕ) (bs : List ℕ) (limits : Bounds) (scratch : ℕ) (m : List (List ℕ)) (old new : List ℕ)
     (r : Result CanonicalLength FormRefusal) → IsFramed bs limits.message_words m → HasScratch forms.Stream bs scratch
     → IsTold m limits old new r → IsFrameTold before bs limits scratch old new r
@@ -172,7 +172,7 @@ stream_refused bs limits scratch room (told.Packed e) h = h
 stream_refused bs limits scratch room (told.Frame e) h = h
 stream_refused bs limits scratch room (told.Trailing at) h = h
 
--- with nothing before it, a frame is told as a stream is
+-- the result for a frame with no words before it is that for the stream
 pub stream_told : (bs : List ℕ) (limits : Bounds) (scratch : ℕ) (old new : List ℕ)
     (r : Result CanonicalLength FormRefusal) → IsFrameTold 0 bs limits scratch old new r
     → IsFormTold forms.Stream bs limits scratch old new r
@@ -219,7 +219,7 @@ module _ (bs text : List ℕ) (words : ℕ) (packs : Packs bs text) (long : leng
   packed_refused limits scratch room (told.Trailing at) few h =
       (holds scratch, (text, record { packs = packs; room = omega (arith, long, few) }, h.1))
 
-  -- what is told of the frame that is packed is so of the packed text
+  -- the result for the frame that a packed text unpacks to is that for the packed text
   pub packed_told : (limits : Bounds) (scratch : ℕ) (old new : List ℕ) (r : Result CanonicalLength FormRefusal)
       → words ≤ limits.message_words + most_table_words → IsFrameTold words text limits scratch old new r
       → IsFormTold forms.Packed bs limits (words + scratch) old new r
@@ -243,7 +243,7 @@ module _ (bs text : List ℕ) (words : ℕ) (packs : Packs bs text) (long : leng
     bounded = h.bounded;
   }
 
--- as many words were unpacked as the text has, and they are all of the buffer
+-- the unpacked words are as many as the text has, and fill the buffer
 pub all_unpacked : (bs packed text : List ℕ) (n words : ℕ) → Packs bs packed → length packed ≡ 8 * words
     → Packs bs (take (8 * n) text) → length text ≡ 8 * words → Packs bs text
 all_unpacked bs packed text n words p long q size =
@@ -267,7 +267,7 @@ not_message m limits room (told.Frame e) h v is free fits = h
 not_message m limits room (told.Trailing at) h v is free fits = h
 not_message m limits room (told.NoScratch n) h v is free fits = h
 
--- the bytes take one number of words
+-- the number of words that bytes take is unique
 pub one_need : (form : Form) (bs : List ℕ) (n k : ℕ) → Needs form bs n → Needs form bs k → n ≡ k
 one_need forms.Bare bs n k h i = h ∙ sym i
 one_need forms.Stream bs n k h i = h ∙ sym i
@@ -312,7 +312,7 @@ not_refused form bs limits scratch room (told.Capability k) h v d free has fits 
 not_refused form bs limits scratch room (told.NoRoom n p) h v d free has fits =
     not_read form bs limits scratch room (told.NoRoom n p) h v d free fits
 
--- a call that tells so answers if and only if there are canonical bytes, scratch and room
+-- a call succeeds if and only if there are canonical bytes, scratch for the bytes and room in the buffer
 pub answered : (form : Form) (bs : List ℕ) (limits : Bounds) (scratch : ℕ) (old new : List ℕ)
     (r : Result CanonicalLength FormRefusal) → IsFormTold form bs limits scratch old new r
     → AnsweredForm form bs limits scratch (length old) r

@@ -17,7 +17,7 @@ use Rattle.capn_scratch.proofs.Spread.{spread_from}
 
 -- ---- a group that is there
 
--- bytes have the words of a group
+-- the bytes of `rest` begin with a group of `taken` bytes and `count` words
 abbrev pub Has : List ℕ → ℕ → ℕ → List ℕ → Type 0
 Has rest taken count old = (new : List ℕ) × Takes rest taken count old new
 
@@ -68,7 +68,7 @@ named_there rest old inside above below =
       },
     )
 
--- a head whose bytes are there begins a group
+-- if the bytes that a group's head announces are there, `rest` begins with that group
 pub group_there : (rest old : List ℕ) (taken count : ℕ) → ((i : ℕ) → get_or rest i 0 < 256) → taken ≡ len_at rest
     → count ≡ words_at rest → 0 < length rest → taken ≤ length rest → Has rest taken count old
 group_there rest old taken count below size many some inside =
@@ -101,14 +101,14 @@ group_there rest old taken count below size many some inside =
           ]
     ]
 
--- what is left of bytes is bytes
+-- the bytes from an offset on are bytes, too
 pub byte_below : (bytes : List ℕ) (at : ℕ) → ((k : ℕ) → get_or bytes k 0 < 256) → (i : ℕ)
     → get_or (slice_range bytes at (length bytes)) i 0 < 256
 byte_below bytes at below i = byte_of_rest bytes at i below
 
 -- ---- groups one after another
 
--- up to `at` the bytes are groups, their words are `out`, and this room is left of the maximum
+-- up to `at` the bytes are groups, which unpack to `out`, and `room` words are left of the maximum
 pub record Unpacked (bytes : List ℕ) (at : ℕ) (out : List ℕ) (room max : ℕ) : Type 0 where
   pub groups : List Group
   pub each : AllByRecursion IsGroup groups
@@ -136,12 +136,12 @@ unpacked_more bytes at out room max taken count new u t fits =
       counted = omega (arith, u.counted, t.counted, fits, count_more u.groups t.group);
     }
 
--- how many bytes the words have
+-- the bytes that were unpacked, and 8 for each word of room, are 8 for each word of the maximum
 pub unpacked_length : (bytes : List ℕ) (at : ℕ) (out : List ℕ) (room max : ℕ) → Unpacked bytes at out room max
     → length out + 8 * room ≡ 8 * max
 unpacked_length bytes at out room max u = omega (arith, u.counted, ap length u.content, length_contents u.groups u.each)
 
--- all of the bytes
+-- if no byte is left, all bytes are a packed text that unpacks to `out`
 pub unpacked_all : (bytes : List ℕ) (at : ℕ) (out : List ℕ) (room max : ℕ) → Unpacked bytes at out room max
     → length bytes ≤ at → Packs bytes out
 unpacked_all bytes at out room max u end = record {
@@ -151,7 +151,7 @@ unpacked_all bytes at out room max u end = record {
   are_bytes = u.content;
 }
 
--- a fault at the group that comes
+-- a fault of the group at `at` is a fault of the bytes
 pub stands : (Q : ℕ → List ℕ → Type 0) (bytes : List ℕ) (at : ℕ) (out : List ℕ) (room max : ℕ)
     → Unpacked bytes at out room max → Q room (slice_range bytes at (length bytes)) → Stands Q bytes max at
 stands Q bytes at out room max u q = record {

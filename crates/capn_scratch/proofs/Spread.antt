@@ -1,4 +1,5 @@
--- A word spread from the bytes that its tag names, one bit after another. (For `spread` and `Groups`.)
+-- A word that is spread from the bytes that its tag names, one bit of the tag after another. (For `spread` and
+-- `Groups`.)
 use Rattle.std.proofs.Common.{◌≡◌, ℕ, zero, suc, ◌+◌, ◌/◌, ◌%◌, ◌^◌, ◌<◌}
 use Rattle.std.proofs.Common.{◌≤◌, inl, inr, List, [], ◌∷◌, ◌++◌, length, take}
 use Rattle.std.proofs.Common.{get_or, refl, sym, ap, subst, ◌∙◌, arith, append_assoc}
@@ -13,7 +14,7 @@ use Rattle.capn_pack.proofs.shared.SpreadLemmas.{named_none, named_one, no_ones,
 -- ---- one bit more
 
 module _ (tag left b i next : ℕ) (word bytes : List ℕ) (inside : i < length word) where
-  -- the bytes so far, one more, and any after it
+  -- the bytes of the word so far, one more, and any after it
   joined : (ws : List ℕ) → take (i + 1) (set word i b) ++ ws ≡ take i word ++ (b ∷ ws)
   joined ws = ap (λ (xs : List ℕ). xs ++ ws) (take_more_set word i b inside) ∙ append_assoc (take i word) (b ∷ []) ws
 
@@ -69,14 +70,14 @@ spread_all tag next word bytes long small inside e =
     sym (length-take-le next bytes inside) ∙ ap length (sym e) ∙ length_named 8 tag word long small in
     e ∙ ap (λ (n : ℕ). take n bytes) size
 
--- some word is spread from enough bytes
+-- some word has the first of `bytes` where its tag names them, and zeros elsewhere
 pub record Spread (n tag : ℕ) (bytes : List ℕ) : Type 0 where
   pub word : List ℕ
   pub long : length word ≡ n
   pub named : IsNamedBy tag word
   pub bytes_are : named_bytes tag word ≡ take (count_ones tag) bytes
 
--- one more byte is named
+-- if a tag's lowest bit is set, the first of `bytes` is named, and the rest are spread by the other bits
 spread_one : (n tag : ℕ) (bytes : List ℕ) → tag % 2 ≡ 1 → count_ones tag ≡ suc (count_ones (tag / 2))
     → count_ones tag ≤ length bytes
     → ((rest : List ℕ) → count_ones (tag / 2) ≤ length rest → Spread n (tag / 2) rest) → Spread (suc n) tag bytes

@@ -8,7 +8,7 @@ use Rattle.capn_walk.specs.Display.{stopped_text}
 use Rattle.capn_scratch.specs.declared.refusal.FormRefusal.{FormRefusal}
 use Rattle.capn_scratch.specs.declared.refusal.FormRefusal.TheVariants as told
 
--- the reason why canonical bytes are not written
+-- the text of the reason why canonical bytes are not written
 abbrev pub form_refusal_text : FormRefusal → List ℕ
 form_refusal_text (told.Bare fault) = codes "bare: " ++ bare_text fault
 form_refusal_text (told.Packed fault) = codes "packed: " ++ unpack_text fault

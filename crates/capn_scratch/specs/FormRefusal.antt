@@ -1,7 +1,7 @@
--- The reasons why canonical bytes of bytes in a form are not written, in the order of the tests: the bytes are
--- unpacked, if they are packed, and the words of that have room in the scratch; they are read as a message, and the
--- ends of its segments have room; the message is walked, looked through for a capability, and its canonical bytes have
--- room. (Own.)
+-- The reasons why the canonical bytes of bytes in a form are not written, in the order of the tests. Packed bytes are
+-- unpacked, and their words need room in the scratch. The bytes are read as a message, and the ends of its segments
+-- need room in the scratch. The message is walked, searched for a capability, and its canonical bytes need room in the
+-- buffer. (Own.)
 use Rattle.std.specs.Prelude.{◌≡◌, ◌⊎◌, ℕ, ◌*◌, ◌<◌, ◌≤◌, List, length, ⊤}
 use Rattle.capn_walk.specs.Accepted.{IsBounded}
 use Rattle.capn_walk.specs.Limits.{Bounds}
@@ -17,38 +17,39 @@ use Rattle.capn_scratch.specs.Needs.{HasScratch, HoldsText, Needs}
 use Rattle.capn_scratch.specs.declared.refusal.FormRefusal.{FormRefusal}
 use Rattle.capn_scratch.specs.declared.refusal.FormRefusal.TheVariants as told
 
--- the refusal for one of a message
+-- `e` is the refusal of a message, as a `FormRefusal` with the same numbers
 abbrev pub IsOfInto : IntoRefusal → FormRefusal → Type 0
 IsOfInto (intos.Walk s) e = e ≡ told.Walk s
 IsOfInto (intos.Capability k) e = e ≡ told.Capability k
 IsOfInto (intos.NoRoom n p) e = e ≡ told.NoRoom n p
 
--- a message has no canonical bytes within the limits, or they have no room
+-- the refusal is true of `message`: it has no canonical bytes within the limits, or they don't fit into `room` bytes
 abbrev pub IsMessageRefused : List (List ℕ) → Bounds → ℕ → FormRefusal → Type 0
 IsMessageRefused message limits room (told.Walk s) = RefusedInto message limits room (intos.Walk s)
 IsMessageRefused message limits room (told.Capability k) = RefusedInto message limits room (intos.Capability k)
 IsMessageRefused message limits room (told.NoRoom n p) = RefusedInto message limits room (intos.NoRoom n p)
 IsMessageRefused message limits room _ = ⊥
 
--- the bytes are read as a message, for which there is scratch, and it is refused
+-- `bs` are read as a message, the scratch has the words that they take, and the refusal `e` is true of the message
 abbrev pub IsReadRefused : Form → List ℕ → Bounds → ℕ → ℕ → FormRefusal → Type 0
 IsReadRefused form bs limits scratch room e =
     (message : List (List ℕ)) × Reads form bs limits.message_words message × HasScratch form bs scratch
     × IsMessageRefused message limits room e
 
--- the bytes are a packed text, of this many words, which is more than the scratch has
+-- `bs` are a packed text that unpacks to `n` words, which is more than the scratch has
 abbrev pub LacksText : Form → List ℕ → ℕ → ℕ → ℕ → Type 0
 LacksText forms.Bare bs most scratch n = ⊥
 LacksText forms.Stream bs most scratch n = ⊥
 LacksText forms.Packed bs most scratch n =
     (text : List ℕ) × Unpacks bs most text × (8 * n ≡ length text) × (scratch < n)
 
--- the bytes are read as a message, and take this many words, which is more than the scratch has
+-- `bs` are read as a message and take `n` words, which is more than the scratch has, though it has room for a packed
+-- text's words
 abbrev pub LacksTable : Form → List ℕ → ℕ → ℕ → ℕ → Type 0
 LacksTable form bs most scratch n =
     (message : List (List ℕ)) × Reads form bs most message × HoldsText form bs scratch × Needs form bs n × (scratch < n)
 
--- the meaning of each refusal, with this many words of scratch, and this room for the canonical bytes
+-- the refusal is true of `bs` in `form`, with `scratch` words of scratch and `room` bytes for the canonical bytes
 abbrev pub IsFormRefused : Form → List ℕ → Bounds → ℕ → ℕ → FormRefusal → Type 0
 IsFormRefused form bs limits scratch room (told.Bare e) = IsMisread form bs limits.message_words (refusals.Bare e)
 IsFormRefused form bs limits scratch room (told.Packed e) = IsMisread form bs limits.message_words (refusals.Packed e)
@@ -64,7 +65,7 @@ IsFormRefused form bs limits scratch room (told.Capability k) =
 IsFormRefused form bs limits scratch room (told.NoRoom n p) =
     IsReadRefused form bs limits scratch room (told.NoRoom n p)
 
--- a refusal reports as paid a number within a budget, and at most one visit more
+-- the words that a refusal reports as paid are at most `budget`, and its visits at most one more
 abbrev pub IsFormPaidWithin : ℕ → FormRefusal → Type 0
 IsFormPaidWithin budget (told.Walk s) = IsBounded budget s.paid s.visits
 IsFormPaidWithin budget (told.NoRoom n p) = p ≤ budget

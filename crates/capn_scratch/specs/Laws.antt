@@ -12,32 +12,33 @@ use Rattle.capn_scratch.specs.Theorem.{WrittenForm}
 use Rattle.capn_scratch.specs.declared.refusal.FormRefusal.{FormRefusal}
 use Rattle.capn_scratch.specs.declared.refusal.FormRefusal.TheVariants as told
 
--- an answer was written, or a refusal is true and left the buffer as it was
+-- `r` is a result that the clauses of `canonical_into_form` allow: the bytes are written, or a refusal is true and left
+-- the buffer as it was
 pub record IsFormWrittenOrRefused (form : Form) (bs : List ℕ) (limits : Bounds) (scratch : ℕ) (old new : List ℕ)
     (r : Result CanonicalLength FormRefusal) : Type 0 where
   pub written : IfOk r (λ c. WrittenForm form bs limits scratch old new c)
   pub refused : IfErr r (λ e. IsFormRefused form bs limits scratch (length old) e)
   pub unchanged : OnErr r (new ≡ old)
 
--- for the same bytes, form, limits, scratch and buffer there are not two results, nor two buffers after them
+-- for the same bytes, form, limits, scratch and buffer there is only one result, and one buffer after it
 abbrev pub FormIsDecided : Type 0
 FormIsDecided = (form : Form) (bs : List ℕ) (limits : Bounds) (scratch : ℕ) (old p q : List ℕ)
     (r s : Result CanonicalLength FormRefusal) → IsFormWrittenOrRefused form bs limits scratch old p r
     → IsFormWrittenOrRefused form bs limits scratch old q s → (r ≡ s) × (p ≡ q)
 
--- the words of scratch that are enough for all bytes in a form, under a limit on message words
+-- the number of words of scratch that is enough for all bytes in a form, if messages have at most `most` words
 abbrev pub most_scratch : Form → ℕ → ℕ
 most_scratch forms.Bare most = 0
 most_scratch forms.Stream most = most_segments - 1
 most_scratch forms.Packed most = most + most_table_words + (most_segments - 1)
 
--- no more are ever asked for, and what is asked for is more than there was
+-- the number of words in `NoScratch` is more than the scratch has, and at most what is enough for the form
 abbrev pub ScratchIsBounded : Type 0
 ScratchIsBounded = (form : Form) (bs : List ℕ) (limits : Bounds) (scratch room n : ℕ)
     → IsFormRefused form bs limits scratch room (told.NoScratch n)
     → (scratch < n) × (n ≤ most_scratch form limits.message_words)
 
--- words are asked for only if the scratch has fewer than the bytes take
+-- `NoScratch` is true only if the scratch has fewer words than the bytes take
 abbrev pub LackingIsNotHaving : Type 0
 LackingIsNotHaving = (form : Form) (bs : List ℕ) (limits : Bounds) (scratch room n : ℕ)
     → IsFormRefused form bs limits scratch room (told.NoScratch n) → HasScratch form bs scratch → ⊥

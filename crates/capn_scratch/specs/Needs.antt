@@ -5,27 +5,27 @@ use Rattle.capn_stream.specs.FrameRefusal.{announced_segments}
 use Rattle.capn_canon.specs.declared.form.Form.{Form}
 use Rattle.capn_canon.specs.declared.form.Form.TheVariants as forms
 
--- the most segments of which the ends are kept on the stack
+-- the greatest number of segments whose ends are kept on the stack
 abbrev pub most_kept : ℕ
 most_kept = 64
 
--- a table of `count` segments takes a word for each but the last, if they are more than those
+-- a frame of `count` segments takes a word for each but the last, if they are more than fit on the stack
 abbrev pub table_need : ℕ → ℕ
 table_need count = if nat_lt most_kept count then count - 1 else 0
 
--- bytes in a form take this many words: bare ones none; a frame those of its table; and a packed text its own words,
--- and behind them those of the table of the frame that it packs
+-- `bs` take `n` words of scratch: none if they are bare; those of the ends of its segments if they are a frame; and
+-- those of the unpacked frame, and then of the ends of its segments, if they are packed
 abbrev pub Needs : Form → List ℕ → ℕ → Type 0
 Needs forms.Bare bs n = n ≡ 0
 Needs forms.Stream bs n = n ≡ table_need (announced_segments bs)
 Needs forms.Packed bs n = (text : List ℕ) × Packs bs text
     × (8 * n ≡ length text + 8 * table_need (announced_segments text))
 
--- the scratch has as many words as the bytes take
+-- the scratch has as many words as `bs` take
 abbrev pub HasScratch : Form → List ℕ → ℕ → Type 0
 HasScratch form bs scratch = (n : ℕ) × Needs form bs n × (n ≤ scratch)
 
--- the scratch has as many words as the packed text, if the bytes are one
+-- the scratch has as many words as `bs` unpack to, if they are packed
 abbrev pub HoldsText : Form → List ℕ → ℕ → Type 0
 HoldsText forms.Bare bs scratch = ⊤
 HoldsText forms.Stream bs scratch = ⊤

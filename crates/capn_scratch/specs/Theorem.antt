@@ -12,7 +12,7 @@ use Rattle.capn_canon.specs.Theorem.{WrittenInto}
 use Rattle.capn_scratch.specs.Needs.{HasScratch}
 use Rattle.capn_scratch.specs.declared.refusal.FormRefusal.{FormRefusal}
 
--- For any bytes, form, limits, scratch and buffer, it answers if and only if the bytes denote a value without
+-- For any bytes, form, limits, scratch and buffer, the call succeeds if and only if the bytes denote a value without
 -- capabilities within the limits, the scratch has as many words as they take, and the buffer has room for its canonical
 -- bytes.
 abbrev pub AnsweredForm : Form → List ℕ → Bounds → ℕ → ℕ → Result CanonicalLength FormRefusal → Type 0
@@ -20,8 +20,8 @@ AnsweredForm form bs limits scratch room r =
     IsOk r ↔ ((v : Tree) × Denotes form bs limits v × (first_cap v ≡ None) × HasScratch form bs scratch
     × (length (canon v) ≤ room))
 
--- It writes exactly the canonical bytes of the message that the bytes are read as, at the beginning of the buffer; the
--- bytes after them are as they were.
+-- The call writes exactly the canonical bytes of the message that the bytes are read as, at the beginning of the
+-- buffer. The bytes after them are as they were.
 pub record WrittenForm (form : Form) (bs : List ℕ) (limits : Bounds) (scratch : ℕ) (old new : List ℕ)
     (c : CanonicalLength) : Type 0 where
   pub message : List (List ℕ)

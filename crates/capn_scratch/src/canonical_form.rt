@@ -1,4 +1,4 @@
-//! Canonical bytes of bytes in any form, written with the caller's words.
+//! The call `canonical_into_form`: the canonical bytes of a message in any form, with words that the caller lends.
 
 ghost use Rattle.std.specs.Prelude.{◌≡◌, ℕ, ◌+◌, ◌*◌, ◌≤◌, List, length, IfOk, IfErr, OnErr, MatchResult};
 ghost use Rattle.capn_pack.specs.Packed.{Packs};
@@ -16,7 +16,7 @@ use capn_canon::{CanonicalLength, Form, Limits};
 use capn_stream::MOST_TABLE_WORDS;
 use capn_words::Bare;
 
-/// Writes the canonical bytes of a message of one segment, which has the words `bytes`.
+/// Writes the canonical bytes of the message of one segment whose words are `bytes` to `out`.
 fn of_bare(bytes: &[u8], limits: Limits, out: &mut [u8]) -> Result<CanonicalLength, FormRefusal>
     ensures { (scratch : ℕ) → IsFormTold forms.Bare bytes.now limits scratch out.old out.new result }
 {
@@ -26,7 +26,7 @@ fn of_bare(bytes: &[u8], limits: Limits, out: &mut [u8]) -> Result<CanonicalLeng
     }
 }
 
-/// Writes the canonical bytes of the message in the frame `bytes`.
+/// Writes the canonical bytes of the message in the frame `bytes` to `out`.
 fn of_stream(
     bytes: &[u8],
     limits: Limits,
@@ -38,7 +38,8 @@ fn of_stream(
     of_frame(bytes, scratch, 0, limits, out)
 }
 
-/// Unpacks `bytes`, which pack a frame of `words` words, to `text`, and writes the canonical bytes of its message.
+/// Unpacks the packed text `bytes` of a frame of `words` words to `text`, and writes the canonical bytes of its message
+/// to `out`.
 fn of_unpacked(
     bytes: &[u8],
     words: usize,
@@ -59,7 +60,7 @@ fn of_unpacked(
     }
 }
 
-/// Writes the canonical bytes of the message in the frame that `bytes` pack.
+/// Writes the canonical bytes of the message in the frame that the packed text `bytes` unpacks to, to `out`.
 fn of_packed(
     bytes: &[u8],
     limits: Limits,
@@ -81,7 +82,7 @@ fn of_packed(
     }
 }
 
-/// Does what [`canonical_into_form`] does.
+/// Does what [`canonical_into_form`] does, with one clause that has all of its clauses.
 fn of_form(
     form: Form,
     bytes: &[u8],
@@ -99,19 +100,19 @@ fn of_form(
 }
 
 /// Writes the canonical bytes of the value that `bytes` denote in this `form`, within `limits`, to the beginning of
-/// `out`, and returns their number, the words that the walk pays, and its visits. The bytes after them stay as they
-/// were.
+/// `out`. Returns their number, the words that the walk pays, and its visits. The rest of `out` stays as it was.
 ///
-/// It takes no memory but the stack: `scratch` is the room for what has to be kept. A packed text takes as many words
-/// of it as it unpacks to; a frame of more than 64 segments takes one for each but the last, behind those; and bare
-/// words take none, as other frames do. What `scratch` holds afterwards is not said.
+/// It takes no memory but the stack, and keeps in `scratch` what it needs on the way. A packed text takes as many words
+/// of `scratch` as it unpacks to. A frame of more than 64 segments takes one for each segment but the last, after those
+/// of the text. Bare words and other frames take none. The contents of `scratch` afterwards are not specified.
 ///
-/// The refusals are tested in this order, and after each `out` is as it was. The bytes are unpacked, if they are
-/// packed: `Packed`, as [`canonicalise`](capn_canon::canonicalise) refuses it, and then `NoScratch`, if the words have
-/// no room. They are read: `Bare` for the form `Bare`; `Frame` and, if bytes follow the message, `Trailing`; then
-/// `NoScratch`, if the ends of its segments have no room, with the words of the text among those that are needed. The
-/// message is walked: `Walk`. Its value is laid out: `Capability`, with the index of the first in preorder; and
-/// `NoRoom`, with the length of the canonical bytes, if that is more than `out` has. (Own.)
+/// The refusals are tested in this order, and each leaves `out` as it was. Packed bytes are unpacked, and refused by
+/// `Packed` as [`canonicalise`](capn_canon::canonicalise) does, then by `NoScratch` if the unpacked words have no room.
+/// The message is read, and refused by `Bare` for the form `Bare`, else by `Frame` or, if bytes follow the message, by
+/// `Trailing`. A frame is then refused by `NoScratch` if the ends of its segments have no room: the words needed
+/// include those of the text. The message is walked, and refused by `Walk`. Its value is laid out, and refused by
+/// `Capability`, with the index of the first in preorder, then by `NoRoom`, with the length of the canonical bytes, if
+/// `out` is shorter. (Own.)
 pub fn canonical_into_form(
     form: Form,
     bytes: &[u8],
@@ -119,16 +120,16 @@ pub fn canonical_into_form(
     scratch: &mut [[u8; 8]],
     out: &mut [u8],
 ) -> Result<CanonicalLength, FormRefusal>
-    // The theorem. There is an answer if and only if the bytes denote a value without capabilities within the limits,
-    // and what they take of scratch and the canonical bytes have room;
+    // The theorem: `result` is `Ok` if and only if the bytes denote a value without capabilities within the limits,
+    // `scratch` has the words that they take, and `out` has room for the canonical bytes.
     ensures answered { AnsweredForm form bytes.now limits (length scratch.old) (length out.old) result }
-    // the canonical bytes are written to the beginning, with what was there after them;
+    // If `result` is `Ok`, the canonical bytes are at the beginning of `out`, and the bytes after them are as before.
     ensures written { IfOk result (λ c. WrittenForm form bytes.now limits (length scratch.old) out.old out.new c) }
-    // else the first refusal in order,
+    // If `result` is an `Err`, it is the first refusal in the order of the tests.
     ensures refused { IfErr result (λ e. IsFormRefused form bytes.now limits (length scratch.old) (length out.old) e) }
-    // which leaves all as it was.
+    // A refusal leaves `out` as it was.
     ensures unchanged { OnErr result (out.new ≡ out.old) }
-    // No walk pays beyond its budget.
+    // The walk pays at most the budget, also if it is refused.
     ensures bounded { MatchResult result (λ c. IsBounded limits.budget c.paid c.visits)
         (λ e. IsFormPaidWithin limits.budget e) }
 {

@@ -1,4 +1,4 @@
-//! Canonical bytes of a frame, with the ends of its segments in the caller's words.
+//! The canonical bytes of a frame, with the ends of its segments on the stack or in words that the caller lends.
 
 ghost use Rattle.std.specs.Prelude.{◌≡◌, ◌+◌, ◌*◌, ◌^◌, ◌<◌, ◌≤◌, length, drop, sum};
 ghost use Rattle.capn_stream.specs.Cuts.{AreEnds, cut};
@@ -15,10 +15,10 @@ use capn_canon::{CanonicalLength, Limits, canonical_into};
 use capn_stream::table::{Head, head_of, read_head};
 use capn_words::{Bare, Space};
 
-/// The most segments of which the ends are kept on the stack.
+/// The greatest number of segments whose ends are kept on the stack.
 const MOST_KEPT: usize = 64;
 
-/// Writes the canonical bytes of the message `space` to `out`, and tells why in the words of a form if it does not.
+/// Writes the canonical bytes of the message `space` to `out`, and maps a refusal to a `FormRefusal`.
 pub(crate) fn write<S: Space>(
     space: &S,
     limits: Limits,
@@ -30,8 +30,8 @@ pub(crate) fn write<S: Space>(
     Ok(written)
 }
 
-/// Writes the canonical bytes of the message of the frame `bytes`, whose contents are `words`, to `out`. The ends of
-/// its segments but the last, `count` of them, are kept in `ends`.
+/// Writes the canonical bytes of the message of the frame `bytes` to `out`. `words` are the words after its segment
+/// table. The ends of all segments but the last, `count` of them, are written to `ends`.
 fn of_cut(
     bytes: &[u8],
     words: Bare<'_>,
@@ -52,8 +52,8 @@ fn of_cut(
     write(&message, limits, out)
 }
 
-/// Does what [`of_frame`] does for a whole frame at the front of `bytes`, up to the byte `end`. Its contents are
-/// `words`, and it has `count` segments besides the last.
+/// Does what [`of_frame`] does for a whole frame at the front of `bytes`, which ends at byte `end`. `words` are the
+/// words after its segment table, and `count` is its number of segments without the last.
 fn of_words(
     bytes: &[u8],
     words: Bare<'_>,
@@ -86,7 +86,7 @@ fn of_words(
     of_cut(bytes, words, count, scratch, limits, out)
 }
 
-/// Does what [`of_frame`] does, of a whole frame that comes first in `bytes`, and whose table announces `head`.
+/// Does what [`of_frame`] does for a whole frame at the front of `bytes` whose segment table announces `head`.
 fn of_whole(
     bytes: &[u8],
     head: Head,
@@ -119,8 +119,9 @@ fn of_whole(
     }
 }
 
-/// Writes the canonical bytes of the message whose frame `bytes` are to `out`, with words of `scratch` for the ends of
-/// more than 64 segments. A number of words that are needed counts `before` more.
+/// Writes the canonical bytes of the message of the frame `bytes` to `out`. The ends of more than 64 segments are kept
+/// in `scratch`. `NoScratch` counts `before` words more than the frame needs: the words of the packed text that it was
+/// unpacked from.
 pub(crate) fn of_frame(
     bytes: &[u8],
     scratch: &mut [[u8; 8]],

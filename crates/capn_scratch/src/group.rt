@@ -1,4 +1,4 @@
-//! One group of a packed text: its size, and its words.
+//! One group of a packed text: its size, and the words that it unpacks to.
 
 ghost use Rattle.std.specs.Prelude.{◌≡◌, ◌+◌, ◌*◌, ◌<◌, ◌≤◌, ◌++◌, ◌/◌, ◌%◌, length, take, replicate, slice_index};
 ghost use Rattle.std.specs.Prelude.{count_ones};
@@ -15,16 +15,16 @@ pub(crate) enum Stop {
     TooLong,
 }
 
-/// The size of a whole group.
+/// The size of a whole group, packed and unpacked.
 #[derive(Clone, Copy)]
 pub(crate) struct Size {
-    /// The number of its bytes.
+    /// The number of its bytes, with its tag.
     pub bytes: usize,
-    /// The number of its words.
+    /// The number of words that it unpacks to.
     pub words: usize,
 }
 
-/// Returns the size of the group of zero words at the front of `rest`.
+/// Returns the size of the group of zero words, with the tag 0, at the front of `rest`.
 fn size_of_zeros(rest: &[u8], room: usize) -> Result<Size, Stop>
     requires some { 0 < length rest.now }
     requires tag { slice_index rest.now 0 ≡ 0 }
@@ -40,7 +40,7 @@ fn size_of_zeros(rest: &[u8], room: usize) -> Result<Size, Stop>
     Ok(Size { bytes: 2, words })
 }
 
-/// Returns the size of the group of one word at the front of `rest`, of which the tag names some bytes.
+/// Returns the size of the group of one word at the front of `rest`, whose tag names some bytes but not all.
 fn size_of_named(rest: &[u8], room: usize) -> Result<Size, Stop>
     requires some { 0 < length rest.now }
     requires above { 0 < slice_index rest.now 0 }
@@ -57,7 +57,7 @@ fn size_of_named(rest: &[u8], room: usize) -> Result<Size, Stop>
     Ok(Size { bytes, words: 1 })
 }
 
-/// Returns the size of the group of words written whole at the front of `rest`.
+/// Returns the size of the group of unpacked words, with the tag 255, at the front of `rest`.
 fn size_of_raw(rest: &[u8], room: usize) -> Result<Size, Stop>
     requires some { 0 < length rest.now }
     requires tag { slice_index rest.now 0 ≡ 255 }
@@ -80,7 +80,7 @@ fn size_of_raw(rest: &[u8], room: usize) -> Result<Size, Stop>
     })
 }
 
-/// Returns the size of the group at the front of `rest`, if it is whole and has at most `room` words.
+/// Returns the size of the group at the front of `rest`, if it is whole and unpacks to at most `room` words.
 pub(crate) fn size_of(rest: &[u8], room: usize) -> Result<Size, Stop>
     requires { 0 < length rest.now }
     ensures { SizeGives rest.now room result }
@@ -110,7 +110,7 @@ fn store_zeros(out: &mut [u8], at: usize, count: usize)
     out[at..end].fill(0);
 }
 
-/// Returns the byte of a word for which the last bit of `left` stands: the next one of `bytes`, or zero.
+/// Returns the next byte of an unpacked word: byte `next` of `bytes` if the last bit of `left` is set, else zero.
 fn byte_of(left: u8, bytes: &[u8], next: usize) -> u8
     requires { next + count_ones left ≤ length bytes.now }
     ensures none { left % 2 ≡ 0 → result ≡ 0 }
@@ -119,7 +119,8 @@ fn byte_of(left: u8, bytes: &[u8], next: usize) -> u8
     if left % 2 == 0 { 0 } else { bytes[next] }
 }
 
-/// Returns the word whose bytes named by `tag` are the first of `bytes`, in order; its other bytes are zero.
+/// Returns the word that `tag` and `bytes` unpack to. The bytes named by `tag` are the first of `bytes`, in order, and
+/// the others are zero.
 fn spread(tag: u8, bytes: &[u8]) -> [u8; 8]
     requires { count_ones tag ≤ length bytes.now }
     ensures named { IsNamedBy tag result }
@@ -136,7 +137,7 @@ fn spread(tag: u8, bytes: &[u8]) -> [u8; 8]
     word
 }
 
-/// Writes the zero words of the group at the front of `rest` to `out`, from offset `fill` on.
+/// Unpacks the group of zero words at the front of `rest`, of this `size`, to `out` from offset `fill` on.
 fn put_zeros(rest: &[u8], size: Size, out: &mut [u8], fill: usize)
     requires inside { 2 ≤ length rest.now }
     requires tag { slice_index rest.now 0 ≡ 0 }
@@ -148,7 +149,7 @@ fn put_zeros(rest: &[u8], size: Size, out: &mut [u8], fill: usize)
     store_zeros(out, fill, 8 * size.words);
 }
 
-/// Writes the word of the group at the front of `rest`, whose tag names some bytes, to `out`, from offset `fill` on.
+/// Unpacks the group of one word at the front of `rest`, whose tag names some bytes, to `out` from offset `fill` on.
 fn put_named(rest: &[u8], size: Size, out: &mut [u8], fill: usize)
     requires some { 0 < length rest.now }
     requires above { 0 < slice_index rest.now 0 }
@@ -163,7 +164,7 @@ fn put_named(rest: &[u8], size: Size, out: &mut [u8], fill: usize)
     store(out, fill, &word);
 }
 
-/// Writes the words of the group of raw words at the front of `rest` to `out`, from offset `fill` on.
+/// Unpacks the group of raw words at the front of `rest`, of this `size`, to `out` from offset `fill` on.
 fn put_raw(rest: &[u8], size: Size, out: &mut [u8], fill: usize)
     requires tag { slice_index rest.now 0 ≡ 255 }
     requires bytes { size.bytes ≡ 10 + 8 * slice_index rest.now 9 }
@@ -176,7 +177,7 @@ fn put_raw(rest: &[u8], size: Size, out: &mut [u8], fill: usize)
     store(out, fill + 8, &rest[10..size.bytes]);
 }
 
-/// Writes the words of the group of this size at the front of `rest` to `out`, from offset `fill` on.
+/// Unpacks the group at the front of `rest`, of this `size`, to `out` from offset `fill` on.
 pub(crate) fn put_group(rest: &[u8], size: Size, out: &mut [u8], fill: usize)
     requires some { 0 < length rest.now }
     requires bytes { size.bytes ≡ len_at rest.now }

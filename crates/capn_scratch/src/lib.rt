@@ -1,9 +1,9 @@
-//! Canonical bytes of every form with no allocator.
+//! Canonical bytes of a message in any form, with no allocator.
 //!
-//! [`canonical_into_form`] writes the canonical bytes of the value that bytes denote, whichever of the three forms they
-//! are in, into a buffer that is there, as `capn_canon::canonical_into` does of a message. The caller lends the words
-//! that are needed on the way: those that a packed text unpacks to, and the ends of segments, if they are more than 64.
-//! If they are too few, the refusal says how many are needed; [`FormRefusal`] has no variant for memory.
+//! [`canonical_into_form`] writes the canonical bytes of the value that bytes denote, in any of the three forms, into a
+//! buffer of the caller, as `capn_canon::canonical_into` does for a message. The caller lends the words that are needed
+//! on the way: those that a packed text unpacks to, and the ends of more than 64 segments. If they are too few, the
+//! refusal says how many are needed. [`FormRefusal`] has no variant for memory.
 //!
 //! ```text
 //! let mut scratch = [[0; 8]; 512];
@@ -15,11 +15,12 @@
 //! }
 //! ```
 //!
-//! For any bytes, form, limits, scratch and buffer, it succeeds if and only if the bytes denote a value without
-//! capabilities within the limits, the scratch has as many words as they take, and the canonical bytes have room. It
-//! writes exactly these; else it names the first refusal, and the buffer is as it was. The clauses say so, in the
-//! definitions of `specs/Theorem.antt`, `specs/FormRefusal.antt` and `specs/Needs.antt`. They leave no second result,
-//! and no more words are needed than are enough for all bytes in a form: [`laws`].
+//! For any bytes, form, limits, scratch and buffer, it succeeds if and only if three conditions hold. The bytes denote
+//! a value without capabilities within the limits, the scratch has as many words as they take, and the buffer has room
+//! for the canonical bytes. It then writes exactly those. Otherwise it returns the first refusal, and the buffer is as
+//! it was. The clauses say so, by the definitions of `specs/Theorem.antt`, `specs/FormRefusal.antt` and
+//! `specs/Needs.antt`. [`laws`] states that they allow no second result, and that no input needs more words than are
+//! enough for its form.
 //!
 //! No call takes memory, or an allocator.
 #![tactic(auto)]

@@ -1,36 +1,38 @@
-//! Refusals of canonical bytes that are written with the caller's words.
+//! The reasons why canonical bytes are not written with words that the caller lends.
 
 use capn_canon::{BareFault, FrameFault, IntoRefusal, Stopped, UnpackFault};
 use std::error::Error;
 use std::fmt;
 
-/// The reason why canonical bytes of bytes in a form are not written, in the order in which the tests are made: the
-/// bytes are unpacked, if they are packed; they are read as a message; and that is walked, looked through for a
-/// capability, and written. `NoScratch` comes at two places: before the frame is read, if the words that are unpacked
-/// have no room, and after it, if the ends of its segments have none. (Own.)
+/// The reason why the canonical bytes of bytes in a form are not written, in the order in which the tests are made.
+/// Packed bytes are unpacked, the bytes are read as a message, and the message is walked, searched for a capability,
+/// and written. `NoScratch` has two places in this order: before the frame is read, if the unpacked words have no room,
+/// and after it, if the ends of its segments have none. (Own.)
 ///
-/// There is no variant for memory, since none is taken. Some of the faults have one, for calls that take an allocator:
-/// no clause lets it come here.
+/// There is no variant for memory, since none is taken. Some of the faults have one, for calls that take an allocator,
+/// but the clauses exclude it here.
 #[derive(Clone, Copy, Debug, PartialEq, Eq)]
 pub enum FormRefusal {
-    /// The bytes of the form `Bare` are no whole words, or too many.
+    /// A fault of the form `Bare`: the bytes are not whole words, or are too many.
     Bare(BareFault),
-    /// The bytes of the form `Packed` are cut in a group, or unpack to more words than the limit on message words and
-    /// the longest table. The fault is never `Memory`.
+    /// A fault of the form `Packed`: the bytes end within a group, or unpack to more words than the limit on message
+    /// words and the longest table allow. The fault is never `Memory`.
     Packed(UnpackFault),
-    /// The bytes, or what they unpack to, are no frame within the limit on message words. The fault is never `Memory`.
+    /// A fault of the frame: the bytes, or those that they unpack to, are no frame within the limit on message words.
+    /// The fault is never `Memory`.
     Frame(FrameFault),
-    /// Bytes follow the frame: the offset of the first, for the form `Packed` in the bytes that were unpacked.
+    /// The offset of the first byte that follows the frame. For the form `Packed` it is an offset in the unpacked
+    /// bytes.
     Trailing(u64),
     /// The scratch is too short.
     NoScratch {
-        /// The number of words: those that the bytes unpack to; or, once they are read, those and the words of the
-        /// table, or these alone.
+        /// The number of words that are needed. If the unpacked words have no room, it is their number. If the ends of
+        /// the segments have none, it is the number of the ends, with that of the unpacked words if there are any.
         needed: usize,
     },
-    /// The message is not accepted: the place and the reason at which its walk stopped. The fault is never `Memory`.
+    /// The place and the reason at which the walk stopped, if the message is not accepted. The fault is never `Memory`.
     Walk(Stopped),
-    /// The value has capabilities, which have no canonical form: the index of the first in preorder.
+    /// The index of the first capability in preorder, if the value has any: a capability has no canonical form.
     Capability(u32),
     /// The buffer is too short.
     NoRoom {

@@ -1,4 +1,4 @@
-//! A borrowed message, whose segments end where the caller's words say.
+//! A message in borrowed bytes, with the ends of its segments in words that the caller lends.
 
 ghost use Rattle.std.specs.Prelude.{◌≡◌};
 ghost use Rattle.capn_stream.specs.Cuts.{AreEnds, cut};
@@ -10,8 +10,8 @@ use std::marker::Model;
 
 /// A message whose segments follow one another in borrowed bytes. Contracts see it as the list of their words.
 ///
-/// It copies none of them. The ends of all segments but the last are borrowed too, so it takes no memory, and finds
-/// every segment in constant time.
+/// The words are not copied. The ends of all segments but the last are borrowed too, so the type takes no memory, and
+/// finds every segment in constant time.
 #[derive(Drop)]
 pub(crate) struct ScratchSegments<'a> {
     words: Bare<'a>,
@@ -31,7 +31,7 @@ impl<'a> Model for ScratchSegments<'a> {
 }
 
 impl<'a> ScratchSegments<'a> {
-    /// Cuts `words` at `ends`.
+    /// Cuts `words` into segments at `ends`.
     pub(crate) fn new(words: Bare<'a>, ends: &'a [[u8; 8]]) -> ScratchSegments<'a>
         requires { AreEnds (numbers ends.now) words }
         ensures { result ≡ cut 0 (numbers ends.now) words.entry }

@@ -1,4 +1,4 @@
-//! Packed texts: how many words they have, and their words in a buffer.
+//! The words of a packed text: their number, and their bytes in a buffer.
 
 ghost use Rattle.std.specs.Prelude.{◌≡◌, ◌≢◌, ℕ, ◌*◌, ◌≤◌, List, length, take, IfOk, IfErr};
 ghost use Rattle.capn_pack.specs.Packed.{Packs};
@@ -7,10 +7,12 @@ ghost use Rattle.capn_pack.specs.UnpackRefusal.{IsUnpackRefused};
 use crate::group::{Stop, put_group, size_of};
 use capn_pack::UnpackFault;
 
-/// Returns the number of words that the packed text `bytes` has, if they are at most `max_words`. It writes nothing.
+/// Returns the number of words that the packed text `bytes` unpacks to, if they are at most `max_words`. It writes
+/// nothing.
 ///
-/// Refusals, with the offset of the group's tag: `Cut` if the group's head is cut, else `TooLong` if its words would
-/// bring their number above `max_words`, else `Cut` if its raw words are cut. `Memory` and `Failed` never come.
+/// Each refusal has the offset of a group's tag. A group is refused by `Cut` if its head is cut, else by `TooLong` if
+/// its words would exceed `max_words`, else by `Cut` if its raw words are cut. `Memory` and `Failed` are never
+/// returned.
 pub(crate) fn unpacked_words(bytes: &[u8], max_words: usize) -> Result<usize, UnpackFault>
     ensures found { IfOk result (λ n. (text : List ℕ) × Packs bytes.now text × (length text ≡ 8 * n)) }
     ensures within { IfOk result (λ n. n ≤ max_words) }
@@ -32,8 +34,8 @@ pub(crate) fn unpacked_words(bytes: &[u8], max_words: usize) -> Result<usize, Un
     Ok(max_words - room)
 }
 
-/// Writes the words of the packed text `bytes` to the beginning of `out`, if they are at most `max_words`, and returns
-/// their number. What `out` holds after them, or after a refusal, is not said.
+/// Unpacks the packed text `bytes` to the beginning of `out`, if it has at most `max_words` words, and returns their
+/// number. The contents of `out` after them, or after a refusal, are not specified.
 ///
 /// It refuses what [`unpacked_words`] refuses.
 pub(crate) fn unpack_into(

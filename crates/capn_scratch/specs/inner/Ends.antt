@@ -1,13 +1,13 @@
--- The ends of segments, kept as words.
+-- The ends of segments, kept as words of 8 bytes.
 use Rattle.std.specs.Prelude.{ℕ, List, map, drop}
 use Rattle.std.specs.Int.{w64, from_le_bytes}
 use Rattle.capn_stream.specs.Cuts.{ends_from}
 use Rattle.capn_stream.specs.FrameRefusal.{entries, entry_number}
 
--- the numbers of words of 8 bytes, the least significant first
+-- the numbers that words of 8 bytes hold, the least significant byte first
 abbrev pub numbers : List (List ℕ) → List ℕ
 numbers words = map (λ word. from_le_bytes w64 word) words
 
--- the ends of all segments but the last that a table announces
+-- the ends of all segments but the last, in words, as the segment table at the front of `bs` announces them
 abbrev pub announced_ends : List ℕ → List ℕ
 announced_ends bs = ends_from 0 (entries (entry_number bs) (drop 4 bs))

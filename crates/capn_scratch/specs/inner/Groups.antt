@@ -1,4 +1,4 @@
--- One group of a packed text, read.
+-- The results of reading one group of a packed text.
 use Rattle.std.specs.Prelude.{ℕ, ◌≡◌, ◌<◌, ◌≤◌, ◌++◌, List, length, take, Result, Ok, Err}
 use Rattle.capn_pack.specs.Packed.{Group, IsGroup, group_text, group_bytes, group_words}
 use Rattle.capn_pack.specs.UnpackRefusal.{IsCut, IsTooLong, len_at, words_at}
@@ -6,8 +6,8 @@ use Rattle.capn_scratch.specs.declared.group.Size.{Size}
 use Rattle.capn_scratch.specs.declared.group.Stop.{Stop}
 use Rattle.capn_scratch.specs.declared.group.Stop.TheVariants as stops
 
--- The answer for the group that begins these bytes: its numbers of bytes, which are there, and of words, for which
--- there is room; or that it is cut, or has more words than there is room for.
+-- The result for the group at the front of `rest` is its numbers of bytes and words, if it is whole and its words have
+-- room. Otherwise it says that the group is cut, or has more words than there is room for.
 abbrev pub SizeGives : List ℕ → ℕ → Result Size Stop → Type 0
 SizeGives rest room (Ok size) =
     (size.bytes ≡ len_at rest) × (size.words ≡ words_at rest) × (0 < size.bytes) × (size.bytes ≤ length rest)
@@ -15,7 +15,7 @@ SizeGives rest room (Ok size) =
 SizeGives rest room (Err stops.Cut) = IsCut room rest
 SizeGives rest room (Err stops.TooLong) = IsTooLong room rest
 
--- The group that begins these bytes takes `taken` of them and has `count` words, whose bytes were appended.
+-- The group at the front of `rest` takes `taken` bytes and unpacks to `count` words, whose bytes were appended.
 pub record Takes (rest : List ℕ) (taken count : ℕ) (old new : List ℕ) : Type 0 where
   pub group : Group
   pub is_group : IsGroup group

@@ -1,4 +1,4 @@
--- The outcomes of private calls.
+-- The results of private calls that write canonical bytes.
 use Rattle.std.specs.Prelude.{◌≡◌, ℕ, ◌+◌, List, length, Result, IfOk, IfErr, OnErr, MatchResult}
 use Rattle.capn_walk.specs.Accepted.{IsBounded}
 use Rattle.capn_walk.specs.Limits.{Bounds}
@@ -11,7 +11,8 @@ use Rattle.capn_scratch.specs.Theorem.{WrittenForm}
 use Rattle.capn_scratch.specs.declared.refusal.FormRefusal.{FormRefusal}
 use Rattle.capn_scratch.specs.declared.refusal.FormRefusal.TheVariants as told
 
--- a call leaves the canonical bytes of a message in a buffer, or leaves that as it was and tells the reason
+-- `r` reports the canonical bytes of `message`, written to the buffer, or the reason why they are not, and the buffer
+-- is then as it was
 pub record IsTold (message : List (List ℕ)) (limits : Bounds) (old new : List ℕ)
     (r : Result CanonicalLength FormRefusal) : Type 0 where
   pub written : IfOk r (λ c. WrittenInto message limits old new c)
@@ -19,7 +20,8 @@ pub record IsTold (message : List (List ℕ)) (limits : Bounds) (old new : List 
   pub unchanged : OnErr r (new ≡ old)
   pub bounded : MatchResult r (λ c. IsBounded limits.budget c.paid c.visits) (λ e. IsFormPaidWithin limits.budget e)
 
--- a call does so for bytes in a form
+-- `r` reports the canonical bytes of the message that `bs` encode in `form`, written to the buffer, or the reason why
+-- they are not, and the buffer is then as it was
 pub record IsFormTold (form : Form) (bs : List ℕ) (limits : Bounds) (scratch : ℕ) (old new : List ℕ)
     (r : Result CanonicalLength FormRefusal) : Type 0 where
   pub written : IfOk r (λ c. WrittenForm form bs limits scratch old new c)
@@ -27,13 +29,14 @@ pub record IsFormTold (form : Form) (bs : List ℕ) (limits : Bounds) (scratch :
   pub unchanged : OnErr r (new ≡ old)
   pub bounded : MatchResult r (λ c. IsBounded limits.budget c.paid c.visits) (λ e. IsFormPaidWithin limits.budget e)
 
--- a frame is refused, and words that come before its own count among those that are needed
+-- the refusal is true of the frame `bs`; a number of words needed counts `before` words more than the frame needs
 abbrev pub IsFrameRefusedAfter : ℕ → List ℕ → Bounds → ℕ → ℕ → FormRefusal → Type 0
 IsFrameRefusedAfter before bs limits scratch room (told.NoScratch n) =
     (k : ℕ) × (n ≡ before + k) × LacksTable forms.Stream bs limits.message_words scratch k
 IsFrameRefusedAfter before bs limits scratch room e = IsFormRefused forms.Stream bs limits scratch room e
 
--- a call does so for a frame
+-- `r` reports the canonical bytes of the message of the frame `bs`, written to the buffer, or the reason why they are
+-- not, and the buffer is then as it was
 pub record IsFrameTold (before : ℕ) (bs : List ℕ) (limits : Bounds) (scratch : ℕ) (old new : List ℕ)
     (r : Result CanonicalLength FormRefusal) : Type 0 where
   pub written : IfOk r (λ c. WrittenForm forms.Stream bs limits scratch old new c)

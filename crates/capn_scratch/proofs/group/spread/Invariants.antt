@@ -2,7 +2,7 @@ use Rattle.std.proofs.Common.{◌≡◌, ◌+◌, ◌++◌, List, ℕ, length, t
 use Rattle.capn_pack.specs.Packed.{named_bytes, IsNamedBy}
 use Rattle.capn_scratch.proofs.group.spread.Given as goal
 
--- what was named so far, and what is still to be named, is what the tag names
+-- the bytes named so far, and those still to be named, are those that the tag names
 abbrev pub invariant-loop-index : goal.invariant-loop-index
 invariant-loop-index l = record {
   named : (ws : List ℕ) → IsNamedBy l.left ws → IsNamedBy l.tag (take l.index l.word ++ ws);
