@@ -1,4 +1,4 @@
--- Whose a word of canonical bytes is, where the message is the same before it. (For `Leaving`.)
+-- The owner of a word of canonical bytes, if the message is the same before that word. (For `Leaving`.)
 use Rattle.std.proofs.Common.{◌≡◌, ◌⊎◌, inl, inr, ℕ, suc, ◌+◌, ◌-◌, ◌*◌, ◌^◌, ◌<◌, ◌≤◌}
 use Rattle.std.proofs.Common.{List, [], ◌∷◌, ◌++◌, length, slice_index}
 use Rattle.std.proofs.Common.{refl, ap, sym, subst, ◌∙◌, arith}
@@ -35,7 +35,7 @@ module _ (ws cs : List ℕ) (base k : ℕ) (small : length cs ≤ 2 ^ 29)
   abbrev pub m : List (List ℕ)
   m = cs ∷ []
 
-  -- ---- the first of several slots or rows, or another
+  -- ---- one of several slots or rows: the first, or another
 
   pub of-first : (t : Tree) (ts : Trees) (p to d : ℕ) → Slots ws cs base k (tree t ts) p to d
       → (k < to + size t) ⊎ (to + size t ≤ k) → (Slot ws cs base k t p to d → Told ws cs base k (visits m base d (here
@@ -152,7 +152,7 @@ module _ (ws cs : List ℕ) (base k : ℕ) (small : length cs ≤ 2 ^ 29)
         low = omega arith;
       }))
 
-  -- ---- all
+  -- ---- all values
 
   mutual
     pub slot-told : (t : Tree) (p to d : ℕ) → Slot ws cs base k t p to d → Told ws cs base k (visits m base d (here p))

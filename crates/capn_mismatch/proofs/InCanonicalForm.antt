@@ -17,7 +17,7 @@ use Rattle.capn_mismatch.proofs.Mismatching.{one-value}
 abbrev Is : List ℕ → Tree → Type 0
 Is ws v = (first_cap v ≡ None) × (canon v ≡ bytes ws)
 
--- a message of several segments isn't
+-- a message of several segments isn't canonical
 pub several : (m : List (List ℕ)) (v : Tree) → (length m ≡ 1 → ⊥) → IsCanonicalOf m v → ⊥
 several m v not (words, e, free, same) = not (ap length e)
 
@@ -33,7 +33,7 @@ module _ (m : List (List ℕ)) (limits : Bounds) (ws : List ℕ) (one : m ≡ ws
   of-words : IsValueOf (ws ∷ []) limits v
   of-words = subst (λ (x : List (List ℕ)). IsValueOf x limits v) one i
 
-  -- it is exactly where the pass says so,
+  -- the message is canonical exactly if the pass says so
   pub is-found : (c : SurveyedBare) → IsBareSurvey ws limits c → IsTrue c.is_canonical ↔ IsCanonicalOf m v
   is-found c found =
       let same = one-value (ws ∷ []) limits v found.value of-words found.is in (
@@ -41,7 +41,7 @@ module _ (m : List (List ℕ)) (limits : Bounds) (ws : List ℕ) (one : m ≡ ws
         λ h. found.answer.1 (subst (Is ws) same (here h)),
       )
 
-  -- and it isn't where the pass says nothing
+  -- the message isn't canonical if the pass finds nothing
   pub not-found : (r : Option SurveyedBare) → r ≡ None
       → ((w : Tree) → IsValueOf (ws ∷ []) limits w → first_cap w ≡ None → canon w ≡ bytes ws → IsSome r)
       → IsCanonicalOf m v → ⊥

@@ -95,7 +95,7 @@ module _ (ws cs : List ℕ) (base k : ℕ) (small : length cs ≤ 2 ^ 29)
         let l = length-drop to ws in
         (list-of n (list_width a) (length xs) 0 to (plain a) below-64 (omega arith) (numbers a xs) numbers-inside).0 to
 
-    -- a word whose bits are all those of elements
+    -- the word has only bits of elements
     pub whole-word : k < to + bits / 64 → Same ws cs base k
     whole-word lt =
         let j = k - to in
@@ -114,7 +114,7 @@ module _ (ws cs : List ℕ) (base k : ℕ) (small : length cs ≤ 2 ^ 29)
         let z = get_or-drop to ws j 0 in
         ap (slice_index ws) (sym e) ∙ sym z ∙ sym y ∙ sym x ∙ sym c ∙ ap (slice_index cs) e
 
-    -- the last word
+    -- the word is the last one
     pub last-word : is_small (list_width a) ≡ true → k + 1 ≡ to + taken → Owned cs base k (visits m base d (here p))
     last-word small e =
         let s = h.starts in

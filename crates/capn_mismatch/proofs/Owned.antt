@@ -1,4 +1,4 @@
--- Visits, one of which is of the slot that owns a word. (For `Belonging`, `NumbersTold`, `RowsTold` and `Told`.)
+-- Visits among which is that of the slot that owns a word. (For `Belonging`, `NumbersTold`, `RowsTold` and `Told`.)
 use Rattle.std.proofs.Common.{◌≡◌, ℕ, suc, ◌+◌, ◌-◌, ◌<◌, ◌≤◌, ◌==◌}
 use Rattle.std.proofs.Common.{◌&&◌, List, [], ◌∷◌, ◌++◌, Option}
 use Rattle.std.proofs.Common.{Some, None, Result, ap, sym, subst, ◌∙◌, arith}
@@ -20,7 +20,7 @@ use Rattle.capn_path.specs.Finds.{IsPassed}
 use Rattle.capn_path.proofs.shared.Passing.{passed-both, begins}
 use Rattle.capn_mismatch.proofs.Pointed.{here}
 
--- an aim that no visit changes is the same after all
+-- an aim that no visit changes is the same after all visits
 pub same-after : {G F : Type 0} (m : List (List ℕ)) (finds : G → Place → Result Target Fault → Option F)
     (aim after : G) (vs : List Visit) → IsPassed m finds same aim vs after → after ≡ aim
 same-after m finds aim after [] h = h
@@ -31,7 +31,7 @@ module _ (cs : List ℕ) (base k : ℕ) where
   abbrev pub m : List (List ℕ)
   m = cs ∷ []
 
-  -- the aim at the owner of the word
+  -- the aim that finds the owner of the word
   abbrev pub aim : Owner
   aim = record { word = here k }
 
@@ -39,7 +39,7 @@ module _ (cs : List ℕ) (base k : ℕ) where
   abbrev pub found : Place → Option WordKind
   found at = finds (here k) at (target m at)
 
-  -- ---- visits of which one is of the slot that owns the word
+  -- ---- visits among which is that of the slot that owns the word
 
   abbrev pub Owned : List Visit → Type 0
   Owned vs = (after : Owner) → IsPassed m owned same aim vs after → ⊥
@@ -67,11 +67,11 @@ module _ (cs : List ℕ) (base k : ℕ) where
       let b = begins m base d at in
       owned-as _ _ b.is (owned-here b.head b.rest x (ap found b.place ∙ e))
 
-  -- the visits of the slot at the word
+  -- the visits of the slot that holds the word
   pub owned-slot : (d : ℕ) → Owned (visits m base d (here k))
   owned-slot d = found-begins d (here k) finding.Pointer pointer-here
 
-  -- those of slots of which it is one
+  -- the visits of slots among which is the one that holds the word
   pub owned-among : (p c d : ℕ) → p ≤ k → k < p + c → Owned (flat_map (visits m base d) (places 0 p c))
   owned-among p c d le lt =
       let i = k - p in

@@ -24,7 +24,7 @@ use Rattle.capn_layout.specs.Layout.{struct_to, list_to}
 abbrev pub here : ℕ → Place
 here w = record { segment = 0; word = w }
 
--- a list that is not of structs
+-- the width is not that of rows
 abbrev pub IsFlat : Width → Type 0
 IsFlat Rows = ⊥
 IsFlat width = Unit {0}
@@ -39,13 +39,13 @@ module _ (ws : List ℕ) where
   abbrev only : List (List ℕ)
   only = ws ∷ []
 
-  -- what the pointer at a word names, by what is read there
+  -- the target of the pointer at a word, given the pointer
   names : (from : ℕ) (p : Pointer) → pointer_of (slice_index ws from) ≡ p
       → target only (here from) ≡ target_of_pointer only 0 from p
   unfolding target
   names from p e = ap (target_of_pointer only 0 from) e
 
-  -- content has room, or it is out of range
+  -- content that has room in the segment is in range
   pub has-room : (start n : ℕ) (r : Result Target Fault) → start + n ≤ length ws → if_inside only 0 start n r ≡ r
   has-room start n r h = if-no (nat_lt (length ws) (start + n)) _ _ (le-ltb (length ws) (start + n) h)
 
@@ -56,7 +56,7 @@ module _ (ws : List ℕ) where
       (nat_lt (length ws) (start + n)) (Err faults.Range) r (λ t e. absurd cc)
       (λ t e. (omega (arith, ltb-false (length ws) (start + n) t), e))
 
-  -- a struct that isn't empty
+  -- the target of the pointer to a struct that isn't empty
   pub struct-named : (p to a b : ℕ) → p < to → to < 2 ^ 29 → a < 2 ^ 16 → b < 2 ^ 16 → 0 < a + b
       → slice_index ws p ≡ struct_to p to a b
       → target only (here p) ≡ if_inside only 0 to (a + b) (Ok (targets.Content 0 to (shapes.Node a b) 0))
@@ -79,7 +79,7 @@ module _ (ws : List ℕ) where
   listed start n Link p = refl
   listed start n Rows p = absurd p
 
-  -- a list that is not of structs
+  -- the target of the pointer to a list that is not of structs
   pub list-named : (p to n : ℕ) (k : Width) → IsFlat k → p < to → to < 2 ^ 29 → n < 2 ^ 29
       → slice_index ws p ≡ list_to p to k n
       → target only (here p) ≡ if_inside only 0 to (content_words k n) (Ok (targets.Content 0 to (shapes.Many k n) 0))
@@ -90,7 +90,7 @@ module _ (ws : List ℕ) where
       ∙ listed (p + 1 + o) n k flat
       ∙ ap (λ (q : ℕ). if_inside only 0 q (content_words k n) (Ok (targets.Content 0 q (shapes.Many k n) 0))) z
 
-  -- a list of structs
+  -- the target of the pointer to a list of structs, given its tag
   pub rows-named : (p to d : ℕ) → p < to → to < 2 ^ 29 → d < 2 ^ 29 → slice_index ws p ≡ list_to p to Rows d
       → target only (here p) ≡ if_inside only 0 to (1 + d) (tagged only 0 to 0 d (slice_index ws to))
   rows-named p to d order small hd e =
@@ -99,7 +99,7 @@ module _ (ws : List ℕ) where
       names p (Many (pos o) Rows d) (ap pointer_of e ∙ pointer_of-word_of (Many (pos o) Rows d) (omega arith, hd))
       ∙ ap (λ (q : ℕ). if_inside only 0 q (1 + d) (tagged only 0 q 0 d (slice_index ws q))) z
 
-  -- its tag
+  -- the target of a list of structs with this tag
   pub tag-named : (to c a b d w : ℕ) → w ≡ word_of (Node (pos c) a b) → c < 2 ^ 30 → a < 2 ^ 16 → b < 2 ^ 16
       → c * (a + b) ≤ d → tagged only 0 to 0 d w ≡ Ok (targets.Content 0 to (shapes.Rows c a b d) 0)
   tag-named to c a b d w i hc ha hb fit =

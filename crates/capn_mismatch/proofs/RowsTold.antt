@@ -101,7 +101,7 @@ module _ (ws cs : List ℕ) (base k : ℕ) (small : length cs ≤ 2 ^ 29)
               h.before rows-canonical (if-yes ((0 == 0) && (to == k)) _ _ (grind (arith, nat_tests))))),
         )
 
-    -- it comes after the tag
+    -- the word comes after the tag
     module _ (lt : to < k) where
       rows-message : target n (here p) ≡ Ok (targets.Content 0 to shape 0)
       rows-message =

@@ -32,7 +32,7 @@ none-kept b n e = grind (arith, nat_tests)
 some-kept : (n : ℕ) → kept_behind false n ≡ 0 → ⊥
 some-kept n e = grind (arith, nat_tests)
 
--- slots of which none is kept have nothing below
+-- slots of which none is kept have nothing below them
 no-sizes : (ss : Trees) → kept_slots ss ≡ 0 → sizes ss ≡ 0
 no-sizes no_trees e = refl
 no-sizes (tree nil ts) e = let f = no-sizes ts (none-kept true (kept_slots ts) e) in omega arith
@@ -54,7 +54,7 @@ module _ (ws cs : List ℕ) (base k : ℕ) (small : length cs ≤ 2 ^ 29)
 
   -- ---- one object
 
-  -- what a slot names is found in the message where it is found in the canonical words
+  -- the target of a slot is the same in the message and in the canonical words
   pub record Both (p to size : ℕ) (shape : Shape) : Type 0 where
     pub message : target n (here p) ≡ Ok (targets.Content 0 to shape 0)
     pub canonical : target m (here p) ≡ Ok (targets.Content 0 to shape 0)

@@ -1,5 +1,5 @@
--- A word is the same, or one of some visits is of the slot that owns it. (For `Belonging`, `Leaving`, `NumbersTold` and
--- others.)
+-- Either a word is the same as in the canonical words, or one of some visits is of the slot that owns it. (For
+-- `Belonging`, `Leaving`, `NumbersTold` and others.)
 use Rattle.std.proofs.Common.{◌≡◌, ◌⊎◌, inl, inr, ℕ, suc, ◌+◌, ◌-◌, ◌*◌, ◌<◌, ◌≤◌}
 use Rattle.std.proofs.Common.{List, [], ◌∷◌, ◌++◌, length, drop, slice_index}
 use Rattle.std.proofs.Common.{Ok, ap, ap₂, sym, ◌∙◌, arith}
@@ -33,7 +33,7 @@ module _ (ws cs : List ℕ) (base k : ℕ) where
   abbrev pub m : List (List ℕ)
   m = cs ∷ []
 
-  -- ---- the word is the same, or one of these visits is of the slot whose it is
+  -- ---- the word is the same, or one of the visits is of the slot that owns it
 
   abbrev pub Same : Type 0
   Same = slice_index ws k ≡ slice_index cs k
@@ -55,7 +55,7 @@ module _ (ws cs : List ℕ) (base k : ℕ) where
       let c = ap (λ (ys : List ℕ). slice_index ys j) s in
       ap (slice_index ws) (sym e) ∙ sym b ∙ sym a ∙ c ∙ sym (h j (omega arith)) ∙ ap (slice_index cs) e
 
-  -- ---- rows, cut into the first and the others
+  -- ---- rows, split into the first and the others
 
   module _ (a b : ℕ) (xs : List ℕ) (ss : Trees) (bs : Bodies) (p q : ℕ) (la : length xs ≡ a) (lb : count ss ≡ b)
       (h : Lies cs p (row_contents a b (body xs ss bs) p q)) where
@@ -79,7 +79,7 @@ module _ (ws cs : List ℕ) (base k : ℕ) where
     others-lie = lies-back cs (p + a) b (points ss (p + a) q) others (length-points ss (p + a) q ∙ lb)
         (lies-back cs p a xs (points ss (p + a) q ++ others) la parts)
 
-  -- a word of the rows themselves
+  -- the claim for a word of the rows themselves
   abbrev pub OwnRows : ℕ → ℕ → Bodies → ℕ → ℕ → Type 0
   OwnRows a b bs p d = Same ⊎ Owned cs base k (flat_map (visits m base d) (row_places 0 p a b (count_rows bs)))
 
@@ -117,7 +117,7 @@ module _ (ws cs : List ℕ) (base k : ℕ) where
       in-row a b xs ss bs p q d h c le (decided k (p + a)) (decided k (p + a + b)) (λ over.
       rows-own a b bs (p + a + b) (q + sizes ss) d h.4 (others-lie a b xs ss bs p q h.0 h.1 c) over (omega arith))
 
-  -- ---- what is known of a slot below which the word is, of several slots, and of those of rows
+  -- ---- the claim for a slot below which the word lies, for several slots, and for the slots of rows
 
   pub record Slot (t : Tree) (p to d : ℕ) : Type 0 where
     pub sound : Sound t
@@ -155,7 +155,7 @@ module _ (ws cs : List ℕ) (base k : ℕ) where
     pub ends : k < to + sizes_in_rows bs
     pub low : greatest_in_rows bs ≤ d
 
-  -- the visits below an object
+  -- the claim for the visits below an object
   pub below : (p d s start pads : ℕ) (shape : Shape) → target m (here p) ≡ Ok (targets.Content s start shape pads) → 0
       < d
       → Told (flat_map (visits m base (d - 1)) (slots s start shape)) → Told (visits m base d (here p))
@@ -165,7 +165,7 @@ module _ (ws cs : List ℕ) (base k : ℕ) where
       told rest (visits m base d (here p)) (λ o. owned-as cs base k (visits m base d (here p)) (one ∷ rest)
       (visits-object m base (here p) s start pads shape e d deep) (owned-right cs base k (one ∷ []) rest o)) h
 
-  -- slots that lie where an object begins, or behind its words
+  -- the claim for slots at the beginning of an object, or behind its words
   pub slots-told : (ts : Trees) (p d : ℕ) → AreAt n 0 p ts → Sounds ts
       → Lies cs p (points ts p (p + count ts) ++ lays ts (p + count ts)) → p + count ts + sizes ts ≤ length cs → p ≤ k
       → k < p + count ts + sizes ts → p + count ts ≤ length ws → greatest ts ≤ d

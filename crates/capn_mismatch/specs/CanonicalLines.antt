@@ -16,18 +16,18 @@ use Rattle.capn_mismatch.specs.declared.whose.Whose.TheVariants.{Pointer, Tag, L
 use Rattle.capn_mismatch.specs.declared.canonical_lines.CanonicalLines.{CanonicalLines}
 use Rattle.capn_mismatch.specs.Mismatches.{IsMismatch}
 
--- the byte of a stream at which a word of a message's first segment lies: behind the bytes before the message, and its
+-- the byte of a stream at which `word` of a message's first segment lies, behind the bytes before the message and its
 -- table
 abbrev pub byte_of : ℕ → ℕ → ℕ → ℕ
 byte_of offset table word = offset + 8 * (table + word)
 
--- a byte, the word at it, and the value of that word in the canonical bytes
+-- the text that names a byte, the word at it, and the value of that word in the canonical bytes
 abbrev pub differs_text : ℕ → List ℕ → List ℕ → List ℕ
 differs_text byte word canonical =
     codes "no: at byte " ++ (decimal byte ++ (codes ": " ++ (word ++ (codes ", canonical " ++ canonical))))
 
 module _ {A : Type 0} where
-  -- yes, if a message is canonical, else the reason why not
+  -- the text `yes` if a message is canonical, else `no` with the reason
   abbrev pub mismatch_text : ℕ → ℕ → Mismatch A → List ℕ
   mismatch_text offset table Canonical = codes "yes"
   mismatch_text offset table (Segments count) = codes "no: " ++ (decimal count ++ codes " segments")
@@ -45,21 +45,21 @@ module _ {A : Type 0} where
   mismatch_text offset table (After word is) =
       differs_text (byte_of offset table word) (word_text is) (codes "nothing, after the value")
 
-  -- both lines
+  -- the lines `canonical` and `lengths`
   abbrev pub canonical_lines : CanonicalLines A → List ℕ
   canonical_lines lines =
       codes "canonical: " ++ (mismatch_text lines.offset lines.table lines.mismatch ++ (codes "\n"
       ++ lengths_line lines.lengths))
 
--- the number of bytes of the contents of a message, and of its canonical bytes: there if it isn't canonical, has no
--- capability, and the two differ
+-- the number of bytes of a message's contents, and that of its canonical bytes; they are given if the message isn't
+-- canonical, has no capability, and the two differ
 abbrev pub AreLengths : List (List ℕ) → Tree → Option (ℕ × ℕ) → Type 0
 AreLengths message v (Some lengths) =
     (IsCanonicalOf message v → ⊥) × (first_cap v ≡ None) × (lengths.0 ≡ 8 * total message)
     × (lengths.1 ≡ length (canon v)) × (lengths.0 ≢ lengths.1)
 AreLengths message v None = IsCanonicalOf message v ⊎ (first_cap v ≢ None) ⊎ (8 * total message ≡ length (canon v))
 
--- these are the lines of an accepted message whose table begins at byte `offset` and has `table` words
+-- `lines` are those of an accepted message whose table begins at byte `offset` and has `table` words
 pub record AreLinesOf {A : Type 0} (message : List (List ℕ)) (limits : Bounds) (offset table : ℕ)
     (lines : CanonicalLines A) : Type 0 where
   pub value : Tree

@@ -1,7 +1,7 @@
 -- The difference of two lists of words. (Own.)
 use Rattle.std.specs.Prelude.{◌≡◌, ◌≢◌, ℕ, ◌<◌, List, length, take, slice_index}
 
--- two lists are the same before word k, which is x in the one and y in the other, and these are not the same
+-- the lists are the same before word k, which is x in the one and y in the other, and x is not y
 pub record Differ (xs ys : List ℕ) (k x y : ℕ) : Type 0 where
   pub before : take k xs ≡ take k ys
   pub in_one : k < length xs
@@ -10,7 +10,7 @@ pub record Differ (xs ys : List ℕ) (k x y : ℕ) : Type 0 where
   pub other : y ≡ slice_index ys k
   pub differ : x ≢ y
 
--- a list begins with another, which has k words, and goes on with x
+-- the list xs begins with ys, which has k words, and continues with x
 pub record GoesOn (xs ys : List ℕ) (k x : ℕ) : Type 0 where
   pub before : take k xs ≡ ys
   pub ended : length ys ≡ k

@@ -1,4 +1,4 @@
--- A message is canonical, or isn't for a first reason. (Own.)
+-- The mismatch of a message with its canonical bytes: none, or the first reason why it isn't canonical. (Own.)
 use Rattle.std.specs.Prelude.{◌≡◌, ℕ, ◌<◌, List, [], ◌∷◌, length, Some, None, ⊤}
 use Rattle.capn_words.specs.Message.{IsBare}
 use Rattle.capn_value.specs.Tree.{Tree}
@@ -14,8 +14,8 @@ use Rattle.capn_mismatch.specs.Difference.{Differ, GoesOn}
 use Rattle.capn_mismatch.specs.Capability.{IsFirstCapability}
 use Rattle.capn_mismatch.specs.Owner.{IsOwner}
 
--- the message is accepted, and has one segment, of these words; its value has no capability, and its canonical bytes
--- are those of the other words
+-- the message is accepted and has one segment, `words`; its value has no capability, and its canonical bytes are the
+-- words `canonical`
 pub record Compares (message : List (List ℕ)) (limits : Bounds) (words canonical : List ℕ) : Type 0 where
   pub value : Tree
   pub is : IsValueOf message limits value
@@ -23,13 +23,13 @@ pub record Compares (message : List (List ℕ)) (limits : Bounds) (words canonic
   pub one : message ≡ words ∷ []
   pub bare : IsBare (canon value) canonical
 
--- the words of such a message and of its canonical bytes differ in this way
+-- `Apart` holds of the words of the message and the words of its canonical bytes, which are as for `Compares`
 abbrev pub Compared : List (List ℕ) → Bounds → (List ℕ → List ℕ → Type 0) → Type 0
 Compared message limits Apart =
     (words : List ℕ) × (canonical : List ℕ) × Compares message limits words canonical × Apart words canonical
 
 module _ {A : Type 0} where
-  -- an answer is true of a message, which is accepted
+  -- the message is accepted, and the mismatch is true of it
   abbrev pub IsMismatch : List (List ℕ) → Bounds → Mismatch A → Type 0
   IsMismatch message limits Canonical = (v : Tree) × IsValueOf message limits v × IsCanonicalOf message v
   IsMismatch message limits (Segments n) =
@@ -42,12 +42,12 @@ module _ {A : Type 0} where
   IsMismatch message limits (After w is) =
       Compared message limits (λ words canonical. GoesOn words canonical w is)
 
-  -- it says that the message is canonical
+  -- the mismatch says that the message is canonical
   abbrev pub AnswersCanonical : Mismatch A → Type 0
   AnswersCanonical Canonical = ⊤
   AnswersCanonical d = ⊥
 
-  -- it says that the message has more segments than one
+  -- the mismatch says that the message has more segments than one
   abbrev pub AnswersSegments : Mismatch A → Type 0
   AnswersSegments (Segments n) = ⊤
   AnswersSegments d = ⊥

@@ -1,4 +1,4 @@
--- Whose a word of canonical bytes is. (Own.)
+-- The owner of a word of canonical bytes. (Own.)
 use Rattle.std.specs.Prelude.{◌≡◌, ℕ, ◌+◌, ◌≤◌, List, [], ◌∷◌, Ok, ⊤}
 use Rattle.capn_words.specs.declared.space.Place.{Place}
 use Rattle.capn_words.specs.declared.pointer.Width.{Width}
@@ -12,16 +12,16 @@ use Rattle.capn_path.specs.Paths.{IsPathTo}
 use Rattle.capn_mismatch.specs.declared.whose.Whose.{Whose}
 use Rattle.capn_mismatch.specs.declared.whose.Whose.TheVariants.{Pointer, Tag, LastWord}
 
--- the place of word w of the only segment
+-- the place of word w of a message's only segment
 abbrev pub place : ℕ → Place
 place w = record { segment = 0; word = w }
 
--- a word is the tag of a list of structs
+-- the word is the tag of the list of structs that a slot names
 abbrev pub IsTag : ℕ → Target → Type 0
 IsTag word (targets.Content s start (shapes.Rows n a b span) pads) = (s ≡ 0) × (start ≡ word)
 IsTag word found = ⊥
 
--- bits, bytes, u16 and u32: several elements share a word
+-- elements of the width share a word: bits, bytes, u16 and u32
 abbrev pub IsSmall : Width → Type 0
 IsSmall W1 = ⊤
 IsSmall W8 = ⊤
@@ -29,13 +29,13 @@ IsSmall W16 = ⊤
 IsSmall W32 = ⊤
 IsSmall width = ⊥
 
--- a word is the last of a list of such elements, which has words
+-- the word is the last of a list of small numbers that a slot names, which has words
 abbrev pub IsLastWord : ℕ → Target → Type 0
 IsLastWord word (targets.Content s start (shapes.Many width n) pads) =
     IsSmall width × (s ≡ 0) × (start ≤ word) × (start + content_words width n ≡ word + 1)
 IsLastWord word found = ⊥
 
--- a path leads from the root to a slot, which names such an object
+-- the path leads from the root to a slot, and `Is` holds of its target
 pub record LeadsTo (message : List (List ℕ)) (limits : Bounds) (path : List ℕ) (Is : Target → Type 0) : Type 0 where
   pub number : ℕ
   pub slot : Place

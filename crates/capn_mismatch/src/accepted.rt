@@ -16,14 +16,15 @@ use capn_walk::Limits;
 use capn_words::{Memory, Space, total_words};
 use std::alloc::Allocator;
 
-/// Returns the lines of the accepted message `space` about its canonical form: whether it is canonical, and the lengths
-/// of it and of its canonical bytes.
+/// Returns the lines about the canonical form of the accepted message `space`: whether it is canonical, and the lengths
+/// of the message and of its canonical bytes.
 ///
-/// `measured` is the answer of [`measure`](capn_canon::measure) to this message within `limits`, so it isn't surveyed
-/// again. `offset` is the byte of the stream at which the message begins, and `table` the number of words of its table:
-/// 0 for a bare message. Canonical bytes are laid out once, and only of a message of one segment that is not canonical;
-/// if it has more segments they are counted. `Memory` comes only for a message of one segment that is not canonical, if
-/// a growth on `alloc` was refused. Memory: that of [`mismatch`](crate::mismatch). (Own.)
+/// `measured` is the result of [`measure`](capn_canon::measure) for this message within `limits`, so it isn't surveyed
+/// again. `offset` is the byte of the stream at which the message begins. `table` is the number of words of its segment
+/// table, and 0 for a bare message. Canonical bytes are laid out once, and only for a message of one segment that is
+/// not canonical. If there are more segments, the canonical bytes are counted. `Memory` is returned only for a message
+/// of one segment that is not canonical, if a growth on `alloc` was refused. Memory: that of
+/// [`mismatch`](crate::mismatch). (Own.)
 pub fn lines_of_measured<S: Space, A: Allocator + Copy>(
     alloc: A,
     space: &S,
@@ -33,7 +34,7 @@ pub fn lines_of_measured<S: Space, A: Allocator + Copy>(
     table: u32,
 ) -> Result<CanonicalLines<A>, Memory>
     requires measured { IsMeasure (S.message space.now) limits measured }
-    // All that the lines say.
+    // If `result` is `Ok`, it has the lines of this message.
     ensures found { IfOk result (λ lines. AreLinesOf (S.message space.now) limits offset table lines) }
     // Memory is needed only for a message of one segment that is not canonical.
     ensures memory { IsErr result → HasMismatch (S.message space.now) limits }
@@ -48,8 +49,8 @@ pub fn lines_of_measured<S: Space, A: Allocator + Copy>(
     })
 }
 
-/// Returns the bytes of the contents of a message and those of its canonical bytes, if the lines have them. `made` is
-/// the number of canonical bytes that were made already.
+/// Returns the number of bytes of a message's contents and that of its canonical bytes, if the lines have them. `made`
+/// is the number of canonical bytes, if they were made already.
 fn lengths_of<S: Space>(
     space: &S,
     limits: Limits,
@@ -75,13 +76,13 @@ fn lengths_of<S: Space>(
     Some((contents, canonical))
 }
 
-/// Returns the number of canonical bytes of a message: as many as were `made`, or else they are counted.
+/// Returns the number of canonical bytes of a message. This is `made` if there is one, else they are counted.
 fn canonical_length<S: Space>(space: &S, limits: Limits, made: Option<u64>) -> u64
     requires accepted { (v : Value) × IsValueOf (S.message space.now) limits v }
     requires made { IfSome made (HasCanonicalLength (S.message space.now) limits) }
     ensures { HasCanonicalLength (S.message space.now) limits result }
 {
-    // The count needs the promises of a message and of limits.
+    // These calls bring in the bounds of a message and of limits, which the count needs.
     let _segments = space.segments();
     let _budget = limits.budget();
     match made {

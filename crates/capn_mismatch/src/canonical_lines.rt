@@ -10,17 +10,18 @@ use capn_diagnostics::CanonicalText;
 use std::alloc::{Allocator, Global};
 use std::fmt;
 
-/// The lines about the canonical form of an accepted message: `canonical` says that it is canonical, or why not, and
-/// `lengths`, if they are known, how long it and its canonical bytes are. (Own.)
+/// The lines about the canonical form of an accepted message. The line `canonical` says that the message is canonical,
+/// or why not. The line `lengths` says how long it and its canonical bytes are, if that is known. (Own.)
 #[derive(Debug, Drop)]
 pub struct CanonicalLines<A: Allocator = Global> {
-    /// `Canonical`, or the first reason why it isn't.
+    /// `Canonical`, or the first reason why the message isn't canonical.
     pub mismatch: Mismatch<A>,
-    /// The byte of the stream at which its table begins.
+    /// The byte of the stream at which the message begins, with its segment table if it has one.
     pub offset: u64,
-    /// The number of words of its table: 0 for a bare message.
+    /// The number of words of the segment table, and 0 for a bare message.
     pub table: u32,
-    /// The bytes of its contents and its canonical bytes, if it isn't canonical, has no capability, and they differ.
+    /// The number of bytes of the message's contents, and that of its canonical bytes. They are given if the message
+    /// isn't canonical, has no capability, and the two numbers differ.
     pub lengths: Option<(u64, u64)>,
 }
 
@@ -64,7 +65,7 @@ impl<A: Allocator> CanonicalLines<A> {
     }
 }
 
-/// The line of two lengths.
+/// The line of two lengths: that of a message's contents, and that of its canonical bytes.
 #[derive(Drop)]
 struct LengthsLine(Option<(u64, u64)>);
 

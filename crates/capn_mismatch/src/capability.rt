@@ -12,7 +12,7 @@ use capn_walk::Limits;
 use capn_words::{Memory, Place, Space};
 use std::alloc::Allocator;
 
-/// The aim at a capability, which is found by its index.
+/// The aim that finds a capability. The find is its index.
 #[derive(Drop)]
 struct Capability;
 
@@ -37,7 +37,7 @@ impl Aim for Capability {
     }
 }
 
-/// Finds the first capability of the message `space`, whose value has one: returns its index, and the path to its slot.
+/// Finds the first capability of the message `space`, whose value has one. Returns its index, and the path to its slot.
 pub fn first_capability<S: Space, A: Allocator + Copy>(
     alloc: A,
     space: &S,

@@ -1,4 +1,4 @@
-//! The descent to the owner of a word.
+//! The descent from a slot to the owner of a word.
 
 ghost use Rattle.std.specs.Prelude.{◌≡◌, ℕ, [], ◌∷◌, ◌++◌, IfOk, IfSome};
 ghost use Rattle.capn_words.specs.Message.{IsPlace};
@@ -11,11 +11,11 @@ use capn_target::{Shape, Target, resolve};
 use capn_words::{Memory, Place, Space};
 use std::alloc::Allocator;
 
-/// Goes down from the slot at `at` to the slot that owns `word`: returns the kind of that word there.
+/// Descends from the slot at `at` to the slot that owns `word`. Returns the kind of the word there.
 ///
-/// Of an object it goes on to its likely slot, and to no other, so it reads few words. `None` says only that these lead
-/// to no such slot. `path` has the numbers that lead to the slot, and if something is found, those to its slot; if not,
-/// any others follow.
+/// From an object it continues to the likely slot only, so it reads few words. `None` says only that this way leads to
+/// no owner. `path` has the numbers that lead to the slot at `at`. If something is found, `path` then leads to the slot
+/// of the find. If not, any numbers may have been appended.
 #[cycle(descent)]
 pub fn descend<S: Space, A: Allocator>(
     space: &S,
@@ -58,7 +58,7 @@ pub fn descend<S: Space, A: Allocator>(
     }
 }
 
-/// Goes down from the object of this `shape` whose content starts at `start`.
+/// Descends from the object of `shape` whose content starts at `start`, as [`descend`] does.
 #[cycle(descent)]
 fn descend_below<S: Space, A: Allocator>(
     space: &S,
@@ -81,7 +81,7 @@ fn descend_below<S: Space, A: Allocator>(
     Ok(found)
 }
 
-/// Appends the numbers of one of an object's slots to `path`.
+/// Appends the numbers that lead to slot `slot` of row `row` of an object of `shape` to `path`.
 fn put_numbers<A: Allocator>(
     shape: Shape,
     row: u32,

@@ -1,4 +1,4 @@
-//! The first difference of two messages of one segment.
+//! The first difference between two messages of one segment.
 
 ghost use Rattle.std.specs.Prelude.{◌≡◌, [], ◌∷◌};
 ghost use Rattle.capn_words.specs.Message.{segment_at, IsMessage};
@@ -7,14 +7,14 @@ ghost use Rattle.capn_mismatch.specs.inner.Difference.{IsDifference};
 use capn_target::segment_length;
 use capn_words::{Bare, Place, Space};
 
-/// The first difference of the words of a message and other words.
+/// The first difference between the words of a message and other words.
 #[derive(Clone, Copy, Debug, PartialEq, Eq)]
 pub enum Difference {
-    /// They are equal.
+    /// The words are equal.
     None,
     /// A word differs.
     Word {
-        /// Its number.
+        /// The number of the word.
         word: u32,
         /// Its value in the message.
         is: u64,
@@ -37,7 +37,7 @@ pub enum Difference {
     },
 }
 
-/// Finds the first difference of the words of the first segment of the message `space` and those of `other`.
+/// Finds the first difference between the words of the first segment of the message `space` and those of `other`.
 pub fn first_difference<S: Space>(space: &S, other: &Bare<'_>) -> Difference
     requires message { IsMessage (S.message space.now) }
     requires other { IsMessage (other.now ∷ []) }

@@ -1,11 +1,11 @@
-//! The mismatch of a message with its canonical bytes.
+//! The mismatch of a message with its canonical bytes: the first reason why it isn't canonical.
 //!
-//! - [`mismatch`] tests whether a message that its walk accepts is canonical, and if not, finds the first reason: that
-//!   it has more segments than one, its first capability, or the first word that differs from the same word of its
-//!   canonical bytes.
-//! - [`Whose`] is the owner of that word, by the path to a slot.
-//! - [`lines_of_measured`] returns the lines that explain this of an accepted message that was measured, as
-//!   [`CanonicalLines`]; [`measure_surveyed`] measures one that was surveyed.
+//! - [`mismatch`] tests whether a message that its walk accepts is canonical, and if not, finds the first reason. The
+//!   reasons are more segments than one, a capability, and a word that differs from the same word of the canonical
+//!   bytes.
+//! - [`Whose`] is the owner of that word, given by the path to a slot.
+//! - [`lines_of_measured`] returns the lines that explain the mismatch of an accepted message that was measured, as
+//!   [`CanonicalLines`]. [`measure_surveyed`] measures a message that was surveyed.
 //!
 //! ```text
 //! match mismatch(alloc, &message, limits)? {

@@ -1,4 +1,4 @@
-//! The likely slot of an object on the way down.
+//! The likely slot of an object on the way down to a word.
 
 ghost use Rattle.std.specs.Prelude.{◌≡◌, ◌+◌, ◌*◌, ◌<◌, ◌≤◌, IfSome, length};
 ghost use Rattle.capn_words.specs.Message.{IsPlace};
@@ -9,10 +9,10 @@ use crate::slot_rows::{SlotRows, slot_rows};
 use capn_target::{Shape, Target, content_words, resolve};
 use capn_words::{Place, Space};
 
-/// A slot of an object.
+/// A slot of an object, to which the way down leads.
 #[derive(Clone, Copy)]
 pub struct Step {
-    /// Its row.
+    /// The number of its row.
     pub row: u32,
     /// Its number in the row.
     pub slot: u32,
@@ -20,11 +20,11 @@ pub struct Step {
     pub at: Place,
 }
 
-/// Returns the slot of an object by which `word` is to be looked for.
+/// Returns the slot of an object below which `word` is to be looked for.
 ///
-/// If the word is one of the object's own, that is the slot at the word. If it is behind them, it is the slot of the
-/// last object that begins at or before the word, which is where canonical bytes have it; no contract says that, since
-/// what is found there is tested.
+/// If `word` is one of the object's own, that is the slot at `word`. If it lies behind the object, it is the slot of
+/// the last object that begins at or before `word`, since canonical bytes have the word there. No contract says so,
+/// since what is found there is tested.
 pub fn likely_step<S: Space>(space: &S, start: Place, shape: Shape, word: Place) -> Option<Step>
     requires content { IsContent (S.message space.now) start (extent shape) }
     requires rows { RowsFit shape }
@@ -37,7 +37,7 @@ pub fn likely_step<S: Space>(space: &S, start: Place, shape: Shape, word: Place)
     step_among(space, slot_rows(start, shape), word)
 }
 
-/// Returns that slot of the `rows` of an object.
+/// Returns the likely slot for `word` among the `rows` of an object.
 fn step_among<S: Space>(space: &S, rows: SlotRows, word: Place) -> Option<Step>
     requires within { AreWithin (S.message space.now) rows }
     ensures row { IfSome result (λ step. step.row < rows.count) }
@@ -53,7 +53,7 @@ fn step_among<S: Space>(space: &S, rows: SlotRows, word: Place) -> Option<Step>
     Some(Step { row, slot, at })
 }
 
-/// Returns the row of that slot, and its number there.
+/// Returns the row of the likely slot for `word`, and the number of the slot in the row.
 fn likely_slot<S: Space>(space: &S, rows: SlotRows, word: Place) -> Option<(u32, u32)>
     requires within { AreWithin (S.message space.now) rows }
     ensures { IfSome result (λ x. (x.0 < rows.count) × (x.1 < rows.slots)) }
@@ -102,8 +102,8 @@ fn last_before<S: Space>(space: &S, rows: SlotRows, word: Place) -> Option<u32>
     low.checked_sub(1)
 }
 
-/// Finds the first of the slots `from` to `to` whose object has any words: returns its number, and the word at which
-/// the object begins.
+/// Finds the first of the slots from `from` up to but not including `to` whose object has any words. Returns its
+/// number, and the word at which the object begins.
 fn next_start<S: Space>(space: &S, rows: SlotRows, from: u32, to: u32) -> Option<(u32, u32)>
     requires within { AreWithin (S.message space.now) rows }
     requires some { 0 < rows.slots }
@@ -145,7 +145,7 @@ fn start_at<S: Space>(space: &S, at: Place) -> Option<u32>
     }
 }
 
-/// Returns `true` if an object of this `shape` takes any words.
+/// Tests whether an object of `shape` takes any words.
 fn has_words(shape: Shape) -> bool {
     match shape {
         Shape::Node { words, slots } => words > 0 || slots > 0,

@@ -1,4 +1,4 @@
-//! The search for the mismatch of a message.
+//! The search for the first reason why a message isn't canonical.
 
 ghost use Rattle.std.specs.Prelude.{◌≡◌, ◌≢◌, ◌↔◌, length, ⊤, IfOk, IfErr, IfSome};
 ghost use Rattle.std.specs.Prelude.{IsErr, IsErrOf, MatchResult};
@@ -27,25 +27,26 @@ use std::alloc::Allocator;
 /// Tests whether the message `space` is canonical within `limits`, and if not, finds the first reason: its segments,
 /// its first capability, or the first word that differs from its canonical bytes.
 ///
-/// `Walk`: the message is not accepted within the limits. `Memory` comes only for a message of one segment that is not
-/// canonical, if a growth on `alloc` was refused; no other refusal comes. Memory: the canonical bytes while it looks
-/// for the word, and the path, which has at most two numbers for each level of the depth limit. (Own.)
+/// `Walk` is returned if the message is not accepted within the limits. `Memory` is returned only for a message of one
+/// segment that is not canonical, if a growth on `alloc` was refused. There is no other refusal. Memory: the canonical
+/// bytes while it looks for the word, and the path, which has at most two numbers for each level of the depth limit.
+/// (Own.)
 pub fn mismatch<S: Space, A: Allocator + Copy>(
     alloc: A,
     space: &S,
     limits: Limits,
 ) -> Result<Mismatch<A>, Refusal>
-    // The meaning of each answer.
+    // If `result` is `Ok`, it is the mismatch of the message.
     ensures found { IfOk result (λ d. IsMismatch (S.message space.now) limits d) }
-    // It says that a message is canonical if and only if it is,
+    // `result` says that the message is canonical if and only if it is.
     ensures canonical { IfOk result (λ d. (v : Value) → IsValueOf (S.message space.now) limits v
         → AnswersCanonical d ↔ IsCanonicalOf (S.message space.now) v) }
-    // and that it has more segments than one if and only if it has.
+    // `result` says that the message has more than one segment if and only if it has.
     ensures segments { IfOk result (λ d. AnswersSegments d ↔ (length (S.message space.now) ≢ 1)) }
-    // An accepted message is answered, unless memory runs out.
+    // An accepted message gives `Ok`, unless memory runs out.
     ensures only { (v : Value) → IsValueOf (S.message space.now) limits v
         → MatchResult result (λ d. ⊤) (λ e. e ≡ refusals.Memory) }
-    // The meaning of each refusal.
+    // Any refusal is `Memory`, or `Walk` with the stop of this message's walk.
     ensures refused { IfErr result (λ e. IsUnaccepted (S.message space.now) limits e) }
     // Memory is needed only for a message of one segment that is not canonical.
     ensures memory { IsErrOf result refusals.Memory → HasMismatch (S.message space.now) limits }
@@ -55,7 +56,7 @@ pub fn mismatch<S: Space, A: Allocator + Copy>(
     Ok(finding.mismatch)
 }
 
-/// Finds the mismatch of the message `space`, which was `measured` within these `limits`.
+/// Finds the mismatch of the message `space`, for which `measured` is the measure within `limits`.
 pub fn finding_of<S: Space, A: Allocator + Copy>(
     alloc: A,
     space: &S,
@@ -86,8 +87,8 @@ pub fn finding_of<S: Space, A: Allocator + Copy>(
     }
 }
 
-/// Finds the mismatch of a message of one segment that is not canonical and has canonical bytes, which is read as that
-/// segment alone.
+/// Finds the mismatch of a message of one segment that is not canonical and has canonical bytes. The message is read as
+/// that segment alone.
 fn from_only_segment<S: Space, A: Allocator + Copy>(
     alloc: A,
     space: &S,
@@ -103,7 +104,7 @@ fn from_only_segment<S: Space, A: Allocator + Copy>(
     from_canonical(alloc, &bare, limits, paid)
 }
 
-/// Finds the mismatch by the canonical bytes, which are laid out without another survey.
+/// Finds the mismatch from the canonical bytes, which are laid out without another survey.
 fn from_canonical<S: Space, A: Allocator + Copy>(
     alloc: A,
     space: &S,
@@ -115,7 +116,7 @@ fn from_canonical<S: Space, A: Allocator + Copy>(
     ensures found { IfOk result (λ f. IsMismatch (S.message space.now) limits f.mismatch) }
     ensures made { IfOk result (λ f. IfSome f.length (HasCanonicalLength (S.message space.now) limits)) }
 {
-    // The layout needs the promises of a message and of limits.
+    // These calls bring in the bounds of a message and of limits, which the layout needs.
     let _segments = space.segments();
     let _budget = limits.budget();
     let bytes = surveyed_layout(alloc, space, limits.depth(), paid)?;
@@ -129,7 +130,7 @@ fn from_canonical<S: Space, A: Allocator + Copy>(
     }
 }
 
-/// Finds the mismatch once the `canonical` bytes are there.
+/// Finds the mismatch by comparing the message with its `canonical` bytes.
 fn apart<S: Space, A: Allocator + Copy>(
     alloc: A,
     space: &S,
@@ -140,7 +141,7 @@ fn apart<S: Space, A: Allocator + Copy>(
     requires differs { segment_at (S.message space.now) 0 ≢ canonical.now }
     ensures { IfOk result (λ d. IsMismatch (S.message space.now) limits d) }
 {
-    // The clauses need the promises of a message and of limits.
+    // These calls bring in the bounds of a message and of limits, which the clauses need.
     let _segments = space.segments();
     let _other = canonical.segments();
     let _budget = limits.budget();

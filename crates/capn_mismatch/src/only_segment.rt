@@ -1,11 +1,11 @@
-//! The only segment of a message.
+//! A message of one segment, read as that segment alone.
 
 ghost use Rattle.std.specs.Prelude.{◌≡◌, [], ◌∷◌, length};
 
 use capn_target::segment_length;
 use capn_words::{Bare, Place, Space};
 
-/// Returns the message `space` of one segment as the bytes of that alone, which are faster to read.
+/// Returns the only segment of the message `space` as bare words, which are faster to read.
 pub fn only_segment<S: Space>(space: &S) -> Bare<'_>
     requires one { length (S.message space.now) ≡ 1 }
     ensures { S.message space.now ≡ result ∷ [] }

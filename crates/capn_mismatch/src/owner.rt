@@ -1,4 +1,4 @@
-//! The owner of a word of canonical bytes.
+//! The search for the owner of a word of canonical bytes.
 
 ghost use Rattle.std.specs.Prelude.{◌<◌, [], ◌∷◌, length, IfOk};
 ghost use Rattle.capn_value.specs.Cost.{base};
@@ -15,8 +15,8 @@ use capn_walk::Limits;
 use capn_words::{Bare, Memory, Place};
 use std::alloc::Allocator;
 
-/// Finds the owner of `word` of `canonical` bytes, in which it is a pointer, a tag or the last word of a list of small
-/// numbers.
+/// Finds the owner of `word` in the `canonical` bytes. The word is a pointer, a tag, or the last word of a list of
+/// small numbers.
 pub fn owner<A: Allocator + Copy>(
     alloc: A,
     canonical: &Bare<'_>,
@@ -35,8 +35,8 @@ pub fn owner<A: Allocator + Copy>(
     }
 }
 
-/// Finds the slot that owns `word`: returns the kind of the word there, and the path to the slot. Tries the direct
-/// descent first; the full search that follows always succeeds.
+/// Finds the slot that owns `word`. Returns the kind of the word there, and the path to the slot. The direct descent is
+/// tried first. The full search that follows always succeeds.
 fn slot_of<A: Allocator + Copy>(
     alloc: A,
     canonical: &Bare<'_>,

@@ -1,4 +1,4 @@
-//! The slots of an object, in rows of one form.
+//! The slots of an object, as rows of equal sizes.
 
 ghost use Rattle.std.specs.Prelude.{◌≡◌, ◌+◌, ◌*◌, ◌<◌, ◌^◌};
 ghost use Rattle.capn_mismatch.specs.inner.Reached as spec;
@@ -6,16 +6,16 @@ ghost use Rattle.capn_mismatch.specs.inner.Reached as spec;
 use capn_target::Shape;
 use capn_words::{Place, Width};
 
-/// The slots of an object, in rows that lie one after the other.
+/// The slots of an object, in consecutive rows of equal sizes.
 #[derive(Clone, Copy)]
 pub struct SlotRows {
     /// The place at which the first row begins.
     pub at: Place,
-    /// The number of rows; a struct and a list of pointers are one row.
+    /// The number of rows. A struct and a list of pointers are one row.
     pub count: u32,
-    /// The data words of a row, which are before its slots.
+    /// The number of data words of a row, which lie before its slots.
     pub words: u32,
-    /// The slots of a row.
+    /// The number of slots of a row.
     pub slots: u32,
 }
 
@@ -35,7 +35,7 @@ impl SlotRows {
     }
 }
 
-/// Returns the slots of an object of this `shape` whose content starts at `start`.
+/// Returns the slots of an object of `shape` whose content starts at `start`.
 pub fn slot_rows(start: Place, shape: Shape) -> SlotRows
     requires room { start.word + 1 < 2 ^ 32 }
     ensures { result ≡ spec.rows_of start shape }

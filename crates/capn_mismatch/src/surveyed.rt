@@ -1,4 +1,4 @@
-//! The measure of a surveyed message.
+//! The measure of a message that was surveyed.
 
 ghost use Rattle.std.specs.Prelude.{◌↔◌};
 ghost use Rattle.std.specs.Bool.{IsTrue};
@@ -13,11 +13,11 @@ use capn_canon::{MeasuredBare, SurveyedBare, survey_canonical};
 use capn_walk::{Limits, Measured};
 use capn_words::Space;
 
-/// Measures the accepted message `space` by its survey: returns what [`measure`](capn_canon::measure) does.
+/// Measures the accepted message `space` from its survey. Returns what [`measure`](capn_canon::measure) does.
 ///
-/// `surveyed` is the answer of [`survey_depth`](capn_walk::survey_depth) to this message within these `limits`. A
-/// message of one segment is read once more, by the one pass up to the word at which it leaves the canonical form. It
-/// takes no memory. (Own.)
+/// `surveyed` is the result of [`survey_depth`](capn_walk::survey_depth) for this message within `limits`. A message of
+/// one segment is read once more, in one pass up to the word at which it leaves the canonical form. It takes no memory.
+/// (Own.)
 pub fn measure_surveyed<S: Space>(space: &S, limits: Limits, surveyed: Measured) -> MeasuredBare
     requires survey { IsSurvey (S.message space.now) limits surveyed.survey }
     requires depth { IsDepth (S.message space.now) limits surveyed.depth }
@@ -36,7 +36,7 @@ pub fn measure_surveyed<S: Space>(space: &S, limits: Limits, surveyed: Measured)
     }
 }
 
-/// Tests whether the accepted message `space` is canonical, by one pass over its only segment.
+/// Tests whether the accepted message `space` is canonical, in one pass over its only segment.
 fn is_canonical<S: Space>(space: &S, limits: Limits) -> bool
     ensures { (v : Value) → IsValueOf (S.message space.now) limits v
         → IsTrue result ↔ IsCanonicalOf (S.message space.now) v }

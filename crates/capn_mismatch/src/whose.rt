@@ -1,10 +1,10 @@
-//! The kinds of owner of a word.
+//! The owner of a word of canonical bytes.
 
 use std::alloc::{Allocator, Global};
 
-/// The owner of a word of canonical bytes, by the path from the root to a slot. (Own.)
+/// The owner of a word of canonical bytes, given by the path from the root to a slot. (Own.)
 ///
-/// A path is as [`path_of_visit`](capn_path::path_of_visit) has it: that of the root's slot has no numbers.
+/// A path is that of [`path_of_visit`](capn_path::path_of_visit). The path of the root's slot has no numbers.
 #[derive(Debug, Drop)]
 pub enum Whose<A: Allocator = Global> {
     /// The pointer of the slot to which the path leads.

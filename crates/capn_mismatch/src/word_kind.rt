@@ -1,4 +1,4 @@
-//! The kind of a word at the slot that owns it.
+//! The kind of a word at the slot that owns it, and the aim that finds that slot.
 
 ghost use Rattle.std.specs.Prelude.{◌≡◌, ◌<◌, ◌^◌};
 ghost use Rattle.capn_mismatch.specs.inner.Search as search;
@@ -7,7 +7,7 @@ use capn_path::Aim;
 use capn_target::{Fault, Shape, Target, content_words};
 use capn_words::{Place, Width};
 
-/// The aim at the slot that owns a word: the word is its pointer, or the tag or the last word of its object.
+/// The aim that finds the slot that owns a word. A slot owns its pointer, and the tag or the last word of its object.
 #[derive(Drop)]
 pub struct Owner {
     /// The place of the word.
@@ -17,11 +17,11 @@ pub struct Owner {
 /// The kind of a word at the slot that owns it.
 #[derive(Clone, Copy)]
 pub enum WordKind {
-    /// It is the slot's pointer.
+    /// The word is the slot's pointer.
     Pointer,
-    /// It is the tag of the list of structs that the slot names.
+    /// The word is the tag of the list of structs that the slot names.
     Tag,
-    /// It is the last word of the list of small numbers that the slot names.
+    /// The word is the last of the list of small numbers that the slot names.
     LastWord,
 }
 
@@ -37,7 +37,8 @@ impl Aim for Owner {
     }
 }
 
-/// Returns the kind of `word` at the slot at `at` with the target or the fault `named`, if the slot owns the word.
+/// Returns the kind of `word` at the slot at `at`, if the slot owns the word. `named` is the slot's target or the fault
+/// of its pointer.
 pub fn finds(word: Place, at: Place, named: Result<Target, Fault>) -> Option<WordKind>
     ensures { result ≡ search.finds word at named }
 {
@@ -50,7 +51,7 @@ pub fn finds(word: Place, at: Place, named: Result<Target, Fault>) -> Option<Wor
     }
 }
 
-/// Returns the kind of `word` in the object that a slot names: its tag, or its last word.
+/// Returns the kind of `word` in the object that a slot names, if the word is its tag or its last word.
 fn found_in(word: Place, target: Target) -> Option<WordKind>
     ensures { result ≡ search.found_in word target }
 {
@@ -80,14 +81,14 @@ fn found_in(word: Place, target: Target) -> Option<WordKind>
     }
 }
 
-/// Returns `true` if `word` of `segment` is at `place`.
+/// Tests whether `word` of `segment` is at `place`.
 fn is_at(segment: u32, word: u32, place: Place) -> bool
     ensures { result ≡ search.is_at segment word place }
 {
     segment == place.segment && word == place.word
 }
 
-/// Returns `true` if the last of `words` words from word `start` of `segment` on is at `place`.
+/// Tests whether the last of `words` words from word `start` of `segment` on is at `place`.
 fn ends_at(segment: u32, start: u32, words: u64, place: Place) -> bool
     requires few { words < 2 ^ 40 }
     ensures { result ≡ search.ends_at segment start words place }
@@ -95,7 +96,7 @@ fn ends_at(segment: u32, start: u32, words: u64, place: Place) -> bool
     segment == place.segment && words > 0 && start as u64 + words == place.word as u64 + 1
 }
 
-/// Returns `true` if several elements of this `width` share a word.
+/// Tests whether several elements of `width` share a word.
 fn is_small(width: Width) -> bool
     ensures { result ≡ search.is_small width }
 {

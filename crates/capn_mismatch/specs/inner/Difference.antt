@@ -1,4 +1,4 @@
--- The answer of a comparison of two lists of words.
+-- The result of a comparison of two lists of words.
 use Rattle.std.specs.Prelude.{◌≡◌, ℕ, List}
 use Rattle.capn_mismatch.specs.declared.difference.Difference.{Difference}
 use Rattle.capn_mismatch.specs.declared.difference.Difference.TheVariants as differences

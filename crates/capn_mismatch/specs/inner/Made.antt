@@ -5,6 +5,6 @@ use Rattle.capn_walk.specs.Limits.{Bounds}
 use Rattle.capn_walk.specs.Accepted.{IsValueOf}
 use Rattle.capn_layout.specs.Layout.{canon}
 
--- `n` is how many canonical bytes the value has with which a message is accepted (Own.)
+-- `n` is the number of canonical bytes of the accepted message's value (Own.)
 abbrev pub HasCanonicalLength : List (List ℕ) → Bounds → ℕ → Type 0
 HasCanonicalLength message limits n = (v : Tree) → IsValueOf message limits v → n ≡ length (canon v)

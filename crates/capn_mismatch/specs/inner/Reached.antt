@@ -1,4 +1,4 @@
--- A slot that is reached from another, at which a word is found.
+-- The slot at which a word is found, as it is reached from another slot.
 use Rattle.std.specs.Prelude.{◌≡◌, ℕ, ◌+◌, ◌*◌, ◌<◌, ◌≤◌, ◌^◌, List, [], ◌∷◌, ◌++◌, length, Some}
 use Rattle.capn_words.specs.Message.{segment_at}
 use Rattle.capn_words.specs.declared.space.Place.{Place}
@@ -13,7 +13,7 @@ use Rattle.capn_mismatch.specs.declared.slot_rows.SlotRows.{SlotRows}
 use Rattle.capn_mismatch.specs.declared.word_kind.WordKind.{WordKind}
 use Rattle.capn_mismatch.specs.inner.Search.{finds}
 
--- the slots of an object that begins at a place, in rows of one form
+-- the slots of an object whose content starts at `start`, as rows of equal sizes
 abbrev pub rows_of : Place → Shape → SlotRows
 rows_of start (shapes.Node a b) = record { at = start; count = 1; words = a; slots = b }
 rows_of start (shapes.Many Link n) = record { at = start; count = 1; words = 0; slots = n }
@@ -25,26 +25,25 @@ rows_of start (shapes.Rows n a b span) = record {
   slots = b;
 }
 
--- the place of a slot of a row
+-- the place of slot `slot` of row `row`
 abbrev pub place_in : SlotRows → ℕ → ℕ → Place
 place_in rows row slot = record {
   segment = rows.at.segment;
   word = rows.at.word + row * (rows.words + rows.slots) + rows.words + slot;
 }
 
--- rows lie inside their segment, and the words of one are counted in 32 bits
+-- the rows lie inside their segment, and the number of words of a row fits in 32 bits
 pub record AreWithin (message : List (List ℕ)) (rows : SlotRows) : Type 0 where
   pub inside : rows.at.word + rows.count * (rows.words + rows.slots) ≤ length (segment_at message rows.at.segment)
   pub small : rows.words + rows.slots < 2 ^ 32
 
--- the numbers that say which of an object's slots is meant, by its row and its number there
+-- the numbers of a path that lead to slot `slot` of row `row` of an object
 abbrev pub numbers : Shape → ℕ → ℕ → List ℕ
 numbers (shapes.Rows n a b span) row slot = row ∷ slot ∷ []
 numbers shape row slot = slot ∷ []
 
 module _ (m : List (List ℕ)) (base : ℕ) (word : Place) where
-  -- a slot that is reached by some numbers, with which the path goes on from the old one, and the kind of the word
-  -- there
+  -- the new path continues the old one with the numbers that lead to a slot, at which the word has the kind `x`
   pub record ReachesIn (Onward : List ℕ → Place → ℕ → Type 0) (old new : List ℕ) (x : WordKind) : Type 0 where
     pub rest : List ℕ
     pub is : new ≡ old ++ rest
@@ -53,11 +52,11 @@ module _ (m : List (List ℕ)) (base : ℕ) (word : Place) where
     pub found : finds word to (target m to) ≡ Some x
     pub leads : Onward rest to number
 
-  -- from a slot on
+  -- the slot is reached from the slot at `at`
   abbrev pub Reaches : ℕ → Place → List ℕ → List ℕ → WordKind → Type 0
   Reaches depth at = ReachesIn (Leads m base depth at)
 
-  -- from an object on
+  -- the slot is reached from the object of `shape` whose content starts at `start`
   abbrev pub ReachesBelow : ℕ → Place → Shape → List ℕ → List ℕ → WordKind → Type 0
   ReachesBelow depth start shape =
       ReachesIn (DescendsTo m base depth (slots start.segment start.word shape) (AreNumbersIn shape))
