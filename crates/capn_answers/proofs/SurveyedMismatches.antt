@@ -1,5 +1,4 @@
--- A report on a message's mismatch and survey is true of the bytes that are read as it. (For
--- `mismatch_and_survey_in`.)
+-- The mismatch and the survey of a message are those of the bytes that are read as it. (For `mismatch_and_survey_in`.)
 use Rattle.std.proofs.Common.{◌≡◌, ℕ, ◌*◌, ◌≤◌, inl, inr, List, length, subst, Result, Ok, Err, IfOk, IfErr}
 use Rattle.std.proofs.Common.{IsErrOf, MatchResult}
 use Rattle.std.specs.Bool.{⊤}
@@ -21,7 +20,7 @@ use Rattle.capn_answers.proofs.shared.Reading.{reading_unaccepted, reading_wante
 use Rattle.capn_answers.proofs.PathLengths.{mismatch_short}
 
 module _ {A : Type 0} (form : Form) (bs : List ℕ) (limits : Bounds) where
-  -- how bytes are answered
+  -- a result for the mismatch of the message that `bs` are read as
   abbrev AreTold : Result (SurveyedMismatch A) Refusal → Type 0
   AreTold r = IsAnswered form bs limits (λ m l x. IsMismatchSurveyed m l x) r
 

@@ -1,4 +1,4 @@
--- A report on a message's walk is true of the bytes that are read as the message. (For `walk_in`.)
+-- The outcome of the walk of a message is that of the bytes that are read as it. (For `walk_in`.)
 use Rattle.std.proofs.Common.{◌≡◌, ℕ, ◌*◌, ◌≤◌, inl, inr, List, length, subst, arith, Result, Ok, Err}
 use Rattle.std.proofs.Common.{IfOk, IfErr, IsErrOf, MatchResult}
 use Rattle.capn_value.specs.Tree.{Tree}
@@ -22,7 +22,7 @@ use Rattle.capn_answers.proofs.shared.Reading.{misread, reading_wanted, unread_u
 use Rattle.capn_answers.proofs.PathLengths.{stop_short}
 
 module _ {A : Type 0} (form : Form) (bs : List ℕ) (limits : Bounds) where
-  -- how bytes are answered
+  -- a result for the walk of the message that `bs` are read as
   abbrev AreTold : Result (Walked A) Refusal → Type 0
   AreTold r = IsAnswered form bs limits (λ m l x. IsWalkTold m l x) r
 

@@ -1,4 +1,4 @@
--- The end of the walk of the message that bytes are in a form. (Own.)
+-- The outcome of the walk of a message in any form. (Own.)
 use Rattle.std.specs.Prelude.{◌⊎◌, ℕ, List, [], ⊤}
 use Rattle.capn_walk.specs.Accepted.{IsBounded, IsWalkRefused}
 use Rattle.capn_walk.specs.Limits.{Bounds}
@@ -12,32 +12,32 @@ use Rattle.capn_answers.specs.declared.walked.Walked.{Walked}
 use Rattle.capn_answers.specs.declared.walked.Walked.TheVariants.{Accepted, Refused}
 
 module _ {A : Type 0} where
-  -- the bytes are read as an accepted message, of which the survey is; or as one whose walk stops there, and the path
-  -- leads to that slot
+  -- `bs` are read as an accepted message with the survey returned; or as one whose walk stops as returned, with the
+  -- path to the slot at which it stopped
   abbrev pub IsWalkedIn : Form → List ℕ → Bounds → Walked A → Type 0
   IsWalkedIn form bs limits (Accepted s) = Surveys form bs limits s
   IsWalkedIn form bs limits (Refused f) = IsStoppedIn form bs limits f.stopped f.path.items
 
-  -- the answer is that the message is accepted
+  -- the outcome is that the message is accepted
   abbrev pub AnswersAccepted : Walked A → Type 0
   AnswersAccepted (Accepted s) = ⊤
   AnswersAccepted (Refused f) = ⊥
 
-  -- the path to where the walk stopped, or no numbers
+  -- the path to the slot at which the walk stopped, or no numbers if it is accepted
   abbrev pub walked_path : Walked A → List ℕ
   walked_path (Accepted s) = []
   walked_path (Refused f) = f.path.items
 
-  -- the walk pays within a budget, and its visits are at most one more than it pays
+  -- the walk pays at most `budget`, and its visits are at most one more than it pays
   abbrev pub IsWalkedWithin : ℕ → Walked A → Type 0
   IsWalkedWithin budget (Accepted s) = IsBounded budget s.paid s.visits
   IsWalkedWithin budget (Refused f) = IsBounded budget f.stopped.paid f.stopped.visits
 
--- the bytes are read as a message, which is refused by its walk
+-- `bs` are read as a message, which is refused by its walk with the stop `s`
 abbrev pub AreStopped : Form → List ℕ → Bounds → Stopped → Type 0
 AreStopped form bs limits s = (message : List (List ℕ)) × Reads form bs limits.message_words message
     × IsWalkRefused message limits s.fault s.place s.paid s.visits
 
--- memory may be needed: for a check, or for the path of a message that is refused by its walk
+-- walking `bs` may need memory: to read them, or for the path of a message that is refused by its walk
 abbrev pub MayNeedItsPath : Form → List ℕ → Bounds → Type 0
 MayNeedItsPath form bs limits = MayNeedMemory form bs limits ⊎ ((s : Stopped) × AreStopped form bs limits s)

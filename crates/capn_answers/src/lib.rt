@@ -1,11 +1,11 @@
-//! Answers about one message, whichever of the three forms its bytes are in.
+//! Calls that explain one message, in any of the three forms of its bytes: the path to a refusal, and its mismatch.
 //!
-//! - [`walk_in`] returns the survey of the message, or the reason why its walk is refused, and the path to the slot at
+//! - [`walk_in`] returns the survey of the message or, if its walk is refused, the reason and the path to the slot at
 //!   which it stopped.
-//! - [`mismatch_and_survey_in`] finds the word at which an accepted message leaves its canonical bytes, and the
-//!   reason, and returns its survey.
+//! - [`mismatch_and_survey_in`] finds the first word at which an accepted message differs from its canonical bytes, and
+//!   the reason, and returns its survey.
 //!
-//! Both read the bytes once, and refuse those that are no message as [`capn_canon::survey_bytes`] does.
+//! Both read the bytes once. Bytes that are no message are refused as by [`capn_canon::survey_bytes`].
 //!
 //! ```text
 //! match walk_in(alloc, Form::Packed, bytes, limits)? {

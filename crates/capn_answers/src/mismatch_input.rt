@@ -1,4 +1,4 @@
-//! The mismatch of a message with its canonical bytes, in each form.
+//! The call `mismatch_and_survey_in`: the first difference between a message in any form and its canonical bytes.
 
 ghost use Rattle.std.specs.Prelude.{◌≡◌, ◌≤◌, ◌*◌, length, ⊤, IfOk, IfErr, IsErrOf, MatchResult};
 ghost use Rattle.capn_value.specs.Tree.{Tree as Value};
@@ -19,13 +19,13 @@ use std::alloc::{Allocator, Global};
 /// The mismatch of a message with its canonical bytes, and its survey.
 #[derive(Debug, Drop)]
 pub struct SurveyedMismatch<A: Allocator = Global> {
-    /// `Canonical`, or the first reason why it isn't.
+    /// `Canonical`, or the first reason why the message is not canonical.
     pub mismatch: Mismatch<A>,
-    /// The answer of [`capn_canon::survey_bytes`].
+    /// The survey, as [`capn_canon::survey_bytes`] returns it.
     pub survey: Surveyed,
 }
 
-/// The task of the mismatch of a message with its canonical bytes, and of its survey.
+/// The task of `mismatch_and_survey_in`: surveys the message that was read, and finds its mismatch.
 #[derive(Clone, Copy)]
 struct MismatchTask;
 
@@ -48,35 +48,36 @@ impl<A: Allocator + Copy> MessageTask<A> for MismatchTask {
     }
 }
 
-/// Tests whether the message that `bytes` encode in `form` is canonical within `limits`, and if not, finds the first
-/// reason: its segments, its first capability, or the first word that differs from its canonical bytes. Returns it with
-/// the answer of [`capn_canon::survey_bytes`]. A path has at most two numbers for each level of the depth limit. The
-/// bytes are read once.
+/// Tests whether the message that `bytes` encode in `form` is canonical within `limits`. If it is not, finds the first
+/// reason: its segments, its first capability, or the first word that differs from its canonical bytes. Returns that
+/// with the survey of [`capn_canon::survey_bytes`]. A path has at most two numbers for each level of the depth limit.
+/// The bytes are read once.
 ///
-/// It refuses what [`capn_canon::survey_bytes`] refuses, and as that does. `Memory` comes only if a growth on `alloc`
-/// was refused: for the table of a frame of more than 64 segments, for what is unpacked, and, of a message of one
-/// segment that is not canonical, for its canonical bytes and for the path. (Own.)
+/// It refuses what [`capn_canon::survey_bytes`] refuses, with the same refusal. `Memory` is returned only if a growth
+/// on `alloc` was refused. Memory is taken for the table of a frame of more than 64 segments and for the words that are
+/// unpacked. A message of one segment that is not canonical also takes it for its canonical bytes and for the path.
+/// (Own.)
 pub fn mismatch_and_survey_in<A: Allocator + Copy>(
     alloc: A,
     form: Form,
     bytes: &[u8],
     limits: Limits,
 ) -> Result<SurveyedMismatch<A>, Refusal>
-    // The meaning of each answer,
+    // If `result` is `Ok`, it has the first reason why the message is not canonical, or says that it is.
     ensures found { IfOk result (λ d. IsMismatchIn form bytes.now limits d.mismatch) }
-    // and that the bytes are an accepted message, of which the survey is.
+    // If `result` is `Ok`, the bytes are an accepted message, and the survey is that of the message.
     ensures surveyed { IfOk result (λ d. Surveys form bytes.now limits d.survey) }
-    // Bytes that denote a value are answered, unless memory runs out.
+    // If the bytes denote a value, `result` is `Ok`, unless memory runs out.
     ensures only { (v : Value) → Denotes form bytes.now limits v
         → MatchResult result (λ d. ⊤) (λ e. e ≡ refusals.Memory) }
-    // Two numbers for each level of depth are enough for a path.
+    // A path has at most two numbers for each level of the depth limit.
     ensures short { IfOk result (λ d. length (path_of d.mismatch) ≤ 2 * limits.depth) }
-    // The meaning of each refusal.
+    // If `result` is `Err(e)`, the reason that `e` gives is true.
     ensures refused { IfErr result (λ e. IsUnacceptedIn form bytes.now limits e) }
-    // Memory is needed only for the ends of more than 64 segments, for what a text packs, and for a message of one
-    // segment that is not canonical.
+    // `Memory` is returned only for the ends of more than 64 segments, for the words that a packed text unpacks to, or
+    // for a message of one segment that is not canonical.
     ensures memory { IsErrOf result refusals.Memory → MayNeedMismatch form bytes.now limits }
-    // No walk pays beyond its budget.
+    // The walk pays at most the budget, also if it is refused.
     ensures bounded { MatchResult result (λ d. IsBounded limits.budget d.survey.paid d.survey.visits)
         (λ e. IsPaidWithin limits.budget e) }
 {

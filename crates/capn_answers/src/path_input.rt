@@ -1,4 +1,4 @@
-//! The path to the slot at which the walk of a message stopped, in each form.
+//! The call `walk_in`: the walk of a message in any form, and the path to the slot at which it stopped.
 
 ghost use Rattle.std.specs.Prelude.{◌≡◌, ◌≤◌, ◌*◌, length, IfOk, IfErr, IsErrOf, MatchResult};
 ghost use Rattle.capn_value.specs.Tree.{Tree as Value};
@@ -16,7 +16,7 @@ use capn_walk::{Limits, survey};
 use capn_words::Space;
 use std::alloc::Allocator;
 
-/// The task of the walk of a message, with the path to the slot at which it stopped.
+/// The task of `walk_in`: walks the message that was read, and finds the path to the slot at which the walk stopped.
 #[derive(Clone, Copy)]
 struct Walk;
 
@@ -41,32 +41,33 @@ impl<A: Allocator + Copy> MessageTask<A> for Walk {
     }
 }
 
-/// Walks the message that `bytes` encode in `form` within `limits`: returns its survey, or the place and the reason at
-/// which it is refused, with the path to that slot. A path has at most two numbers for each level of the depth limit.
-/// The bytes are read once.
+/// Walks the message that `bytes` encode in `form` within `limits`. Returns its survey or, if the walk is refused, the
+/// place, the reason and the path to the slot at which it stopped. A path has at most two numbers for each level of the
+/// depth limit. The bytes are read once.
 ///
-/// A refusal says why the bytes are no message: it is never one of the walk, nor of a capability. `Memory` comes only
-/// if a growth on `alloc` was refused: for the table of a frame of more than 64 segments, for what is unpacked, or for
-/// the path. It walks a message twice at most. (Own.)
+/// An `Err` says why the bytes are no message. It is never a refusal of the walk or of a capability. `Memory` is
+/// returned only if a growth on `alloc` was refused: for the table of a frame of more than 64 segments, for the words
+/// that are unpacked, or for the path. It walks a message twice at most. (Own.)
 pub fn walk_in<A: Allocator + Copy>(
     alloc: A,
     form: Form,
     bytes: &[u8],
     limits: Limits,
 ) -> Result<Walked<A>, Refusal>
-    // The message is accepted, and the survey is of it; or its walk stops there, and the path leads to that slot.
+    // `Accepted` has the survey of the message. `Refused` has the stop of its walk, and the path that leads to the
+    // slot.
     ensures found { IfOk result (λ w. IsWalkedIn form bytes.now limits w) }
-    // Bytes that denote a value are accepted, unless memory runs out.
+    // If the bytes denote a value, `result` is `Accepted`, unless memory runs out.
     ensures only { (v : Value) → Denotes form bytes.now limits v
         → MatchResult result (λ w. AnswersAccepted w) (λ e. e ≡ refusals.Memory) }
-    // Two numbers for each level of depth are enough.
+    // A path has at most two numbers for each level of the depth limit.
     ensures short { IfOk result (λ w. length (walked_path w) ≤ 2 * limits.depth) }
-    // The meaning of each refusal.
+    // If `result` is `Err(e)`, the reason that `e` gives is true.
     ensures refused { IfErr result (λ e. IsUnread form bytes.now limits e) }
-    // Memory is needed only for the ends of more than 64 segments, for what a text packs, and for the path of a message
-    // that is refused by its walk.
+    // `Memory` is returned only for the ends of more than 64 segments, for the words that a packed text unpacks to, or
+    // for the path of a message whose walk is refused.
     ensures memory { IsErrOf result refusals.Memory → MayNeedItsPath form bytes.now limits }
-    // No walk pays beyond its budget.
+    // The walk pays at most the budget, also if it is refused.
     ensures bounded { IfOk result (λ w. IsWalkedWithin limits.budget w) }
 {
     run_task(alloc, &mut Walk, form, bytes, limits)

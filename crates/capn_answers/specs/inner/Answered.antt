@@ -1,4 +1,4 @@
--- The answers of private calls for a message.
+-- The results of the private calls on one message.
 use Rattle.std.specs.Prelude.{◌≡◌, ℕ, List, Result, IfOk, IfErr}
 use Rattle.std.specs.Prelude.{IsErrOf, MatchResult}
 use Rattle.capn_walk.specs.Accepted.{IsBounded, IsWalkRefused}
@@ -16,12 +16,13 @@ use Rattle.capn_answers.specs.declared.mismatch_input.SurveyedMismatch.{Surveyed
 use Rattle.capn_answers.specs.declared.walked.Walked.{Walked}
 use Rattle.capn_answers.specs.declared.walked.Walked.TheVariants as walks
 
--- the message is accepted, of which the survey is; or its walk stops there, and the path leads to that slot
+-- `message` is accepted with the survey returned; or its walk stops as returned, with the path to the slot at which it
+-- stopped
 abbrev pub IsWalked : {A : Type 0} → List (List ℕ) → Bounds → Walked A → Type 0
 IsWalked message limits (walks.Accepted s) = IsSurvey message limits s
 IsWalked message limits (walks.Refused f) = IsRefusedAt message limits f.stopped f.path.items
 
--- an answer for the walk of a message; memory ran out only for the path of one that is refused
+-- `r` has the outcome of the walk of `message`; memory runs out only for the path of one that is refused
 pub record IsWalkTold {A : Type 0} (message : List (List ℕ)) (limits : Bounds) (r : Result (Walked A) Refusal)
     : Type 0 where
   pub found : IfOk r (λ w. IsWalked message limits w)
@@ -29,8 +30,7 @@ pub record IsWalkTold {A : Type 0} (message : List (List ℕ)) (limits : Bounds)
   pub memory : IfErr r (λ e. (e ≡ refusals.Memory)
       × ((s : Stopped) × IsWalkRefused message limits s.fault s.place s.paid s.visits))
 
--- an answer for the mismatch of a message with its canonical bytes, and for its survey, or the reason why it isn't
--- accepted
+-- `r` has the mismatch of `message` with its canonical bytes, and its survey, or the reason why it isn't accepted
 pub record IsMismatchSurveyed {A : Type 0} (message : List (List ℕ)) (limits : Bounds)
     (r : Result (SurveyedMismatch A) Refusal) : Type 0 where
   pub found : IfOk r (λ d. IsMismatch message limits d.mismatch)

@@ -1,4 +1,4 @@
--- What is told of a message's walk is so of the bytes.
+-- The outcome of the walk of a message is that of the bytes that are read as it.
 use Rattle.capn_canon.proofs.shared.TaskRuns.{run_answered}
 use Rattle.capn_answers.specs.inner.Answered.{IsWalkTold}
 use Rattle.capn_answers.proofs.WalksTold.{walk_bounded, walk_found, walk_only, walk_short, walk_unread}
