@@ -1,4 +1,4 @@
--- A message of a run that its service served, or did not.
+-- Lemmas for `add_message`: the state of a run after its service has served a message, or not.
 use Rattle.std.proofs.Common.{◌≡◌, inl, inr, ℕ, List, Bool, Result, Err, refl, sym, subst}
 use Rattle.capn_canon.specs.declared.refusal.Refusal.{Refusal}
 use Rattle.capn_serve.specs.declared.position.Position.{Position}
@@ -15,7 +15,7 @@ use Rattle.capn_serve.specs.Service.{DoesService}
 abbrev stopped : {E : Type 0} → E → Result (Unit {0}) E
 stopped fault = Err fault
 
--- the fault of a run at a position, where the service ends the message there so
+-- The fault of a run if its service ends the message at a position with a `ServeFault`.
 abbrev pub told_at : Position → ServeFault → RunFault
 told_at at serve_faults.Memory = faults.Memory
 told_at at serve_faults.Io = faults.Io
@@ -24,7 +24,7 @@ told_at at (serve_faults.Refused r) = faults.Refused at r
 module _ {S : Type 0} (serves : S → Position → List ℕ → List (List ℕ) → List ℕ → S → Type 0)
     (refuses : S → Position → List ℕ → List (List ℕ) → Refusal → Type 0) (done : S → Position → Bool) (most : ℕ)
     (x y : Run S) (frame : List ℕ) (message : List (List ℕ)) (a b : Outgoing) (failed : Bool) (t : S) where
-  -- the run after the message
+  -- The run after the message was served.
   abbrev next : S → Run S
   next u = record { service = u; at = after x.at frame }
 
@@ -37,7 +37,7 @@ module _ {S : Type 0} (serves : S → Position → List ℕ → List (List ℕ) 
   stops serve_faults.Io ((text, u, count, step, breaks), broken) = ((text, next u, count, (step, refl), breaks), broken)
   stops (serve_faults.Refused r) (refused, none, fine) = (refl, refused, none, fine)
 
-  -- it was not served to its end
+  -- The message was not served to its end.
   pub added_stop : (fault : ServeFault) (told : RunFault) → told ≡ told_at x.at fault
       → DoesService serves refuses x.service x.at frame message a b failed (stopped fault) t
       → AddsMessage (fold_until serves refuses done most) x frame message a b failed (stopped told) y

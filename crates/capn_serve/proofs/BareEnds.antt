@@ -1,4 +1,4 @@
--- How a run over a bare input ends, from what was read of it.
+-- Lemmas for `read_bare` and `run_bare`: how a run over a bare input ends, from what was read of it.
 use Rattle.std.proofs.Common.{◌≡◌, ◌⊎◌, ◌↔◌, inl, inr, ℕ, ◌<◌, ◌≤◌, List, [], ◌∷◌, ◌++◌, length, take, Bool, true}
 use Rattle.std.proofs.Common.{false, Option, None, Some, IfSome, Result, Ok, Err, Vec, OnOk, IsErrOf, IsOkUnless, refl}
 use Rattle.std.proofs.Common.{ap, sym, subst, ◌∙◌, append-nil, arith, length-append}
@@ -43,7 +43,7 @@ unread_bare at a b failed fault (inr (bytes, all, none)) = absurd none
 
 module _ {A : Type 0} (at : Position) (a b : Option (List ℕ)) (failed : Bool) (n : ℕ) (input : WholeInput A)
     (takes : TakesAll {T = WholeInput A} (IsBeginning n) a b failed (Ok input)) where
-  -- a segment is held whole
+  -- An input that is no longer than a segment is held whole.
   pub read_short : input.len ≤ n → TakesAll {T = Vec ℕ A} (IsShortBare at) a b failed (Ok input.bytes)
   read_short short = let is = takes.2 in (
     takes.0,
@@ -51,13 +51,13 @@ module _ {A : Type 0} (at : Position) (a b : Option (List ℕ)) (failed : Bool) 
     sym (take_all n takes.0 (omega (arith, short, is.1))) ∙ is.0,
   )
 
-  -- what is longer is refused
+  -- An input that is longer than a segment is refused.
   pub read_long : (e : BareFault) (len : ℕ) → len ≡ input.len
       → ((bytes : List ℕ) → length bytes ≡ len → ReadsBare bytes (Err e))
       → Unread at a b failed (faults.Refused at (refusals.Bare e))
   read_long e len same why = inr (takes.0, takes.1, (e, refl, why takes.0 (takes.2.1 ∙ sym same)))
 
--- ---- all that a reader had, where that is known
+-- ---- all that a reader had, if that is known
 
 some_so : (a : Option (List ℕ)) (P Q : List ℕ → Type 0) → ((all : List ℕ) → P all → Q all) → IfSome a P → IfSome a Q
 some_so None P Q change h = tt
@@ -84,7 +84,6 @@ is_longer (Some all) (Some rest) failed bytes h long =
 -- ---- how the run ends
 
 module _ {X : Type 0} (f : Fold X) (x y : X) (going : f.done x ≡ false) (a b c : Option (List ℕ)) where
-  -- more is served
   ends_bare : (bytes : List ℕ) (fault : RunFault) → EndsBare f x bytes fault → IfGoing (f.done x) (EndsBare f x bytes
       fault)
   ends_bare bytes fault why = if_going (f.done x) (EndsBare f x bytes fault) going why
@@ -96,7 +95,7 @@ module _ {X : Type 0} (f : Fold X) (x y : X) (going : f.done x ≡ false) (a b c
   none_needed : (bytes : List ℕ) → f.done x ≡ true → bytes ≡ []
   none_needed bytes done = absurd (not_both (f.done x) done going)
 
-  -- nothing is written of the bytes
+  -- Case: nothing is written of the bytes.
   ends_none : (d : Option (List ℕ)) (failed : Bool) (bytes : List ℕ) (fault : RunFault) → HasGivenAll a b failed bytes
       → IsUnbare (f.place x) bytes fault ⊎ RefusesBare f x bytes fault → Appends c d [] → Leaves f x fault y
       → IfSome a (EndsAs f x c d (Err fault) y)
@@ -124,11 +123,11 @@ module _ {X : Type 0} (f : Fold X) (x y : X) (going : f.done x ≡ false) (a b c
         written = inl (Appends-nil c);
       }
 
-  -- more is served, and nothing was written
+  -- Case: more is served, and nothing was written.
   heard_none : (d : Option (List ℕ)) → Appends c d [] → IfGoing (f.done x) (Appends c d [])
   heard_none d wrote = if_going (f.done x) (Appends c d []) going wrote
 
-  -- it ends with a fault other than Io, and neither has failed
+  -- Case: the run ends with a fault other than Io, and neither the reader nor the writer has failed.
   io_none : (r w : Bool) (fault : RunFault) → r ≡ false → w ≡ false → (fault ≡ faults.Io → ⊥)
       → (stopped fault ≡ Err faults.Io) ↔ ((r ≡ true) ⊎ (w ≡ true))
   io_none r w fault fine good other = (
@@ -146,7 +145,7 @@ module _ {X : Type 0} (f : Fold X) (x y : X) (going : f.done x ≡ false) (a b c
   known bytes fault (inr (words, r, bare, refuses, is)) io =
       let bad : faults.Refused (f.place x) r ≡ faults.Io = sym is ∙ io in cc
 
-  -- nothing was read, or what was is no segment
+  -- Case: the input was not read to its end, or is no segment.
   pub runs_unread : (r w : Bool) (fault : RunFault) → w ≡ false → Unread (f.place x) a b r fault → x ≡ y
       → RunsBare f x a b c c r w (Err fault) y
   runs_unread r w fault good (inl (bytes, inl (h, inl (memory, some)))) same = record {
@@ -218,7 +217,7 @@ module _ {X : Type 0} (f : Fold X) (x y : X) (going : f.done x ≡ false) (a b c
         let begun = begun_less c d count text (adds_begun c (outgoing d kept) (take count text) adds) in
         inr (text, mid, begun.0, (words, bare, step), begun.1)
 
-    -- nothing is written of it
+    -- Case: nothing is written of the message.
     runs_none : (d : Option (List ℕ)) (kept : List ℕ) (fault : RunFault) → w ≡ false
         → IsUnbare (f.place x) bytes fault ⊎ RefusesBare f x bytes fault → Adds (sent c) (outgoing d kept) []
         → Leaves f x fault y → RunsBare f x a b c d r w (Err fault) y
@@ -230,7 +229,7 @@ module _ {X : Type 0} (f : Fold X) (x y : X) (going : f.done x ≡ false) (a b c
       memory = λ e. inr all_given.ended;
     }
 
-    -- its message was not served to its end
+    -- Case: the message was not served to its end.
     runs_unserved : (d : Option (List ℕ)) (kept : List ℕ) (fault : RunFault)
         → ServesBare f x bytes (sent c) (outgoing d kept) w (Err fault) y → RunsBare f x a b c d r w (Err fault) y
     runs_unserved d kept fault (inr (why, none, good, same)) =
@@ -262,7 +261,7 @@ module _ {X : Type 0} (f : Fold X) (x y : X) (going : f.done x ≡ false) (a b c
         runs_unserved d kept fault
         (subst (λ (l : List ℕ). ServesBare f x bytes (outgoing c l) (outgoing d kept) w (Err fault) y) none served)
 
-    -- it was served, and what is kept of its text was written, or the writer failed
+    -- Case: the message was served, and the kept text was written, or the writer failed.
     runs_sent : (d e : Option (List ℕ)) (kept : List ℕ) (fine : Bool) (ending : Ending)
         → ServesBare f x bytes (sent c) (outgoing d kept) fine (Ok tt) y → OnOk ending (Appends d e kept)
         → HasBegun d e kept → (IsErrOf ending faults.Io ↔ (w ≡ true)) → IsOkUnless ending faults.Io
@@ -306,7 +305,7 @@ module _ {X : Type 0} (f : Fold X) (x y : X) (going : f.done x ≡ false) (a b c
         (subst (λ (l : List ℕ). OnOk ending (Appends d e l)) is ok)
         (subst (λ (l : List ℕ). HasBegun d e l) is begun) io only
 
--- no more is served before the first read
+-- Case: no more is served before the first read.
 pub runs_done : {X : Type 0} (f : Fold X) (x : X) (a c : Option (List ℕ)) (r w : Bool) → f.done x ≡ true → r ≡ false
     → w ≡ false → RunsBare f x a a c c r w (Ok tt) x
 runs_done f x a c r w done fine good = record {

@@ -1,4 +1,4 @@
--- One more read.
+-- Lemmas for `read_all` and `serve_pieces`: one more read of the input.
 use Rattle.std.proofs.Common.{◌≡◌, inl, inr, ℕ, ◌+◌, ◌-◌, ◌≤◌, ◌<◌, min, List, [], ◌++◌, length, take, sym, ap, ◌∙◌}
 use Rattle.std.proofs.Common.{arith, length-take-le, append-nil, Bool, true, false, nat_lt, ◌||◌}
 use Rattle.std.proofs.Math.Seq.{take-append-add, take_all}
@@ -22,7 +22,7 @@ module _ (limit : ℕ) where
         take_all m (take k buf) (omega (arith, short, length-take-le k buf within)) ∙ ap (λ (i : ℕ). take i buf) e)
   ]
 
-  -- the bytes that a run takes of those that were read
+  -- The bytes that a run takes of those that were read, after one more read.
   pub taken_front : (bs buf : List ℕ) (n w k : ℕ) → length bs ≡ n → n ≤ limit → w ≡ min k (limit - n)
       → k ≤ length buf → taken_of limit (bs ++ take k buf) ≡ bs ++ take w buf
   taken_front bs buf n w k count short least within =
@@ -31,7 +31,7 @@ module _ (limit : ℕ) where
       ∙ take-append-add bs (take k buf) (limit - n)
       ∙ ap (λ (p : List ℕ). bs ++ p) (cut_front buf (limit - n) k w within least)
 
-  -- what is taken goes on with what is taken of more
+  -- The bytes taken of a longer input begin with those taken of the shorter one.
   pub taken_more : (all more : List ℕ) → (tail : List ℕ) × (taken_of limit (all ++ more) ≡ taken_of limit all ++ tail)
   taken_more all more = elim (cases_lt limit (length all)) [
     | inl past ↦ ([], take-append-le limit all more (omega (arith, past)) ∙ sym (append-nil (taken_of limit all)))
@@ -44,7 +44,7 @@ module _ (limit : ℕ) where
     )
   ]
 
--- a reader that answered an error has failed, and one that gave bytes has not
+-- A reader that returned an error has failed. A reader that returned bytes has not.
 pub has_broken : (old new : Bool) → new ≡ (old || true) → new ≡ true
 has_broken false new is = is
 has_broken true new is = is

@@ -1,4 +1,4 @@
--- The run of an intake, between two pieces and at its end, and what it says of an input.
+-- Lemmas for `serve_pieces`: the run of an intake between two chunks and at its end, and what it says of the input.
 use Rattle.std.proofs.Common.{◌≡◌, ◌⊎◌, ◌↔◌, inl, inr, ℕ, ◌+◌, ◌-◌, ◌<◌, ◌≤◌, min, List, [], ◌++◌, length, take, Bool}
 use Rattle.std.proofs.Common.{true, false, Option, Some, None, IfSome, Result, Ok, Err, refl, ap, sym, subst, ◌∙◌}
 use Rattle.std.proofs.Common.{arith, append-nil, length-append, length-take-le}
@@ -18,7 +18,7 @@ use Rattle.capn_serve.proofs.shared.Until.{known as either}
 abbrev Ending : Type 0
 Ending = Result (Unit {0}) RunFault
 
--- these bytes were read, in this number, and taken
+-- `taken` bytes were read, and the intake took them.
 pub record HasTaken {I X : Type 0} (Takes : Taking I X) (s : I) (y : X) (a b c d : Option (List ℕ)) (taken : ℕ) : Type 0
   where
     pub bytes : List ℕ
@@ -26,7 +26,7 @@ pub record HasTaken {I X : Type 0} (Takes : Taking I X) (s : I) (y : X) (a b c d
     pub size : length bytes ≡ taken
     pub takes : Takes s y bytes c d
 
--- neither has failed
+-- Case: neither the reader nor the writer has failed.
 not_failed : (r w : Bool) → r ≡ false → w ≡ false → (r ≡ true) ⊎ (w ≡ true) → ⊥
 not_failed r w fine good (inl h) = let e : true ≡ false = sym h ∙ fine in cc
 not_failed r w fine good (inr h) = let e : true ≡ false = sym h ∙ good in cc
@@ -38,13 +38,13 @@ writer_only : (r w : Bool) → r ≡ false → (r ≡ true) ⊎ (w ≡ true) →
 writer_only r w fine (inl h) = let e : true ≡ false = sym h ∙ fine in absurd (cc)
 writer_only r w fine (inr h) = h
 
--- a piece was served, and the writer has not failed
+-- Case: a chunk was served, and the writer has not failed.
 pub not_broken : {I X : Type 0} {takes : Taking I X} {gives : Giving I X} {done : X → Bool} {bytes : List ℕ}
     {c d e : Option (List ℕ)} {failed : Bool} {u : Unit {0}} {s : I} {y : X}
     → Feeds takes gives done bytes c d e failed (Ok u) s y → failed ≡ false
 not_broken {failed = failed} fed = unless_true failed (λ is. (let bad = fed.broken.1 is in cc))
 
--- no more is served from the first
+-- Case: no more is served before the first read.
 pub run_none : {I X : Type 0} (takes : Taking I X) (gives : Giving I X) (done : X → Bool) (limit : ℕ) (s : I) (x : X)
     (a c : Option (List ℕ)) (rf wf : Bool) → rf ≡ false → wf ≡ false → takes s x [] c c
     → Over (gives s x) [] c c (Ok tt) → Reads takes gives done limit s x a a c c rf wf (Ok tt)
@@ -66,7 +66,6 @@ module _ {I X : Type 0} (takes : Taking I X) (gives : Giving I X) (done : X → 
   taken_ahead =
       (h.bytes, [], s, y, d, [], sym (append-nil h.bytes), omega arith, h.takes, Appends-nil d, inr going)
 
-  -- the reader failed
   pub run_unread : (e : Option (List ℕ)) (rf wf : Bool) → rf ≡ true → Keeps b e
       → Reads takes gives done limit s y a e c d rf wf (Err faults.Io)
   run_unread e rf wf broken kept = record {
@@ -80,7 +79,6 @@ module _ {I X : Type 0} (takes : Taking I X) (gives : Giving I X) (done : X → 
     memory = λ i. absurd (cc);
   }
 
-  -- the input ended
   pub run_ended : (last : I) (e : Option (List ℕ)) (buf : List ℕ) (n : ℕ) (rf wf : Bool) (r : Ending) → rf ≡ false
       → wf ≡ false → n ≡ 0 → Consumes b e (take n buf) × (n ≡ 0 → 0 < length buf → IsAtEnd e) → 0 < length buf
       → Ends (gives last y) h.bytes c d r → Reads takes gives done limit last y a e c d rf wf r
@@ -103,7 +101,7 @@ module _ {I X : Type 0} (takes : Taking I X) (gives : Giving I X) (done : X → 
         memory = λ i. absurd (no_memory i);
       }
 
-  -- a piece was read, and served
+  -- Cases: a chunk was read and served.
   module _ (b2 e : Option (List ℕ)) (buf tail : List ℕ) (w k : ℕ) (rf wf : Bool) (last : I) (z : X) (fine : rf ≡ false)
       (least : w ≡ min k (limit - taken)) (bound : taken + k ≤ limit + 1) (few : k ≤ 65536) (some : 0 < k)
       (within : k ≤ length buf) (given : Consumes b b2 (take k buf)) where
@@ -148,7 +146,7 @@ module _ {I X : Type 0} (takes : Taking I X) (gives : Giving I X) (done : X → 
       memory = λ i. omega (arith, size, some);
     }
 
-    -- it ended with this piece
+    -- Case: the run ended with this chunk.
     run_closed : (r : Ending) → Fed r → Over (gives last z) (h.bytes ++ take w (buf ++ tail)) c e r
         → Reads takes gives done limit last z a b2 c e rf wf r
     run_closed r fed over = run_over r r fed fed.broken
@@ -166,7 +164,7 @@ module _ {I X : Type 0} (takes : Taking I X) (gives : Giving I X) (done : X → 
         → Reads takes gives done limit last z a b2 c e rf wf (Ok u)
     run_done u is fed = run_closed (Ok u) fed (fed.fed.1 is)
 
-    -- there are too many bytes
+    -- Case: there are more bytes than are taken.
     pub run_long : (u : Unit {0}) → done z ≡ false → w < k → Fed (Ok u)
         → Reads takes gives done limit last z a b2 c e rf wf (Err faults.InputTooLong)
     run_long u on past fed =
@@ -183,7 +181,7 @@ module _ {I X : Type 0} (takes : Taking I X) (gives : Giving I X) (done : X → 
         (subst (λ (m : Bool). gives last z (h.bytes ++ take w (buf ++ tail)) m c e (Err faults.InputTooLong))
         (sym longer) (fed.fed.0 on).1)))
 
-    -- it was taken
+    -- Case: the chunk was taken, and the run continues.
     pub taken_on : (u : Unit {0}) → done z ≡ false → w ≡ k → Fed (Ok u)
         → HasTaken takes last z a b2 c e (taken + w)
     taken_on u on same fed = record {
@@ -196,7 +194,7 @@ module _ {I X : Type 0} (takes : Taking I X) (gives : Giving I X) (done : X → 
 
 -- ---- what a run says of its input
 
--- what holds whatever is left of an input holds of the input
+-- A statement that holds for every rest of an input holds for the input, if that is known.
 known : (a b : Option (List ℕ)) (bytes : List ℕ) (P : List ℕ → Type 0) → Consumes a b bytes
     → ((more : List ℕ) → (IsAtEnd b → more ≡ []) → P (bytes ++ more)) → IfSome a P
 known None b bytes P read h = tt

@@ -1,4 +1,4 @@
--- Bytes up to the end of a message.
+-- Lemmas for the calls of `stream.rt`: bytes up to the end of a message, and messages that lie whole in the bytes.
 use Rattle.std.proofs.Common.{◌≡◌, ◌≢◌, ◌⊎◌, inl, inr, ℕ, zero, suc, ◌+◌, ◌-◌, ◌<◌, ◌≤◌, List, [], ◌∷◌, ◌++◌, length}
 use Rattle.std.proofs.Common.{take, drop, Bool, true, false, Option, None, Some, Result, Ok, Err, refl, ap, sym, subst}
 use Rattle.std.proofs.Common.{◌∙◌, append-nil, append_assoc, arith, length-append}
@@ -27,7 +27,7 @@ use Rattle.capn_serve.proofs.Sends.{adds_all, breaks_less, breaks_rest}
 use Rattle.capn_serve.proofs.More.{tells_begun, tells_more, tells_none, tells_one, stops_framed, stops_memory}
 use Rattle.capn_serve.proofs.More.{stops_message, stops_more}
 
--- what is left after a frame that was taken is no frame
+-- No bytes, which are left after a frame was taken, are no whole frame.
 pub empty_unfinished : (most : ℕ) → IsUnfinished [] most
 empty_unfinished most = inl refl
 
@@ -43,7 +43,7 @@ module _ {S : Type 0} (serves : S → Position → List ℕ → List (List ℕ) 
   abbrev f : Fold (Run S)
   f = fold_until serves refuses done most
 
-  -- messages that were served leave the room that they didn't take
+  -- Messages that were served leave room for the bytes that they did not take.
   room_after : (x y : Run S) (ps : List Part) (k : ℕ) → AreServed f x ps y
       → HasRoom x.at (length (frames_of ps) + k) → HasRoom y.at k
   room_after x y [] k is room =
@@ -68,7 +68,7 @@ module _ {S : Type 0} (serves : S → Position → List ℕ → List (List ℕ) 
         index = room.index;
       })
 
-  -- a message that was served leaves room for what was left
+  -- A message that was served leaves room for the bytes after it.
   pub room_step : (x y : Run S) (frame : List ℕ) (message : List (List ℕ)) (text : List ℕ) (k : ℕ)
       → 4 ≤ length frame → f.step x frame message text y → HasRoom x.at (length frame + k) → HasRoom y.at k
   room_step x y frame message text k some step room =
@@ -79,7 +79,7 @@ module _ {S : Type 0} (serves : S → Position → List ℕ → List (List ℕ) 
 
 -- ---- a message that was held
 
--- a message that comes first in what a framer holds is all of it
+-- If a framer's bytes begin with a whole message, they are that message and no more.
 pub held_whole : (rest : List ℕ) (most : ℕ) (message : List (List ℕ)) (taken : ℕ) → StandsFirst rest most message taken
     → IsFrame rest most ⊎ IsUnfinished rest most → ((m : List (List ℕ)) (t : ℕ) → StandsFirst rest most m t
     → (message ≡ m) × (taken ≡ t)) → take taken rest ≡ rest
@@ -91,7 +91,7 @@ held_whole rest most message taken first (inr (inl none)) only =
 held_whole rest most message taken first (inr (inr cut)) only =
     let bad = refused_whole rest most frame_faults.Cut (whole_of rest most message taken first) cut in absurd (cc)
 
--- what a framer holds is no whole message where none comes first in it
+-- If a framer's bytes begin with no whole message, they are an unfinished one.
 pub held_open : (rest : List ℕ) (most : ℕ) (e : FrameFault) → e ≢ frame_faults.Memory
     → IsFrame rest most ⊎ IsUnfinished rest most
     → ((m : List (List ℕ)) (t : ℕ) → StandsFirst rest most m t → e ≡ frame_faults.Memory) → IsUnfinished rest most
@@ -99,13 +99,13 @@ held_open rest most e other (inl (m, frames, room)) only =
     absurd (other (only m (length rest) (stands_alone rest most m frames room)))
 held_open rest most e other (inr part) only = part
 
--- what a framer holds is a frame where a message comes first in it
+-- If a framer's bytes begin with a whole message, they are a frame.
 pub held_frame : (rest : List ℕ) (most other : ℕ) (message : List (List ℕ)) (taken : ℕ)
     → StandsFirst rest most message taken → take taken rest ≡ rest → other ≡ most → IsFrame rest other
 held_frame rest most other message taken first all same =
     (message, subst (λ (p : List ℕ). Frames p message) all first.frame, omega (arith, first.room, same))
 
--- a framer whose message was taken
+-- The state of a framer after its message was taken.
 pub cleared : (before : Framing) (got : Option (List (List ℕ))) (after : Framing) → before.failed ≡ false
     → IsFrame before.rest before.most → TakeGives before got after
     → after ≡ record { rest = []; most = before.most; failed = false }
@@ -115,7 +115,7 @@ cleared before None after good whole (inr part, same) = absurd (unfinished_frame
 
 module _ {X : Type 0} (f : Fold X) (x : X) (before : Framing) (good : before.failed ≡ false)
     (same : before.most ≡ f.most) where
-  -- it was served
+  -- Case: the held message was served.
   pub held_some : (y : X) (after : Framing) (frame : List ℕ) (message : List (List ℕ)) (a b : Outgoing) (failed : Bool)
       (u : Unit {0}) → frame ≡ before.rest → Frames frame message → total message ≤ f.most → f.done x ≡ false
       → AddsMessage f x frame message a b failed (Ok u) y
@@ -134,7 +134,7 @@ module _ {X : Type 0} (f : Fold X) (x : X) (before : Framing) (good : before.fai
         fine,
       )
 
-  -- it is refused, or the writer failed
+  -- Case: the held message is refused, or the writer failed.
   pub held_stop : (y : X) (frame : List ℕ) (message : List (List ℕ)) (a b : Outgoing) (failed : Bool)
       (fault : RunFault) → frame ≡ before.rest → Frames frame message → total message ≤ f.most → f.done x ≡ false
       → AddsMessage f x frame message a b failed (Err fault) y → (more : List ℕ)
@@ -143,13 +143,13 @@ module _ {X : Type 0} (f : Fold X) (x : X) (before : Framing) (good : before.fai
       subst (λ (p : List ℕ). Stops f x (p ++ more) a b failed fault y) all
       (stops_message f x y frame more message a b failed fault is room going adds)
 
-  -- there was none
+  -- Case: the framer holds no whole message.
   pub held_none : (a : Outgoing) (failed : Bool) → failed ≡ false → IsUnfinished before.rest before.most
       → ServesHeld f x before a a failed (Ok tt) before x
   held_none a failed fine part =
       (tells_none f x before.rest a, record { good = good; part = part; most = same }, fine)
 
-  -- no whole message came first
+  -- Case: the held bytes begin with no whole message.
   pub held_passed : (most : ℕ) (a : Outgoing) (failed : Bool) (fault : FrameFault) (r : Result (Unit {0}) RunFault)
       → most ≡ f.most → failed ≡ false → IsFrame before.rest most ⊎ IsUnfinished before.rest most
       → ((m : List (List ℕ)) (t : ℕ) → StandsFirst before.rest most m t → fault ≡ frame_faults.Memory)
@@ -177,7 +177,7 @@ module _ {X : Type 0} (f : Fold X) (x : X) (before : Framing) (bytes : List ℕ)
       ]
   moves (suc n) mid fed some = omega arith
 
-  -- what is held was served, if it is a whole message
+  -- Case: the bytes were taken, and the held message was served if it is whole.
   pub next_ok : (y : X) (n : ℕ) (mid after : Framing) (a b : Outgoing) (failed : Bool) (u : Unit {0})
       → Feeds before bytes n mid → ServesHeld f x mid a b failed (Ok u) after y
       → ServesNext f x before bytes a b failed (Ok n) after y
@@ -187,7 +187,7 @@ module _ {X : Type 0} (f : Fold X) (x : X) (before : Framing) (bytes : List ℕ)
     (subst (λ (p : List ℕ). Tells f x p after.rest a b y) fed.rest told, is, fine),
   )
 
-  -- it is refused, or the writer failed
+  -- Case: the held message is refused, or the writer failed.
   pub next_stopped : (y : X) (n : ℕ) (mid after : Framing) (a b : Outgoing) (failed : Bool) (fault : RunFault)
       → Feeds before bytes n mid → ServesHeld f x mid a b failed (Err fault) after y
       → Stops f x (before.rest ++ bytes) a b failed fault y
@@ -198,7 +198,7 @@ module _ {X : Type 0} (f : Fold X) (x : X) (before : Framing) (bytes : List ℕ)
       ∙ ap (λ (p : List ℕ). before.rest ++ p) (take-append-drop n bytes) in
       subst (λ (p : List ℕ). Stops f x p a b failed fault y) whole (stop (drop n bytes))
 
-  -- the bytes are refused, or memory is
+  -- Case: the framer refuses the bytes, or memory is refused.
   pub next_refused : (e : FrameFault) (after : Framing) (a : Outgoing) (failed : Bool) → failed ≡ false → f.done x ≡
       false
       → FeedGives before bytes (Err e) after
@@ -279,7 +279,7 @@ module _ {X : Type 0} (f : Fold X) (x y : X) (bytes : List ℕ) (at : ℕ) (a b 
       subst (λ (p : List ℕ). Stops f x p a c failed fault z) (take-append-drop at bytes)
       (stops_more f x y (take at bytes) [] (drop at bytes) a b c failed fault told part)
 
--- memory was refused after messages that were served
+-- Case: memory was refused after messages that were served.
 pub whole_memory : {X : Type 0} (f : Fold X) (x y : X) (bytes : List ℕ) (at : ℕ) (a b : Outgoing) (failed : Bool)
     → Tells f x (take at bytes) [] a b y → failed ≡ false → Stops f x bytes a b failed faults.Memory y
 whole_memory f x y bytes at a b failed told fine =
@@ -289,7 +289,7 @@ whole_memory f x y bytes at a b failed told fine =
 
 -- ---- whole messages, or the next one
 
--- where no byte was served the state is as it was
+-- If no byte was served, the state is as it was.
 pub state_same : {X : Type 0} (f : Fold X) (x y : X) (parts : List Part) → AreParts f x [] parts [] y → x ≡ y
 state_same f x y [] are = are.each
 state_same f x y (p ∷ ps) are =
@@ -306,7 +306,7 @@ still_going {X = X} f x y bytes n a b none (parts, are, adds) going =
     subst (λ (z : X). f.done z ≡ false) (state_same f x y parts nothing) going
 
 module _ {X : Type 0} (f : Fold X) (x y : X) (before : Framing) (bytes : List ℕ) (a b : Outgoing) where
-  -- messages were served of which the framer holds nothing
+  -- Case: messages were served, and the framer held nothing before and holds nothing after.
   pub some_whole : (n : ℕ) (failed : Bool) → IsListening f before → before.rest ≡ [] → 0 < n
       → ServesWhole f x bytes a b failed (Ok n) y → ServesNext f x before bytes a b failed (Ok n) before y
   some_whole n failed listening none some (inside, told, fine) = (
@@ -319,12 +319,12 @@ module _ {X : Type 0} (f : Fold X) (x y : X) (before : Framing) (bytes : List �
     ),
   )
 
-  -- the run stopped among them
+  -- Case: the run stopped within these messages.
   pub some_stop : (failed : Bool) (fault : RunFault) → before.rest ≡ [] → Stops f x bytes a b failed fault y
       → Stops f x (before.rest ++ bytes) a b failed fault y
   some_stop failed fault none stop = subst (λ (p : List ℕ). Stops f x (p ++ bytes) a b failed fault y) (sym none) stop
 
-  -- none was, and the next bytes were taken
+  -- Case: no message was served, and the framer took the next bytes.
   pub some_next : (z : X) (n : ℕ) (c : Outgoing) (failed fine : Bool) (r : Result ℕ RunFault) (after : Framing)
       → n ≡ 0 → ServesWhole f x bytes a b fine (Ok n) y → ServesNext f y before bytes b c failed r after z
       → ServesNext f x before bytes a c failed r after z
@@ -365,7 +365,7 @@ module _ {X : Type 0} (f : Fold X) (x : X) (c d e : Option (List ℕ)) (text : L
       so_sent so more behind = let part = so more behind in
           (part.0, part.1, part.2, adds_all (sent c) d e text part.0 part.3 wrote, part.4)
 
-  -- the writer fails within it
+  -- Case: the writer fails within the kept text.
   pub begun_broken : {w : X} (stream : List ℕ) → TellsBegun f x stream (sent c) (outgoing d text) → HasBegun d e text
       → Stops f x stream (sent c) (sent e) true faults.Io w
   begun_broken stream (parts, rest, y, count, are, adds) (some, wrote) =
@@ -388,7 +388,7 @@ module _ {X : Type 0} (f : Fold X) (x : X) (c d e : Option (List ℕ)) (text : L
       → Stops f x stream (sent c) (sent e) true faults.Io w
   stops_broken stream fault stop wrote = begun_broken stream (stop.told refl) wrote
 
-  -- it had failed before
+  -- Case: the writer had failed before.
   pub stops_kept : {w : X} (stream : List ℕ) (fault : RunFault) → e ≡ d
       → Stops f x stream (sent c) (outgoing d text) true fault w → Stops f x stream (sent c) (sent e) true fault w
   stops_kept stream fault same stop = record {
@@ -401,7 +401,7 @@ module _ {X : Type 0} (f : Fold X) (x : X) (c d e : Option (List ℕ)) (text : L
   }
 
 module _ {X : Type 0} (f : Fold X) (x : X) where
-  -- bytes were served, and then what was kept was written
+  -- Case: bytes were served, and then the kept text was written.
   serves_sent : (y : X) (before after : Framing) (bytes : List ℕ) (c d e : Option (List ℕ))
       (text : List ℕ) (broken failed : Bool) (served result : Result (Unit {0}) RunFault)
       → Serves f x before bytes (sent c) (outgoing d text) broken served after y

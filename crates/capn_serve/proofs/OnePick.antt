@@ -1,4 +1,4 @@
--- What is picked of a stream, in one way.
+-- Lemmas for the law `picking`: a stream determines what is picked from it.
 use Rattle.std.proofs.Common.{◌≡◌, inl, inr, ℕ, ◌<◌, ◌≤◌}
 use Rattle.std.proofs.Common.{List, [], ◌∷◌, ◌++◌, Bool, Option}
 use Rattle.std.proofs.Common.{refl, ap, sym, subst, ◌∙◌, append_assoc, arith}
@@ -17,7 +17,7 @@ module _ (most : ℕ) where
   abbrev f : Fold Picking
   f = pick_fold most
 
-  -- a fold over ranges does one thing with each message
+  -- The fold of picking does one thing with each message.
   pub pick_one_way : IsOneWay (pick_fold most)
   pick_one_way = record {
     steps = λ x frame message t u y z h k.
@@ -41,7 +41,7 @@ module _ (most : ℕ) where
     stays x y [] is same = subst (λ (r : Picking). r.service ≡ ranges) is same
     stays x y (q ∷ ps) (mid, part, step, more) same = stays mid y ps more (step.0.1 ∙ same)
 
-    -- messages after the last write nothing
+    -- Messages after the last number of the ranges write nothing.
     beyond : (x y : Picking) (ps : List Part) → AreServed f x ps y → x.service ≡ ranges → last_of ranges ≤ x.at.index
         → texts_of ps ≡ []
     beyond x y [] is same past = refl
@@ -52,7 +52,7 @@ module _ (most : ℕ) where
         ap (λ (l : List ℕ). l ++ texts_of ps) none
         ∙ beyond mid y ps more (step.0.1 ∙ same) (omega (arith, past, number))
 
-    -- the messages up to the last, and any after them, write one text
+    -- Any two rows of messages that reach the last number write the same text.
     one_enough : (x y z : Picking) (ps qs : List Part) (rest other : List ℕ) → AreServed f x ps y
         → AreServed f x qs z → frames_of ps ++ rest ≡ frames_of qs ++ other → x.service ≡ ranges
         → last_of ranges ≤ y.at.index → last_of ranges ≤ z.at.index → texts_of ps ≡ texts_of qs
@@ -72,7 +72,7 @@ module _ (most : ℕ) where
         others first.1.1 (move.0.1 ∙ same) past after in
         (λ i. moved.0 i ++ next i)
 
-    -- a stream that ends before the last message has no row of messages up to it
+    -- A stream that ends before the last number of the ranges has no row of messages up to that number.
     too_few : (ends : Option RunFault) (x y z : Picking) (ps qs : List Part) (rest other : List ℕ) (r : Ending)
         → AreServed f x ps y → AreServed f x qs z → frames_of ps ++ rest ≡ frames_of qs ++ other
         → Behind f pick_one_way (λ w. ends) y rest r → y.at.index < last_of ranges → last_of ranges ≤ z.at.index → ⊥
@@ -114,7 +114,7 @@ module _ (most : ℕ) where
         let same = one_folded f pick_one_way (λ w. behind is_longer) (first_run ranges) y z bytes t u r s due also in
         (same.0, same.1.0)
 
-    -- one text is picked of an input, and a run over it ends in one way
+    -- The text that is picked from an input and the ending of a run over it are unique.
     pub one_pick : (input t u : List ℕ) (r s : Ending) → IsPicked most ranges forms.Stream input t r
         → IsPicked most ranges forms.Stream input u s → (t ≡ u) × (r ≡ s)
     one_pick input t u r s h k = one_of (taken_of most_taken input) t u (has_more most_taken input) r s h k

@@ -1,4 +1,5 @@
--- A packed stream as an intake: what is served of it, how a run over it ends, and what came of its last message.
+-- Lemmas for `packed_into` and the intake of a packed stream: what is served of it, how a run over it ends, and what is
+-- held of its last message.
 use Rattle.std.proofs.Common.{◌≡◌, ◌≢◌, inl, inr, ℕ, ◌-◌, ◌^◌, ◌<◌, ◌≤◌, List, [], ◌∷◌, ◌++◌, length}
 use Rattle.std.proofs.Common.{take, Bool, true, false, Option, IfErr, IfSome}
 use Rattle.std.proofs.Common.{Result, Ok, Err, refl, ap, sym, subst, ◌∙◌}
@@ -48,7 +49,7 @@ Ending = Result (Unit {0}) RunFault
 abbrev stopped : RunFault → Ending
 stopped fault = Err fault
 
--- the bytes of all whole groups, of which some are known
+-- The unpacked bytes of all whole groups begin with the known bytes of the first groups.
 pub split_after : (s tail words : List ℕ) → packing.Begins s [] words → (group : List ℕ) × (more : List ℕ) × (at : ℕ)
     × Splits (s ++ tail) group [] (words ++ more) at
 split_after s tail words b =
@@ -73,7 +74,7 @@ split_after s tail words b =
       },
     )
 
--- the end of an input is no reason to ask for memory
+-- A run that ends at the end of its input does not end with Memory.
 end_unrefused : (at : Position) (e : FrameFault) (group : List ℕ) (offset : ℕ) → e ≢ frames.Memory
     → end_of at e (cut_group at group offset) ≢ Err faults.Memory
 end_unrefused at frames.Empty [] offset other = λ h. cc
@@ -85,7 +86,7 @@ end_unrefused at (frames.TooManySegments n) group offset other = λ h. cc
 end_unrefused at (frames.TooManyWords n) group offset other = λ h. cc
 end_unrefused at frames.Failed group offset other = λ h. cc
 
--- something was written where messages were reached, or where a run stopped
+-- A text, perhaps an empty one, was appended to the output if messages were reached.
 reach_wrote : {X : Type 0} (f : Fold X) (y z : X) (q : Pending) (s : List ℕ) (d e : Option (List ℕ))
     → ReachesPacked f y q s (sent d) (sent e) z → (text : List ℕ) × Appends d e text
 reach_wrote f y z q s d e (stream, begins, rest, (parts, are, adds)) =
@@ -143,7 +144,7 @@ module _ {X : Type 0} (f : Fold X) (x : X) (limit : ℕ) where
 
   -- ---- how a run ends
 
-  -- what has to hold where no whole frame is left of what was unpacked
+  -- The ending of a run if no whole frame is left in the unpacked bytes.
   due_open : (y : X) (s : List ℕ) (q : Pending) (is_longer : Bool) (ending : Ending) (e : FrameFault)
       (c d : Option (List ℕ)) (told : TellsPacked f x (fresh limit) s q (sent c) (sent d) y) → f.done y ≡ false
       → e ≢ frames.Memory → frame_rules.IsFrameRefused q.rest f.most e
@@ -202,7 +203,7 @@ module _ {X : Type 0} (f : Fold X) (x : X) (limit : ℕ) where
         short,
       )
 
-  -- there are more bytes than are taken
+  -- Case: there are more bytes than are taken.
   due_long : (y : X) (s : List ℕ) (q : Pending) (c d : Option (List ℕ))
       → TellsPacked f x (fresh limit) s q (sent c) (sent d) y → IsUnfinished q.rest f.most → f.done y ≡ false
       → (text : List ℕ)
@@ -226,7 +227,7 @@ module _ {X : Type 0} (f : Fold X) (x : X) (limit : ℕ) where
         }),
       )
 
-  -- no more is served, whatever comes after
+  -- Case: no more is served, whatever follows.
   gives_done : (y : X) (held : Held) (now : Framing) (s : List ℕ) (c d : Option (List ℕ)) (u : Unit {0})
       → ReachesPacked f x (fresh limit) s (sent c) (sent d) y → f.done y ≡ true
       → Over (GivesPacked f x limit held now y) s c d (Ok u)
@@ -260,7 +261,6 @@ module _ {X : Type 0} (f : Fold X) (x : X) (limit : ℕ) where
         tt,
       ))
 
-  -- the run stopped
   ended_stop : (z : X) (s more : List ℕ) (longer : Bool) (c d : Option (List ℕ)) (failed : Bool) (fault : RunFault)
       → HaltsPacked f x (fresh limit) s (sent c) (sent d) failed fault z
       → HasEndedPacked f x limit (s ++ more) longer c d (stopped fault) z
@@ -297,7 +297,6 @@ module _ {X : Type 0} (f : Fold X) (x : X) (limit : ℕ) where
         (stream, begins_longer [] s (s ++ more) more stream refl begins, table));
   })
 
-  -- a group is cut
   cut_here : (at : Position) (y : X) (b : ℕ) (group rest bytes stream : List ℕ) (len : ℕ) (parts : List Part)
       → IsUnfinished rest f.most → Splits bytes (b ∷ group) [] stream len → AreParts f x stream parts (rest ++ []) y
       → IfErr (end_of at frames.Empty (cut_group at (b ∷ group) len))
@@ -358,7 +357,6 @@ module _ {X : Type 0} (f : Fold X) (x : X) (limit : ℕ) where
   ended_end y s is_longer c d (Ok u) due = due
   ended_end y s is_longer c d (Err fault) due = inr (inr (due.0, y, due.1, due.2, inl refl))
 
-  -- the input ended
   pub ends_packed : (y : X) (held : Held) (now : Framing) (left : ℕ) (last : Held) (after : Framing) (bytes : List ℕ)
       (c d : Option (List ℕ)) (r : Ending) → TakesPacked f x limit held now left y bytes c d → f.done y ≡ false
       → length bytes < 2 ^ 64 → EndsPacked (f.place y) held.rest held.offset now.rest now.most r
@@ -413,7 +411,7 @@ module _ {X : Type 0} (f : Fold X) (x : X) (limit : ℕ) where
       gives_done x held now [] c c tt (reach_all f x (fresh limit) x [] (pending held now left) (sent c) (sent c) told)
       done
 
-  -- an intake that holds all that
+  -- The lemmas for any intake that holds an unpacker, a framer and a number of bytes left.
   module _ {I : Type 0} (held : I → Held) (framer : I → Framing) (left : I → ℕ) where
     abbrev Takes : I → X → List ℕ → Option (List ℕ) → Option (List ℕ) → Type 0
     Takes s y bytes c d = TakesPacked f x limit (held s) (framer s) (left s) y bytes c d
@@ -421,7 +419,7 @@ module _ {X : Type 0} (f : Fold X) (x : X) (limit : ℕ) where
     abbrev Gives : I → X → List ℕ → Bool → Option (List ℕ) → Option (List ℕ) → Ending → Type 0
     Gives s y bytes is_longer c d r = GivesPacked f x limit (held s) (framer s) y bytes is_longer c d r
 
-    -- one more piece was served
+    -- Case: one more chunk was served.
     pub feeds_packed : (y z : X) (before after : I) (bytes piece : List ℕ) (c d e : Option (List ℕ)) (failed : Bool)
         (r : Ending) → Takes before y bytes c d
         → ServesPacked f y (pending (held before) (framer before) (left before)) piece (sent d) (sent e) failed r

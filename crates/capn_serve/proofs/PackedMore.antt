@@ -1,4 +1,5 @@
--- A packed stream that is served in chunks: more of it, and where a run stops.
+-- Lemmas for `serve_part`, `serve_slice` and `serve_slices`: more bytes of a packed stream, and the places where a run
+-- stops.
 use Rattle.std.proofs.Common.{◌≡◌, ◌≢◌, inl, inr, ℕ, ◌+◌, ◌-◌, ◌<◌, ◌≤◌, min, List, [], ◌++◌, length, take, drop, Bool}
 use Rattle.std.proofs.Common.{true, false, Option, Some, Result, Ok, Err, nat_lt, refl, ap, sym, subst, ◌∙◌}
 use Rattle.std.proofs.Common.{append-nil, append_assoc, arith, length-append}
@@ -43,9 +44,8 @@ Ending = Result (Unit {0}) RunFault
 abbrev stopped : RunFault → Ending
 stopped fault = Err fault
 
--- ---- a stop that does not hang on why no more bytes can come
+-- ---- a stop that does not depend on the reason why no more bytes follow
 
--- another fault
 other_than : (fault : RunFault) → (other : RunFault) × (fault ≡ other → ⊥)
 other_than faults.Memory = (faults.Io, λ e. cc)
 other_than faults.Io = (faults.Memory, λ e. cc)
@@ -85,7 +85,8 @@ module _ {X : Type 0} (f : Fold X) where
     ends = ends_any y due.rest other fault apart (f.done y) due.ends behind;
   }
 
-  -- the text and the ending of messages that were served, and of what follows them
+  -- Messages that were served, followed by the text and the ending of what is after them, give those of the whole
+  -- stream.
   folded_more : (x y z : X) (s mid e more : List ℕ) (ps : List Part) (behind : Option RunFault) (ending : Ending)
       → AreParts f x s ps mid y → IsFolded f y (mid ++ e) behind more ending z
       → IsFolded f x (s ++ e) behind (texts_of ps ++ more) ending z
@@ -143,7 +144,7 @@ module _ {X : Type 0} (f : Fold X) (x : X) (left : ℕ) (rest stream : List ℕ)
         part.4,
       )
 
-  -- it stopped within what is taken
+  -- Case: the run stopped within the bytes that are taken.
   pub halts_of : {w : X} → Stops f x (rest ++ taken_of left stream) a b failed fault w
       → Halts f x left rest stream a b failed fault w
   halts_of stop = record {
@@ -185,7 +186,7 @@ module _ {X : Type 0} (f : Fold X) (x y : X) (left : ℕ) (rest stream end : Lis
         inl refl,
       )
 
-  -- it stopped since there are more bytes than are taken
+  -- Case: the run stopped because there are more bytes than are taken.
   pub halts_long : (failed : Bool) → failed ≡ false → left < length stream → IsUnfinished end f.most
       → f.done y ≡ false → Tells f x (rest ++ taken_of left stream) end a b y
       → Halts f x left rest stream a b failed faults.InputTooLong y
@@ -199,7 +200,7 @@ module _ {X : Type 0} (f : Fold X) (x y : X) (left : ℕ) (rest stream end : Lis
     ]));
   }
 
--- what is taken of unpacked bytes, by its number
+-- The bytes taken of a part, by their number.
 pub within_taken : (left within count : ℕ) (stream got : List ℕ) → got ≡ stream → count ≡ length stream
     → within ≡ min left count → take within got ≡ taken_of left stream
 within_taken left within count stream got same size least =
@@ -209,7 +210,7 @@ within_taken left within count stream got same size least =
       | inr short ↦ take_all within stream (omega (arith, short, size, least)) ∙ sym (take_all left stream short)
     ]
 
--- a part was served as far as it is taken
+-- Cases: the bytes of a part that are taken were served.
 module _ {X : Type 0} (f : Fold X) (x : X) (left within count : ℕ) (rest stream got : List ℕ) (a b : Outgoing)
     (failed : Bool) (same : got ≡ stream) (size : count ≡ length stream) (least : within ≡ min left count) where
   pub part_stops : {w : X} (fault : RunFault) → Stops f x (rest ++ take within got) a b failed fault w
@@ -227,7 +228,7 @@ module _ {X : Type 0} (f : Fold X) (x : X) (left within count : ℕ) (rest strea
       (subst (λ (p : List ℕ). Tells f x (rest ++ p) end a b y)
       (within_taken left within count stream got same size least) told)
 
-  -- as far as it is taken, and no more is served
+  -- Case: the bytes that are taken were served, and no more is served.
   pub part_done : (y : X) (end : List ℕ) (room : ℕ) (before after : Framing) → before.rest ≡ rest → failed ≡ false
       → f.done y ≡ true → Tells f x (rest ++ take within got) end a b y
       → ServesPart f x left before stream a b failed (Ok tt) room after y
@@ -240,7 +241,7 @@ module _ {X : Type 0} (f : Fold X) (x : X) (left within count : ℕ) (rest strea
     fine,
   )
 
-  -- all of it
+  -- Case: all of the part was served.
   pub part_all : (y : X) (end : List ℕ) (room : ℕ) (before after : Framing) → before.rest ≡ rest → failed ≡ false
       → within ≡ count → left ≡ within + room → after.rest ≡ end → IsListening f after
       → Tells f x (rest ++ take within got) end a b y
@@ -254,7 +255,7 @@ module _ {X : Type 0} (f : Fold X) (x : X) (left within count : ℕ) (rest strea
     fine,
   )
 
--- it stopped after messages that were served
+-- Case: the run stopped after messages that were served.
 module _ {X : Type 0} (f : Fold X) (x y : X) (left room : ℕ) (rest mid w v : List ℕ) (a b c : Outgoing)
     (size : length w + room ≡ left) (served : Tells f x (rest ++ w) mid a b y) where
   same_taken : (u : List ℕ) → rest ++ taken_of left (w ++ u) ≡ (rest ++ w) ++ taken_of room u
@@ -297,7 +298,7 @@ module _ {X : Type 0} (f : Fold X) (x y : X) (left room : ℕ) (rest mid w v : L
 
 -- ---- what was unpacked
 
--- after words that were there
+-- A split that appends its words to words that were there before.
 shifted : (stream rest words old : List ℕ) (len : ℕ) → Splits stream rest [] words len
     → Splits stream rest old (old ++ words) len
 shifted stream rest words old len s = record {
@@ -339,7 +340,7 @@ module _ {X : Type 0} (f : Fold X) (x y : X) (p q : Pending) (s t : List ℕ) (a
             (tells_more f x y z (p.rest ++ w) q.rest v r.rest a b c told.told more.told);
       }
 
-  -- messages were reached after it
+  -- Messages were reached in the bytes after those that were served.
   pub packed_reach : (z : X) (c : Outgoing) → ReachesPacked f y q t b c z → ReachesPacked f x p (s ++ t) a c z
   packed_reach z c (v, begins, rest, next) =
       let w = told.stream in
@@ -364,7 +365,7 @@ module _ {X : Type 0} (f : Fold X) (x y : X) (p q : Pending) (s t : List ℕ) (a
         halts_more f x y p.left q.left p.rest q.rest w v a b c told.size told.told failed fault halt,
       )
 
--- groups that come first in some bytes come first in more of them
+-- The first groups of some bytes are the first groups of more bytes.
 pub begins_longer : (held s bytes more stream : List ℕ) → s ++ more ≡ bytes → packing.Begins (held ++ s) [] stream
     → packing.Begins (held ++ bytes) [] stream
 begins_longer held s bytes more stream whole begins = record {
@@ -380,7 +381,7 @@ begins_longer held s bytes more stream whole begins = record {
 }
 
 module _ {X : Type 0} (f : Fold X) (x : X) (p : Pending) where
-  -- memory was refused while a slice was unpacked
+  -- Case: memory was refused while a slice was unpacked.
   pub packed_memory : {last : X} (bytes : List ℕ) (a : Outgoing) (failed : Bool) → failed ≡ false
       → HaltsPacked f x p bytes a a failed faults.Memory last
   packed_memory bytes a failed fine = (
@@ -390,7 +391,7 @@ module _ {X : Type 0} (f : Fold X) (x : X) (p : Pending) where
         (stops_memory f x (p.rest ++ taken_of p.left []) a failed fine),
   )
 
-  -- what was told was reached
+  -- If all whole messages in some bytes were served, they were reached.
   pub reach_all : (y : X) (bytes : List ℕ) (q : Pending) (a b : Outgoing) → TellsPacked f x p bytes q a b y
       → ReachesPacked f x p bytes a b y
   reach_all y bytes q a b told = (
@@ -401,7 +402,7 @@ module _ {X : Type 0} (f : Fold X) (x : X) (p : Pending) where
         (sym (all_taken p.left q.left told.stream told.size)) told.told,
   )
 
-  -- what was reached over some bytes is reached over more of them
+  -- Messages that were reached over some bytes are reached over more bytes.
   pub reach_longer : (y : X) (s bytes more : List ℕ) (a b : Outgoing) → s ++ more ≡ bytes
       → ReachesPacked f x p s a b y → ReachesPacked f x p bytes a b y
   reach_longer y s bytes more a b whole (stream, begins, rest, told) = (
@@ -411,7 +412,6 @@ module _ {X : Type 0} (f : Fold X) (x : X) (p : Pending) where
     told,
   )
 
-  -- nothing has come
   pub packed_none : (a : Outgoing) → IsUnpacking p.group → TellsPacked f x p [] p a a x
   packed_none a unpacking = record {
     stream = [];
@@ -424,13 +424,13 @@ module _ {X : Type 0} (f : Fold X) (x : X) (p : Pending) where
     told = subst (λ (l : List ℕ). Tells f x l p.rest a a x) (sym (append-nil p.rest)) (tells_none f x p.rest a);
   }
 
-  -- where a run stops over some bytes it stops over more of them
+  -- A run that stops over some bytes stops over more bytes.
   pub packed_longer : {last : X} (s bytes more : List ℕ) (a b : Outgoing) (failed : Bool) (fault : RunFault)
       → s ++ more ≡ bytes → HaltsPacked f x p s a b failed fault last → HaltsPacked f x p bytes a b failed fault last
   packed_longer s bytes more a b failed fault whole (stream, begins, halt) =
       (stream, begins_longer p.group.rest s bytes more stream whole begins, halt)
 
--- a slice was unpacked, and what came was served
+-- Cases: a slice was unpacked, and the unpacked bytes were served.
 module _ {X : Type 0} (f : Fold X) (x : X) (held next : Held) (before : Framing) (left : ℕ) (bytes old new : List ℕ)
     (none : old ≡ []) (fed : Feeds held bytes old new next) where
   split : Splits (held.rest ++ bytes) next.rest [] new fed.len
@@ -460,7 +460,7 @@ module _ {X : Type 0} (f : Fold X) (x : X) (held next : Held) (before : Framing)
   served_slice y after room a b failed (Err fault) last same halt =
       (new, begins_all (held.rest ++ bytes) next.rest new fed.len split, halt)
 
--- one slice more
+-- Cases: one more slice was served.
 module _ {X : Type 0} (f : Fold X) (x y : X) (p q : Pending) (bytes : List ℕ) (at end : ℕ) (forward : at ≤ end)
     (a b : Outgoing) (told : TellsPacked f x p (take at bytes) q a b y) where
   joined : take at bytes ++ take (end - at) (drop at bytes) ≡ take end bytes
@@ -509,7 +509,7 @@ module _ {X : Type 0} (f : Fold X) (x : X) (left : ℕ) (rest stream : List ℕ)
         so_sent so more = let part = so more in
             (part.0, part.1, part.2, adds_all (sent c) d e text part.0 part.3 wrote, part.4)
 
-    -- the writer fails within it
+    -- Case: the writer fails within the kept text.
     halts_broken : {last : X} (fault : RunFault)
         → Halts f x left rest stream (sent c) (outgoing d text) false fault last → HasBegun d e text
         → Halts f x left rest stream (sent c) (sent e) true faults.Io last
@@ -517,7 +517,7 @@ module _ {X : Type 0} (f : Fold X) (x : X) (left : ℕ) (rest stream : List ℕ)
         halts_of f x left rest stream (sent c) (sent e) true faults.Io
         (begun_broken f x c d e text (rest ++ taken_of left stream) (halt.told refl) wrote)
 
-    -- it had failed before
+    -- Case: the writer had failed before.
     halts_kept : {last : X} (fault : RunFault) → e ≡ d
         → Halts f x left rest stream (sent c) (outgoing d text) true fault last
         → Halts f x left rest stream (sent c) (sent e) true fault last
@@ -530,7 +530,7 @@ module _ {X : Type 0} (f : Fold X) (x : X) (left : ℕ) (rest stream : List ℕ)
       due = inr (inl (halt.io.1 refl));
     }
 
--- packed bytes were served, and then what was kept was written
+-- Cases: packed bytes were served, and then the kept text was written.
 module _ {X : Type 0} (f : Fold X) (x y : X) (p : Pending) (next : Held) (after : Framing) (room : ℕ) (bytes : List ℕ)
     (c d e : Option (List ℕ)) (text : List ℕ) where
   abbrev Served : Outgoing → Bool → Ending → Type 0
@@ -585,7 +585,7 @@ module _ {X : Type 0} (f : Fold X) (x y : X) (p : Pending) (next : Held) (after 
       room y) none s)
       (subst (λ (l : List ℕ). SendsRest served l d e broken failed result) is r)
 
--- messages that were served leave the room that is not taken
+-- Messages that were served leave room for the bytes that they did not take.
 pub packed_room : {S : Type 0} (serves : S → Position → List ℕ → List (List ℕ) → List ℕ → S → Type 0)
     (refuses : S → Position → List ℕ → List (List ℕ) → Refusal → Type 0) (done : S → Position → Bool) (most : ℕ)
     (x y : Run S) (p q : Pending) (bytes : List ℕ) (a b : Outgoing)

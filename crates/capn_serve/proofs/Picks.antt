@@ -1,4 +1,4 @@
--- A run that picks messages, from the run of its service.
+-- Lemmas for `run_only`: the run of the service `Picker` is a run that picks messages.
 use Rattle.std.proofs.Common.{◌≡◌, inl, inr, ℕ, ◌+◌, ◌<◌, ◌≤◌, List, [], ◌∷◌, Bool, true, false, Option, None}
 use Rattle.std.proofs.Common.{Some, IfSome, Result, Ok, Err, if◌then◌else◌, refl, ap, sym, subst, ◌∙◌}
 use Rattle.capn_serve.specs.declared.fault.RunFault.{RunFault}
@@ -26,7 +26,7 @@ Ending = Result (Unit {0}) RunFault
 abbrev stopped : RunFault → Ending
 stopped fault = Err fault
 
--- what was written of the bytes before the last piece, said in other words
+-- A statement about the bytes before the last chunk may be replaced by one that it implies.
 ahead_as : (P Q : List ℕ → Option (List ℕ) → Option (List ℕ) → Type 0)
     → ((bytes : List ℕ) (c d : Option (List ℕ)) → P bytes c d → Q bytes c d) → (bytes : List ℕ) (c d : Option (List ℕ))
     → IsAhead P bytes c d → IsAhead Q bytes c d
@@ -41,7 +41,7 @@ module _ (most : ℕ) (ranges : List Range) (p : Picker) (same : p.rest.now ≡ 
     abbrev x : Run Picker
     x = first_run p
 
-    -- a run of the service, as one of the fold that knows all ranges
+    -- A run of the service, seen as a run of the fold that knows all ranges.
     abbrev view : Run Picker → Picking
     view y = record { service = ranges; at = y.at }
 
@@ -51,14 +51,14 @@ module _ (most : ℕ) (ranges : List Range) (p : Picker) (same : p.rest.now ≡ 
     starts : IsOn x
     starts = subst (Follows ranges 0) (sym same) (follows_first ranges ascending)
 
-    -- after one more message
+    -- The relation between both runs holds after one more message.
     goes_on : (w y : Run Picker) (q : Part) → IsOn w → until.step w q.frame q.message q.text y → IsOn y
     goes_on w y q on (served, at) =
         subst (λ (a : Position). Follows ranges a.index y.service.rest.now) (sym at)
         (subst (Follows ranges (w.at.index + 1)) (sym served.1)
         (follows_next ranges w.service.rest.now w.at.index on))
 
-    -- messages that the service serves are served where all ranges are known
+    -- The relation between both runs holds after messages that the service serves.
     on : (w y : Run Picker) (ps : List Part) → AreServed until w ps y → IsOn w → IsOn y
     on w y [] is h = subst IsOn is h
     on w y (q ∷ ps) (mid, part, step, more) h = on mid y ps more (goes_on w mid q h step)
@@ -84,7 +84,7 @@ module _ (most : ℕ) (ranges : List Range) (p : Picker) (same : p.rest.now ≡ 
         → AreParts (pick_fold most) (first_run ranges) bytes ps rest (view y)
     parts_of y bytes rest ps are = record { each = served x y ps are.each starts; is = are.is }
 
-    -- where no more is served the last message has been looked at, and only there
+    -- If no more is served, the last number of the ranges has been reached.
     past : (y : Run Picker) → IsOn y → until.done y ≡ true → last_of ranges ≤ y.at.index
     past y h over = none_left ranges y.service.rest.now y.at.index h over
 

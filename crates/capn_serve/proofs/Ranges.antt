@@ -1,4 +1,4 @@
--- The ranges that are left after some messages, and all of them.
+-- Lemmas on the ranges that are left after some messages, and all ranges. (For `run_only` and `picking`.)
 use Rattle.std.proofs.Common.{◌≡◌, ◌⊎◌, inl, inr, ℕ, ◌+◌, ◌<◌, ◌≤◌, max, List, [], ◌∷◌, Bool, true, false, nat_le}
 use Rattle.std.proofs.Common.{nat_lt, refl, sym, subst, ◌∙◌, arith}
 use Rattle.std.proofs.Math.Nat.{le-max_left, le-max_right}
@@ -29,7 +29,7 @@ is_lt a b h = grind (arith, nat_tests)
 is_ge : (a b : ℕ) → nat_lt a b ≡ false → b ≤ a
 is_ge a b h = grind (arith, nat_tests)
 
--- a number that is not above the bound of two is above neither
+-- A number that is at least two numbers is at least their maximum.
 not_max : (a b n : ℕ) → a ≤ n → b ≤ n → max a b ≤ n
 not_max a b n h k = grind (arith, nat_tests)
 
@@ -47,7 +47,7 @@ behind r n high = elim (known (nat_le r.from n)) [
   | inr low ↦ rw low refl
 ]
 
--- a number that no range reaches is in none of them
+-- A number above the last numbers of all ranges is in none of them.
 none_reached : (rs : List Range) (n : ℕ) → last_of rs < n → is_picked rs n ≡ false
 none_reached [] n h = refl
 none_reached (r ∷ rs) n h =
@@ -55,25 +55,25 @@ none_reached (r ∷ rs) n h =
     let others : last_of rs < n = omega (arith, h, le-max_right r.to (last_of rs)) in
     rw (behind r n first, none_reached rs n others) refl
 
--- a number that is not above those before some ranges is in none of them
+-- A number that is not above the bound below some ascending ranges is in none of them.
 none_above : (rs : List Range) (before_all n : ℕ) → AreAbove before_all rs → n ≤ before_all → is_picked rs n ≡ false
 none_above [] before_all n h k = refl
 none_above (r ∷ rs) before_all n (low, some, more) k =
     rw (before r n (omega (arith, low, k)), none_above rs r.to n more (omega (arith, low, some, k))) refl
 
--- what a message after the last writes
+-- A message after the last number of the ranges writes nothing.
 pub picked_none : (ranges : List Range) (index : ℕ) (frame : List ℕ) → last_of ranges ≤ index
     → picked ranges (index + 1) frame ≡ []
 picked_none ranges index frame past = rw (none_reached ranges (index + 1) (omega (arith, past))) refl
 
 -- ---- the ranges that are left after a number of messages
 
--- they come one after the other, and the first reaches beyond these messages
+-- The ranges ascend, and the first of them ends after the first `index` messages.
 abbrev pub AreLeft : ℕ → List Range → Type 0
 AreLeft index [] = Unit {0}
 AreLeft index (r ∷ rs) = (index < r.to) × (r.from ≤ r.to) × AreAbove r.to rs
 
--- of all ranges they have what comes after these messages
+-- `rest` has the same numbers as `ranges` after the first `index` messages.
 pub record Follows (ranges : List Range) (index : ℕ) (rest : List Range) : Type 0 where
   pub left : AreLeft index rest
   pub same : (n : ℕ) → index < n → is_picked ranges n ≡ is_picked rest n
@@ -84,7 +84,7 @@ above_left : (rs : List Range) (index : ℕ) → AreAbove index rs → AreLeft i
 above_left [] index h = tt
 above_left (r ∷ rs) index (low, some, more) = (omega (arith, low, some), some, more)
 
--- before the first message all are left
+-- Before the first message all ranges are left.
 pub follows_first : (ranges : List Range) → AreAscending ranges → Follows ranges 0 ranges
 follows_first ranges h = record {
   left = above_left ranges 0 h;
@@ -93,7 +93,7 @@ follows_first ranges h = record {
   lower = omega arith;
 }
 
--- after the next message
+-- The ranges that are left after the next message.
 pub follows_next : (ranges rest : List Range) (index : ℕ) → Follows ranges index rest
     → Follows ranges (index + 1) (left rest (index + 1))
 follows_next ranges [] index h = record {
@@ -132,7 +132,7 @@ follows_next ranges (r ∷ rs) index h =
         without : (n : ℕ) → r.to < n → is_picked (r ∷ rs) n ≡ is_picked rs n
         without n high = rw (behind r n high) refl
 
--- the first of them decides of the next message
+-- The first range that is left decides whether the next message is picked.
 pub first_decides : (ranges rest : List Range) (index : ℕ) → Follows ranges index rest
     → is_first rest (index + 1) ≡ is_picked ranges (index + 1)
 first_decides ranges [] index h = sym (h.same (index + 1) (omega arith))
@@ -152,7 +152,7 @@ first_decides ranges (r ∷ rs) index h = decides ∙ sym (h.same (index + 1) (o
           rw (low, ge_is r.to (index + 1) high, within r (index + 1) (is_ge (index + 1) r.from low) high) refl)
     ]
 
--- where none is left the last message was looked at, and only there
+-- If no range is left, the last number of the ranges has been reached.
 pub none_left : (ranges rest : List Range) (index : ℕ) → Follows ranges index rest → is_none rest ≡ true
     → last_of ranges ≤ index
 none_left ranges [] index h e = h.upper index (omega arith) (omega arith)

@@ -1,4 +1,5 @@
--- A stream as an intake: what is served of it, how a run over it ends, and what came of its last message.
+-- Lemmas for `stream_into` and the intake of a stream: what is served of it, how a run over it ends, and what is held
+-- of its last message.
 use Rattle.std.proofs.Common.{◌≡◌, ◌≢◌, inl, inr, ℕ, ◌+◌, ◌<◌, ◌^◌, List, [], ◌++◌, length, take, Bool}
 use Rattle.std.proofs.Common.{true, false, Option, None, Some, IfErr, IfSome, Result, Ok, Err, refl, ap, sym, subst}
 use Rattle.std.proofs.Common.{◌∙◌, append-nil, arith}
@@ -31,7 +32,6 @@ use Rattle.capn_serve.proofs.shared.Until.{ends_done, ends_going}
 abbrev Ending : Type 0
 Ending = Result (Unit {0}) RunFault
 
--- a framer that holds nothing
 pub new_listening : {X : Type 0} (f : Fold X) (framer : Framing)
     → framer ≡ record { rest = []; most = f.most; failed = false } → IsListening f framer
 new_listening f framer is = record {
@@ -41,11 +41,11 @@ new_listening f framer is = record {
   most = ap (λ (g : Framing). g.most) is;
 }
 
--- what it holds is no whole frame
+-- A framer that listens holds no whole frame.
 pub unfinished : {X : Type 0} (f : Fold X) (now : Framing) → IsListening f now → IsUnfinished now.rest f.most
 unfinished f now listening = subst (λ (m : ℕ). IsUnfinished now.rest m) listening.most listening.part
 
--- whatever stopped a run, a beginning of the texts was written
+-- For every reason that stopped a run, a prefix of the texts was written.
 stops_written : {X : Type 0} (f : Fold X) (x : X) {w : X} (s : List ℕ) (c d : Option (List ℕ)) (failed : Bool)
     (fault : RunFault) → Stops f x s (sent c) (sent d) failed fault w → HasWritten f x 0 s c d
 stops_written f x s c d true fault stop = stop.front refl
@@ -72,7 +72,7 @@ module _ {X : Type 0} (f : Fold X) (x : X) where
 
   -- ---- how a run ends
 
-  -- what is left is no whole frame
+  -- Case: no whole frame is left.
   due_open : (y : X) (stream rest : List ℕ) (more : Option RunFault) (ending : Ending)
       (e : FrameFault) (c d : Option (List ℕ)) → Tells f x stream rest (sent c) (sent d) y → f.done y ≡ false
       → e ≢ frames.Memory → frame_rules.IsFrameRefused rest f.most e → ending ≡ end_of (f.place y) e more
@@ -101,7 +101,7 @@ module _ {X : Type 0} (f : Fold X) (x : X) where
       refl in
       (end_of (f.place y) frames.Cut more, due.0, due.1, due.2)
 
-  -- there are more bytes than are taken
+  -- Case: there are more bytes than are taken.
   due_long : (y : X) (stream rest : List ℕ) (c d : Option (List ℕ)) → Tells f x stream rest (sent c) (sent d) y
       → IsUnfinished rest f.most → f.done y ≡ false → (text : List ℕ)
       × IsFolded f x stream (Some faults.InputTooLong) text (Err faults.InputTooLong) y × Appends c d text
@@ -121,7 +121,7 @@ module _ {X : Type 0} (f : Fold X) (x : X) where
         inr (record { cut = λ at h. absurd (cc); words = λ at n h. absurd (cc) }),
       )
 
-  -- no more is served, whatever comes after
+  -- Case: no more is served, whatever follows.
   gives_done : (y : X) (now : Framing) (s rest : List ℕ) (c d : Option (List ℕ)) (u : Unit {0})
       → Tells f x s rest (sent c) (sent d) y → f.done y ≡ true → Over (GivesStream f x now y) s c d (Ok u)
   gives_done y now s rest c d u told done = λ more longer. (let (parts, are, adds) = told in (
@@ -140,7 +140,6 @@ module _ {X : Type 0} (f : Fold X) (x : X) where
     tt,
   ))
 
-  -- the run stopped
   ended_stop : (z : X) (s more : List ℕ) (longer : Bool) (c d : Option (List ℕ)) (failed : Bool) (fault : RunFault)
       → Stops f x s (sent c) (sent d) failed fault z → HasEnded f x 0 (s ++ more) longer c d (Err fault) z
   ended_stop z s more longer c d failed fault stop = elim stop.due [
@@ -160,7 +159,7 @@ module _ {X : Type 0} (f : Fold X) (x : X) where
     words = λ at n h. table_longer f x z came s more n (table at n h);
   })
 
-  -- one more piece was served
+  -- Case: one more chunk was served.
   pub feeds_stream : (y z : X) (before after : Framing) (bytes piece : List ℕ) (c d e : Option (List ℕ))
       (failed : Bool) (r : Ending) → TakesStream f x before y bytes c d
       → Serves f y before piece (sent d) (sent e) failed r after z
@@ -193,7 +192,6 @@ module _ {X : Type 0} (f : Fold X) (x : X) where
         broken = (λ h. all.io.0 (cc), λ h. ap (λ (g : RunFault). Err g) (all.io.1 h));
       }
 
-  -- the input ended
   ended_end : (y : X) (s rest : List ℕ) (c d : Option (List ℕ)) (r : Ending)
       → Tells f x s rest (sent c) (sent d) y → f.done y ≡ false → EndsInput (f.place y) rest f.most r
       → HasEnded f x 0 s false c d r y × IfErr r (λ e. CameOf f x s e rest y)
@@ -226,7 +224,7 @@ module _ {X : Type 0} (f : Fold X) (x : X) where
 
   -- ---- a run
 
-  -- before the first read
+  -- The conditions hold before the first read.
   pub stream_new : (now : Framing) (c : Option (List ℕ)) → f.place x ≡ start
       → now ≡ record { rest = []; most = f.most; failed = false } → TakesStream f x now x [] c c
   stream_new now c place is = (

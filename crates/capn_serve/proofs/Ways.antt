@@ -1,4 +1,4 @@
--- A line on its way, step by step. (For `put`, `send` and `tell`.)
+-- Lemmas on the bytes of a line that are written or held back, step by step. (For `put`, `send` and `tell`.)
 use Rattle.std.proofs.Common.{◌≡◌, ◌∙◌, ℕ, zero, suc, ◌+◌, List, [], ◌∷◌, ◌++◌, length, take, Bool, true, false, Option}
 use Rattle.std.proofs.Common.{Some, None, refl, ap, sym, subst, append_assoc, append-nil}
 use Rattle.std.proofs.Math.Seq.{take-append-add}
@@ -7,7 +7,7 @@ use Rattle.std.proofs.KnownBytes.{Appends-trans}
 use Rattle.capn_words.specs.Watched.{HasBegun}
 use Rattle.capn_serve.specs.Line.{Goes, Says, WritesLine, way}
 
--- a beginning of a part, behind what was written before
+-- A prefix of a part, written after bytes that were appended before.
 begun_behind : (start now new : Option (List ℕ)) (front part : List ℕ) → Appends start now front → HasBegun now new part
     → HasBegun start new (front ++ part)
 begun_behind start now new front part before (count, wrote) = (
@@ -16,12 +16,12 @@ begun_behind start now new front part before (count, wrote) = (
       (Appends-trans start now new front (take count part) before wrote),
 )
 
--- nothing is appended to what stays
+-- Nothing is appended to a content that stays the same.
 none_appended : (c : Option (List ℕ)) → Appends c c []
 none_appended None = tt
 none_appended (Some xs) = sym (append-nil xs)
 
--- a beginning of a text is one of a longer text
+-- A prefix of a text is a prefix of a longer text.
 same_beginning : (n : ℕ) (said part : List ℕ) → (k : ℕ) × (take k (said ++ part) ≡ take n said)
 same_beginning zero said part = (0, refl)
 same_beginning (suc n) [] part = (0, refl)
@@ -34,7 +34,7 @@ begun_longer start new said part (count, wrote) =
     let (k, same) = same_beginning count said part in
     (k, subst (λ (text : List ℕ). Appends start new text) (sym same) wrote)
 
--- a part that is written when nothing is held back
+-- A part is written while nothing is held back.
 pub written : (part : List ℕ) (now new : Option (List ℕ)) (old failed : Bool) → Goes part now old new failed
     → Says part (way [] now old) (way [] new failed)
 written part now new false true went = record {
@@ -55,7 +55,7 @@ written part now new true failed went = record {
   goes_on = λ start said is. rw (went.0, went.1) (begun_longer start now said part is);
 }
 
--- what was held back is written
+-- The bytes that were held back are written.
 pub sent : (held : List ℕ) (now new : Option (List ℕ)) (old failed : Bool) → Goes held now old new failed
     → Says [] (way held now old) (way [] new failed)
 sent held now new false true went = record {
@@ -87,7 +87,7 @@ kept_back held part now false = record {
       (front, before, ap (λ (text : List ℕ). text ++ part) all ∙ append_assoc front held part);
 }
 
--- a line that was said from its beginning to its end, with nothing held back, was written
+-- A line that was put from its start to its end, with nothing held back, was written.
 written_line : (start new : Option (List ℕ)) (line : List ℕ) (failed : Bool)
     → Says line (way [] start false) (way [] new failed) → WritesLine line start new failed
 written_line start new line true said = said.goes_on start [] ([], none_appended start, refl)

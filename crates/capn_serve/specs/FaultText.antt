@@ -12,7 +12,7 @@ use Rattle.capn_serve.specs.declared.fault.RunFault.TheVariants as faults
 abbrev pub place_text : Position → List ℕ
 place_text at = decimal (at.index + 1) ++ (codes " at " ++ decimal at.offset)
 
--- why a run did not serve all of its input
+-- The text of the reason why a run did not serve all of its input.
 abbrev pub fault_text : RunFault → List ℕ
 fault_text faults.Memory = out_of_memory
 fault_text faults.Io = codes "input or output failed"
@@ -24,7 +24,8 @@ third : fault_text (faults.Refused (record { index = 2; offset = 40 }) (refusals
 unfolding digits
 third = refl
 
--- 1 where a message is refused, 3 where memory, the reader or the writer failed or the input is too long
+-- The exit status of a fault: 1 if a message is refused, 3 if memory, the reader or the writer failed or the input is
+-- too long.
 abbrev pub status_of : RunFault → ℕ
 status_of faults.Memory = 3
 status_of faults.Io = 3

@@ -1,4 +1,4 @@
--- A run over an input in a form: what is written of its messages, how they end, and the state after them. (Own.)
+-- A run over an input in any of the three forms: what it writes, how it ends, and the state after it. (Own.)
 use Rattle.std.specs.Prelude.{◌≡◌, ◌⊎◌, ◌↔◌, ℕ, ◌+◌, ◌-◌, ◌^◌, ◌≤◌, List, [], length, Bool, true, Option, IfSome}
 use Rattle.std.specs.Prelude.{Result, Ok, Err}
 use Rattle.std.specs.Io.KnownBytes.{Consumes, Appends, IsAtEnd}
@@ -17,14 +17,14 @@ use Rattle.capn_serve.specs.WholeInput.{most_input}
 abbrev pub most_stream : ℕ
 most_stream = 2 ^ 64 - 1
 
--- where memory may be refused: some bytes were read, or all of a bare input, which may have none
+-- A run may end with `Memory`: some bytes were read, or all bytes of a bare input, which may be empty.
 abbrev pub MayNeedMemory : Form → Option (List ℕ) → Option (List ℕ) → Type 0
 MayNeedMemory forms.Stream a b = TakesBytes a b
 MayNeedMemory forms.Packed a b = TakesBytes a b
 MayNeedMemory forms.Bare a b = TakesBytes a b ⊎ IsAtEnd b
 
 module _ {X : Type 0} (f : Fold X) (x : X) where
-  -- the text of the messages of an input, how they end, and the state after them, by the form
+  -- `text` is that of the messages of `input`, `ending` is the end of a run over them, and `y` the state after them.
   abbrev pub AreMessages : Form → List ℕ → List ℕ → Result (Unit {0}) RunFault → X → Type 0
   AreMessages forms.Stream input text ending y =
       streams.IsDue f x most_stream (streams.taken_of most_stream input) (streams.has_more most_stream input) text
@@ -36,7 +36,7 @@ module _ {X : Type 0} (f : Fold X) (x : X) where
   AreMessages forms.Bare input text (Err fault) y =
       IfGoing (f.done x) (bares.EndsBare f x input fault) × (text ≡ []) × (y ≡ x)
 
-  -- a beginning of the texts of the messages that these bytes begin with was written
+  -- A prefix of the texts of the messages at the start of `bytes` was written.
   abbrev pub HasWritten : Form → List ℕ → Option (List ℕ) → Option (List ℕ) → Type 0
   HasWritten forms.Stream bytes old new =
       streams.HasWritten f x most_stream (streams.taken_of most_stream bytes) old new
@@ -44,8 +44,8 @@ module _ {X : Type 0} (f : Fold X) (x : X) where
       packings.HasWrittenPacked f x most_stream (streams.taken_of most_stream bytes) old new
   HasWritten forms.Bare bytes old new = bares.HasWritten f x bytes old new
 
-  -- the text of the messages was written, and they end so, in the state after them; or memory was refused, or the
-  -- reader or the writer failed
+  -- The text of the messages of `input` was written, and the run ended as they do, in the state after them; or memory
+  -- was refused, or the reader or the writer failed.
   abbrev pub MessagesEnd : Form → Option (List ℕ) → Option (List ℕ) → Result (Unit {0}) RunFault → X → List ℕ → Type 0
   MessagesEnd form old new (Ok u) y input =
       (text : List ℕ) × AreMessages form input text (Ok tt) y × Appends old new text
@@ -54,8 +54,8 @@ module _ {X : Type 0} (f : Fold X) (x : X) where
       ⊎ ((e ≡ faults.Io)
       ⊎ ((text : List ℕ) × (z : X) × AreMessages form input text (Err e) z × Appends old new text × Leaves f z e y))
 
-  -- how far is read: of a stream, at most one byte more than it may have, and no more than a piece of 65,536 bytes
-  -- beyond what was served and written; of a bare input, at most one byte more than it may have
+  -- The limit on how far a run reads. It reads at most one byte more than an input may have. Of a stream it reads at
+  -- most a chunk of 65,536 bytes beyond those that were served, with their texts written.
   abbrev pub IsReadSoFar : Form → List ℕ → Option (List ℕ) → Option (List ℕ) → Type 0
   IsReadSoFar forms.Stream bytes old new = (length bytes ≤ most_stream + 1)
       × IsAhead (streams.HasWrittenAll f x most_stream) bytes old new
@@ -63,13 +63,14 @@ module _ {X : Type 0} (f : Fold X) (x : X) where
       × IsAhead (packings.HasWrittenAllPacked f x most_stream) bytes old new
   IsReadSoFar forms.Bare bytes old new = length bytes ≤ most_input + 1
 
-  -- no piece was read after one that leads to the end, and of a bare input none where no more is served
+  -- No chunk was read after the one that leads to the end. Nothing was read of a bare input if no more is served.
   abbrev pub IsNeededSoFar : Form → List ℕ → Type 0
   IsNeededSoFar forms.Stream bytes = IsNeeded (streams.IsShort f x most_stream) bytes
   IsNeededSoFar forms.Packed bytes = IsNeeded (packings.IsShortPacked f x most_stream) bytes
   IsNeededSoFar forms.Bare bytes = f.done x ≡ true → bytes ≡ []
 
-  -- a reader gave some bytes, not more than that, and a writer took a beginning of the texts of the messages in them
+  -- A reader gave some bytes, no more than a run may read, and a writer took a prefix of the texts of the messages in
+  -- them.
   pub record BeginsMessages (form : Form) (a b c d : Option (List ℕ)) : Type 0 where
     pub bytes : List ℕ
     pub read : Consumes a b bytes
@@ -77,14 +78,15 @@ module _ {X : Type 0} (f : Fold X) (x : X) where
     pub needed : IsNeededSoFar form bytes
     pub written : HasWritten form bytes c d
 
-  -- all texts of the messages in the bytes that a reader gave were written, of a bare input, which is served at its
-  -- end, nothing; and more is served
+  -- All texts of the messages in the bytes that a reader gave were written, and more is served. Nothing was written of
+  -- a bare input, which is served at its end.
   abbrev pub KeepsUp : Form → Option (List ℕ) → Option (List ℕ) → Option (List ℕ) → Option (List ℕ) → Type 0
   KeepsUp forms.Stream a b c d = streams.KeepsUp f x most_stream a b c d
   KeepsUp forms.Packed a b c d = packings.KeepsUpPacked f x most_stream most_stream a b c d
   KeepsUp forms.Bare a b c d = IfGoing (f.done x) (Appends c d [])
 
-  -- the messages of an input in a form were served, over a reader (from a to b) and a writer (from c to d)
+  -- The effect of a run over an input in `form` on a reader (from `a` to `b`) and a writer (from `c` to `d`), its
+  -- result, and the state after it.
   pub record ServesMessages (form : Form) (a b c d : Option (List ℕ)) (reader_failed writer_failed : Bool)
       (r : Result (Unit {0}) RunFault) (y : X) : Type 0 where
     pub exact : IfSome a (MessagesEnd form c d r y)

@@ -1,11 +1,11 @@
--- What holds of the definitions alone. (Own.)
+-- Laws of the definitions alone. (Own.)
 use Rattle.std.specs.Prelude.{◌≡◌, ℕ, List, Result}
 use Rattle.capn_serve.specs.declared.fault.RunFault.{RunFault}
 use Rattle.capn_serve.specs.declared.pick.Range.{Range}
 use Rattle.capn_serve.specs.declared.pick.StreamForm.TheVariants as forms
 use Rattle.capn_serve.specs.PickRun.{IsPicked}
 
--- Of a stream of frames one text is picked, and a run over it ends in one way.
+-- The text that is picked from a stream of frames is unique, and so is the ending of a run over it.
 abbrev pub PicksOne : Type 0
 PicksOne = (most : ℕ) (ranges : List Range) (input t u : List ℕ) (r s : Result (Unit {0}) RunFault)
     → IsPicked most ranges forms.Stream input t r → IsPicked most ranges forms.Stream input u s → (t ≡ u) × (r ≡ s)

@@ -1,4 +1,4 @@
--- What a run has handed to its writer, and the text that it keeps to hand over with what comes next. (Own.)
+-- The bytes that a run has handed to its writer, and the text that it keeps to hand over later. (Own.)
 use Rattle.std.specs.Prelude.{◌≡◌, ◌⊎◌, ℕ, ◌+◌, ◌<◌, List, [], ◌++◌, length, take, Bool, true, false, Option}
 use Rattle.std.specs.Prelude.{Result, Ok, Err}
 use Rattle.std.specs.Io.KnownBytes.{Appends}
@@ -8,52 +8,52 @@ use Rattle.capn_serve.specs.declared.fault.ServeFault.TheVariants as serve_fault
 use Rattle.capn_serve.specs.declared.fault.RunFault.{RunFault}
 use Rattle.capn_serve.specs.declared.fault.RunFault.TheVariants as faults
 
--- what a writer has taken, and the text that is kept for it
+-- The bytes that a writer has taken, and the text that is kept for it.
 pub record Outgoing : Type 0 where
   pub taken : Option (List ℕ)
   pub kept : List ℕ
 
--- a writer has taken this, and that text is kept
+-- The state in which a writer has taken `taken`, and `kept` is kept for it.
 abbrev pub outgoing : Option (List ℕ) → List ℕ → Outgoing
 outgoing taken kept = record { taken = taken; kept = kept }
 
--- a writer has taken this, and no text is kept
+-- The state in which a writer has taken `taken`, and no text is kept.
 abbrev pub sent : Option (List ℕ) → Outgoing
 sent taken = outgoing taken []
 
--- a text was added: of what was kept and of it a first part was written, and the rest is kept
+-- `text` was added: the first part of the kept text and `text` was written, and the rest is kept.
 abbrev pub Adds : Outgoing → Outgoing → List ℕ → Type 0
 Adds old new text = (written : List ℕ) × Appends old.taken new.taken written × (written ++ new.kept ≡ old.kept ++ text)
 
--- a text was added, and the writer failed after this number of bytes of what was kept and of it
+-- `text` was added, and the writer failed after the first `count` bytes of the kept text and `text`.
 abbrev pub Breaks : Outgoing → Outgoing → ℕ → List ℕ → Type 0
 Breaks old new count text = Appends old.taken new.taken (take count (old.kept ++ text))
 
--- nothing was added, or a beginning of one of the texts that may be written, each with what it leads to
+-- Nothing was added, or a prefix of a text that may be written. `writes` relates a text to the state after it.
 abbrev pub AddsBeginning : {X : Type 0} → (List ℕ → X → Type 0) → Outgoing → Outgoing → Type 0
 AddsBeginning {X = X} writes old new =
     Adds old new [] ⊎ ((text : List ℕ) × (y : X) × (count : ℕ) × writes text y × Adds old new (take count text))
 
--- the writer failed within what was kept and one of these texts
+-- The writer failed within the kept text and a text that may be written.
 abbrev pub BreaksWithin : {X : Type 0} → (List ℕ → X → Type 0) → Outgoing → Outgoing → Type 0
 BreaksWithin {X = X} writes old new =
     (text : List ℕ) × (y : X) × (count : ℕ) × writes text y × Breaks old new count text
 
--- what was kept was written, or is kept and is short; or the writer failed within it
+-- The kept text was written, or is kept and short; or the writer failed within it.
 abbrev pub Flushes : Outgoing → Outgoing → Bool → Result (Unit {0}) ServeFault → Type 0
 Flushes old new failed (Ok u) = Adds old new [] × (length new.kept < 65536) × (failed ≡ false)
 Flushes old new failed (Err fault) =
     (fault ≡ serve_faults.Io) × HasBegun old.taken new.taken old.kept × (failed ≡ true)
 
--- what was kept was written, then these bytes, and nothing is kept; or the writer failed within these
+-- The kept text was written, then `bytes`, and nothing is kept; or the writer failed within them.
 abbrev pub Sends : List ℕ → Outgoing → Outgoing → Bool → Result (Unit {0}) ServeFault → Type 0
 Sends bytes old new failed (Ok u) =
     Appends old.taken new.taken (old.kept ++ bytes) × (new.kept ≡ []) × (failed ≡ false)
 Sends bytes old new failed (Err fault) =
     (fault ≡ serve_faults.Io) × HasBegun old.taken new.taken (old.kept ++ bytes) × (failed ≡ true)
 
--- All of these bytes were added, and what is kept is short. Or memory was refused, which comes for short ones alone,
--- and nothing was added. Or the writer failed within what was kept and these.
+-- All of `bytes` were added, and the kept text is short. Or memory was refused, which is possible for short ones only,
+-- and nothing was added. Or the writer failed within the kept text and `bytes`.
 abbrev pub AddsBytes : List ℕ → Outgoing → Outgoing → Bool → Result (Unit {0}) ServeFault → Type 0
 AddsBytes bytes old new failed (Ok u) = Adds old new bytes × (length new.kept < 65536) × (failed ≡ false)
 AddsBytes bytes old new failed (Err serve_faults.Memory) =
@@ -61,8 +61,8 @@ AddsBytes bytes old new failed (Err serve_faults.Memory) =
 AddsBytes bytes old new failed (Err serve_faults.Io) = ((count : ℕ) × Breaks old new count bytes) × (failed ≡ true)
 AddsBytes bytes old new failed (Err (serve_faults.Refused r)) = ⊥
 
--- A run that ended in this way wrote what it kept, and ends so: not if its writer had failed before, and with Io if it
--- failed now.
+-- A run that ended with `served` wrote its kept text and ended with `result`. If its writer had failed before, nothing
+-- was written. If the writer failed now, `result` is `Io`.
 abbrev pub SendsRest : Result (Unit {0}) RunFault → List ℕ → Option (List ℕ) → Option (List ℕ) → Bool → Bool
     → Result (Unit {0}) RunFault → Type 0
 SendsRest served text old new true failed result = (new ≡ old) × (failed ≡ true) × (result ≡ served)

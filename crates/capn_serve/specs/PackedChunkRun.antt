@@ -1,4 +1,4 @@
--- A packed stream that is served in chunks: what has been written of the bytes that came. (Own.)
+-- A packed stream that is served in chunks: what has been written for the bytes that were read. (Own.)
 use Rattle.std.specs.Prelude.{◌≡◌, ◌≢◌, ◌⊎◌, ◌↔◌, ℕ, ◌+◌, ◌<◌, ◌^◌, List, [], ◌++◌, length, Bool, true, false, Option}
 use Rattle.std.specs.Prelude.{Result, Ok, Err}
 use Rattle.std.specs.Io.KnownBytes.{Consumes}
@@ -17,36 +17,37 @@ use Rattle.capn_serve.specs.ChunkRun.{IsListening, Tells, TellsBegun, TellsFront
 use Rattle.capn_serve.specs.StreamRun.{has_more, taken_of}
 use Rattle.capn_serve.specs.PackedRun.{cut_group, unless_more}
 
--- an unpacker has not failed, and holds no whole group
+-- The unpacker has not failed, and holds no whole group.
 pub record IsUnpacking (held : Held) : Type 0 where
   pub good : held.failed ≡ false
   pub group : NoGroupFirst held.rest
   pub offset : held.offset < 2 ^ 64
 
--- what is held of a packed stream: an unfinished group, the bytes of an unfinished message, and how many more bytes
--- are taken of what it unpacks to
+-- The state of a packed stream between two chunks: an unfinished group, the bytes of an unfinished message, and the
+-- number of unpacked bytes that may still be taken.
 pub record Pending : Type 0 where
   pub group : Held
   pub rest : List ℕ
   pub left : ℕ
 
--- an unpacker, a framer, and a number of bytes hold that
+-- The state that an unpacker, a framer and a remaining limit hold.
 abbrev pub pending : Held → Framing → ℕ → Pending
 pending held framer left = record { group = held; rest = framer.rest; left = left }
 
--- before the first byte of a packed stream
+-- The state before the first byte of a packed stream.
 abbrev pub fresh : ℕ → Pending
 fresh limit = record { group = record { rest = []; offset = 0; failed = false }; rest = []; left = limit }
 
 module _ {X : Type 0} (f : Fold X) where
-  -- whatever follows these unpacked bytes, the run over as many as are taken ends so, and leaves a state
+  -- Whatever follows the unpacked bytes `stream`, a run over those that are taken ends with `fault` and leaves `last`.
   abbrev pub IsDueWithin : X → ℕ → List ℕ → List ℕ → Outgoing → Outgoing → RunFault → X → Type 0
   IsDueWithin x left rest stream old new fault last = (more : List ℕ) → (text : List ℕ) × (y : X)
       × ((behind : Option RunFault) → IsFolded f x (rest ++ taken_of left (stream ++ more))
       (unless_more (has_more left (stream ++ more)) behind) text (Err fault) y) × Adds old new text
       × Leaves f y fault last
 
-  -- a run over unpacked bytes stopped, and left a state: memory was refused, the writer failed, or it ends so
+  -- A run over unpacked bytes stopped with `fault` and left the state `last`. Memory was refused, the writer failed, or
+  -- the run ends with `fault` whatever follows.
   pub record Halts (x : X) (left : ℕ) (rest stream : List ℕ) (old new : Outgoing) (failed : Bool) (fault : RunFault)
       (last : X) : Type 0 where
     pub told : failed ≡ false → TellsBegun f x (rest ++ taken_of left stream) old new
@@ -54,7 +55,7 @@ module _ {X : Type 0} (f : Fold X) where
     pub io : (fault ≡ faults.Io) ↔ (failed ≡ true)
     pub due : (fault ≡ faults.Memory) ⊎ ((fault ≡ faults.Io) ⊎ IsDueWithin x left rest stream old new fault last)
 
-  -- unpacked bytes were served, up to their end, or to a state in which no more is served, or to where the run stopped
+  -- The unpacked bytes `stream` were served, up to their end, or to a state that serves no more; or the run stopped.
   abbrev pub ServesPart : X → ℕ → Framing → List ℕ → Outgoing → Outgoing → Bool → Result (Unit {0}) RunFault → ℕ
       → Framing → X → Type 0
   ServesPart x left before stream old new failed (Ok u) room after y = (rest : List ℕ)
@@ -64,8 +65,8 @@ module _ {X : Type 0} (f : Fold X) where
   ServesPart x left before stream old new failed (Err fault) room after y =
       Halts x left before.rest stream old new failed fault y
 
-  -- bytes after what was held: their whole groups unpack to no more than is taken, the whole messages in that were
-  -- served, and this is held then
+  -- `bytes` were read after the state `before`. Their whole groups unpack to no more than is taken, the whole messages
+  -- in that were served, and `after` holds the rest.
   pub record TellsPacked (x : X) (before : Pending) (bytes : List ℕ) (after : Pending) (old new : Outgoing) (y : X)
       : Type 0 where
     pub stream : List ℕ
@@ -76,19 +77,19 @@ module _ {X : Type 0} (f : Fold X) where
     pub size : length stream + after.left ≡ before.left
     pub told : Tells f x (before.rest ++ stream) after.rest old new y
 
-  -- of what some of the groups unpack to, as far as it is taken, messages were served
+  -- Some first groups were unpacked, and messages in the bytes that are taken of that were served.
   abbrev pub ReachesPacked : X → Pending → List ℕ → Outgoing → Outgoing → X → Type 0
   ReachesPacked x before bytes old new y = (stream : List ℕ) × packing.Begins (before.group.rest ++ bytes) [] stream
       × (rest : List ℕ) × Tells f x (before.rest ++ taken_of before.left stream) rest old new y
 
-  -- the run stopped over what some of the groups unpack to, and left a state
+  -- The run stopped within the bytes that some first groups unpack to, and left the state `last`.
   abbrev pub HaltsPacked : X → Pending → List ℕ → Outgoing → Outgoing → Bool → RunFault → X → Type 0
   HaltsPacked x before bytes old new failed fault last = (stream : List ℕ)
       × packing.Begins (before.group.rest ++ bytes) [] stream
       × Halts x before.left before.rest stream old new failed fault last
 
-  -- packed bytes were served: all messages that they made whole, or up to a state in which no more is served, or to
-  -- where the run stopped
+  -- The packed `bytes` were served: all messages that they complete, or up to a state that serves no more; or the run
+  -- stopped.
   abbrev pub ServesPacked : X → Pending → List ℕ → Outgoing → Outgoing → Bool → Result (Unit {0}) RunFault → Held
       → Framing → ℕ → X → Type 0
   ServesPacked x before bytes old new failed (Ok u) held framer left y =
@@ -98,13 +99,13 @@ module _ {X : Type 0} (f : Fold X) where
   ServesPacked x before bytes old new failed (Err fault) held framer left y =
       HaltsPacked x before bytes old new failed fault y
 
-  -- a reader gave bytes, in this number, and the whole messages in what they unpack to were served
+  -- A reader gave `taken` bytes, and the whole messages in what they unpack to were served.
   abbrev pub HearsPacked : X → ℕ → Option (List ℕ) → Option (List ℕ) → ℕ → Pending → Option (List ℕ)
       → Option (List ℕ) → X → Type 0
   HearsPacked x limit a b taken after c d y = (bytes : List ℕ) × Consumes a b bytes × (length bytes ≡ taken)
       × TellsPacked x (fresh limit) bytes after (sent c) (sent d) y
 
--- the input ended at a position: what is left is no whole frame, and the run ends so
+-- The packed input ended at the position `at` with no whole frame in `rest`, and `ending` is the end of the run.
 abbrev pub EndsPacked : Position → List ℕ → ℕ → List ℕ → ℕ → Result (Unit {0}) RunFault → Type 0
 EndsPacked at group offset rest most ending = (e : FrameFault) × (e ≢ frames.Memory)
     × frame_rules.IsFrameRefused rest most e × (ending ≡ end_of at e (cut_group at group offset))

@@ -1,4 +1,4 @@
--- Which messages of a stream are picked, and what each writes. (Own.)
+-- The messages of a stream that are picked, and what each writes. (Own.)
 use Rattle.std.specs.Prelude.{◌≡◌, ℕ, ◌+◌, ◌<◌, ◌≤◌, max, nat_le, nat_lt, if◌then◌else◌, ◌&&◌, ◌||◌, List, [], ◌∷◌}
 use Rattle.std.specs.Prelude.{Bool, false, ⊤, refl}
 use Rattle.capn_canon.specs.declared.refusal.Refusal.{Refusal}
@@ -10,43 +10,44 @@ use Rattle.capn_serve.specs.declared.service.Run.{Run}
 use Rattle.capn_serve.specs.Fold.{Fold, Part, AreParts, fold_of, texts_of}
 use Rattle.capn_serve.specs.StreamRun.{first_run}
 
--- whether a number is in a range
+-- Tests whether `number` is in the range `r`.
 abbrev pub is_in : Range → ℕ → Bool
 is_in r number = nat_le r.from number && nat_le number r.to
 
--- whether it is in one of some ranges
+-- Tests whether a number is in one of some ranges.
 abbrev pub is_picked : List Range → ℕ → Bool
 is_picked [] number = false
 is_picked (r ∷ rs) number = is_in r number || is_picked rs number
 
--- what the message of a number, counted from 1, writes: its frame if it is picked, and else nothing
+-- The text of the message with `number`, counted from 1: its frame if it is picked, and else nothing.
 abbrev pub picked : List Range → ℕ → List ℕ → List ℕ
 picked ranges number frame = if is_picked ranges number then frame else []
 
--- the greatest number in some ranges, which is that of the last message that is looked at, or 0 if there is none
+-- The greatest number in some ranges, or 0 if there is none. The message with that number is the last one that is
+-- looked at.
 abbrev pub last_of : List Range → ℕ
 last_of [] = 0
 last_of (r ∷ rs) = max r.to (last_of rs)
 
--- the ranges come one after the other, above a number: the first number of each is greater than all before it, and not
--- greater than its last one
+-- The ranges ascend above the number `before`: the first number of each is greater than all numbers before it, and not
+-- greater than its last number.
 abbrev pub AreAbove : ℕ → List Range → Type 0
 AreAbove before [] = ⊤
 AreAbove before (r ∷ rs) = (before < r.from) × (r.from ≤ r.to) × AreAbove r.to rs
 
--- they come so, and messages are counted from 1
+-- The ranges ascend, and their numbers are at least 1.
 abbrev pub AreAscending : List Range → Type 0
 AreAscending ranges = AreAbove 0 ranges
 
--- the numbers from one to another, or none if the last would come before the first
+-- The range from `from` to `to`, or none if `to` is less than `from` or is 0.
 abbrev pub range_of : ℕ → ℕ → List Range
 range_of from to = if nat_lt to (max from 1) then [] else (record { from = max from 1; to = to }) ∷ []
 
--- those of a pick
+-- The ranges of the options `p`.
 abbrev pub ranges_of : Pick → List Range
 ranges_of p = range_of p.from p.to
 
--- of the messages 2 to 3 the second and the third are written, and not the first and the fourth
+-- With the range 2 to 3 the second and the third message are written, and the first and the fourth are not.
 first_left : picked (range_of 2 3) 1 (7 ∷ []) ≡ []
 first_left = refl
 
@@ -59,7 +60,7 @@ third_picked = refl
 fourth_left : picked (range_of 2 3) 4 (7 ∷ []) ≡ []
 fourth_left = refl
 
--- the messages 3 to 2 are none, and none is looked at; of the messages 0 to 3 the third is the last
+-- The range 3 to 2 is empty, and no message is looked at. With the range 0 to 3 the third message is the last.
 none_picked : picked (range_of 3 2) 3 (7 ∷ []) ≡ []
 none_picked = refl
 
@@ -69,7 +70,7 @@ none_looked = refl
 third_looked : last_of (range_of 0 3) ≡ 3
 third_looked = refl
 
--- the message 1, and those from 3 to 4
+-- The ranges with the message 1 and with the messages 3 and 4.
 abbrev two : List Range
 two = (record { from = 1; to = 1 }) ∷ (record { from = 3; to = 4 }) ∷ []
 
@@ -85,29 +86,30 @@ four_of_two = refl
 last_of_two : last_of two ≡ 4
 last_of_two = refl
 
--- a run over a stream of which the messages of some ranges are picked
+-- A run over a stream that picks the messages of some ranges.
 abbrev pub Picking : Type 0
 Picking = Run (List Range)
 
--- each message is looked at, and none is refused
+-- A message writes its frame if it is picked. The ranges stay the same, and no message is refused.
 abbrev pub serves : List Range → Position → List ℕ → List (List ℕ) → List ℕ → List Range → Type 0
 serves ranges at frame message text same = (text ≡ picked ranges (at.index + 1) frame) × (same ≡ ranges)
 
 abbrev pub refuses : List Range → Position → List ℕ → List (List ℕ) → Refusal → Type 0
 refuses ranges at frame message r = ⊥
 
--- the fold over the messages of a stream
+-- The fold of picking over the messages of a stream.
 abbrev pub pick_fold : ℕ → Fold Picking
 pick_fold most = fold_of serves refuses most
 
 module _ (most : ℕ) (ranges : List Range) where
-  -- the messages up to the last are whole in these bytes, and this is picked of them, whatever comes after
+  -- `bytes` contain all messages up to the last one that is looked at, and `text` is picked from them, whatever
+  -- follows.
   abbrev pub IsEnough : List ℕ → List ℕ → Type 0
   IsEnough bytes text = (parts : List Part) × (rest : List ℕ) × (y : Picking)
       × AreParts (pick_fold most) (first_run ranges) bytes parts rest y × (last_of ranges ≤ y.at.index)
       × (text ≡ texts_of parts)
 
-  -- fewer messages are whole in these bytes, and what is left is no whole frame
+  -- `bytes` contain fewer whole messages than are looked at, and no whole frame follows them.
   abbrev pub IsTooFew : List ℕ → Type 0
   IsTooFew bytes = (parts : List Part) × (rest : List ℕ) × (y : Picking)
       × AreParts (pick_fold most) (first_run ranges) bytes parts rest y × IsUnfinished rest most

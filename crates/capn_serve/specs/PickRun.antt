@@ -14,14 +14,14 @@ use Rattle.capn_serve.specs.StreamRun as streams
 use Rattle.capn_serve.specs.StreamRun.{TakesBytes, first_run, has_more, taken_of}
 use Rattle.capn_serve.specs.PackedRun as packings
 
--- the most bytes that are taken of an input, and of what it unpacks to
+-- The greatest number of bytes that are taken of an input, and of what it unpacks to.
 abbrev pub most_taken : ℕ
 most_taken = 2 ^ 64 - 1
 
 module _ (most : ℕ) (ranges : List Range) where
-  -- This is picked of the bytes that are taken of an input, and a run over them ends so: as done, if the messages up
-  -- to the last are whole; else with the stream.
-  -- Of a packed input the same holds of what its whole groups unpack to.
+  -- `text` is picked from `bytes`, which are taken of an input, and `ending` is the end of the run. The run is done
+  -- once the messages up to the last one that is looked at are whole. Otherwise it ends as the stream does. The same
+  -- holds of what the whole groups of a packed input unpack to.
   abbrev pub IsPickedOf : StreamForm → List ℕ → Bool → List ℕ → Result (Unit {0}) RunFault → Type 0
   IsPickedOf forms.Stream bytes is_longer text ending =
       (IsEnough most ranges bytes text × (ending ≡ Ok tt))
@@ -34,41 +34,41 @@ module _ (most : ℕ) (ranges : List Range) where
       × packings.IsDuePacked (pick_fold most) (first_run ranges) most_taken bytes is_longer text ending y
       × (y.at.index < last_of ranges))
 
-  -- this is picked of what is taken of a whole input, and a run over it ends so
+  -- `text` is picked from the bytes that are taken of `input`, and `ending` is the end of the run.
   abbrev pub IsPicked : StreamForm → List ℕ → List ℕ → Result (Unit {0}) RunFault → Type 0
   IsPicked form input text ending =
       IsPickedOf form (taken_of most_taken input) (has_more most_taken input) text ending
 
-  -- a run has written what is picked of its input and ended as that does; or memory was refused, or the reader or the
-  -- writer failed
+  -- A run has written what is picked from its input, and ended as that does; or memory was refused, or the reader or
+  -- the writer failed.
   abbrev pub EndsAs : StreamForm → Option (List ℕ) → Option (List ℕ) → Result (Unit {0}) RunFault → List ℕ → Type 0
   EndsAs form old new r input =
       (r ≡ Err faults.Memory)
       ⊎ ((r ≡ Err faults.Io) ⊎ ((text : List ℕ) × IsPicked form input text r × Appends old new text))
 
-  -- in these bytes, or in what their whole groups unpack to, fewer messages are whole than are looked at
+  -- Fewer messages than are looked at are whole in `bytes`, or in what their whole groups unpack to.
   abbrev pub IsShort : StreamForm → List ℕ → Type 0
   IsShort forms.Stream bytes = IsTooFew most ranges bytes
   IsShort forms.Packed bytes = (stream : List ℕ) × (group : List ℕ) × (offset : ℕ)
       × packing.Splits bytes group [] stream offset × IsTooFew most ranges stream
 
-  -- a beginning of what is picked of these bytes was written
+  -- A prefix of what is picked from `bytes` was written.
   abbrev pub HasWritten : StreamForm → List ℕ → Option (List ℕ) → Option (List ℕ) → Type 0
   HasWritten forms.Stream bytes old new =
       streams.HasWritten (pick_fold most) (first_run ranges) most_taken (taken_of most_taken bytes) old new
   HasWritten forms.Packed bytes old new =
       packings.HasWrittenPacked (pick_fold most) (first_run ranges) most_taken (taken_of most_taken bytes) old new
 
-  -- all that is picked of the whole messages in these bytes, or in what their whole groups unpack to, was written, and
-  -- what is left is no whole frame
+  -- All that is picked from the whole messages in `bytes`, or in what their whole groups unpack to, was written, and no
+  -- whole frame is left.
   abbrev pub HasWrittenAll : StreamForm → List ℕ → Option (List ℕ) → Option (List ℕ) → Type 0
   HasWrittenAll forms.Stream bytes old new =
       streams.HasWrittenAll (pick_fold most) (first_run ranges) most_taken bytes old new
   HasWrittenAll forms.Packed bytes old new =
       packings.HasWrittenAllPacked (pick_fold most) (first_run ranges) most_taken bytes old new
 
-  -- a reader gave some bytes, no more pieces than needed, and a writer took a beginning of what is picked of them, and
-  -- all that the bytes before the last piece decide before that was read
+  -- A reader gave some bytes, in no more chunks than needed, and a writer took a prefix of what is picked from them.
+  -- All that the bytes before the last chunk decide was written before that chunk was read.
   pub record Begins (form : StreamForm) (a b c d : Option (List ℕ)) : Type 0 where
     pub bytes : List ℕ
     pub read : Consumes a b bytes
@@ -77,13 +77,13 @@ module _ (most : ℕ) (ranges : List Range) where
     pub needed : streams.IsNeeded (IsShort form) bytes
     pub written : HasWritten form bytes c d
 
-  -- all that is picked of the bytes that a reader gave was written
+  -- All that is picked from the bytes that a reader gave was written.
   abbrev pub KeepsUp : StreamForm → Option (List ℕ) → Option (List ℕ) → Option (List ℕ) → Option (List ℕ) → Type 0
   KeepsUp forms.Stream a b c d = streams.KeepsUp (pick_fold most) (first_run ranges) most_taken a b c d
   KeepsUp forms.Packed a b c d =
       packings.KeepsUpPacked (pick_fold most) (first_run ranges) most_taken most_taken a b c d
 
-  -- what a run did, over a reader (from a to b) and a writer (from c to d)
+  -- The effect of a run on a reader (from `a` to `b`) and a writer (from `c` to `d`), and its result.
   pub record PicksRanges (form : StreamForm) (a b c d : Option (List ℕ)) (reader_failed writer_failed : Bool)
       (r : Result (Unit {0}) RunFault) : Type 0 where
     pub exact : IfSome a (EndsAs form c d r)
@@ -92,7 +92,7 @@ module _ (most : ℕ) (ranges : List Range) where
     pub heard : reader_failed ≡ true → KeepsUp form a b c d
     pub memory : r ≡ Err faults.Memory → TakesBytes a b
 
--- what a run did that picks the messages from one number to another
+-- The effect of a run that picks the messages from one number to another.
 abbrev pub Picks : ℕ → Pick → StreamForm → Option (List ℕ) → Option (List ℕ) → Option (List ℕ) → Option (List ℕ) → Bool
     → Bool → Result (Unit {0}) RunFault → Type 0
 Picks most p = PicksRanges most (ranges_of p)

@@ -6,22 +6,22 @@ use Rattle.capn_serve.specs.declared.position.Position.{Position}
 use Rattle.capn_serve.specs.declared.skipped.Skipped.{Skipped}
 use Rattle.capn_serve.specs.declared.skipped.SkippedSoFar.{SkippedSoFar}
 
--- one more message is skipped, of which the first is kept; no count passes 2^64 - 1
+-- The record of skipped messages after one more at `at`. The first one is kept, and the count stops at 2^64 - 1.
 abbrev pub one_more : Option SkippedSoFar → Position → SkippedSoFar
 one_more None at = record { count = 1; first = at }
 one_more (Some s) at = record { count = min (s.count + 1) (2 ^ 64 - 1); first = s.first }
 
--- the messages skipped so far, of this many
+-- The record of a run over `messages` messages that skipped those of `s`.
 abbrev pub skipped_of : SkippedSoFar → ℕ → Skipped
 skipped_of s messages = record { refused = s.count; messages = messages; first = s.first }
 
--- how many messages were skipped, of how many, and the first of them
+-- The text with the number of skipped messages, the number of all, and the position of the first skipped one.
 abbrev pub text_of_skipped : Skipped → List ℕ
 text_of_skipped skipped =
     decimal skipped.refused ++ (codes " of " ++ (decimal skipped.messages
     ++ (codes " messages refused, the first is " ++ place_text skipped.first)))
 
--- ---- the third of twelve messages is the first of three, and stays it
+-- ---- examples: the third of twelve messages is the first of three that are skipped, and it stays the first
 
 three_of_twelve : text_of_skipped (record { refused = 3; messages = 12; first = record { index = 2; offset = 40 } })
     ≡ codes "3 of 12 messages refused, the first is 3 at 40"

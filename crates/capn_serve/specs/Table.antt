@@ -3,8 +3,8 @@ use Rattle.std.specs.Prelude.{◌≡◌, ℕ, ◌+◌, ◌/◌, List, [], ◌∷
 use Rattle.capn_canon.specs.declared.form.Form.{Form}
 use Rattle.capn_canon.specs.declared.form.Form.TheVariants as forms
 
--- the words of a message's table: none of a bare segment; else 4 bytes for their number, 4 for each segment, and 4 more
--- where that is no whole word
+-- The number of words of a message's segment table: none if the form is bare. Otherwise the table has 4 bytes for the
+-- number of segments, 4 for each segment, and 4 more if these are no whole words.
 abbrev pub table_words : Form → List (List ℕ) → ℕ
 table_words forms.Bare message = 0
 table_words forms.Stream message = length message / 2 + 1

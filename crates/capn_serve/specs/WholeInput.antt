@@ -1,4 +1,4 @@
--- An input that is read to its end: what a reader has given of it. (Own.)
+-- An input that is read to its end: the bytes that a reader has given. (Own.)
 use Rattle.std.specs.Prelude.{◌≡◌, ◌⊎◌, ℕ, ◌+◌, ◌<◌, ◌≤◌, ◌^◌, List, length, take, Bool, true, false, Option}
 use Rattle.std.specs.Prelude.{Result, Ok, Err}
 use Rattle.std.specs.Io.KnownBytes.{Consumes, IsAtEnd}
@@ -10,34 +10,34 @@ use Rattle.capn_serve.specs.declared.fault.RunFault.TheVariants as faults
 abbrev pub most_input : ℕ
 most_input = 2 ^ 32
 
--- a reader has given these bytes, at most one more than an input may have, and has not failed
+-- A reader has given `bytes`, at most one more than an input may have, and has not failed.
 pub record HasGiven (old new : Option (List ℕ)) (failed : Bool) (bytes : List ℕ) : Type 0 where
   pub read : Consumes old new bytes
   pub bounded : length bytes ≤ most_input + 1
   pub fine : failed ≡ false
 
--- these bytes are all that it had, and no more than an input may have
+-- A reader has given `bytes`, which are all that it had, and no more than an input may have.
 pub record HasGivenAll (old new : Option (List ℕ)) (failed : Bool) (bytes : List ℕ) : Type 0 where
   pub given : HasGiven old new failed bytes
   pub within : length bytes ≤ most_input
   pub ended : IsAtEnd new
 
--- why an input was not read to its end: memory was refused for bytes that came, there are too many bytes, or the reader
--- failed
+-- `fault` is the reason why an input was not read to its end. Memory was refused for bytes that were read, there are
+-- too many bytes, or the reader failed.
 abbrev pub IsUntaken : Option (List ℕ) → Option (List ℕ) → Bool → RunFault → Type 0
 IsUntaken old new failed fault = (bytes : List ℕ)
     × ((HasGiven old new failed bytes × (((fault ≡ faults.Memory) × (0 < length bytes))
     ⊎ ((fault ≡ faults.InputTooLong) × (most_input < length bytes))))
     ⊎ (Consumes old new bytes × (length bytes ≤ most_input + 1) × (failed ≡ true) × (fault ≡ faults.Io)))
 
--- an input was read to its end and this is what is answered of its bytes, or it was not read to its end
+-- An input was read to its end and `P` holds of its bytes and the result; or it was not read to its end.
 abbrev pub TakesAll : {T : Type 0} → (List ℕ → Result T RunFault → Type 0) → Option (List ℕ) → Option (List ℕ) → Bool
     → Result T RunFault → Type 0
 TakesAll P old new failed (Ok x) = (bytes : List ℕ) × HasGivenAll old new failed bytes × P bytes (Ok x)
 TakesAll P old new failed (Err fault) = IsUntaken old new failed fault
     ⊎ ((bytes : List ℕ) × HasGivenAll old new failed bytes × P bytes (Err fault))
 
--- the first bytes, at most this number, and the number of all
+-- The first bytes of an input, at most `most`, and the number of all.
 abbrev pub IsBeginning : {A : Type 0} → ℕ → List ℕ → Result (WholeInput A) RunFault → Type 0
 IsBeginning most bytes (Ok input) = (take most bytes ≡ input.bytes.items) × (length bytes ≡ input.len)
 IsBeginning most bytes (Err fault) = ⊥

@@ -1,4 +1,4 @@
-//! Additions to the output of a run.
+//! Adds bytes to the output of a run: short ones are kept in its text, long ones go to the writer.
 
 ghost use Rattle.std.specs.Prelude.{◌≡◌, false};
 ghost use Rattle.capn_words.specs.Watched.{inner_of, has_failed};
@@ -10,7 +10,7 @@ use capn_words::Watched;
 use std::alloc::Allocator;
 use std::io::Write;
 
-/// Writes the text and then the bytes, and holds none of the text then.
+/// Writes `text` and then `bytes` to `writer`. Once `text` is written, it is cleared.
 fn send_bytes<W: Write, A: Allocator>(
     bytes: &[u8],
     text: &mut Vec<u8, A>,
@@ -30,11 +30,11 @@ fn send_bytes<W: Write, A: Allocator>(
     }
 }
 
-/// Adds bytes to what a message writes: short ones to the text, and long ones to the writer, after the text.
+/// Adds `bytes` to the output of a message: short ones to `text`, long ones to `writer`, after `text`.
 ///
-/// They are short if they and the text are below 65,536 bytes. Long ones take no memory, and no text is held after
-/// them. `Memory` where room for short ones was refused, and nothing is added then; `Io` if the writer fails, and then
-/// a beginning of the text and of the bytes was written.
+/// `bytes` are short if they and `text` together are below 65,536 bytes. Long ones take no memory, and `text` is empty
+/// after them. `Memory` is returned if room for short ones is refused, and nothing is added then. `Io` is returned if
+/// the writer fails. A prefix of the text and of the bytes was written then.
 pub fn add_bytes<W: Write, A: Allocator>(
     bytes: &[u8],
     text: &mut Vec<u8, A>,

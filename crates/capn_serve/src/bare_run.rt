@@ -1,4 +1,4 @@
-//! A run over a bare input, as one message.
+//! The run over a bare input, which is one message.
 
 ghost use Rattle.std.specs.Prelude.{◌≡◌, ℕ, ◌*◌, ◌<◌, List, length, false, Err};
 ghost use Rattle.capn_words.specs.Message.{most_words, ReadsBare};
@@ -21,7 +21,7 @@ use capn_words::{Bare, BareFault, MOST_WORDS, Watched};
 use std::alloc::Allocator;
 use std::io::{Read, Write};
 
-/// Returns the fault of a bare input of `len` bytes, which are not one segment.
+/// Returns the fault of a bare input of `len` bytes, more than one segment can have.
 fn bare_fault(len: u64) -> BareFault
     requires { 8 * most_words < len }
     ensures { (bytes : List ℕ) → length bytes ≡ len → ReadsBare bytes (Err result) }
@@ -33,8 +33,8 @@ fn bare_fault(len: u64) -> BareFault
     }
 }
 
-/// Reads a bare input to its end, and returns its bytes. If there are more than one segment has, they are refused at
-/// the position `at`. The other faults are those of [`read_all`](crate::read_all).
+/// Reads a bare input to its end, and returns its bytes. An input longer than a segment can be is refused at the
+/// position `at`. The other faults are those of [`read_all`](crate::read_all).
 pub fn read_bare<R: Read, A: Allocator>(
     alloc: A,
     at: Position,
@@ -52,7 +52,7 @@ pub fn read_bare<R: Read, A: Allocator>(
     Err(RunFault::Refused(at, Refusal::Bare(fault)))
 }
 
-/// Has the one message served that these bytes are.
+/// Serves `bytes` as one message, or refuses them if they are not one segment.
 fn serve_bare<S: Service, W: Write, A: Allocator + Copy>(
     alloc: A,
     run: &mut Run<S>,
@@ -72,14 +72,14 @@ fn serve_bare<S: Service, W: Write, A: Allocator + Copy>(
     }
 }
 
-/// Reads a bare input to its end, in chunks of at most 65,536 bytes, and has the one message served that it is. If the
-/// service is done before that, nothing is read.
+/// Reads a bare input to its end, in chunks of at most 65,536 bytes, and serves it as one message. If the service is
+/// done before that, nothing is read.
 ///
-/// Its frame is the input itself. An input that is not whole words, or has more than 2^28 + 1 of them, is refused where
-/// it begins; of more than 2^32 bytes the run ends as `InputTooLong`. The run ends as done, or with the first fault:
-/// that, or the message is refused; `Io` if and only if the reader or the writer failed; `Memory` if a growth was
-/// refused. Nothing is written before the input has ended. It holds the input, up to 2^28 + 1 words, and what the
-/// service holds, with the text that it has not written yet.
+/// The frame that the service gets is the input itself. An input that is not whole words, or has more than 2^28 + 1 of
+/// them, is refused at its start. If it has more than 2^32 bytes, the run ends as `InputTooLong`. The service may
+/// refuse the message too. `Io` is returned if and only if the reader or the writer failed, and `Memory` if a growth
+/// was refused. Nothing is written before the input has ended. The run holds the input, up to 2^28 + 1 words, and what
+/// the service holds, with the text that is not written yet.
 pub fn run_bare<S: Service, R: Read, W: Write, A: Allocator + Copy>(
     alloc: A,
     run: &mut Run<S>,

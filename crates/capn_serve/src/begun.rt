@@ -7,10 +7,10 @@ use capn_stream::Framer;
 use std::alloc::{Allocator, Global};
 use std::marker::Model;
 
-/// The unfinished part of the input that a run held when it ended: of a message, and of a packed group. (Own.)
+/// The unfinished message and the unfinished packed group that a run held when it ended. (Own.)
 ///
-/// [`serve_form_with`](crate::serve_form_with) puts it here, so that a refusal can be explained by the bytes that it is
-/// about. The bytes of a message are those of its frame, as they were unpacked where the input is packed.
+/// [`serve_form_with`](crate::serve_form_with) stores them here, so that a refusal can be explained from the bytes that
+/// caused it. The bytes of the message are those of its frame. If the input is packed, they are the unpacked bytes.
 #[derive(Drop)]
 pub struct Begun<A: Allocator + Copy = Global> {
     pub(crate) framer: Framer<A>,
@@ -26,7 +26,7 @@ impl<A: Allocator + Copy> Model for Begun<A> {
 }
 
 impl<A: Allocator + Copy> Begun<A> {
-    /// Returns the state before any run, in which nothing has come. It takes no memory.
+    /// Returns a state that holds no bytes, as before any run. It takes no memory.
     pub fn new(alloc: A) -> Begun<A>
         ensures { result ≡ record { rest = []; group = [] } }
     {
@@ -36,15 +36,16 @@ impl<A: Allocator + Copy> Begun<A> {
         }
     }
 
-    /// Returns the bytes of the message at which the run ended: all that came if it is cut, and of one with too many
-    /// words at least its table with the padding. Empty if no message had begun.
+    /// Returns the bytes of the message at which the run ended, or an empty slice if none had begun. If the message is
+    /// cut, these are all bytes that were read of it. If it has too many words, they are at least its table with the
+    /// padding.
     pub fn message(&self) -> &[u8]
         ensures { result.now ≡ self.now.rest }
     {
         self.framer.held()
     }
 
-    /// Returns the bytes of the packed group that is cut, from its tag on. Empty if none had begun.
+    /// Returns the bytes of the packed group that is cut, from its tag on, or an empty slice if none had begun.
     pub fn group(&self) -> &[u8]
         ensures { result.now ≡ self.now.group }
     {

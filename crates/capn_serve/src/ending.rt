@@ -1,4 +1,4 @@
-//! Endings: faults of a run, with text and status.
+//! The ending of a run: the line that reports its fault, and its exit status.
 
 ghost use Rattle.std.specs.Prelude.{◌≡◌, false};
 ghost use Rattle.capn_words.specs.Watched.{inner_of, has_failed};
@@ -9,17 +9,17 @@ use crate::line::Line;
 use capn_words::Watched;
 use std::io::Write;
 
-/// A fault that can end a run.
+/// A fault that can end a run, with its text and its exit status.
 pub trait Ending {
     ghost use Rattle.std.specs.Prelude.{ℕ, List};
 
-    /// The text of the fault, as it stands behind `capn: `.
+    /// The text of the fault, which follows `capn: ` on its line.
     ghost text: { Self → List ℕ };
 
     /// The exit status of a run that the fault ends.
     ghost exit: { Self → ℕ };
 
-    /// Puts the text of the fault on `line`, which goes to `errors`.
+    /// Appends the text of the fault to `line`, which is written to `errors`.
     fn say<E: Write>(&self, line: &mut Line, errors: &mut Watched<E>)
         ensures { Says (text self.now) (way line.old (E.contents (inner_of errors.old)) (has_failed errors.old))
             (way line.new (E.contents (inner_of errors.new)) (has_failed errors.new)) };
@@ -42,7 +42,7 @@ fn tell<F: Ending, E: Write>(fault: &F, errors: &mut Watched<E>)
     line.send(errors);
 }
 
-/// Returns the exit status of a run with this `outcome`: 0 if it is done, and else that of its fault.
+/// Returns the exit status of a run with this `outcome`: 0 if it is `Ok`, or else the status of its fault.
 pub fn status<F: Ending>(outcome: &Result<(), F>) -> u8
     ensures { result ≡ status_of_ending F.exit outcome.now }
 {
@@ -52,10 +52,11 @@ pub fn status<F: Ending>(outcome: &Result<(), F>) -> u8
     }
 }
 
-/// Writes the line that says why a run ended to `errors`, unless `outcome` is done, and returns its exit status.
+/// Returns the exit status of a run with this `outcome`. If it is an `Err`, a line that says why is written to
+/// `errors`.
 ///
-/// The line is `capn: `, the text of the fault and a newline. It is written whole, by one write if it has at most 256
-/// bytes and the errors take them at once; or a beginning of it is, if the errors fail. No memory is asked for.
+/// The line is `capn: `, the text of the fault and a newline. A line of at most 256 bytes is one write, if `errors`
+/// takes all of them at once. If `errors` fails, a prefix of the line was written. No memory is allocated.
 pub fn end<F: Ending, E: Write>(outcome: &Result<(), F>, errors: &mut Watched<E>) -> u8
     requires { has_failed errors.old ≡ false }
     ensures status { result ≡ status_of_ending F.exit outcome.now }

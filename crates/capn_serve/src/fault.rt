@@ -1,4 +1,4 @@
-//! Faults of a run over a stream.
+//! The faults that end a run over a stream, and those of its service.
 
 ghost use Rattle.std.specs.Prelude.{◌≡◌, ◌≢◌, ◌⊎◌};
 ghost use Rattle.capn_target.specs.declared.target.Fault.TheVariants as walk_faults;
@@ -13,14 +13,14 @@ use capn_walk::{Fault, Stopped};
 use capn_words::Watched;
 use std::io::Write;
 
-/// Why a service did not serve a message.
+/// The reason why a service did not serve a message.
 #[derive(Clone, Copy, Debug, PartialEq, Eq)]
 pub enum ServeFault {
     /// A growth was refused, before the first byte of the message's text or within it.
     Memory,
-    /// The writer failed, within the text.
+    /// The writer failed while the text was written.
     Io,
-    /// The message is refused, or its value is, before the first byte of its text.
+    /// The message or its value is refused. No byte of its text was added.
     Refused(Refusal),
 }
 
@@ -42,7 +42,7 @@ pub enum RunFault {
     Memory,
     /// The reader or the writer failed.
     Io,
-    /// There are more bytes than a run takes.
+    /// The input has more bytes than a run takes.
     InputTooLong,
     /// The message at this position is refused, or no message can begin there.
     Refused(Position, Refusal),

@@ -1,4 +1,4 @@
-//! A run over an input in a form.
+//! The run over the messages of an input in any of the three forms.
 
 ghost use Rattle.std.specs.Prelude.{◌≡◌, ◌≤◌, false, IfErr, IfSome};
 ghost use Rattle.capn_words.specs.Message.{most_message_words};
@@ -22,11 +22,11 @@ use capn_words::Watched;
 use std::alloc::Allocator;
 use std::io::{Read, Write};
 
-/// Serves the messages of an input in a form as [`serve_form`] does, and leaves what came of the message at which the
-/// run stopped.
+/// Serves the messages of an input in `form` as [`serve_form`] does, and leaves the bytes of an unfinished message in
+/// `begun`.
 ///
-/// After a frame that is cut or has too many words, and after a group that is cut, `begun` has what came of it; of a
-/// bare input it stays as it was. What was in it before is let go.
+/// `begun` then holds what was read of a frame that is cut or has too many words, and of a packed group that is cut.
+/// Its earlier content is dropped. If the input is bare, `begun` stays as it was.
 pub fn serve_form_with<S: Service, R: Read, W: Write, A: Allocator + Copy>(
     alloc: A,
     form: Form,
@@ -76,8 +76,8 @@ pub fn serve_form_with<S: Service, R: Read, W: Write, A: Allocator + Copy>(
     }
 }
 
-/// Serves the messages of an input in a form, with no lower limit of bytes. `most` is the greatest number of words of a
-/// message in a frame.
+/// Serves the messages of an input in `form`. `most` is the greatest number of words of a message in a frame. A stream
+/// may have up to 2^64 - 1 bytes, and so may what a packed stream unpacks to.
 pub fn serve_form<S: Service, R: Read, W: Write, A: Allocator + Copy>(
     alloc: A,
     form: Form,

@@ -1,8 +1,8 @@
-//! Intakes: machines that take an input piece by piece, and the one loop that reads for them.
+//! The one loop that reads an input, [`serve_pieces`], and the trait [`Intake`] of what takes the chunks that it reads.
 //!
-//! An intake has the messages served that the bytes make whole. It says by its ghost members what it holds of the bytes
-//! that it took ([`Intake::takes`]) and how a run over them ends ([`Intake::gives`]); [`serve_pieces`] says from these
-//! what every run promises.
+//! An intake serves each message once its last byte is there. Its ghost members state what it holds after the bytes
+//! that it took ([`Intake::takes`]), and how a run over them ends ([`Intake::gives`]). The clauses of [`serve_pieces`]
+//! use these members to state what every run promises.
 
 ghost use Rattle.std.specs.Prelude.{◌≡◌, ◌≤◌, ℕ, Bool, false, List, length, Option, Result};
 ghost use Rattle.capn_words.specs.Message.{most_message_words};
@@ -18,20 +18,21 @@ use capn_words::Watched;
 use std::alloc::Allocator;
 use std::io::{Read, Write};
 
-/// A machine that takes an input piece by piece, and has the messages served that it makes whole.
+/// A state that takes an input in chunks, and serves the messages that each chunk completes.
 pub(crate) trait Intake<A: Allocator + Copy> {
-    /// By a fold, from a first state of the intake and of the fold to the present ones, these bytes were taken, and a
-    /// writer went from one content to another.
+    /// The effect of bytes that were taken, for a fold. The arguments are the intake and the state of the fold before
+    /// the bytes, both after them, the bytes, and the writer's content before and after.
     ghost takes: { (X : Type 0) → Fold X → Self → X → Self → X → List ℕ → Option (List ℕ) → Option (List ℕ)
         → Type 0 };
 
-    /// By a fold, from a first state of both to the present ones, these bytes are taken of an input, which has more or
-    /// not, a writer goes from one content to another, and a run ends so.
+    /// The end of a run, for a fold. The arguments are the intake and the state of the fold before the run, both after
+    /// it, the bytes that were taken, whether the input has more, the writer's content before and after, and the run's
+    /// result.
     ghost gives: { (X : Type 0) → Fold X → Self → X → Self → X → List ℕ → Bool → Option (List ℕ) → Option (List ℕ)
         → Result (Unit {0}) RunFault → Type 0 };
 
-    /// Serves all messages that `piece` makes whole, until the service is done, and writes their texts to `writer`.
-    /// `text` is room for them.
+    /// Serves all messages that `piece` completes, until the service is done, and writes their texts to `writer`.
+    /// `text` is a buffer for the texts.
     fn serve<S: Service, W: Write>(
         &mut self,
         alloc: A,
@@ -49,7 +50,7 @@ pub(crate) trait Intake<A: Allocator + Copy> {
             piece.now (W.contents (inner_of writer.old)) (W.contents (inner_of writer.new)) (has_failed writer.new)
             result self.new run.new };
 
-    /// Ends a run at the end of its input, with a fault if a message is cut. What is held stays.
+    /// Ends a run at the end of its input, with a fault if a message is cut. The intake keeps the bytes that it holds.
     fn finish<S: Service>(&mut self, run: &Run<S>) -> Result<(), RunFault>
         requires going { S.done run.now.service run.now.at ≡ false }
         requires taken { (most : ℕ) × (d : Option (List ℕ))
@@ -58,9 +59,9 @@ pub(crate) trait Intake<A: Allocator + Copy> {
             (gives _ (fold_until S.serves S.refuses S.done most)) self.old run.now result self.new };
 }
 
-/// Reads an input, in pieces of at most 65,536 bytes, and has `intake` serve each before it reads again, until the
-/// service is done, or the input ends, or the run stops. At most `limit` bytes are taken, and one more is read, to know
-/// whether there are more.
+/// Reads an input in chunks of at most 65,536 bytes, and lets `intake` serve each chunk before the next is read. The
+/// loop ends if the service is done, if the input ends, or at the first fault. At most `limit` bytes are taken. One
+/// more byte may be read, to find out whether the input is longer.
 pub(crate) fn serve_pieces<I: Intake<A>, S: Service, R: Read, W: Write, A: Allocator + Copy>(
     alloc: A,
     most: u32,

@@ -1,10 +1,10 @@
-//! The laws of picking, as empty functions.
+//! Laws of picking messages, stated by the clauses of functions with empty bodies.
 
 ghost use Rattle.capn_serve.specs.Laws.{PicksOne};
 
-/// States that one text is picked of a stream of frames, and that a run over it ends in one way.
+/// States that a stream of frames determines the text that is picked from it, and how the run ends.
 ///
-/// A packed stream that unpacks to more than 2^64 - 1 bytes may end as done or as too long.
+/// A run over a packed stream that unpacks to more than 2^64 - 1 bytes may end as done or as too long.
 pub fn picking()
     ensures { PicksOne }
 {}

@@ -1,12 +1,12 @@
-//! The messages of an input, served one by one.
+//! The read loop over the messages of an input: reads it in chunks, and hands each message to a service.
 //!
-//! A [`Service`] is what is done with each message: a fold whose state is the service. [`Run`] is how far it has come.
-//! [`run_stream`], [`run_packed`] and [`run_bare`] are the loops over the three forms, and [`serve_form`] is the loop
-//! of a given form. Each ends where the service is done, and does not read on. [`serve_form_with`] leaves in a
-//! [`Begun`] what came of a message that is cut.
+//! A [`Service`] is a fold over messages, and is itself the state of that fold. A [`Run`] is a service with the
+//! position of its next message. [`run_stream`], [`run_packed`] and [`run_bare`] are the loops over the three forms.
+//! [`serve_form`] runs the loop for a given form. A loop reads no further once the service is done. [`serve_form_with`]
+//! also leaves the bytes of a message that is cut in a [`Begun`].
 //!
-//! [`run_only`] and [`run_pick`] write the frames of some messages as they stand; their service is done after the last
-//! of them.
+//! [`run_only`] and [`run_pick`] write the frames of chosen messages byte for byte, and are done after the last of
+//! them.
 #![tactic(auto)]
 
 mod adding;

@@ -1,4 +1,4 @@
-//! A line on its way to a writer.
+//! A line of text that is collected in a block of 256 bytes on its way to a writer.
 
 ghost use Rattle.std.specs.Prelude.{◌≡◌, ◌+◌, ◌≤◌, [], ◌++◌, length};
 ghost use Rattle.std.specs.Fmt.{decimal};
@@ -13,7 +13,7 @@ use std::marker::Model;
 /// The most bytes of a line that are held back.
 const ROOM: usize = 256;
 
-/// The end of a line that is still held back: at most 256 bytes, in a block of its own. It takes no memory.
+/// The part of a line that is not written yet, at most 256 bytes in an array. It takes no memory.
 #[derive(Drop)]
 pub struct Line {
     bytes: [u8; ROOM],
@@ -30,7 +30,7 @@ impl Model for Line {
     ghost invariant = { λ line. line.filled ≤ 256 };
 }
 
-/// Writes all of `part` to `errors`, if no call of it has failed.
+/// Writes all of `part` to `errors`, unless `errors` has failed before.
 fn write_part<E: Write>(part: &[u8], errors: &mut Watched<E>)
     ensures { Goes part.now (E.contents (inner_of errors.old)) (has_failed errors.old)
         (E.contents (inner_of errors.new)) (has_failed errors.new) }
@@ -61,7 +61,7 @@ impl Line {
         self.filled = filled;
     }
 
-    /// Writes the bytes that are held back to `errors`; nothing, if a call of it has failed.
+    /// Writes the bytes that are held back to `errors`, unless `errors` has failed before, and drops them.
     pub fn send<E: Write>(&mut self, errors: &mut Watched<E>)
         ensures empty { self.new ≡ [] }
         ensures sent { Says [] (way self.old (E.contents (inner_of errors.old)) (has_failed errors.old))
@@ -71,7 +71,8 @@ impl Line {
         self.filled = 0;
     }
 
-    /// Appends `part` to the line. It is held back if there is room for it; else all goes to `errors`.
+    /// Appends `part` to the line. If there is no room to hold it back, the bytes before it and `part` are written to
+    /// `errors`.
     pub fn put<E: Write>(&mut self, part: &[u8], errors: &mut Watched<E>)
         ensures { Says part.now (way self.old (E.contents (inner_of errors.old)) (has_failed errors.old))
             (way self.new (E.contents (inner_of errors.new)) (has_failed errors.new)) }
@@ -84,7 +85,7 @@ impl Line {
         }
     }
 
-    /// Appends the text for refused memory.
+    /// Appends `out of memory`, the text for refused memory.
     pub fn put_memory<E: Write>(&mut self, errors: &mut Watched<E>)
         ensures { Says out_of_memory (way self.old (E.contents (inner_of errors.old)) (has_failed errors.old))
             (way self.new (E.contents (inner_of errors.new)) (has_failed errors.new)) }

@@ -1,4 +1,4 @@
-//! One message of a stream, served into the run's text.
+//! The step of a run for one message.
 
 ghost use Rattle.std.specs.Prelude.{◌≡◌, ℕ, length, false};
 ghost use Rattle.capn_words.specs.Watched.{inner_of, has_failed};
@@ -13,7 +13,8 @@ use capn_words::{Space, Watched};
 use std::alloc::Allocator;
 use std::io::Write;
 
-/// Has the message served, and goes on to where the next one begins.
+/// Serves `message`, whose bytes are `frame`, and moves the run to the position of the next message. A refusal is
+/// returned with the position of the refused message.
 #[inline(always)]
 pub(crate) fn add_message<M: Space, S: Service, W: Write, A: Allocator + Copy>(
     alloc: A,

@@ -1,4 +1,4 @@
-//! A run's text on its way to the writer.
+//! Writes the text of a run to its writer.
 
 ghost use Rattle.std.specs.Prelude.{◌≡◌, ◌↔◌, true, false, OnOk, IsErrOf, IsOkUnless};
 ghost use Rattle.std.specs.Io.KnownBytes.{Appends};
@@ -10,10 +10,10 @@ use capn_words::Watched;
 use std::alloc::Allocator;
 use std::io::Write;
 
-/// This number of bytes of text is written at once, or more.
+/// The length in bytes from which on a text is written.
 pub(crate) const ENOUGH: usize = 65_536;
 
-/// Writes all of the text, or a beginning of it if the writer fails.
+/// Writes all of `text`. If the writer fails, a prefix of `text` was written, and `Io` is returned.
 pub fn write_all<W: Write>(writer: &mut Watched<W>, text: &[u8]) -> Result<(), RunFault>
     requires { has_failed writer.old ≡ false }
     ensures ok { OnOk result (Appends (W.contents (inner_of writer.old)) (W.contents (inner_of writer.new)) text.now) }
@@ -27,10 +27,10 @@ pub fn write_all<W: Write>(writer: &mut Watched<W>, text: &[u8]) -> Result<(), R
     }
 }
 
-/// Writes the text once it is long, from 65,536 bytes on, and holds none of it then.
+/// Writes `text` and clears it, if it has at least 65,536 bytes.
 ///
-/// For a service that appends what a message writes: it calls this at its end. It takes no memory. `Io` if the writer
-/// fails, and then a beginning of the text was written.
+/// A service that appends the output of a message to `text` calls this at its end. It takes no memory. If the writer
+/// fails, a prefix of `text` was written, and `Io` is returned.
 pub fn flush_long<W: Write, A: Allocator>(
     text: &mut Vec<u8, A>,
     writer: &mut Watched<W>,
@@ -51,8 +51,8 @@ pub fn flush_long<W: Write, A: Allocator>(
     }
 }
 
-/// Writes the text that a run has kept, if its writer has not failed before. The run ends as it did, or with `Io` if
-/// the writer fails now.
+/// Writes `text`, which a run has kept, unless the writer has failed before. Returns `served`, or `Io` if the writer
+/// fails now.
 pub(crate) fn send_rest<W: Write>(
     served: Result<(), RunFault>,
     text: &[u8],

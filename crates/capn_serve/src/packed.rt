@@ -1,4 +1,4 @@
-//! The part of a packed stream that is held.
+//! The state of a packed stream between two slices: unfinished group, unfinished message and limit.
 
 ghost use Rattle.std.specs.Prelude.{◌≡◌, ◌≤◌, [], false};
 ghost use Rattle.capn_words.specs.Message.{most_message_words};
@@ -7,21 +7,21 @@ use capn_pack::Unpacker;
 use capn_stream::Framer;
 use std::alloc::Allocator;
 
-/// State of a packed stream between two of its slices.
+/// The state of a packed stream between two of its slices.
 #[derive(Drop)]
 pub(crate) struct Packed<A: Allocator + Copy> {
-    /// Holds an unfinished group.
+    /// The unpacker, which holds an unfinished group.
     pub unpacker: Unpacker,
-    /// Holds an unfinished message.
+    /// The framer, which holds an unfinished message.
     pub framer: Framer<A>,
-    /// Room for what a slice unpacks to.
+    /// The bytes that a slice unpacks to.
     pub part: Vec<u8, A>,
-    /// The number of unpacked bytes that may still come.
+    /// The number of unpacked bytes that may still be taken.
     pub left: u64,
 }
 
-/// Returns the state before the first byte of a packed stream. At most `limit` unpacked bytes of it are taken. It takes
-/// no memory.
+/// Returns the state before the first byte of a packed stream. `most` is the greatest number of words of a message. At
+/// most `limit` unpacked bytes are taken. The state takes no memory yet.
 pub(crate) fn new_packed<A: Allocator + Copy>(alloc: A, most: u32, limit: u64) -> Packed<A>
     requires { most ≤ most_message_words }
     ensures unpacker { result.unpacker ≡ record { rest = []; offset = 0; failed = false } }

@@ -1,4 +1,4 @@
-//! A run over the messages of a packed stream.
+//! The run over the messages of a packed stream.
 
 ghost use Rattle.std.specs.Prelude.{◌≡◌, ◌⊎◌, ◌+◌, ◌++◌, ◌≤◌, [], length, false, IfErr, IfSome};
 ghost use Rattle.capn_words.specs.Message.{most_message_words};
@@ -29,8 +29,8 @@ use std::io::{Read, Write};
 /// The most packed bytes that are unpacked at once. They unpack to at most 1,024 times as many.
 const SLICE: usize = 512;
 
-/// Serves all messages that a part makes whole, as far as `left` goes, until the service is done. Of a longer one the
-/// rest is not served.
+/// Serves all messages that the unpacked bytes `packed.part` complete, until the service is done. Bytes past the limit
+/// `packed.left` are not served. If the service is not done before them, the run ends as `InputTooLong`.
 fn serve_part<S: Service, W: Write, A: Allocator + Copy>(
     alloc: A,
     most: u32,
@@ -70,7 +70,7 @@ fn serve_part<S: Service, W: Write, A: Allocator + Copy>(
     Ok(())
 }
 
-/// Serves all messages that a slice makes whole. What it unpacks to is held at once.
+/// Unpacks the slice `bytes`, and serves all messages that it completes. All that the slice unpacks to is held at once.
 fn serve_slice<S: Service, W: Write, A: Allocator + Copy>(
     alloc: A,
     most: u32,
@@ -96,7 +96,7 @@ fn serve_slice<S: Service, W: Write, A: Allocator + Copy>(
     }
 }
 
-/// Serves all messages that packed bytes make whole, slice by slice, until the service is done.
+/// Serves all messages that the packed `bytes` complete, slice by slice, until the service is done.
 fn serve_slices<S: Service, W: Write, A: Allocator + Copy>(
     alloc: A,
     most: u32,
@@ -128,7 +128,8 @@ fn serve_slices<S: Service, W: Write, A: Allocator + Copy>(
     Ok(())
 }
 
-/// Ends a run at the end of its packed input, with a fault if a message or a group is cut. What is held stays.
+/// Ends a run at the end of its packed input, with a fault at the position `at` if a message or a group is cut.
+/// `packed` keeps the bytes that it holds.
 fn end_of_packed<A: Allocator + Copy>(at: Position, packed: &mut Packed<A>) -> Result<(), RunFault>
     requires held { packed.old.unpacker.failed ≡ false }
     requires part { IsUnfinished packed.old.framer.rest packed.old.framer.most }
@@ -143,7 +144,7 @@ fn end_of_packed<A: Allocator + Copy>(at: Position, packed: &mut Packed<A>) -> R
     }
 }
 
-/// Packed bytes are taken as they come, and the messages in what they unpack to are served before more of them.
+/// The intake of a packed stream, which serves the messages of each chunk before the next chunk is read.
 impl<A: Allocator + Copy> Intake<A> for Packed<A> {
     ghost use Rattle.capn_serve.specs.inner.Intakes.{GivesPacked, TakesPacked};
 
@@ -172,8 +173,8 @@ impl<A: Allocator + Copy> Intake<A> for Packed<A> {
     }
 }
 
-/// Reads and serves a packed stream as [`run_packed`] says. What is held has to be new, with room for `limit` bytes; of
-/// the last message and the last group it has then what came.
+/// Reads and serves a packed stream as [`run_packed`] does. `packed` must be new, with the limit `limit`. Afterwards it
+/// holds what was read of the last message and of the last group.
 pub(crate) fn packed_into<S: Service, R: Read, W: Write, A: Allocator + Copy>(
     alloc: A,
     most: u32,
@@ -203,18 +204,20 @@ pub(crate) fn packed_into<S: Service, R: Read, W: Write, A: Allocator + Copy>(
     serve_pieces(alloc, most, most_packed, run, packed, reader, writer)
 }
 
-/// Reads a packed stream, in chunks of at most 65,536 bytes, and has each message served that is whole before it reads
+/// Reads a packed stream in chunks of at most 65,536 bytes, and serves each message that is complete before it reads
 /// again.
 ///
-/// Once the service is done nothing more is read or served, and the rest is not looked at. A chunk is unpacked
-/// in slices of 512 bytes, of which come at most 512 KiB and an unfinished group. Positions are in what the stream
-/// unpacks to; of that at most `limit` bytes are taken, and of the stream itself `most_packed`. `most` is the greatest
-/// number of words of a message. The run ends as done, or with the first fault: a frame or a message that is refused,
-/// at its position; `InputTooLong`; a group that is cut at the end of the input, at the position of the message that
-/// has begun or would begin; `Io` if and only if the reader or the writer failed; `Memory` if a growth was refused. The
-/// texts of the messages before it have been written; at `Memory` a beginning of one more may have been too. It holds
-/// an unfinished message, what a slice unpacks to, the texts of a chunk that are not written yet, and what the service
-/// holds.
+/// `most` is the greatest number of words of a message. At most `most_packed` bytes of the stream are taken, and at
+/// most `limit` bytes of what it unpacks to. Positions count unpacked bytes. Once the service is done, nothing more is
+/// read or served, and the rest of the input is not looked at. A chunk is unpacked in slices of 512 bytes. A slice
+/// unpacks to at most 512 KiB, in addition to a group that began before it.
+///
+/// The run ends as done, or with the first fault: a frame or a message that is refused, at its position;
+/// `InputTooLong`; a group that is cut at the end of the input, at the position of the message that has begun or would
+/// begin; `Io` if and only if the reader or the writer failed; `Memory` if a growth was refused. The texts of the
+/// messages before the fault have been written. At `Memory` a prefix of one more text may have been written too. The
+/// run holds an unfinished message, what a slice unpacks to, the texts of a chunk that are not written yet, and what
+/// the service holds.
 pub fn run_packed<S: Service, R: Read, W: Write, A: Allocator + Copy>(
     alloc: A,
     most: u32,

@@ -1,4 +1,4 @@
-//! The choice of messages from a stream.
+//! The options of `pick`, and the ranges of message numbers.
 
 use capn_canon::Limits;
 
@@ -7,28 +7,28 @@ use capn_canon::Limits;
 pub enum StreamForm {
     /// Frames, one after the other.
     Stream,
-    /// The packed text of these.
+    /// Frames, one after the other, packed.
     Packed,
 }
 
-/// The order to pick messages of a stream by their numbers. (Own.)
+/// The options of `pick`, which writes messages of a stream by their numbers. (Own.)
 #[derive(Clone, Copy, Debug, PartialEq, Eq)]
 pub struct Pick {
     /// The encoding of the input.
     pub form: StreamForm,
-    /// The limits of a message. Only the limit on its words counts.
+    /// The limits of a message. Only the limit on its words is used.
     pub limits: Limits,
     /// The number of the first message that is picked, counted from 1.
     pub from: u64,
-    /// The number of the last one. If it is less than the first, none is picked.
+    /// The number of the last message that is picked. If it is less than `from`, none is picked.
     pub to: u64,
 }
 
-/// The numbers of some messages of a stream that follow each other, counted from 1.
+/// The numbers of messages that follow each other in a stream, counted from 1, with both ends.
 #[derive(Clone, Copy, Debug, PartialEq, Eq)]
 pub struct Range {
-    /// The number of the first one.
+    /// The number of the first message.
     pub from: u64,
-    /// The number of the last one.
+    /// The number of the last message.
     pub to: u64,
 }

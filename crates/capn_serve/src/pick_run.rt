@@ -16,20 +16,20 @@ use capn_words::Watched;
 use std::alloc::Allocator;
 use std::io::{Read, Write};
 
-/// Reads a stream, in chunks of at most 65,536 bytes, and writes the frames of the messages whose numbers are in the
-/// ranges, as they stand; of a packed stream the bytes that it unpacks to.
+/// Reads a stream in chunks of at most 65,536 bytes, and writes the frames of the messages whose numbers are in
+/// `ranges`, byte for byte. The frames of a packed stream are written unpacked.
 ///
-/// The ranges ascend: the first number of each is greater than all before it, and at least 1, and not greater than its
-/// last one. Of the limits the number of words of a message alone counts. No message is walked. What comes after the
-/// last number is not looked at: the run ends as done with the chunk that makes that message whole, and does not read
-/// again. Before it reads again, all that is picked of the messages that are whole by then has been written. Fewer
-/// messages than the ranges name are those that there are; without a range nothing is read.
+/// The ranges ascend: the first number of each is at least 1, greater than all numbers before it, and not greater than
+/// its last number. Of `limits` only the number of words of a message is used. No message is walked. The run ends as
+/// done with the chunk that completes the last picked message. It does not read again, and does not look at what
+/// follows. Before each read, all picked messages that are complete by then have been written. If the stream has fewer
+/// messages than the ranges name, those that exist are written. Without a range nothing is read.
 ///
-/// It holds an unfinished message, less than 65,536 bytes of short frames, and of a packed stream what
-/// [`run_packed`](crate::run_packed) holds; a long frame is written where it lies. Each message costs the same, however
-/// many ranges there are. It ends as done or with the first fault before that: a frame or a group that is refused, at
-/// its position; `InputTooLong`; `Io` if and only if the reader or the writer failed; `Memory` if a growth was refused.
-/// The picked frames before it have been written.
+/// The run holds an unfinished message, less than 65,536 bytes of short frames, and for a packed stream what
+/// [`run_packed`](crate::run_packed) holds. A long frame is written from where it lies. The cost of a message does not
+/// depend on the number of ranges. The run ends as done or with the first fault before that: a frame or a group that is
+/// refused, at its position; `InputTooLong`; `Io` if and only if the reader or the writer failed; `Memory` if a growth
+/// was refused. The picked frames before the fault have been written.
 pub fn run_only<R: Read, W: Write, A: Allocator + Copy>(
     alloc: A,
     form: StreamForm,
@@ -55,10 +55,10 @@ pub fn run_only<R: Read, W: Write, A: Allocator + Copy>(
     }
 }
 
-/// Writes the messages from one number to another, as [`run_only`] does with one range.
+/// Writes the messages from number `pick.from` to number `pick.to`, as [`run_only`] does with one range.
 ///
-/// If there are fewer messages than the first number, or the last number is less than the first, nothing is written; in
-/// the second case nothing is read either.
+/// If the stream has fewer than `pick.from` messages, nothing is written. If `pick.to` is less than `pick.from`,
+/// nothing is read either.
 pub fn run_pick<R: Read, W: Write, A: Allocator + Copy>(
     alloc: A,
     pick: Pick,

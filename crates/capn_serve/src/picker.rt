@@ -12,16 +12,16 @@ use capn_words::{Space, Watched};
 use std::alloc::Allocator;
 use std::io::Write;
 
-/// The ranges of the messages that are still to be picked, in ascending order. As a service it writes the frame of each
-/// message of a range, as it stands, and walks none. It looks at the first range alone, which it drops after the last
-/// message of that, so that the cost of a message does not depend on the number of ranges.
+/// The service of `pick`, which writes the frame of each message of its ranges byte for byte, and walks no message. It
+/// looks only at the first range, and drops that after its last message. So the cost of a message does not depend on
+/// the number of ranges.
 #[derive(Drop)]
 pub(crate) struct Picker<'r> {
-    /// The ranges.
+    /// The ranges of the messages that are still to be picked, in ascending order.
     pub rest: &'r [Range],
 }
 
-/// Tells if `number` is in the first of the ranges `rest`.
+/// Tests whether `number` is in the first of the ranges `rest`.
 #[inline(always)]
 fn is_first(rest: &[Range], number: u128) -> bool
     ensures { result ≡ spec.is_first rest.now number }

@@ -4,13 +4,13 @@ ghost use Rattle.std.specs.Prelude.{◌≡◌, ◌+◌};
 
 /// The place of a message in a stream. (Own.)
 ///
-/// The offset is that of its table, in bytes from the beginning of the stream; of a packed stream, in the bytes that it
-/// unpacks to. Of a bare input both numbers are 0.
+/// The offset is where the segment table of the message begins, in bytes from the start of the stream. In a packed
+/// stream it counts unpacked bytes. In a bare input both numbers are 0.
 #[derive(Clone, Copy, Debug, PartialEq, Eq)]
 pub struct Position {
-    /// Its number, counted from 0.
+    /// The number of the message, counted from 0.
     pub index: u64,
-    /// The number of bytes before it.
+    /// The number of bytes before the message.
     pub offset: u64,
 }
 

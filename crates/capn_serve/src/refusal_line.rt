@@ -1,4 +1,4 @@
-//! Refusals and places, as parts of a line.
+//! The texts of refusals and positions, as parts of an error line.
 
 ghost use Rattle.std.specs.Prelude.{◌≡◌, codes, ◌++◌};
 ghost use Rattle.capn_words.specs.Display.{bare_text};
@@ -20,18 +20,18 @@ use capn_walk::{Fault, Stopped};
 use capn_words::{BareFault, Watched};
 use std::io::Write;
 
-/// Says where a message is: its number, counted from 1, and its offset.
+/// Appends the position of a message to `line`: its number, counted from 1, and its offset.
 pub fn say_place<E: Write>(at: &Position, line: &mut Line, errors: &mut Watched<E>)
     ensures { Says (place_text at.now) (way line.old (E.contents (inner_of errors.old)) (has_failed errors.old))
         (way line.new (E.contents (inner_of errors.new)) (has_failed errors.new)) }
 {
-    // The greatest index has a number past 64 bits.
+    // The number after the greatest index does not fit into 64 bits.
     let mut digits = itoa::Buffer::new();
     line.put(digits.format(number_of(at.index)).as_bytes(), errors);
     line.put_named(b" at ", at.offset, errors);
 }
 
-/// Says why bytes are not one segment.
+/// Appends the reason why bytes are not one segment.
 fn say_bare<E: Write>(fault: &BareFault, line: &mut Line, errors: &mut Watched<E>)
     ensures { Says (codes "bare: " ++ bare_text fault.now)
         (way line.old (E.contents (inner_of errors.old)) (has_failed errors.old))
@@ -43,7 +43,7 @@ fn say_bare<E: Write>(fault: &BareFault, line: &mut Line, errors: &mut Watched<E
     }
 }
 
-/// Says why a packed text is not unpacked.
+/// Appends the reason why a packed text cannot be unpacked.
 fn say_unpack<E: Write>(fault: &UnpackFault, line: &mut Line, errors: &mut Watched<E>)
     ensures { Says (codes "packed: " ++ unpack_text fault.now)
         (way line.old (E.contents (inner_of errors.old)) (has_failed errors.old))
@@ -60,7 +60,7 @@ fn say_unpack<E: Write>(fault: &UnpackFault, line: &mut Line, errors: &mut Watch
     }
 }
 
-/// Says why bytes are no frame.
+/// Appends the reason why bytes are no frame.
 fn say_frame<E: Write>(fault: &FrameFault, line: &mut Line, errors: &mut Watched<E>)
     ensures { Says (codes "frame: " ++ frame_text fault.now)
         (way line.old (E.contents (inner_of errors.old)) (has_failed errors.old))
@@ -103,7 +103,7 @@ fn name_of(fault: Fault) -> &'static [u8]
     }
 }
 
-/// Says why and where a walk stopped, with what was paid and visited.
+/// Appends the fault and the place at which a walk stopped, the price that it had paid, and its number of visits.
 fn say_stopped<E: Write>(stopped: &Stopped, line: &mut Line, errors: &mut Watched<E>)
     ensures { Says (stopped_text stopped.now)
         (way line.old (E.contents (inner_of errors.old)) (has_failed errors.old))
@@ -116,7 +116,7 @@ fn say_stopped<E: Write>(stopped: &Stopped, line: &mut Line, errors: &mut Watche
     line.put_named(b", visits ", stopped.visits as u64, errors);
 }
 
-/// Says why an input has no canonical bytes.
+/// Appends the text of `refusal`, the reason why an input has no canonical bytes.
 pub fn say_refusal<E: Write>(refusal: &Refusal, line: &mut Line, errors: &mut Watched<E>)
     ensures { Says (refusal_text refusal.now)
         (way line.old (E.contents (inner_of errors.old)) (has_failed errors.old))

@@ -1,4 +1,4 @@
-//! Services over the messages of a stream.
+//! The trait of a service over the messages of a stream, and the state of a run of it.
 
 ghost use Rattle.std.specs.Prelude.{◌≡◌, Bool, List, ℕ, false};
 ghost use Rattle.capn_words.specs.Watched.{inner_of, has_failed};
@@ -14,30 +14,32 @@ use capn_words::{Space, Watched};
 use std::alloc::Allocator;
 use std::io::Write;
 
-/// A fold over the messages of a stream, one after the other, whose state is the service.
+/// A fold over the messages of a stream. The service is itself the state of the fold.
 pub trait Service {
-    /// From one state to the next, the message at a position, with its frame, writes a text.
+    /// The text that a message writes. The arguments are the state, the message's position, frame and segments, the
+    /// text, and the next state.
     ghost serves: { Self → Position → List ℕ → List (List ℕ) → List ℕ → Self → Type 0 };
 
-    /// In a state, the message at a position, with its frame, is refused.
+    /// The refusal of a message. The arguments are the state, the message's position, frame and segments, and the
+    /// refusal.
     ghost refuses: { Self → Position → List ℕ → List (List ℕ) → Refusal → Type 0 };
 
-    /// In a state, at the position of the next message, no more is served.
+    /// True if no more is served, by the state and the position of the next message.
     ghost done: { Self → Position → Bool };
 
-    /// Tells if no more is served; `at` is the position of the next message.
+    /// Returns `true` if no more is served. `at` is the position of the next message.
     ///
-    /// It is asked before each read and after each message. If it answers true nothing more is read or served, and
-    /// the run ends as done, whatever comes after. A service of all messages answers false.
+    /// It is called before each read and after each message. If it returns `true`, nothing more is read or served, and
+    /// the run ends as done, whatever follows. A service of all messages always returns `false`.
     fn is_done(&self, at: Position) -> bool
         ensures { result ≡ done self.now at };
 
-    /// Adds what the message writes: to the text, which goes out next, or to the writer after the text.
+    /// Adds the output for `message` to `text`, which is written next, or to `writer` after `text`.
     ///
-    /// A service may append to the text, and call [`flush_long`](crate::flush_long) at its end; or it may add what is
-    /// there already by [`add_bytes`](crate::add_bytes); or it may write the text to the writer, and then its own piece
-    /// by piece, so that no long answer is held. A refusal comes before the first byte of the message's text. At
-    /// `Memory` or `Io` a beginning of that text may have been added.
+    /// A service may append to `text`, and call [`flush_long`](crate::flush_long) at its end. It may add bytes that
+    /// exist already by [`add_bytes`](crate::add_bytes). Or it may write `text` to `writer`, and then its own output
+    /// chunk by chunk, so that no long output is held. A refusal is returned before the first byte of the message's
+    /// output. After `Memory` or `Io` a prefix of that output may have been added.
     fn serve<S: Space, W: Write, A: Allocator + Copy>(
         &mut self,
         alloc: A,
@@ -53,7 +55,7 @@ pub trait Service {
             (outgoing (W.contents (inner_of writer.new)) text.new.items) (has_failed writer.new) result self.new };
 }
 
-/// A service, and how far it has come in its stream.
+/// A service, and the position of its next message.
 #[derive(Drop)]
 pub struct Run<S> {
     /// The service.
@@ -78,7 +80,7 @@ impl<S> Run<S> {
 }
 
 impl<S: Service> Run<S> {
-    /// Tells if the service serves no more.
+    /// Returns `true` if the service serves no more.
     #[inline(always)]
     pub(crate) fn is_done(&self) -> bool
         ensures { result ≡ S.done self.now.service self.now.at }

@@ -15,24 +15,24 @@ use std::io::Write;
 /// The messages that were skipped so far.
 #[derive(Clone, Copy, Debug, PartialEq, Eq)]
 pub struct SkippedSoFar {
-    /// Their number.
+    /// The number of skipped messages.
     pub count: u64,
-    /// The position of the first.
+    /// The position of the first skipped message.
     pub first: Position,
 }
 
 /// The messages that were skipped in a run.
 #[derive(Clone, Copy, Debug, PartialEq, Eq)]
 pub struct Skipped {
-    /// Their number.
+    /// The number of skipped messages.
     pub refused: u64,
     /// The number of all messages, or of those before the fault that ended the run.
     pub messages: u64,
-    /// The position of the first that was skipped.
+    /// The position of the first skipped message.
     pub first: Position,
 }
 
-/// Counts the message at `at` with those that were skipped `so_far`. The first of them stays the first.
+/// Counts the message at `at` as skipped, in addition to those skipped `so_far`. The position of the first is kept.
 pub fn one_more(so_far: Option<SkippedSoFar>, at: Position) -> SkippedSoFar
     ensures { result ≡ spec.one_more so_far at }
 {
@@ -48,7 +48,7 @@ pub fn one_more(so_far: Option<SkippedSoFar>, at: Position) -> SkippedSoFar
     }
 }
 
-/// Returns those that were `skipped` of this number of `messages`.
+/// Returns the record of a run over `messages` messages that has `skipped` some of them.
 pub fn skipped_of(skipped: SkippedSoFar, messages: u64) -> Skipped
     ensures { result ≡ spec.skipped_of skipped messages }
 {
@@ -59,7 +59,7 @@ pub fn skipped_of(skipped: SkippedSoFar, messages: u64) -> Skipped
     }
 }
 
-/// Says how many messages were `skipped`, of how many, and where the first of them is.
+/// Appends the number of skipped messages, the number of all messages, and the position of the first skipped one.
 pub fn say_skipped<E: Write>(skipped: &Skipped, line: &mut Line, errors: &mut Watched<E>)
     ensures { Says (text_of_skipped skipped.now)
         (way line.old (E.contents (inner_of errors.old)) (has_failed errors.old))

@@ -1,4 +1,4 @@
-//! The messages of a stream in chunks.
+//! Serves the messages that a chunk of a stream completes.
 
 ghost use Rattle.std.specs.Prelude.{◌≡◌, ◌⊎◌, ℕ, ◌+◌, [], length, false, IfErr};
 ghost use Rattle.capn_words.specs.Watched.{inner_of, has_failed};
@@ -20,7 +20,7 @@ use capn_words::Watched;
 use std::alloc::Allocator;
 use std::io::Write;
 
-/// The fault of a run at a position at which a framer has refused.
+/// Returns the fault of a run whose framer has refused the frame at `at` with `fault`.
 pub(crate) fn fault_at(at: Position, fault: FrameFault) -> RunFault
     ensures { result ≡ spec.fault_at at fault }
 {
@@ -30,7 +30,8 @@ pub(crate) fn fault_at(at: Position, fault: FrameFault) -> RunFault
     }
 }
 
-/// Goes on after an incomplete frame, which is no error yet; refused memory is one.
+/// Returns an `Err` only if memory was refused. An incomplete frame is not an error yet, and the framer reports any
+/// other fault of a frame.
 fn pass(fault: FrameFault) -> Result<(), RunFault>
     ensures { Passes fault result }
 {
@@ -40,8 +41,8 @@ fn pass(fault: FrameFault) -> Result<(), RunFault>
     }
 }
 
-/// Has a message of any number of segments served, and goes on to where the next one begins. It is not compiled into
-/// the loop over messages, which is short for those of one segment.
+/// Serves a message of any number of segments, and moves the run to the position of the next one. It is not inlined, so
+/// that the loop over messages of one segment stays short.
 #[inline(never)]
 fn add_framed<S: Service, W: Write, A: Allocator + Copy>(
     alloc: A,
@@ -60,8 +61,8 @@ fn add_framed<S: Service, W: Write, A: Allocator + Copy>(
     add_message(alloc, run, frame, message, text, writer)
 }
 
-/// Serves the messages that lie whole in these bytes, of which no byte is copied, until the service is done. Answers
-/// how many bytes they take. Why no other follows is for the framer to say.
+/// Serves the messages that lie whole in `bytes`, until the service is done, and copies none of them. Returns the
+/// number of bytes that they take. The framer finds out why no further message follows.
 #[inline(always)]
 fn serve_whole<S: Service, W: Write, A: Allocator + Copy>(
     alloc: A,
@@ -103,7 +104,7 @@ fn serve_whole<S: Service, W: Write, A: Allocator + Copy>(
     Ok(at)
 }
 
-/// Takes out the message that a framer holds.
+/// Drops the message that `framer` holds.
 fn clear<A: Allocator + Copy>(framer: &mut Framer<A>)
     requires good { framer.old.failed ≡ false }
     requires whole { IsFrame framer.old.rest framer.old.most }
@@ -112,7 +113,7 @@ fn clear<A: Allocator + Copy>(framer: &mut Framer<A>)
     let _served = framer.take();
 }
 
-/// Serves the message that a framer holds, if it is whole.
+/// Serves the message that `framer` holds and drops it, if it is complete.
 fn serve_held<S: Service, W: Write, A: Allocator + Copy>(
     alloc: A,
     most: u32,
@@ -143,7 +144,8 @@ fn serve_held<S: Service, W: Write, A: Allocator + Copy>(
     Ok(())
 }
 
-/// Takes bytes up to the end of a message, and serves that. Answers how many bytes it took.
+/// Feeds `bytes` to `framer` up to the end of a message, and serves that message if it is complete. Returns the number
+/// of bytes taken.
 fn serve_next<S: Service, W: Write, A: Allocator + Copy>(
     alloc: A,
     most: u32,
@@ -168,8 +170,8 @@ fn serve_next<S: Service, W: Write, A: Allocator + Copy>(
     }
 }
 
-/// Serves the messages that these bytes begin with, if none has begun, or takes bytes up to the end of one. Answers how
-/// many bytes it took.
+/// Serves the messages at the start of `bytes` if `framer` holds nothing. If it does, or if no message is complete,
+/// feeds `bytes` to `framer` up to the end of one message. Returns the number of bytes taken.
 fn serve_some<S: Service, W: Write, A: Allocator + Copy>(
     alloc: A,
     most: u32,
@@ -195,7 +197,7 @@ fn serve_some<S: Service, W: Write, A: Allocator + Copy>(
     serve_next(alloc, most, run, framer, bytes, text, writer)
 }
 
-/// Serves all messages that these bytes make whole, until the service is done.
+/// Serves all messages that `bytes` complete, until the service is done.
 pub(crate) fn serve_bytes<S: Service, W: Write, A: Allocator + Copy>(
     alloc: A,
     most: u32,

@@ -1,4 +1,4 @@
-//! A run over the messages of a stream.
+//! The run over the messages of a stream that is not packed.
 
 ghost use Rattle.std.specs.Prelude.{◌≡◌, ◌⊎◌, ◌≤◌, [], false, IfErr, IfSome};
 ghost use Rattle.capn_words.specs.Message.{most_message_words};
@@ -20,7 +20,8 @@ use capn_words::Watched;
 use std::alloc::Allocator;
 use std::io::{Read, Write};
 
-/// Ends a run at the end of its input: cleanly between two messages, else with the fault of a frame that is cut.
+/// Ends a run at the end of its input. Returns `Ok` between two messages, or a fault at the position `at` if a frame is
+/// cut.
 pub(crate) fn end_of_input<A: Allocator + Copy>(
     at: Position,
     framer: &Framer<A>,
@@ -34,7 +35,7 @@ pub(crate) fn end_of_input<A: Allocator + Copy>(
     Err(RunFault::Refused(at, Refusal::Frame(FrameFault::Cut)))
 }
 
-/// Frames are taken as they come, and their messages are served before more of them.
+/// The intake of a stream that is not packed, which serves the messages of each chunk before the next chunk is read.
 impl<A: Allocator + Copy> Intake<A> for Framer<A> {
     ghost use Rattle.capn_serve.specs.inner.Intakes.{GivesStream, TakesStream};
 
@@ -61,8 +62,8 @@ impl<A: Allocator + Copy> Intake<A> for Framer<A> {
     }
 }
 
-/// Reads and serves a stream as [`run_stream`] says. The framer, which has to be new, holds what came of the last
-/// message then.
+/// Reads and serves a stream as [`run_stream`] does. `framer` must be new. Afterwards it holds what was read of the
+/// last message.
 pub(crate) fn stream_into<S: Service, R: Read, W: Write, A: Allocator + Copy>(
     alloc: A,
     most: u32,
@@ -89,14 +90,15 @@ pub(crate) fn stream_into<S: Service, R: Read, W: Write, A: Allocator + Copy>(
     serve_pieces(alloc, most, limit, run, framer, reader, writer)
 }
 
-/// Reads a stream, in chunks of at most 65,536 bytes, and has each message served that is whole before it reads again.
+/// Reads a stream in chunks of at most 65,536 bytes, and serves each message that is complete before it reads again.
 ///
-/// Once the service is done nothing more is read or served, and the rest is not looked at. At most `limit`
-/// bytes are taken, and one more is read, to know whether there are more. `most` is the greatest number of words of a
-/// message. The run ends as done, or with the first fault: a frame or a message that is refused, at its
+/// `most` is the greatest number of words of a message. At most `limit` bytes are taken. One more byte may be read, to
+/// find out whether the input is longer. Once the service is done, nothing more is read or served, and the rest of the
+/// input is not looked at. The run ends as done, or with the first fault: a frame or a message that is refused, at its
 /// position; `InputTooLong`; `Io` if and only if the reader or the writer failed; `Memory` if a growth was refused. The
-/// texts of the messages before it have been written; at `Memory` a beginning of one more may have been too. It holds
-/// an unfinished message, the texts of a chunk that are not written yet, and what the service holds.
+/// texts of the messages before the fault have been written. At `Memory` a prefix of one more text may have been
+/// written too. The run holds an unfinished message, the texts of a chunk that are not written yet, and what the
+/// service holds.
 pub fn run_stream<S: Service, R: Read, W: Write, A: Allocator + Copy>(
     alloc: A,
     most: u32,

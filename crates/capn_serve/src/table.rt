@@ -6,7 +6,7 @@ ghost use Rattle.capn_serve.specs.Table as spec;
 use capn_canon::Form;
 use capn_words::Space;
 
-/// Returns how many words the table of `message` takes where it stands in an input of `form`: none of a bare segment.
+/// Returns the number of words of the segment table of `message` in an input in `form`, which is 0 if the form is bare.
 pub fn table_words<S: Space>(form: Form, message: &S) -> u32
     ensures { result ≡ spec.table_words form (S.message message.now) }
 {

@@ -1,4 +1,4 @@
-//! An input read to its end, held only as needed.
+//! Reads an input to its end, and keeps only the first part of it.
 
 ghost use Rattle.std.specs.Prelude.{◌≡◌, false};
 ghost use Rattle.capn_words.specs.Watched.{inner_of, has_failed};
@@ -13,20 +13,21 @@ use std::io::Read;
 /// The most bytes of an input that is read to its end.
 pub const MOST_INPUT: usize = 1 << 32;
 
-/// The bytes that an input begins with, and how many bytes it has.
+/// The first bytes of an input, and its length.
 #[derive(Drop)]
 pub struct WholeInput<A: Allocator> {
-    /// The first bytes.
+    /// The bytes that were kept.
     pub bytes: Vec<u8, A>,
-    /// The number of all bytes.
+    /// The number of all bytes of the input.
     pub len: usize,
 }
 
-/// Reads an input to its end, and keeps its first bytes, at most this number. What follows is dropped as it comes.
+/// Reads an input to its end, and keeps at most its first `most` bytes. The bytes after them are dropped as they are
+/// read.
 ///
-/// Each call of the reader asks for at most 65,536 bytes, and for no byte past the one that makes the input too long.
-/// `InputTooLong`: it has more than 2^32 bytes. `Io`: the reader failed. `Memory`: a growth for bytes that came was
-/// refused.
+/// Each call of the reader requests at most 65,536 bytes, and no byte past the one that makes the input too long.
+/// `InputTooLong` is returned if the input has more than 2^32 bytes, `Io` if the reader failed, and `Memory` if a
+/// growth for bytes that were read was refused.
 pub fn read_all<R: Read, A: Allocator>(
     alloc: A,
     reader: &mut Watched<R>,

@@ -1,4 +1,4 @@
--- A service that adds its texts to what goes out, and what is written after them.
+-- Lemmas for a service that adds its texts to the output of a run, by `add_bytes` or with a flush after them.
 use Rattle.std.proofs.Common.{inl, ℕ, List, [], ◌++◌, length, Bool, take, Result, Ok, Err, sym, subst, append-nil}
 use Rattle.std.proofs.Math.Seq.{take-append_seam}
 use Rattle.std.specs.Io.KnownBytes.{Appends}
@@ -16,7 +16,6 @@ Ending = Result (Unit {0}) ServeFault
 abbrev done : Ending
 done = Ok tt
 
--- nothing was added
 pub added_none : (a : Outgoing) → Adds a a []
 added_none a = adds_none a
 
@@ -38,7 +37,7 @@ broken_before a b t u count breaks =
 module _ {S : Type 0} (serves : S → Position → List ℕ → List (List ℕ) → List ℕ → S → Type 0)
     (refuses : S → Position → List ℕ → List (List ℕ) → Refusal → Type 0) (s t : S) (at : Position) (frame : List ℕ)
     (message : List (List ℕ)) where
-  -- what the message writes was added, or was not, or the writer failed within it
+  -- The text of a message was added, or was not, or the writer failed within it.
   pub does_add : (old new : Outgoing) (bytes : List ℕ) → serves s at frame message bytes t → (failed : Bool)
       (r : Ending) → AddsBytes bytes old new failed r
       → DoesService serves refuses s at frame message old new failed r t
@@ -48,7 +47,7 @@ module _ {S : Type 0} (serves : S → Position → List ℕ → List (List ℕ) 
       ((bytes, t, count, served, breaks), broken)
   does_add old new bytes served failed (Err (faults.Refused r)) none = absurd none
 
-  -- the message was served, and what was kept then was written if it was long
+  -- The message was served, and the kept text was written if it was long.
   pub does_then_flush : (a b c : Outgoing) (fine failed : Bool) (r : Ending)
       → AddsOne serves refuses s at frame message a b fine done t → Flushes b c failed r
       → DoesService serves refuses s at frame message a c failed r t

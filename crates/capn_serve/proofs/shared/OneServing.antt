@@ -1,4 +1,4 @@
--- One text and one ending of the messages of an input, for a fold that does one thing with each message.
+-- The text and the ending of the messages of an input are unique, for a fold that does one thing with each message.
 use Rattle.std.proofs.Common.{◌≡◌, ◌⊎◌, inl, inr, ℕ, ◌≤◌, List, [], ◌∷◌, ◌++◌, length, take, Bool, Option}
 use Rattle.std.proofs.Common.{true, false}
 use Rattle.std.proofs.Common.{Result, Ok, Err, refl, ap, sym, subst, ◌∙◌, append_assoc, arith, length-append}
@@ -36,7 +36,7 @@ stopped fault = Err fault
 abbrev pub done : Ending
 done = Ok tt
 
--- a message in a state writes one text and leads to one state, or is refused for one reason, and not both
+-- In each state a message writes one text and leads to one state, or is refused for one reason, and not both.
 pub record IsOneWay {X : Type 0} (f : Fold X) : Type 0 where
   pub steps : (x : X) (frame : List ℕ) (message : List (List ℕ)) (t u : List ℕ) (y z : X) → f.step x frame message t y
       → f.step x frame message u z → (t ≡ u) × (y ≡ z)
@@ -45,7 +45,7 @@ pub record IsOneWay {X : Type 0} (f : Fold X) : Type 0 where
   pub never_both : (x : X) (frame : List ℕ) (message : List (List ℕ)) (t : List ℕ) (y : X) (r : Refusal)
       → f.step x frame message t y → f.refuses x frame message r → ⊥
 
--- a frame comes first, before what follows it
+-- Bytes that begin with a frame have its message first.
 stands_first : (most : ℕ) (frame more : List ℕ) (message : List (List ℕ)) → Frames frame message
     → total message ≤ most → StandsFirst (frame ++ more) most message (length frame)
 stands_first most frame more message framed room =
@@ -57,7 +57,7 @@ stands_first most frame more message framed room =
       room = room;
     }
 
--- bytes begin with one frame
+-- Bytes begin with at most one frame.
 pub one_front : (most : ℕ) (a b x y : List ℕ) (m n : List (List ℕ)) → Frames a m → total m ≤ most → Frames b n
     → total n ≤ most → a ++ x ≡ b ++ y → (m ≡ n) × ((a ≡ b) × (x ≡ y))
 one_front most a b x y m n framed room also few joined =
@@ -68,15 +68,15 @@ one_front most a b x y m n framed room also few joined =
     (same.0, append_same a b x y same.1 joined)
 
 module _ {X : Type 0} (f : Fold X) (one : IsOneWay f) (last : X → Option RunFault) where
-  -- how a run ends after its parts
+  -- The ending of a run after its parts.
   abbrev pub Behind : X → List ℕ → Ending → Type 0
   Behind y rest ending = EndsBy f (f.done y) y rest (last y) ending
 
-  -- how it ends where more is served
+  -- The ending of a run after its parts, if more is served.
   abbrev pub Open : X → List ℕ → Ending → Type 0
   Open y rest ending = EndsUnframed f y rest (last y) ending ⊎ EndsRefused f y rest ending
 
-  -- a message that is refused is the first that is left
+  -- A message that is refused is the first one of the bytes that are left.
   refused_first : (y : X) (rest : List ℕ) (r : Ending) → EndsRefused f y rest r → (message : List (List ℕ))
       × (taken : ℕ) × StandsFirst rest f.most message taken
   refused_first y rest r (frame, more, message, refusal, is, framed, room, why, e) = (
@@ -123,7 +123,7 @@ module _ {X : Type 0} (f : Fold X) (one : IsOneWay f) (last : X → Option RunFa
       one.never_both y frame message text z p step
       (subst (λ (l : List (List ℕ)). f.refuses y frame l p) same.0 first)
 
-  -- a run does not end where a message that is served comes first
+  -- A run does not end before a message that is served.
   pub no_end : (y z : X) (rest frame more text : List ℕ) (message : List (List ℕ)) (r : Ending) → Frames frame message
       → total message ≤ f.most → f.done y ≡ false → f.step y frame message text z → rest ≡ frame ++ more
       → Behind y rest r → ⊥
@@ -169,7 +169,7 @@ module _ {X : Type 0} (f : Fold X) (one : IsOneWay f) (last : X → Option RunFa
       k.ends in
       (h.joined ∙ same.0 ∙ sym k.joined, same.1)
 
--- two inputs of a run have one text, one ending, and one state after their messages
+-- Two runs have the same text, the same ending, and the same state after their messages.
 abbrev pub AreSame : {X : Type 0} → List ℕ → List ℕ → Ending → Ending → X → X → Type 0
 AreSame t u r s y z = (t ≡ u) × ((r ≡ s) × (y ≡ z))
 
@@ -229,7 +229,7 @@ module _ {X : Type 0} (f : Fold X) (one : IsOneWay f) (x : X) where
       one.never_both x bytes (ws ∷ []) t y r step
       (subst (λ (l : List ℕ). f.refuses x bytes (l ∷ []) r) words refuses)
 
-  -- the messages of an input have one text, one ending and one state after them
+  -- The messages of an input have one text, one ending and one state after them.
   pub one_serving : (form : Form) (input t u : List ℕ) (r s : Ending) (y z : X) → AreMessages f x form input t r y
       → AreMessages f x form input u s z → AreSame t u r s y z
   one_serving forms.Stream input t u r s y z h k =

@@ -1,9 +1,8 @@
--- Parts that are said one after another. (For `put`, `put_between`, `put_named`, `tell`, capn_archive, capn_make and
--- capn_serve.)
+-- Lemmas on parts that are put on a line one after the other. (For `put`, `put_between`, `put_named`, `tell`,
+-- capn_archive, capn_make and capn_serve.)
 use Rattle.std.proofs.Common.{List, ℕ, ◌++◌, subst, append_assoc}
 use Rattle.capn_serve.specs.Line.{IsOnItsWay, Says, Way}
 
--- two parts
 pub both : (a b : List ℕ) (x y z : Way) → Says a x y → Says b y z → Says (a ++ b) x z
 both a b x y z first second = record {
   goes_on = λ start said is.

@@ -1,4 +1,4 @@
--- A fold that ends where its service is done.
+-- Lemmas on a fold that ends once its service is done.
 use Rattle.std.proofs.Common.{◌≡◌, ◌⊎◌, inl, inr, ℕ, List, [], ◌∷◌, Bool, true, false, Option, Result, Ok, refl}
 use Rattle.std.proofs.Common.{sym, subst}
 use Rattle.capn_canon.specs.declared.refusal.Refusal.{Refusal}
@@ -15,7 +15,6 @@ pub known : (b : Bool) → (b ≡ true) ⊎ (b ≡ false)
 known true = inl refl
 known false = inr refl
 
--- it is not both
 pub not_both : (b : Bool) → b ≡ true → b ≡ false → ⊥
 not_both true h k = cc
 not_both false h k = cc
@@ -28,7 +27,7 @@ going_of true P none = absurd none
 going_of false P holds = (refl, holds)
 
 module _ {X : Type 0} (f : Fold X) (y : X) (rest : List ℕ) (behind : Option RunFault) (ending : Ending) where
-  -- in a state in which more is served a run ends by what is left
+  -- If more is served in a state, the bytes that are left decide how a run ends there.
   pub ends_going : f.done y ≡ false → EndsUnframed f y rest behind ending ⊎ EndsRefused f y rest ending
       → EndsBy f (f.done y) y rest behind ending
   ends_going going h = subst (λ (b : Bool). EndsBy f b y rest behind ending) (sym going) h
@@ -37,14 +36,14 @@ module _ {X : Type 0} (f : Fold X) (y : X) (rest : List ℕ) (behind : Option Ru
       → EndsUnframed f y rest behind ending ⊎ EndsRefused f y rest ending
   ends_open going h = subst (λ (b : Bool). EndsBy f b y rest behind ending) going h
 
-  -- in another one it ends as done
+  -- If no more is served in a state, a run ends there as done.
   pub ends_done : f.done y ≡ true → ending ≡ Ok tt → EndsBy f (f.done y) y rest behind ending
   ends_done done is = subst (λ (b : Bool). EndsBy f b y rest behind ending) (sym done) is
 
   pub is_done : f.done y ≡ true → EndsBy f (f.done y) y rest behind ending → ending ≡ Ok tt
   is_done done h = subst (λ (b : Bool). EndsBy f b y rest behind ending) done h
 
--- ---- without its end
+-- ---- a service that is done, compared with one that never is
 
 module _ {S : Type 0} (serves : S → Position → List ℕ → List (List ℕ) → List ℕ → S → Type 0)
     (refuses : S → Position → List ℕ → List (List ℕ) → Refusal → Type 0) (done : S → Position → Bool) (most : ℕ) where
@@ -54,7 +53,7 @@ module _ {S : Type 0} (serves : S → Position → List ℕ → List (List ℕ) 
   abbrev all : Fold (Run S)
   all = fold_of serves refuses most
 
-  -- messages that are served until a service is done are served where it never is
+  -- Messages that are served until a service is done are served by a service that never is.
   served_of : (x y : Run S) (ps : List Part) → AreServed f x ps y → AreServed all x ps y
   served_of x y [] is = is
   served_of x y (p ∷ ps) (mid, part, step, more) =
@@ -64,7 +63,7 @@ module _ {S : Type 0} (serves : S → Position → List ℕ → List (List ℕ) 
       → AreParts all x bytes ps rest y
   parts_of x y bytes rest ps are = record { each = served_of x y ps are.each; is = are.is }
 
-  -- a run that ends before the service is done ends so where it never is
+  -- A run that ends before its service is done ends in the same way if the service never is.
   pub folded_of : (x y : Run S) (bytes text : List ℕ) (behind : Option RunFault) (ending : Ending)
       → IsFolded f x bytes behind text ending y → f.done y ≡ false → IsFolded all x bytes behind text ending y
   folded_of x y bytes text behind ending due going = record {

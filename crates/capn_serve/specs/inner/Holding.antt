@@ -1,4 +1,4 @@
--- What is held of a message whose frame is refused within some bytes.
+-- The bytes that are held of a message whose frame is refused before the end of an input.
 use Rattle.std.specs.Prelude.{◌≡◌, ◌⊎◌, ℕ, List, [], ◌++◌}
 use Rattle.capn_pack.specs.PackedPieces as packing
 use Rattle.capn_pack.specs.declared.fault.UnpackFault.TheVariants as cuts
@@ -12,23 +12,25 @@ use Rattle.capn_serve.specs.StreamRun.{taken_of}
 use Rattle.capn_serve.specs.PackedChunkRun.{Pending}
 use Rattle.capn_serve.specs.WhatCame.{HoldsTable, IsOwnRefusal}
 
--- memory was refused, the writer failed, or a message was refused
+-- `fault` is `Memory`, `Io`, or the refusal of a message.
 abbrev pub IsOfMessage : {X : Type 0} → Fold X → RunFault → Type 0
 IsOfMessage f fault = (fault ≡ faults.Memory) ⊎ ((fault ≡ faults.Io) ⊎ IsOwnRefusal f fault)
 
--- it is no fault of the end of an input
+-- `fault` is not one that is found at the end of an input, as a frame or a group that is cut is.
 pub record IsWithin (fault : RunFault) : Type 0 where
   pub frame : (at : Position) → fault ≡ faults.Refused at (refusals.Frame frames.Cut) → ⊥
   pub group : (at : Position) (o : ℕ) → fault ≡ faults.Refused at (refusals.Packed (cuts.Cut o)) → ⊥
 
 module _ {X : Type 0} (f : Fold X) (x : X) where
-  -- a run that stopped within a stream with this fault holds the table that announces too many words
+  -- A run that stopped with `fault` within `stream` holds, in `came`, the table that announces too many words, if
+  -- `fault` says so.
   abbrev pub Holds : List ℕ → RunFault → List ℕ → X → Type 0
   Holds stream fault came y = IsOwnRefusal f fault
       ⊎ (IsWithin fault × ((at : Position) (n : ℕ)
       → fault ≡ faults.Refused at (refusals.Frame (frames.TooManyWords n)) → HoldsTable f x stream n came y))
 
-  -- the same within packed bytes that come after what was held
+  -- A run that stopped with `fault` within the packed `bytes`, read after the state `before`, holds in `came` the table
+  -- that announces too many words, if `fault` says so.
   abbrev pub HoldsPacked : Pending → List ℕ → RunFault → List ℕ → X → Type 0
   HoldsPacked before bytes fault came y = IsOwnRefusal f fault
       ⊎ (IsWithin fault × ((at : Position) (n : ℕ)

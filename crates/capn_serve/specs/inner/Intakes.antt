@@ -1,4 +1,4 @@
--- What the intakes take and give: that of a stream, and that of a packed stream.
+-- The relations `takes` and `gives` of the two intakes: that of a stream, and that of a packed stream.
 use Rattle.std.specs.Prelude.{◌≡◌, ◌⊎◌, ℕ, List, Bool, Option, Result, IfErr}
 use Rattle.capn_pack.specs.PackedPieces.{Held}
 use Rattle.capn_stream.specs.StreamPieces.{Framing}
@@ -12,22 +12,23 @@ use Rattle.capn_serve.specs.PackedChunkRun.{TellsPacked, fresh, pending}
 use Rattle.capn_serve.specs.WhatCame.{IsOwnRefusal, TellsGroups, TellsStream}
 
 module _ {X : Type 0} (f : Fold X) (x : X) where
-  -- from the start of a stream on, the whole messages of some bytes were served, and a framer holds the rest
+  -- The whole messages of `bytes`, from the start of a stream on, were served, and the framer `now` holds the rest.
   abbrev pub TakesStream : Framing → X → List ℕ → Option (List ℕ) → Option (List ℕ) → Type 0
   TakesStream now y bytes c d = (f.place x ≡ start) × Tells f x bytes now.rest (sent c) (sent d) y × IsListening f now
 
-  -- what came of a stream where a run stopped: its message is refused, or this is held of it
+  -- A message was refused with `fault`, or `came` is what was read of the message at which the run stopped.
   abbrev pub CameOf : List ℕ → RunFault → List ℕ → X → Type 0
   CameOf bytes fault came y = IsOwnRefusal f fault ⊎ TellsStream f x bytes fault came y
 
-  -- a run over a stream has ended so, with a beginning of its texts, and what came of the last message is held
+  -- A run over a stream has ended with `r`. A prefix of its texts was written, and the framer `now` holds what was read
+  -- of the last message.
   abbrev pub GivesStream : Framing → X → List ℕ → Bool → Option (List ℕ) → Option (List ℕ)
       → Result (Unit {0}) RunFault → Type 0
   GivesStream now y bytes is_longer c d r = HasEnded f x 0 bytes is_longer c d r y × HasWritten f x 0 bytes c d
       × IfErr r (λ e. CameOf bytes e now.rest y)
 
   module _ (limit : ℕ) where
-    -- the same of packed bytes, and of at most `limit` of those that they unpack to
+    -- The relations of the intake of a packed stream, which takes at most `limit` of the unpacked bytes.
     abbrev pub TakesPacked : Held → Framing → ℕ → X → List ℕ → Option (List ℕ) → Option (List ℕ) → Type 0
     TakesPacked held now left y bytes c d = HasRoom (f.place x) limit
         × TellsPacked f x (fresh limit) bytes (pending held now left) (sent c) (sent d) y × IsListening f now

@@ -5,29 +5,30 @@ use Rattle.capn_serve.specs.declared.pick.Range.{Range}
 use Rattle.capn_serve.specs.declared.picker.Picker.{Picker}
 use Rattle.capn_serve.specs.declared.position.Position.{Position}
 
--- whether a number is in the first of some ranges
+-- Tests whether `number` is in the first of some ranges.
 abbrev pub is_first : List Range → ℕ → Bool
 is_first [] number = false
 is_first (r ∷ rs) number = if nat_lt number r.from then false else (if nat_lt r.to number then false else true)
 
--- the ranges that are left after a number: without the first, if the number is its last one
+-- The ranges that are left after the message `number`: without the first range, if `number` is not less than its last
+-- one.
 abbrev pub left : List Range → ℕ → List Range
 left [] number = []
 left (r ∷ rs) number = if nat_lt number r.to then r ∷ rs else rs
 
--- whether no range is left
+-- Tests whether no range is left.
 abbrev pub is_none : List Range → Bool
 is_none [] = true
 is_none (r ∷ rs) = false
 
--- after the number 3 the range 3 to 4 is left, and after the number 4 it is not
+-- The range 3 to 4 is left after the message 3, and dropped after the message 4.
 still_left : left ((record { from = 3; to = 4 }) ∷ []) 3 ≡ (record { from = 3; to = 4 }) ∷ []
 still_left = refl
 
 left_no_more : left ((record { from = 3; to = 4 }) ∷ []) 4 ≡ []
 left_no_more = refl
 
--- a message whose number is in the first range writes its frame, and another one nothing; none is refused
+-- A message with a number in the first range writes its frame, and any other one nothing. None is refused.
 abbrev pub serves : Picker → Position → List ℕ → List (List ℕ) → List ℕ → Picker → Type 0
 serves p at frame message text q =
     (text ≡ (if is_first p.rest.now (at.index + 1) then frame else []))
@@ -36,6 +37,6 @@ serves p at frame message text q =
 abbrev pub refuses : Picker → Position → List ℕ → List (List ℕ) → Refusal → Type 0
 refuses p at frame message r = ⊥
 
--- no more is served once no range is left
+-- The service is done once no range is left.
 abbrev pub done : Picker → Position → Bool
 done p at = is_none p.rest.now

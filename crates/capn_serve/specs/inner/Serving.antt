@@ -1,4 +1,4 @@
--- What holds before and after some bytes of a run are served.
+-- The conditions before and after some bytes of a run are served.
 use Rattle.std.specs.Prelude.{◌≡◌, ℕ, ◌+◌, ◌≤◌, List, ◌++◌, length, Bool, false, Result, IfErr}
 use Rattle.capn_words.specs.Message.{most_message_words}
 use Rattle.capn_pack.specs.PackedPieces.{Held}
@@ -11,32 +11,33 @@ use Rattle.capn_serve.specs.PackedChunkRun.{Pending, ServesPacked}
 use Rattle.capn_serve.specs.inner.Holding.{Holds, HoldsPacked}
 
 module _ {X : Type 0} (f : Fold X) (x : X) where
-  -- messages of a number of bytes can be served: the limit of their words is one of messages, the writer has not
-  -- failed, and the position has room for them
+  -- Messages of `count` bytes can be served: the limit of their words is one of messages, the writer has not failed,
+  -- and the position has room for them.
   pub record CanServe (count : ℕ) (failed : Bool) : Type 0 where
     pub small : f.most ≤ most_message_words
     pub fine : failed ≡ false
     pub room : HasRoom (f.place x) count
 
-  -- this number of bytes can be served after what a framer holds, which is no whole message, and more is served
+  -- `count` bytes can be served after those in the framer `before`, which holds no whole message, and more is served.
   pub record IsReady (before : Framing) (count : ℕ) (failed : Bool) : Type 0 where
     pub can : CanServe (length before.rest + count) failed
     pub going : f.done x ≡ false
     pub listening : IsListening f before
 
-  -- bytes were served up to a whole message or to their end; if the run stopped, it holds what came of a refused table
+  -- `bytes` were served up to the end of a message or to their end. If the run stopped at a refused table, `after`
+  -- holds it.
   pub record HasServedNext (before : Framing) (bytes : List ℕ) (old new : Outgoing) (failed : Bool)
       (r : Result ℕ RunFault) (after : Framing) (y : X) : Type 0 where
     pub served : ServesNext f x before bytes old new failed r after y
     pub came : IfErr r (λ e. Holds f x (before.rest ++ bytes) e after.rest y)
 
-  -- bytes were served up to their end; if the run stopped, it holds what came of a refused table
+  -- All of `bytes` were served. If the run stopped at a refused table, `after` holds it.
   pub record HasServed (before : Framing) (bytes : List ℕ) (old new : Outgoing) (failed : Bool)
       (r : Result (Unit {0}) RunFault) (after : Framing) (y : X) : Type 0 where
     pub served : Serves f x before bytes old new failed r after y
     pub came : IfErr r (λ e. Holds f x (before.rest ++ bytes) e after.rest y)
 
-  -- packed bytes were served up to their end; if the run stopped, it holds what came of a refused table
+  -- All of the packed `bytes` were served. If the run stopped at a refused table, `after` holds it.
   pub record HasServedPacked (before : Pending) (bytes : List ℕ) (old new : Outgoing) (failed : Bool)
       (r : Result (Unit {0}) RunFault) (held : Held) (after : Framing) (left : ℕ) (y : X) : Type 0 where
     pub served : ServesPacked f x before bytes old new failed r held after left y

@@ -6,7 +6,7 @@ use Rattle.std.proofs.KnownBytes.{Appends-trans}
 use Rattle.capn_words.specs.Watched.{HasBegun}
 use Rattle.capn_serve.proofs.adding.send_bytes.Goals as goal
 
--- the text was written, and then a beginning of the bytes
+-- The text was written, and then a prefix of the bytes.
 begun_after : (c d e : Option (List ℕ)) (text seen bytes : List ℕ) → seen ≡ text → Appends c d seen
     → HasBegun d e bytes → HasBegun c e (text ++ bytes)
 begun_after c d e text seen bytes same wrote (count, begun) = (
@@ -15,7 +15,7 @@ begun_after c d e text seen bytes same wrote (count, begun) = (
       (Appends-trans c d e text (take count bytes) (subst (Appends c d) same wrote) begun),
 )
 
--- a call that answered no error did what it says
+-- A call that returned no error has the effect of its `Ok`.
 on_ok : {T E : Type 0} (r : Result T E) (P : Type 0) → is_err r ≡ false → OnOk r P → P
 on_ok (Ok u) P is p = p
 on_ok (Err e) P is p = absurd (cc)

@@ -61,7 +61,7 @@ returns-in-Bare-clause-serves g c =
     (has_failed c.run_bare.new.reader) (has_failed c.run_bare.new.writer) c.run_bare.result c.run_bare.new.run
     (c.run_bare.ensures c.args.most))
 
--- ---- what came
+-- ---- the bytes that are held of the last message
 
 pub returns-in-Stream-clause-came : goal.returns-in-Stream-clause-came
 returns-in-Stream-clause-came g c =

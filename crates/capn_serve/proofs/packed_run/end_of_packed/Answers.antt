@@ -20,7 +20,7 @@ stopped fault = Err fault
 abbrev refused : Position → UnpackFault → Ending
 refused at fault = Err (faults.Refused at (refusals.Packed fault))
 
--- no group is left: the run ends as what was unpacked does
+-- Case: no group is left. The run ends as the unpacked stream does.
 whole : (at : Position) (group rest : List ℕ) (offset most : ℕ) (r : Ending) → group ≡ [] → EndsInput at rest most r
     → EndsPacked at group offset rest most r
 whole at [] rest offset most (Ok u) none ends = (frames.Empty, (λ e. cc), ends, refl, λ e. cc)
@@ -28,7 +28,6 @@ whole at [] rest offset most (Err fault) none (frame, is) =
     (frames.Cut, (λ e. cc), frame, ap stopped is, λ e. cc)
 whole at (b ∷ group) rest offset most r none ends = absurd (cc)
 
--- a group is cut
 cut : (at : Position) (group rest : List ℕ) (offset most : ℕ) (fault : UnpackFault) → (group ≡ [] → false ≡ true)
     → (group ≢ [] → fault ≡ cuts.Cut offset) → IsUnfinished rest most
     → EndsPacked at group offset rest most (refused at fault)

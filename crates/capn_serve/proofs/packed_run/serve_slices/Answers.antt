@@ -95,7 +95,7 @@ returns-after-loop-at g c =
       came = tt;
     }
 
--- no more is served
+-- Case: no more is served.
 pub returns-then-is_done : goal.returns-then-is_done
 returns-then-is_done g c =
     let f = fold_until g.S.Service.serves g.S.Service.refuses g.S.Service.done c.args.most in

@@ -18,7 +18,7 @@ module _ {X : Type 0} (f : Fold X) (x : X) where
   served_none : (rest : List ℕ) (a : Outgoing) → Tells f x (rest ++ []) rest a a x
   served_none rest a = subst (λ (p : List ℕ). Tells f x p rest a a x) (sym (append-nil rest)) (tells_none f x rest a)
 
-  -- the loop has come to the end of the bytes
+  -- Case: the loop has reached the end of the bytes.
   served_all : (y : X) (before after : Framing) (bytes : List ℕ) (at : ℕ) (a b : Outgoing) (failed : Bool)
       → length bytes ≤ at → Tells f x (before.rest ++ take at bytes) after.rest a b y
       → IsListening f after → failed ≡ false → Serves f x before bytes a b failed (Ok tt) after y
@@ -29,7 +29,7 @@ module _ {X : Type 0} (f : Fold X) (x : X) where
     fine,
   )
 
-  -- it has come to a state in which no more is served
+  -- Case: the loop has reached a state in which no more is served.
   served_done : (y : X) (before after : Framing) (bytes : List ℕ) (at : ℕ) (a b : Outgoing) (failed : Bool)
       → f.done y ≡ true → Tells f x (before.rest ++ take at bytes) after.rest a b y → failed ≡ false
       → Serves f x before bytes a b failed (Ok tt) after y
