@@ -1,4 +1,4 @@
--- A message that the service serves or skips. (For `add_message`.)
+-- Lemmas for `add_message`: a message that the service serves or skips does what the fold says.
 use Rattle.std.proofs.Common.{◌≡◌, inl, inr, ℕ, List, [], Bool, true, false, Option, Result, Ok, Err, refl, sym}
 use Rattle.std.proofs.Common.{ap, subst, ◌∙◌, append-nil}
 use Rattle.std.proofs.KnownBytes.{Appends-nil}
@@ -20,12 +20,12 @@ Ending = Result (Unit {0}) ServeFault
 abbrev stopped : ServeFault → Ending
 stopped fault = Err fault
 
--- the service of this order, with this tally
+-- The state of the service with `order` and `tally`.
 abbrev state : ArchiveOrder → Tally → ArchiveService
 state order tally = record { order = order; tally = tally }
 
 module _ (order : ArchiveOrder) (tally : Tally) (at : Position) (frame : List ℕ) (message : List (List ℕ)) where
-  -- it was served, or is refused and ends the run, or what was added ends within its text
+  -- Case: the message was served, or is refused and ends the run, or the call failed within its text.
   pub served_does : (after : Tally) (a b : Outgoing) (failed : Bool) (r : Ending)
       → AddsServed order.task order.limits tally at frame message a b failed r after
       → ((e : Refusal) → r ≡ stopped (faults.Refused e) → order.keep_going ≡ false)
@@ -42,7 +42,7 @@ module _ (order : ArchiveOrder) (tally : Tally) (at : Position) (frame : List �
     fine,
   )
 
-  -- it is refused, and was skipped
+  -- Case: the message is refused and was skipped.
   pub skipped_does : (mid after : Tally) (a : Outgoing) (c : Option (List ℕ)) (old new : List ℕ) (failed : Bool)
       (e : Refusal) (r : Ending)
       → AddsServed order.task order.limits tally at frame message a (outgoing c old) failed

@@ -1,4 +1,4 @@
--- The faults and the outcome of a run over an archive. (For `run_archive` and `run_service`.)
+-- Lemmas for `run_archive` and `run_service`: the faults and the result of a run over an archive.
 use Rattle.std.proofs.Common.{◌≡◌, ◌≢◌, ◌↔◌, ◌⊎◌, inl, inr, ℕ, Bool, true, false, Option, None, Some, Result, Ok, Err}
 use Rattle.std.proofs.Common.{refl, ap, sym, ◌∙◌}
 use Rattle.capn_canon.specs.declared.refusal.Refusal.{Refusal}
@@ -19,21 +19,21 @@ Served = Result (Unit {0}) RunFault
 abbrev pub Ending : Type 0
 Ending = Result (Unit {0}) ArchiveFault
 
--- how the messages of a run ended
+-- The result of the loop of a run, by a name that proofs can use.
 abbrev pub served : Served → Served
 served r = r
 
--- a fault of the messages
+-- The result of a loop that `e` ended.
 abbrev stopped_by : RunFault → Served
 stopped_by e = Err e
 
--- a fault of a run over an archive
+-- The result of a run that `e` ended.
 abbrev pub told : ArchiveFault → Ending
 told e = Err e
 
 -- ---- the faults
 
--- what is refused is told as refused
+-- A refusal is reported as a refusal, with the count of skipped messages or without it.
 refused_is : (P : ArchiveFault → Type 0) → ((at : Position) (r : Refusal) → P (faults.Refused at r))
     → ((k : Skipped) (at : Position) (r : Refusal) → P (faults.RefusedAfterSkipped k at r))
     → (s : Option SkippedSoFar) (n : ℕ) (at : Position) (r : Refusal) → P (after_skipped s n at r)

@@ -1,4 +1,4 @@
--- A message that is let through, or held back. (For `serve`.)
+-- Lemmas for `serve` of `filter`: a message that is let through or held back does what the fold says.
 use Rattle.std.proofs.Common.{◌≡◌, inl, inr, ℕ, List, [], Bool, true, false, Option, Some, Result, Ok, refl, ap}
 use Rattle.capn_serve.specs.declared.position.Position.{Position}
 use Rattle.capn_serve.specs.declared.fault.ServeFault.{ServeFault}
@@ -17,12 +17,12 @@ Ending = Result (Unit {0}) ServeFault
 abbrev done : Ending
 done = Ok tt
 
--- a state of these parts
+-- The state of the service with these fields.
 abbrev state : FilterOrder → Option SkippedSoFar → Option Position → FilterService
 state order skipped ended = record { order = order; skipped = skipped; ended = ended }
 
 module _ (s : FilterService) (at : Position) (frame : List ℕ) (message : List (List ℕ)) where
-  -- its frame was added
+  -- Case: the message is let through, and its frame was added.
   pub let_through : Passes s.order.canonical message s.order.limits → (a b : Outgoing) (failed : Bool) (r : Ending)
       → AddsBytes frame a b failed r → DoesService serves refuses s at frame message a b failed r s
   let_through passes a b failed r adds =
@@ -33,14 +33,14 @@ module _ (s : FilterService) (at : Position) (frame : List ℕ) (message : List 
         → DoesService serves refuses s at frame message a a failed done t
     held_back t is = (([], is, added_none a, fine), λ h. h)
 
-    -- it was skipped
+    -- Case: the message was skipped.
     pub skips : s.order.keep_going ≡ true → IsHeldBack s message → (more : SkippedSoFar) → more ≡ one_more s.skipped at
         → DoesService serves refuses s at frame message a a failed done (state s.order (Some more) s.ended)
     skips going held more one =
         held_back (state s.order (Some more) s.ended)
         (inr (inl (going, held, refl, ap (λ (k : SkippedSoFar). state s.order (Some k) s.ended) one)))
 
-    -- it ended the run
+    -- Case: the message ended the run.
     pub ends : s.order.keep_going ≡ false → IsUncanonical s.order.canonical message s.order.limits
         → DoesService serves refuses s at frame message a a failed done (state s.order s.skipped (Some at))
     ends stays other =

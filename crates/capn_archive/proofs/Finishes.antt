@@ -1,5 +1,4 @@
--- The end of a run over an input that writes something after its last message. (For `run_archive`, `run_service` and
--- `serve_messages`.)
+-- Lemmas for `run_archive`, `run_service` and `serve_messages`: the end of a run that writes a closing text.
 use Rattle.std.proofs.Common.{◌≡◌, ◌≢◌, inl, inr, ℕ, ◌+◌, List, [], ◌++◌, length, take, Bool, true, false, Option}
 use Rattle.std.proofs.Common.{None, Some, IfSome, Result, Ok, Err, refl, ap, sym, subst, ◌∙◌}
 use Rattle.std.proofs.Math.Seq.{take-length, take-append-add}
@@ -24,7 +23,8 @@ use Rattle.capn_archive.proofs.ToldAlone.{TellsAlone}
 module _ {X : Type 0} (f : Fold X) (x : X) (finish : Finish X) (form : Form) where
   -- ---- a run that a fault ended
 
-  -- what was skipped is told by the state after the messages, or not at all
+  -- A run that a fault ended has the same result by the state before the fault and by the state after it. If the states
+  -- differ, a message was refused, and that is reported without the count of skipped messages.
   left_same : TellsAlone f → (z y : X) (e : RunFault) → Leaves f z e y
       → stopped_by f x finish y e ≡ stopped_by f x finish z e
   left_same alone z y e (inl same) = ap (λ (w : X). stopped_by f x finish w e) (sym same)
@@ -64,7 +64,7 @@ module _ {X : Type 0} (f : Fold X) (x : X) (finish : Finish X) (form : Form) whe
 
   -- ---- the end after all messages
 
-  -- a beginning of what is written at the end was written after a text
+  -- A prefix of the closing text was written after `text`.
   begun_after : (c m d : Option (List ℕ)) (y : X) (text : List ℕ) (count : ℕ) → Appends c m text
       → Appends m d (take count (finish.closing y)) → HasBegun c d (text ++ finish.closing y)
   begun_after c m d y text count before wrote = (
@@ -90,7 +90,7 @@ module _ {X : Type 0} (f : Fold X) (x : X) (finish : Finish X) (form : Form) whe
   failed_exact None c d = tt
   failed_exact (Some input) c d = inr (inl refl)
 
--- the text of which a beginning was written
+-- A prefix of this text of messages was written.
 begun_text : {X : Type 0} (f : Fold X) (x : X) (form : Form) (bytes : List ℕ) (c d : Option (List ℕ))
     → HasWritten f x form bytes c d → (text : List ℕ) × Appends c d text
 begun_text f x forms.Stream bytes c d (parts, rest, y, count, are, wrote) = (take count (texts_of parts), wrote)
@@ -99,7 +99,7 @@ begun_text f x forms.Packed bytes c d (stream, begins, parts, rest, y, count, ar
 begun_text f x forms.Bare bytes c d (inl wrote) = ([], wrote)
 begun_text f x forms.Bare bytes c d (inr (text, y, count, writes, wrote)) = (take count text, wrote)
 
--- what is written after something
+-- If a part of the text was written ahead, so it was after `more` was written too.
 ahead_more : (P : List ℕ → Option (List ℕ) → Option (List ℕ) → Type 0) (bytes more : List ℕ)
     (c m d : Option (List ℕ)) → IsAhead P bytes c m → Appends m d more → IsAhead P bytes c d
 ahead_more P bytes more c m d (before, piece, mid, first, is, small, written, wrote) after =
@@ -114,7 +114,7 @@ read_so_far f x forms.Packed bytes more c m d (bound, ahead) wrote =
 read_so_far f x forms.Bare bytes more c m d bound wrote = bound
 
 module _ {X : Type 0} (f : Fold X) (x : X) (finish : Finish X) (form : Form) where
-  -- all messages were served, and something is written after them
+  -- All messages were served, and the closing text is not empty.
   has_closing : (a b c m : Option (List ℕ)) (reader writer : Bool) (y : X)
       → ServesMessages f x form a b c m reader writer (Ok tt) y → finish.closing y ≢ []
       → HasClosing f x finish form a
@@ -122,7 +122,7 @@ module _ {X : Type 0} (f : Fold X) (x : X) (finish : Finish X) (form : Form) whe
   has_closing (Some input) b c m reader writer y run some =
       let (text, are, before) = run.exact in (y, (text, are), some)
 
-  -- the messages of an input were served, and something of a text was written after theirs
+  -- The messages of the input were served, and a prefix of the closing text was written after their text.
   begins_closing : (a b c m d : Option (List ℕ)) (reader writer : Bool) (y : X)
       → ServesMessages f x form a b c m reader writer (Ok tt) y → HasBegun m d (finish.closing y)
       → HasBegunClosing f x finish form a c d
@@ -135,7 +135,7 @@ module _ {X : Type 0} (f : Fold X) (x : X) (finish : Finish X) (form : Form) whe
 
 module _ {X : Type 0} (f : Fold X) (x : X) (finish : Finish X) (form : Form) (a b c m : Option (List ℕ))
     (reader before : Bool) (y : X) (run : ServesMessages f x form a b c m reader before (Ok tt) y) where
-  -- all was written
+  -- Case: the whole closing text was written.
   pub finished_closed : (d : Option (List ℕ)) (after : Bool) → Appends m d (finish.closing y) → after ≡ false
       → Finished f x finish form a b c d reader after (outcome f x finish y)
   finished_closed d after wrote fine = record {
@@ -158,12 +158,12 @@ module _ {X : Type 0} (f : Fold X) (x : X) (finish : Finish X) (form : Form) (a 
     memory = λ h. absurd (not_memory (finish.ended y) (finish.skipped y) (f.place y).index h);
   }
 
-  -- nothing is to be written
+  -- Case: the closing text is empty.
   pub finished_done : finish.closing y ≡ [] → Finished f x finish form a b c m reader before (outcome f x finish y)
   finished_done none =
       finished_closed m before (subst (Appends m m) (sym none) (Appends-nil m)) (writer_fine reader before run.io)
 
-  -- memory was refused for what is written at the end
+  -- Case: memory was refused for the closing text.
   unclosed : (d : Option (List ℕ)) (after : Bool) → d ≡ m → after ≡ false → finish.closing y ≢ []
       → Finished f x finish form a b c d reader after (Err faults.Memory)
   unclosed d after same fine some = record {
@@ -183,7 +183,7 @@ module _ {X : Type 0} (f : Fold X) (x : X) (finish : Finish X) (form : Form) (a 
     memory = λ h. inr (has_closing f x finish form a b c m reader before y run some);
   }
 
-  -- the writer failed within it
+  -- Case: the writer failed within the closing text.
   broken : (d : Option (List ℕ)) (after : Bool) → HasBegun m d (finish.closing y) → after ≡ true
       → Finished f x finish form a b c d reader after (Err faults.Io)
   broken d after begun failed = record {
@@ -212,7 +212,7 @@ module _ {X : Type 0} (f : Fold X) (x : X) (finish : Finish X) (form : Form) (a 
       (broken d after begun failed)
 
 module _ {X : Type 0} where
-  -- the messages were served that an order says, from the state before the first
+  -- The messages were served by the limits of the order, from the first state.
   pub of_order : (fold : ℕ → Fold X) (form : Form) (words most : ℕ) (first x : X) → most ≡ words → x ≡ first
       → (a b c d : Option (List ℕ)) (reader writer : Bool) (r : Result (Unit {0}) RunFault) (y : X)
       → ServesMessages (fold most) x form a b c d reader writer r y

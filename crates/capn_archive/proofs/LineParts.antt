@@ -1,19 +1,19 @@
--- Parts of a line that are put before others. (For `put_measured` and `count_line`.)
+-- Lemmas for `put_measured` and `count_line`: a line is built from its end by parts.
 use Rattle.std.proofs.Common.{◌≡◌, ◌≢◌, ℕ, List, [], ◌∷◌, ◌++◌, refl, ap, sym, ◌∙◌, append_assoc}
 
--- a part before what was put before the rest
+-- One more part in front of those that were put before the rest.
 pub before : (part done rest line new : List ℕ) → line ≡ done ++ rest → new ≡ part ++ line
     → new ≡ (part ++ done) ++ rest
 before part done rest line new was put =
     put ∙ ap (λ (l : List ℕ). part ++ l) was ∙ sym (append_assoc part done rest)
 
--- two parts
+-- Two more parts in front of those that were put before the rest.
 pub both_before : (name part done rest line new : List ℕ) → line ≡ done ++ rest → new ≡ name ++ (part ++ line)
     → new ≡ (name ++ (part ++ done)) ++ rest
 both_before name part done rest line new was put =
     before name (part ++ done) rest (part ++ line) new (before part done rest line (part ++ line) was refl) put
 
--- a line that goes on is not empty
+-- A line is not empty if its rest is not.
 pub some_after : (part rest : List ℕ) → rest ≢ [] → part ++ rest ≢ []
 some_after [] rest some = some
 some_after (x ∷ part) rest some = λ h. cc

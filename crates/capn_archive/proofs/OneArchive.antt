@@ -1,4 +1,4 @@
--- What a run over an archive does with a message, in one way. (For `one_text`.)
+-- Lemmas for `one_text`: the state and the message decide what a run over an archive does.
 use Rattle.std.proofs.Common.{◌≡◌, ◌↔◌, inl, inr, ℕ, List, Bool, true, false, Option, Some, None, refl, ap, sym}
 use Rattle.std.proofs.Common.{subst, ◌∙◌, arith}
 use Rattle.std.proofs.lemmas.Bool.{cases_lt}
@@ -37,7 +37,7 @@ use Rattle.capn_archive.specs.declared.task.ArchiveOrder.{ArchiveOrder}
 use Rattle.capn_archive.specs.declared.task.Task.{Task}
 use Rattle.capn_archive.specs.declared.task.Task.TheVariants as tasks
 
--- two answers to one question are the same
+-- Two tests of the same property agree.
 one_answer : (a b : Bool) (P : Type 0) → (IsTrue a ↔ P) → (IsTrue b ↔ P) → a ≡ b
 one_answer true true P h k = refl
 one_answer true false P h k = absurd (let bad : false ≡ true = k.1 (h.0 refl) in cc)
@@ -55,7 +55,7 @@ module _ (m : List (List ℕ)) (limits : Bounds) where
   unaccepted_message (refusals.Frame e) h other = absurd h
   unaccepted_message (refusals.Trailing at) h other = absurd h
 
-  -- what any task refuses, the one that needs canonical bytes refuses
+  -- A message that any task refuses has no digest.
   pub refused_message : (task : Task) (r : Refusal) → IsRefusedBy task m limits r → IsUndigested m limits r
   refused_message tasks.Canonical r h = h
   refused_message _ r (h, other) = (unaccepted_message r h other, other)
@@ -69,7 +69,7 @@ module _ (m : List (List ℕ)) (limits : Bounds) where
   not_accepted (refusals.Frame e) is h other = h
   not_accepted (refusals.Trailing at) is h other = h
 
-  -- a message with canonical bytes is not refused
+  -- A message with canonical bytes is not refused.
   pub not_answered : (bytes : List ℕ) (price : ℕ) (r : Refusal) → AnswersMessage m limits bytes price
       → IsRefusedMessage m limits r → (r ≡ refusals.Memory → ⊥) → ⊥
   not_answered bytes price r a h other = elim (message_part m limits r other h) [
@@ -183,7 +183,7 @@ module _ (s : ArchiveService) (at : Position) (frame : List ℕ) (m : List (List
   not_both t p r (o, inr (going, other, why, line, a)) (stays, refused) = let bad : true ≡ false = sym going
       ∙ stays in cc
 
--- an archive has one text and one ending
+-- The order and the input decide the text and the result of a run over an archive.
 pub archive_one_way : (order : ArchiveOrder) → IsOneWay (archive_fold order)
 archive_one_way order = record {
   steps = λ x frame m t u y z h k.

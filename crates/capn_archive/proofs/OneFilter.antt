@@ -1,4 +1,4 @@
--- What the filter does with a message, in one way. (For `one_text`.)
+-- Lemmas for `one_text`: the state and the message decide what `filter` does.
 use Rattle.std.proofs.Common.{◌≡◌, inl, inr, ℕ, List, Bool, true, false, sym, subst, ◌∙◌}
 use Rattle.capn_value.specs.Tree.{Tree}
 use Rattle.capn_walk.specs.Limits.{Bounds}
@@ -17,12 +17,12 @@ use Rattle.capn_archive.specs.Tasks.{IsRefusedBy}
 use Rattle.capn_archive.proofs.OneArchive.{not_accepted, one_refused}
 
 module _ (m : List (List ℕ)) (limits : Bounds) where
-  -- a message that is let through is accepted
+  -- A message that is let through is accepted.
   pub accepted_of : (canonical : Bool) → Passes canonical m limits → IsAccepted m limits
   accepted_of false passes = passes
   accepted_of true (v, is, own) = is.accepted
 
-  -- and so is one that is not canonical
+  -- A message that is held back as not canonical is accepted.
   uncanonical_accepted : (canonical : Bool) → IsUncanonical canonical m limits → IsAccepted m limits
   uncanonical_accepted false none = absurd none
   uncanonical_accepted true (v, is, other) = is.accepted
@@ -32,7 +32,7 @@ module _ (m : List (List ℕ)) (limits : Bounds) where
   not_canonical true (v, is, own) (w, also, other) =
       other (subst (λ (x : Tree). IsCanonicalOf m x) (unique m v w root is.is also.is) own)
 
-  -- an accepted message is not refused by its walk
+  -- An accepted message is not refused by its walk.
   pub not_refused : (r : Refusal) → IsAccepted m limits → IsRefusedBy tasks.List m limits r → ⊥
   not_refused r is (h, other) = not_accepted m limits r is h other
 
@@ -68,7 +68,7 @@ module _ (s : FilterService) (at : Position) (frame : List ℕ) (m : List (List 
   not_both t p r (inr (inr (too, uncanonical, e, a))) (stays, refused) =
       not_refused m s.order.limits r (uncanonical_accepted m s.order.limits s.order.canonical uncanonical) refused
 
--- what the filter writes of an archive is one text, with one ending
+-- The order and the input decide the text and the result of a run of `filter`.
 pub filter_one_way : (order : FilterOrder) → IsOneWay (filter_fold order)
 filter_one_way order = record {
   steps = λ x frame m t u y z h k.

@@ -1,5 +1,5 @@
--- What refuses a message is told alone: messages are skipped by runs that none refuses. (For `run_archive` and
--- `run_service`.)
+-- Lemmas for `run_archive` and `run_service`: a run reports a refused message or skipped ones, never both, because with
+-- `--keep-going` messages are skipped, not refused.
 use Rattle.std.proofs.Common.{◌≡◌, ℕ, List, Option, refl}
 use Rattle.capn_walk.specs.Limits.{Bounds}
 use Rattle.capn_canon.specs.Refusal.{IsRefusedMessage}
@@ -22,16 +22,16 @@ use Rattle.capn_archive.specs.Finish.{refused_after}
 use Rattle.capn_archive.specs.Tasks.{IsRefusedBy}
 use Rattle.capn_archive.proofs.OneArchive.{refused_message}
 
--- one position, refused for a reason
+-- The fault of a refusal at a position, without a count of skipped messages.
 abbrev pub alone : Position → Refusal → ArchiveFault
 alone at r = faults.Refused at r
 
--- a reason is told alone, whatever was skipped before
+-- The refusal `r` is reported without a count, whatever was skipped before.
 abbrev pub IsAlone : Refusal → Type 0
 IsAlone r = (s : Option SkippedSoFar) (n : ℕ) (at : Position) → refused_after s n at r ≡ alone at r
 
 module _ {X : Type 0} (f : Fold X) where
-  -- so is each for which a fold refuses a message
+  -- Every refusal of a message by the fold is reported without a count.
   abbrev pub TellsAlone : Type 0
   TellsAlone = (x : X) (frame : List ℕ) (message : List (List ℕ)) (r : Refusal) → f.refuses x frame message r
       → IsAlone r

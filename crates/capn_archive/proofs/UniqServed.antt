@@ -1,4 +1,4 @@
--- A message that the service serves. (For `deduplicate` and `serve`.)
+-- Lemmas for `deduplicate` and `serve` of `uniq`: a message that is served or skipped does what the fold says.
 use Rattle.std.proofs.Common.{◌≡◌, inl, inr, ℕ, List, [], Bool, true, false, Option, Some, Result, Ok, Err, refl}
 use Rattle.std.proofs.Common.{IsErrAnd}
 use Rattle.std.proofs.Common.{ap, sym, subst, ◌∙◌}
@@ -20,13 +20,13 @@ use Rattle.capn_archive.specs.Digest.{IsDigest, IsUndigested}
 use Rattle.capn_archive.specs.UniqMessages.{UniqState, IsSkipped, Deduplicates, and_one, has, one_served}
 use Rattle.capn_archive.specs.UniqMessages.{refuses, serves, kept_text, TriesToDeduplicate}
 
--- a state of these parts
+-- The state of the service with these fields.
 abbrev pub state : UniqOrder → FinSet (slice_cmp nat_cmp) → ℕ → Option SkippedSoFar → UniqState
 state order digests served skipped =
     record { order = order; digests = digests; served = served; skipped = skipped }
 
 module _ (order : UniqOrder) (digests : FinSet (slice_cmp nat_cmp)) (served : ℕ) (skipped : Option SkippedSoFar) where
-  -- a message whose digest was inserted is served
+  -- A message whose digest was inserted is served.
   pub deduplicates : (s : UniqState) → state order digests served skipped ≡ s → (frame digest : List ℕ)
       (message : List (List ℕ)) → IsDigest message order.limits digest → (is_duplicate : Bool)
       → is_duplicate ≡ has digests digest → (inserted : FinSet (slice_cmp nat_cmp)) → inserted ≡ and_one digests digest
@@ -42,7 +42,7 @@ module _ (order : UniqOrder) (digests : FinSet (slice_cmp nat_cmp)) (served : �
             ∙ ap (λ (m : ℕ). state order (and_one digests digest) m skipped) one,
       )
 
-  -- a message that has no digest is skipped
+  -- A message that has no digest is skipped.
   pub is_skipped : (s : UniqState) → state order digests served skipped ≡ s → (at : Position) (message : List (List ℕ))
       (r : Refusal) → IsUndigested message order.limits r → order.keep_going ≡ true → (more : SkippedSoFar)
       → more ≡ one_more skipped at → IsSkipped s at message [] (state order digests served (Some more))
@@ -57,7 +57,7 @@ abbrev stopped : ServeFault → Ending
 stopped fault = Err fault
 
 module _ (s : UniqState) (frame : List ℕ) (message : List (List ℕ)) (a b : Outgoing) (failed : Bool) where
-  -- what a message that is served writes was added, or a beginning of it
+  -- The text for a served message was added, in whole or in part.
   pub kept_added : (t : UniqState) (text : List ℕ) → Deduplicates s frame message text t → (r : Ending)
       → AddsText text a b failed r → TriesToDeduplicate s frame message a b failed r t
   kept_added t text is (Ok u) (adds, fine, short) = (text, is, adds, fine, short)
@@ -65,7 +65,7 @@ module _ (s : UniqState) (frame : List ℕ) (message : List (List ℕ)) (a b : O
   kept_added t text is (Err faults.Io) ((count, breaks), broken) = ((text, t, count, is, breaks), broken)
   kept_added t text is (Err (faults.Refused r)) none = absurd none
 
-  -- it was served, or is refused and ends the run, or what was added ends within its text
+  -- Case: the message was served, or is refused and ends the run, or the call failed within its text.
   pub tried_does : (t : UniqState) (at : Position) (r : Ending) → TriesToDeduplicate s frame message a b failed r t
       → ((e : Refusal) → r ≡ stopped (faults.Refused e) → s.order.keep_going ≡ false)
       → DoesService serves refuses s at frame message a b failed r t
@@ -78,7 +78,7 @@ module _ (s : UniqState) (frame : List ℕ) (message : List (List ℕ)) (a b : O
   tried_does t at (Err (faults.Refused e)) (undigested, same, kept, fine) ends =
       ((ends e refl, undigested), subst (λ (x : Outgoing). Adds a x []) (sym same) (added_none a), fine)
 
-  -- memory was refused, or the writer failed
+  -- Case: memory was refused, or the writer failed.
   pub fault_does : (t : UniqState) (at : Position) (fault other : ServeFault) → fault ≡ other
       → TriesToDeduplicate s frame message a b failed (stopped fault) t
       → ((e : Refusal) → stopped other ≡ stopped (faults.Refused e) → s.order.keep_going ≡ false)
@@ -87,14 +87,14 @@ module _ (s : UniqState) (frame : List ℕ) (message : List (List ℕ)) (a b : O
       tried_does t at (stopped other)
       (subst (λ (e : ServeFault). TriesToDeduplicate s frame message a b failed (stopped e) t) same tried) ends
 
-  -- what is known of a message that was not served since it has no digest
+  -- Facts about a message that was not served because it has no digest.
   pub undigested : (t : UniqState) (fault : ServeFault) (r : Refusal) → fault ≡ faults.Refused r
       → TriesToDeduplicate s frame message a b failed (stopped fault) t
       → IsUndigested message s.order.limits r × (b ≡ a) × (t ≡ s) × (failed ≡ false)
   undigested t fault r same tried =
       subst (λ (e : ServeFault). TriesToDeduplicate s frame message a b failed (stopped e) t) same tried
 
-  -- memory was refused before anything was added
+  -- Case: memory was refused before anything was added.
   pub memory_refused : (t : UniqState) (fault : ServeFault) (r : Ending) → IsErrAnd r (λ e. e ≡ fault)
       → fault ≡ faults.Memory → Adds a b [] → failed ≡ false → TriesToDeduplicate s frame message a b failed r t
   memory_refused t fault (Ok u) told is none fine = absurd told

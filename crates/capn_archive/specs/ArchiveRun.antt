@@ -1,5 +1,5 @@
--- What a run over an archive did: what is written at its end, and the rest by the definition for all runs that write
--- something there. (Own.)
+-- A whole run over an archive: its closing text, and the rest by `Finish`, which defines every run that writes a
+-- closing text. (Own.)
 use Rattle.std.specs.Prelude.{ℕ, List, [], Bool, Option, None, Result}
 use Rattle.capn_serve.specs.declared.service.Run.{Run}
 use Rattle.capn_serve.specs.Fold.{Fold, fold_of}
@@ -15,15 +15,15 @@ use Rattle.capn_archive.specs.Lines.{limits_text}
 use Rattle.capn_archive.specs.Tally.{no_tally}
 use Rattle.capn_archive.specs.Tasks.{serves, refuses}
 
--- the fold over the messages of an archive
+-- The fold over the messages of an archive.
 abbrev pub archive_fold : ArchiveOrder → Fold (Run ArchiveService)
 archive_fold order = fold_of serves refuses order.limits.message_words
 
--- nothing has been served
+-- The state of a run before its first message.
 abbrev pub first_run : ArchiveOrder → Run ArchiveService
 first_run order = record { service = record { order = order; tally = no_tally }; at = start }
 
--- what the messages of a run need
+-- The figures of the messages of a run, as `limits` writes them.
 abbrev pub needs_of : ArchiveOrder → Run ArchiveService → Needs
 needs_of order run = record {
   messages = run.at.index;
@@ -31,16 +31,16 @@ needs_of order run = record {
   tariff = order.limits.tariff;
 }
 
--- what is written after the last message: the lines of `limits`, and nothing by the other tasks
+-- The closing text: the lines of `limits`, and nothing for the other tasks.
 abbrev pub closing_by : Task → Needs → List ℕ
 closing_by tasks.Limits needs = limits_text needs
 closing_by _ needs = []
 
--- the same by an order
+-- The closing text of a run by its order and its state.
 abbrev pub closing : ArchiveOrder → Run ArchiveService → List ℕ
 closing order run = closing_by order.task (needs_of order run)
 
--- what a run does after its last message
+-- The end of a run after its last message: the closing text, and the count of the skipped messages.
 abbrev pub archive_finish : ArchiveOrder → Finish (Run ArchiveService)
 archive_finish order = record {
   closing = λ y. closing order y;
@@ -48,7 +48,7 @@ archive_finish order = record {
   ended = λ y. None;
 }
 
--- what a run did, over a reader (from a to b) and a writer (from c to d)
+-- The effect of a run: the reader goes from `a` to `b`, the writer from `c` to `d`, and `r` is the result.
 abbrev pub Archived : ArchiveOrder → Option (List ℕ) → Option (List ℕ) → Option (List ℕ) → Option (List ℕ) → Bool → Bool
     → Result (Unit {0}) ArchiveFault → Type 0
 Archived order a b c d reader_failed writer_failed r =

@@ -5,27 +5,27 @@ use Rattle.capn_serve.specs.declared.fault.ServeFault.{ServeFault}
 use Rattle.capn_serve.specs.declared.fault.ServeFault.TheVariants as faults
 use Rattle.capn_serve.specs.Outgoing.{Outgoing, Adds, Breaks}
 
--- the table of one segment of this number of words: four zero bytes, since there is no second segment, and the number
+-- The segment table of a frame with one segment of `words` words: four zero bytes, because there is no second segment,
+-- and the number.
 abbrev pub head : ℕ → List ℕ
 head words = 0 ∷ 0 ∷ 0 ∷ 0 ∷ entry words
 
--- the frame of one segment with these bytes, 8 for each word
+-- The frame of one segment with the contents `bytes`, 8 for each word.
 abbrev pub framed : List ℕ → List ℕ
 framed bytes = head (length bytes / 8) ++ bytes
 
--- a text was appended; or memory was refused, and the text is as it was
+-- `text` was appended to `old`. If memory was refused, nothing was.
 abbrev pub PutsText : List ℕ → List ℕ → List ℕ → Result (Unit {0}) ServeFault → Type 0
 PutsText text old new (Ok u) = new ≡ old ++ text
 PutsText text old new (Err fault) = (fault ≡ faults.Memory) × (new ≡ old)
 
--- a text was appended, or, if memory was refused, something
+-- `text` was appended to `old`. If memory was refused, some bytes were.
 abbrev pub PutsFront : {E : Type 0} → List ℕ → List ℕ → List ℕ → Result (Unit {0}) E → Type 0
 PutsFront text old new (Ok u) = new ≡ old ++ text
 PutsFront text old new (Err e) = (some : List ℕ) × (new ≡ old ++ some)
 
--- a text was added to what goes out, of which no more than 65,535 bytes are kept if no more were; or memory was
--- refused,
--- and a beginning of it was added; or the writer failed within it
+-- `text` was added to the output. If fewer than 65,536 bytes were held back before, fewer are held back after. If
+-- memory was refused, a prefix of `text` was added. Otherwise the writer failed within `text`.
 abbrev pub AddsText : List ℕ → Outgoing → Outgoing → Bool → Result (Unit {0}) ServeFault → Type 0
 AddsText text old new failed (Ok u) =
     Adds old new text × (failed ≡ false) × (length old.kept < 65536 → length new.kept < 65536)

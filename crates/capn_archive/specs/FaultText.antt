@@ -12,15 +12,15 @@ use Rattle.capn_serve.specs.declared.position.Position.{Position}
 use Rattle.capn_archive.specs.declared.fault.ArchiveFault.{ArchiveFault}
 use Rattle.capn_archive.specs.declared.fault.ArchiveFault.TheVariants as faults
 
--- a message at a position is refused, or none can begin there
+-- The text for a message at `at` that is refused, or for a place where no message can begin.
 abbrev pub text_of_refused : Position → Refusal → List ℕ
 text_of_refused at refusal = codes "message " ++ (place_text at ++ (codes ": " ++ refusal_text refusal))
 
--- the message at a position is not canonical
+-- The text for a message at `at` that is not canonical.
 abbrev pub text_of_uncanonical : Position → List ℕ
 text_of_uncanonical at = codes "message " ++ (place_text at ++ codes ": not canonical")
 
--- why a run over an archive did not end as done
+-- The text of a fault, which says why a run did not end with `Ok`.
 abbrev pub archive_text : ArchiveFault → List ℕ
 archive_text faults.Memory = out_of_memory
 archive_text faults.Io = codes "input or output failed"
@@ -31,7 +31,7 @@ archive_text (faults.Skipped skipped) = text_of_skipped skipped
 archive_text (faults.RefusedAfterSkipped skipped at refusal) =
     text_of_skipped skipped ++ (codes "\ncapn: " ++ text_of_refused at refusal)
 
--- the second message, at the offset 24, and the third, at the offset 40
+-- The positions of the second message, at offset 24, and of the third, at offset 40.
 abbrev second : Position
 second = record { index = 1; offset = 24 }
 
@@ -57,7 +57,8 @@ after_skipped : archive_text (faults.RefusedAfterSkipped (record { refused = 1; 
 unfolding digits
 after_skipped = refl
 
--- 1 where a message is refused, is not canonical or was skipped, 3 where it could not be carried out
+-- The exit status: 1 if a message is refused, is not canonical or was skipped, and 3 if the run could not be carried
+-- out.
 abbrev pub status_of : ArchiveFault → ℕ
 status_of faults.Memory = 3
 status_of faults.Io = 3

@@ -1,4 +1,4 @@
--- Which messages `filter` lets through: those that are accepted, or of these only those that are canonical. (Own.)
+-- The messages that `filter` lets through: the accepted ones, or only the canonical ones. (Own.)
 use Rattle.std.specs.Prelude.{◌≡◌, ◌⊎◌, ℕ, List, [], Bool, true, false, None, Some, is_some}
 use Rattle.capn_value.specs.Tree.{Tree}
 use Rattle.capn_walk.specs.Limits.{Bounds}
@@ -12,53 +12,54 @@ use Rattle.capn_archive.specs.declared.task.Task.TheVariants as tasks
 use Rattle.capn_serve.specs.Skipped.{one_more}
 use Rattle.capn_archive.specs.Tasks.{IsRefusedBy}
 
--- a message is accepted, and where only canonical ones are let through it is one: its only segment is the canonical
--- bytes of its value, which has no capability
+-- `message` is let through: it is accepted, and, if only canonical ones are let through, canonical. A canonical message
+-- has one segment, which is the canonical bytes of its value, and no capability.
 abbrev pub Passes : Bool → List (List ℕ) → Bounds → Type 0
 Passes false message limits = IsAccepted message limits
 Passes true message limits = (v : Tree) × IsValueOf message limits v × IsCanonicalOf message v
 
--- only canonical messages are let through, and this one is accepted and not canonical
+-- Only canonical messages are let through, and `message` is accepted but not canonical.
 abbrev pub IsUncanonical : Bool → List (List ℕ) → Bounds → Type 0
 IsUncanonical false message limits = ⊥
 IsUncanonical true message limits = (v : Tree) × IsValueOf message limits v × (IsCanonicalOf message v → ⊥)
 
--- nothing has been let through
+-- The state before the first message.
 abbrev pub first_state : FilterOrder → FilterService
 first_state order = record { order = order; skipped = None; ended = None }
 
--- a message with its frame is let through: it writes its frame, as it stands
+-- `message` is let through: its frame is written unchanged.
 abbrev pub LetsThrough : FilterService → List ℕ → List (List ℕ) → List ℕ → FilterService → Type 0
 LetsThrough s frame message text t =
     Passes s.order.canonical message s.order.limits × (text ≡ frame) × (t ≡ s)
 
--- a message is held back: its walk refuses it, as for `list`, or it is not canonical where only such are let through
+-- `message` is held back: its walk refuses it, as `list` would, or it is not canonical although only canonical ones are
+-- let through.
 abbrev pub IsHeldBack : FilterService → List (List ℕ) → Type 0
 IsHeldBack s message =
     IsUncanonical s.order.canonical message s.order.limits
     ⊎ ((r : Refusal) × IsRefusedBy tasks.List message s.order.limits r)
 
--- a message at a position is skipped: it is held back, and the run keeps going; it writes nothing
+-- The message at `at` is skipped: it is held back, and the order says to keep going. Nothing is written.
 abbrev pub IsSkipped : FilterService → Position → List (List ℕ) → List ℕ → FilterService → Type 0
 IsSkipped s at message text t =
     (s.order.keep_going ≡ true) × IsHeldBack s message × (text ≡ [])
     × (t ≡ record { order = s.order; skipped = Some (one_more s.skipped at); ended = s.ended })
 
--- a message at a position ends the run: it is not canonical, and the run doesn't keep going; it writes nothing
+-- The message at `at` ends the run: it is not canonical, and the order does not say to keep going. Nothing is written.
 abbrev pub EndsAt : FilterService → Position → List (List ℕ) → List ℕ → FilterService → Type 0
 EndsAt s at message text t =
     (s.order.keep_going ≡ false) × IsUncanonical s.order.canonical message s.order.limits × (text ≡ [])
     × (t ≡ record { order = s.order; skipped = s.skipped; ended = Some at })
 
--- from one state to the next, a message is let through or skipped, or ends the run
+-- The message takes the state `s` to `t`: it is let through or skipped, or ends the run.
 abbrev pub serves : FilterService → Position → List ℕ → List (List ℕ) → List ℕ → FilterService → Type 0
 serves s at frame message text t =
     LetsThrough s frame message text t ⊎ (IsSkipped s at message text t ⊎ EndsAt s at message text t)
 
--- a message that its walk refuses ends a run that does not keep going
+-- The message ends the run as refused: its walk refuses it, and the order does not say to keep going.
 abbrev pub refuses : FilterService → Position → List ℕ → List (List ℕ) → Refusal → Type 0
 refuses s at frame message r = (s.order.keep_going ≡ false) × IsRefusedBy tasks.List message s.order.limits r
 
--- no more is served after a message that ended the run
+-- No more messages are served after one that ended the run.
 abbrev pub done : FilterService → Position → Bool
 done s at = is_some s.ended

@@ -1,4 +1,4 @@
--- What a run of `filter` did. (Own.)
+-- A whole run of `filter`. (Own.)
 use Rattle.std.specs.Prelude.{ℕ, List, [], Bool, Option, Result}
 use Rattle.capn_serve.specs.declared.service.Run.{Run}
 use Rattle.capn_serve.specs.Fold.{Fold, fold_until}
@@ -9,15 +9,15 @@ use Rattle.capn_archive.specs.declared.filter_service.FilterService.{FilterServi
 use Rattle.capn_archive.specs.FilterMessages.{done, first_state, refuses, serves}
 use Rattle.capn_archive.specs.Finish.{Finish, Finished}
 
--- the fold over the messages of an archive, up to one that ends the run
+-- The fold over the messages of an archive, up to the one that ends the run.
 abbrev pub filter_fold : FilterOrder → Fold (Run FilterService)
 filter_fold order = fold_until serves refuses done order.limits.message_words
 
--- nothing has been served
+-- The state of a run before its first message.
 abbrev pub first_run : FilterOrder → Run FilterService
 first_run order = record { service = first_state order; at = start }
 
--- after its last message a run writes nothing
+-- The end of a run after its last message: nothing more is written.
 abbrev pub filter_finish : Finish (Run FilterService)
 filter_finish = record {
   closing = λ y. [];
@@ -25,7 +25,7 @@ filter_finish = record {
   ended = λ y. y.service.ended;
 }
 
--- what a run did, over a reader (from a to b) and a writer (from c to d)
+-- The effect of a run: the reader goes from `a` to `b`, the writer from `c` to `d`, and `r` is the result.
 abbrev pub Filtered : FilterOrder → Option (List ℕ) → Option (List ℕ) → Option (List ℕ) → Option (List ℕ) → Bool → Bool
     → Result (Unit {0}) ArchiveFault → Type 0
 Filtered order a b c d reader_failed writer_failed r =

@@ -1,5 +1,5 @@
--- A run over an input that writes something after its last message: the text of its input, how it ends, and what was
--- written whatever it answers. (Own.)
+-- A run over an input that writes something after its last message: the text of the input, the result, and what is
+-- written in every case. (Own.)
 use Rattle.std.specs.Prelude.{◌≡◌, ◌≢◌, ◌⊎◌, ◌↔◌, ℕ, List, [], ◌++◌, Bool, true, Option, Some, None, IfSome, Result}
 use Rattle.std.specs.Prelude.{Ok, Err}
 use Rattle.std.specs.Io.KnownBytes.{Consumes, Appends}
@@ -17,22 +17,25 @@ use Rattle.capn_serve.specs.declared.skipped.SkippedSoFar.{SkippedSoFar}
 use Rattle.capn_serve.specs.Fold.{Fold}
 use Rattle.capn_serve.specs.FormRun.{AreMessages, HasWritten, IsNeededSoFar, IsReadSoFar, KeepsUp, MayNeedMemory}
 
--- how a run ends that has served all of its input: done, or with the numbers of the messages that it skipped
+-- The result of a run that has read all of its input: `Ok`, or the count of the messages that it skipped.
 abbrev pub outcome_by : Option SkippedSoFar → ℕ → Result (Unit {0}) ArchiveFault
 outcome_by None messages = Ok tt
 outcome_by (Some s) messages = Err (faults.Skipped (skipped_of s messages))
 
--- the same unless a message ended it that the run itself refused, since it is not canonical: then with its position
+-- The result of a run whose loop ended without a fault: that of `outcome_by`, unless a message that is not canonical
+-- ended the run. Then it is the position of that message.
 abbrev pub outcome_unless : Option Position → Option SkippedSoFar → ℕ → Result (Unit {0}) ArchiveFault
 outcome_unless None skipped messages = outcome_by skipped messages
 outcome_unless (Some at) skipped messages = Err (faults.NotCanonical at)
 
--- an input that is refused at a position, after this many messages: with those of them that were skipped, if any was
+-- The fault of an input that is refused at `at`, after `messages` messages. If some of them were skipped, it has their
+-- count.
 abbrev pub after_skipped : Option SkippedSoFar → ℕ → Position → Refusal → ArchiveFault
 after_skipped None messages at r = faults.Refused at r
 after_skipped (Some s) messages at r = faults.RefusedAfterSkipped (skipped_of s messages) at r
 
--- the same by what is refused: messages may have been skipped before a frame, or a group of a packed text
+-- The fault of an input by its refusal. Messages can have been skipped only before a frame, or before a group of packed
+-- bytes.
 abbrev pub refused_after : Option SkippedSoFar → ℕ → Position → Refusal → ArchiveFault
 refused_after skipped messages at (refusals.Bare e) = faults.Refused at (refusals.Bare e)
 refused_after skipped messages at (refusals.Packed e) = after_skipped skipped messages at (refusals.Packed e)
@@ -42,62 +45,63 @@ refused_after skipped messages at (refusals.Walk stopped) = faults.Refused at (r
 refused_after skipped messages at (refusals.Capability index) = faults.Refused at (refusals.Capability index)
 refused_after skipped messages at refusals.Memory = faults.Refused at refusals.Memory
 
--- the fault of a run over an archive, for one of a run over messages, after this many, of which these were skipped
+-- The fault of a run over an archive, from the fault of its loop. The loop had `messages` messages before, and skipped
+-- those in `skipped`.
 abbrev pub fault_after : Option SkippedSoFar → ℕ → RunFault → ArchiveFault
 fault_after skipped messages run_faults.Memory = faults.Memory
 fault_after skipped messages run_faults.Io = faults.Io
 fault_after skipped messages run_faults.InputTooLong = faults.InputTooLong
 fault_after skipped messages (run_faults.Refused at r) = refused_after skipped messages at r
 
--- what a run does after its last message, by its state then: the text that it writes, which messages it has skipped,
--- and where the message is that ended it, if one did that is not canonical
+-- The end of a run after its last message, by its state. `closing` is the text that is written, `skipped` the count of
+-- the skipped messages, and `ended` the position of a message that is not canonical, if one ended the run.
 pub record Finish (X : Type 0) : Type 0 where
   pub closing : X → List ℕ
   pub skipped : X → Option SkippedSoFar
   pub ended : X → Option Position
 
 module _ {X : Type 0} (f : Fold X) (x : X) (finish : Finish X) where
-  -- how a run ends whose messages no fault ended
+  -- The result of a run whose loop ended without a fault.
   abbrev pub outcome : X → Result (Unit {0}) ArchiveFault
   outcome y = outcome_unless (finish.ended y) (finish.skipped y) (f.place y).index
 
-  -- how one ends whose messages a fault ended
+  -- The result of a run whose loop `fault` ended.
   abbrev pub stopped_by : X → RunFault → Result (Unit {0}) ArchiveFault
   stopped_by y fault = Err (fault_after (finish.skipped y) (f.place y).index fault)
 
-  -- after the text of the messages comes what is written at the end, unless a fault ended them
+  -- The closing text follows the text of the messages, unless a fault ended them.
   abbrev pub Closes : List ℕ → Result (Unit {0}) RunFault → X → List ℕ → Result (Unit {0}) ArchiveFault → Type 0
   Closes messages (Ok u) y text ending = (text ≡ messages ++ finish.closing y) × (ending ≡ outcome y)
   Closes messages (Err fault) y text ending = (text ≡ messages) × (ending ≡ stopped_by y fault)
 
-  -- the whole text of an input, and how a run over it ends
+  -- `text` is the whole text of `input`, and `ending` is the result of a run over it.
   abbrev pub IsWholeText : Form → List ℕ → List ℕ → Result (Unit {0}) ArchiveFault → Type 0
   IsWholeText form input text ending =
       (messages : List ℕ) × (served : Result (Unit {0}) RunFault) × (y : X)
       × AreMessages f x form input messages served y × Closes messages served y text ending
 
-  -- a run has written the text of its input and ended as that does; or memory was refused, or the reader or the writer
-  -- failed
+  -- A run has written the text of its input, and has the result that belongs to it. Or memory was refused, or the
+  -- reader or the writer failed.
   abbrev pub EndsAs : Form → Option (List ℕ) → Option (List ℕ) → Result (Unit {0}) ArchiveFault → List ℕ → Type 0
   EndsAs form old new r input =
       (r ≡ Err faults.Memory)
       ⊎ ((r ≡ Err faults.Io) ⊎ ((text : List ℕ) × IsWholeText form input text r × Appends old new text))
 
-  -- the messages of an input were served, which ended with them, and a beginning of their text and of what is written
-  -- at the end was written; the state after an input that is not known is not either
+  -- All messages of the input were served, and a prefix of their text and of the closing text was written. If the input
+  -- is not known, the state after it is not known either.
   abbrev pub HasBegunClosing : Form → Option (List ℕ) → Option (List ℕ) → Option (List ℕ) → Type 0
   HasBegunClosing form input old new =
       (messages : List ℕ) × (y : X) × IfSome input (λ bytes. AreMessages f x form bytes messages (Ok tt) y)
       × HasBegun old new (messages ++ finish.closing y)
 
-  -- the messages of an input were served, which ended with them, and something is written at the end
+  -- All messages of the input were served, and the closing text is not empty.
   abbrev pub HasClosing : Form → Option (List ℕ) → Type 0
   HasClosing form input = (y : X)
       × IfSome input (λ bytes. (messages : List ℕ) × AreMessages f x form bytes messages (Ok tt) y)
       × (finish.closing y ≢ [])
 
-  -- a reader gave some bytes, as far as is read, and none after a piece that leads to the end; and a writer took a
-  -- beginning of their text
+  -- A reader gave `bytes`, as many as are read, and none after a chunk that leads to the end. A writer took a prefix of
+  -- their text.
   pub record Begins (form : Form) (a b c d : Option (List ℕ)) : Type 0 where
     pub bytes : List ℕ
     pub read : Consumes a b bytes
@@ -105,7 +109,7 @@ module _ {X : Type 0} (f : Fold X) (x : X) (finish : Finish X) where
     pub needed : IsNeededSoFar f x form bytes
     pub written : HasWritten f x form bytes c d ⊎ HasBegunClosing form a c d
 
-  -- what a run did, over a reader (from a to b) and a writer (from c to d)
+  -- The effect of a run: the reader goes from `a` to `b`, the writer from `c` to `d`, and `r` is the result.
   pub record Finished (form : Form) (a b c d : Option (List ℕ)) (reader_failed writer_failed : Bool)
       (r : Result (Unit {0}) ArchiveFault) : Type 0 where
     pub exact : IfSome a (EndsAs form c d r)

@@ -1,4 +1,4 @@
--- What holds of the definitions alone. (Own.)
+-- Laws: statements about the definitions alone, which hold whatever the code does. (Own.)
 use Rattle.std.specs.Prelude.{◌≡◌, ◌≢◌, ℕ, ◌≤◌, List, [], ◌∷◌, length, false, Result, Ok, ⊤}
 use Rattle.capn_words.specs.Message.{total}
 use Rattle.capn_walk.specs.Limits.{Bounds}
@@ -17,7 +17,7 @@ use Rattle.capn_archive.specs.declared.task.ArchiveOrder.{ArchiveOrder}
 use Rattle.capn_archive.specs.declared.task.Task.TheVariants as tasks
 use Rattle.capn_archive.specs.declared.uniq_order.UniqOrder.{UniqOrder}
 
--- a run over an archive writes one text of an input, and ends in one way
+-- The order and the input decide the text and the result of a run over an archive.
 abbrev pub OneArchive : Type 0
 OneArchive = (order : ArchiveOrder) (input t u : List ℕ) (r s : Result (Unit {0}) ArchiveFault)
     → IsWholeText (archives.archive_fold order) (archives.first_run order) (archives.archive_finish order) order.form
@@ -25,45 +25,46 @@ OneArchive = (order : ArchiveOrder) (input t u : List ℕ) (r s : Result (Unit {
     → IsWholeText (archives.archive_fold order) (archives.first_run order) (archives.archive_finish order) order.form
     input u s → (t ≡ u) × (r ≡ s)
 
--- so does one that leaves duplicates out
+-- The order and the input decide the text and the result of a run of `uniq`.
 abbrev pub OneUniq : Type 0
 OneUniq = (order : UniqOrder) (input t u : List ℕ) (r s : Result (Unit {0}) ArchiveFault)
     → IsWholeText (uniqs.uniq_fold order) (uniqs.first_run order) uniqs.uniq_finish order.form input t r
     → IsWholeText (uniqs.uniq_fold order) (uniqs.first_run order) uniqs.uniq_finish order.form input u s
     → (t ≡ u) × (r ≡ s)
 
--- and so does one that lets accepted messages through
+-- The order and the input decide the text and the result of a run of `filter`.
 abbrev pub OneFilter : Type 0
 OneFilter = (order : FilterOrder) (input t u : List ℕ) (r s : Result (Unit {0}) ArchiveFault)
     → IsWholeText (filters.filter_fold order) (filters.first_run order) filters.filter_finish order.form input t r
     → IsWholeText (filters.filter_fold order) (filters.first_run order) filters.filter_finish order.form input u s
     → (t ≡ u) × (r ≡ s)
 
--- the frames of messages that a filter of this order lets through
+-- Each part is the frame of a message that `filter` lets through by `order`.
 abbrev pub AreLetThrough : FilterOrder → List Part → Type 0
 AreLetThrough order [] = ⊤
 AreLetThrough order (p ∷ ps) = Frames p.frame p.message × (total p.message ≤ order.limits.message_words)
     × Passes order.canonical p.message order.limits × AreLetThrough order ps
 
--- a text is a row of such frames, and has no more bytes than a stream may have
+-- `text` consists of frames of messages that `filter` lets through, and is no longer than a stream may be.
 pub record IsLetThrough (order : FilterOrder) (text : List ℕ) : Type 0 where
   pub parts : List Part
   pub each : AreLetThrough order parts
   pub is : text ≡ frames_of parts
   pub short : length text ≤ most_stream
 
--- what a filter writes of a stream, which may be packed, is that, whatever the input is and however the filter ends
+-- The output of `filter` over a stream, packed or not, consists of frames that it lets through, whatever the input is
+-- and however the run ends.
 abbrev pub FiltersAccepted : Type 0
 FiltersAccepted = (order : FilterOrder) (input text : List ℕ) (r : Result (Unit {0}) ArchiveFault)
     → order.form ≢ forms.Bare
     → IsWholeText (filters.filter_fold order) (filters.first_run order) filters.filter_finish order.form input text r
     → IsLetThrough order text
 
--- `list` over a stream, with these limits
+-- The order of `list` over a stream, with `limits`.
 abbrev pub listing : Bounds → ArchiveOrder
 listing limits = record { task = tasks.List; form = forms.Stream; limits = limits; keep_going = false }
 
--- so `list` with the same limits ends as done over it
+-- `list` with the same limits accepts all of the output of `filter` over a stream, packed or not.
 abbrev pub FilteredIsListed : Type 0
 FilteredIsListed = (order : FilterOrder) (input text lines : List ℕ) (r s : Result (Unit {0}) ArchiveFault)
     → order.form ≢ forms.Bare

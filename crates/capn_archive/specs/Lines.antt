@@ -1,4 +1,4 @@
--- The lines that are written of messages. (Own.)
+-- The lines that are written for messages. (Own.)
 use Rattle.std.specs.Prelude.{◌≡◌, ℕ, ◌+◌, ◌*◌, ◌^◌, min, max, List, [], ◌∷◌, ◌++◌, codes, Bool, true, false, Option}
 use Rattle.std.specs.Prelude.{Some, None, refl}
 use Rattle.std.specs.Fmt.{decimal, digits}
@@ -13,24 +13,24 @@ use Rattle.capn_canon.specs.declared.surveyed_bare.MeasuredBare.{MeasuredBare}
 use Rattle.capn_archive.specs.declared.tally.Greatest.{Greatest}
 use Rattle.capn_archive.specs.declared.limits_report.Needs.{Needs}
 
--- the number of a message, counted from 1, and where and how large it is
+-- The first part of a line: the number of the message, counted from 1, its position and its size.
 abbrev pub head_text : MessageHead → List ℕ
 head_text head =
     decimal (head.at.index + 1) ++ (codes " at " ++ (decimal head.at.offset ++ (codes " bytes "
     ++ (decimal head.bytes ++ (codes " segments " ++ (decimal head.segments ++ (codes " words "
     ++ decimal head.words)))))))
 
--- the index of a capability, or that there is none
+-- The index of a capability, or `no`.
 abbrev pub capability_text : Option ℕ → List ℕ
 capability_text (Some index) = decimal index
 capability_text None = codes "no"
 
--- whether something is so
+-- `yes` or `no`.
 abbrev pub answer_text : Bool → List ℕ
 answer_text true = codes "yes"
 answer_text false = codes "no"
 
--- what is found of a message that is accepted
+-- The figures of an accepted message.
 abbrev pub measured_text : MeasuredBare → List ℕ
 measured_text measured =
     codes "paid " ++ (decimal measured.survey.paid ++ (codes " visits " ++ (decimal measured.survey.visits
@@ -38,41 +38,42 @@ measured_text measured =
     ++ (capability_text measured.survey.capability ++ (codes " canonical "
     ++ answer_text measured.survey.is_canonical))))))))
 
--- the line of a message that is accepted
+-- The line of an accepted message.
 abbrev pub list_line : MessageHead → MeasuredBare → List ℕ
 list_line head measured = head_text head ++ (codes " " ++ (measured_text measured ++ codes "\n"))
 
--- the digest of a message in 64 hexadecimal digits, or that there is none
+-- The digest of a message in 64 hexadecimal digits, or `-` if there is none.
 abbrev pub digest_text : Option (List ℕ) → List ℕ
 digest_text (Some digest) = encode_lower digest
 digest_text None = codes "-"
 
--- the line of a message that is accepted, with its digest
+-- The line of an accepted message with its digest.
 abbrev pub digests_line : MessageHead → MeasuredBare → Option (List ℕ) → List ℕ
 digests_line head measured digest =
     head_text head ++ (codes " " ++ (measured_text measured ++ (codes " sha256 " ++ (digest_text digest
     ++ codes "\n"))))
 
--- the line of a message that is skipped
+-- The line of a skipped message.
 abbrev pub refused_line : MessageHead → Refusal → List ℕ
 refused_line head refusal = head_text head ++ (codes " refused " ++ (refusal_text refusal ++ codes "\n"))
 
--- the greatest amount of a message and the number of the first that has it, counted from 1; zeros if there is none
+-- The greatest amount of a message, and the number of the first message that has it, counted from 1. Zeros if there is
+-- no message.
 abbrev pub greatest_text : Option Greatest → List ℕ
 greatest_text None = codes "0 message 0"
 greatest_text (Some g) = decimal g.amount ++ (codes " message " ++ decimal (g.index + 1))
 
--- the greatest amount, 0 if there is no message
+-- The greatest amount, or 0 if there is no message.
 abbrev pub amount_of : Option Greatest → ℕ
 amount_of None = 0
 amount_of (Some g) = g.amount
 
--- the option that names a tariff, if it is not the usual one
+-- The option that names a tariff, or nothing for the default.
 abbrev pub tariff_text : Tariff → List ℕ
 tariff_text tariffs.Strict = codes ""
 tariff_text tariffs.Plain = codes " --tariff plain"
 
--- how many messages there are, and the greatest words, price and depth of one
+-- The number of messages, and the greatest words, price and depth of one.
 abbrev pub needs_text : Needs → List ℕ
 needs_text needs =
     codes "messages " ++ (decimal needs.messages
@@ -80,7 +81,7 @@ needs_text needs =
     ++ (codes "\nbudget " ++ (greatest_text needs.tally.price
     ++ (codes "\ndepth " ++ greatest_text needs.tally.depth))))))
 
--- limits that leave room: four times the words and the price, and twice the depth, within their ranges
+-- The options whose limits leave room: four times the words and the price, and twice the depth, within their ranges.
 abbrev pub advice_text : Needs → List ℕ
 advice_text needs =
     codes "use --message-words " ++ (decimal (min (max (4 * amount_of needs.tally.words) 1) (2 ^ 28))
@@ -88,13 +89,13 @@ advice_text needs =
     ++ (codes " --depth " ++ (decimal (min (max (2 * amount_of needs.tally.depth) 1) 256)
     ++ tariff_text needs.tariff)))))
 
--- the five lines of `limits`
+-- The five lines of `limits`.
 abbrev pub limits_text : Needs → List ℕ
 limits_text needs = needs_text needs ++ (codes "\n" ++ (advice_text needs ++ codes "\n"))
 
 -- ---- a line of each kind
 
--- the second message of a stream, whose root has one word
+-- The second message of a stream, whose root has one word.
 abbrev second : MessageHead
 second = record { at = record { index = 1; offset = 16 }; bytes = 24; segments = 1; words = 2 }
 
@@ -123,7 +124,7 @@ a_refused_message : refused_line second (refusals.Capability 3)
 unfolding digits
 a_refused_message = refl
 
--- three messages, of which the second has the most words and is the deepest, and the first costs the most
+-- Three messages: the second has the most words and is the deepest, and the first costs the most.
 abbrev three_messages : Needs
 three_messages = record {
   messages = 3;

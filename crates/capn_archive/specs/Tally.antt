@@ -1,16 +1,17 @@
--- What a run keeps of the messages that it has served. (Own.)
+-- The tally: what a run keeps of the messages that it has served. (Own.)
 use Rattle.std.specs.Prelude.{ℕ, nat_lt, if◌then◌else◌, Option, Some, None}
 use Rattle.capn_serve.specs.Skipped.{one_more}
 use Rattle.capn_serve.specs.declared.position.Position.{Position}
 use Rattle.capn_archive.specs.declared.tally.Greatest.{Greatest}
 use Rattle.capn_archive.specs.declared.tally.Tally.{Tally}
 
--- the greater of what was greatest so far and an amount of the message of this index; the earlier of two that are equal
+-- The greater of the greatest amount so far and `amount`, that of the message `index`. If both are equal, it is the
+-- earlier one.
 abbrev pub greater : Option Greatest → ℕ → ℕ → Greatest
 greater None amount index = record { amount = amount; index = index }
 greater (Some g) amount index = if nat_lt g.amount amount then record { amount = amount; index = index } else g
 
--- a message with these words, this price and this depth is counted
+-- The tally after a message of `words`, `price` and `depth` is counted.
 abbrev pub counted : Tally → ℕ → ℕ → ℕ → ℕ → Tally
 counted tally index words price depth = record {
   skipped = tally.skipped;
@@ -19,7 +20,7 @@ counted tally index words price depth = record {
   depth = Some (greater tally.depth depth index);
 }
 
--- a message is skipped
+-- The tally after the message at `at` is skipped.
 abbrev pub skipped : Tally → Position → Tally
 skipped tally at = record {
   skipped = Some (one_more tally.skipped at);
@@ -28,6 +29,6 @@ skipped tally at = record {
   depth = tally.depth;
 }
 
--- nothing has been counted
+-- The tally before the first message.
 abbrev pub no_tally : Tally
 no_tally = record { skipped = None; words = None; price = None; depth = None }

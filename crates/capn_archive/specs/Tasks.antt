@@ -1,4 +1,5 @@
--- What each task writes of a message and keeps of it, and when it refuses it. (Own.)
+-- The tasks of a run over an archive: the text for a message, the change of the tally, and the messages that are
+-- refused. (Own.)
 use Rattle.std.specs.Prelude.{◌≡◌, ◌≢◌, ◌⊎◌, ℕ, List, [], ◌++◌, Bool, true, false, Option, Result, Ok, Err}
 use Rattle.capn_words.specs.Message.{total}
 use Rattle.capn_walk.specs.Limits.{Bounds}
@@ -25,21 +26,22 @@ use Rattle.capn_archive.specs.Digest.{IsDigestIfAny}
 use Rattle.capn_archive.specs.Lines.{digests_line, list_line, refused_line}
 use Rattle.capn_archive.specs.Tally.{counted, skipped}
 
--- what is found; or why it is not, by a property of the reason, or that memory was refused, which is said only where
--- this holds
+-- The result of a call: a value for which `is` holds, a refusal for which `isn't` holds, or refused memory, which is
+-- possible only if `needs` holds.
 abbrev pub Finds : {T : Type 0} → (T → Type 0) → (Refusal → Type 0) → Type 0 → Result T ServeFault → Type 0
 Finds is isn't needs (Ok x) = is x
 Finds is isn't needs (Err faults.Memory) = needs
 Finds is isn't needs (Err faults.Io) = ⊥
 Finds is isn't needs (Err (faults.Refused r)) = isn't r × (r ≢ refusals.Memory)
 
--- a message is refused: by its walk, and where its canonical bytes are needed, also for a capability
+-- `message` is refused: by its walk, or, if its canonical bytes are needed, for a capability.
 abbrev pub IsRefusedBy : Task → List (List ℕ) → Bounds → Refusal → Type 0
 IsRefusedBy tasks.Canonical message limits r = IsRefusedMessage message limits r × (r ≢ refusals.Memory)
 IsRefusedBy _ message limits r = IsUnaccepted message limits r × (r ≢ refusals.Memory)
 
--- What a message that is not refused writes, and the tally after it: the line of what is found of it; the same with its
--- digest; the frame of its canonical bytes; or nothing, but it is counted.
+-- A message that is not refused writes `text`, and `tally_after` is the tally then. `list` writes its line,
+-- `list --digest` that line with its digest, and `canonical` the frame of its canonical bytes. `limits` writes nothing,
+-- but counts the message.
 abbrev pub IsServedBy : Task → Bounds → Tally → Position → List ℕ → List (List ℕ) → List ℕ → Tally → Type 0
 IsServedBy tasks.List limits tally at frame message text tally_after =
     (measured : MeasuredBare) × IsMeasure message limits measured
@@ -55,31 +57,31 @@ IsServedBy tasks.Limits limits tally at frame message text tally_after =
     (depth : ℕ) × IsAccepted message limits × IsDepth message limits depth × (text ≡ [])
     × (tally_after ≡ counted tally at.index (total message) (paid message limits) depth)
 
--- what a message that is skipped writes: its line, or nothing
+-- The text for a skipped message: its line for `list`, or nothing.
 abbrev pub skipped_text : Task → Position → List ℕ → List (List ℕ) → Refusal → List ℕ
 skipped_text tasks.List at frame message r = refused_line (head_of at frame message) r
 skipped_text tasks.Digests at frame message r = refused_line (head_of at frame message) r
 skipped_text _ at frame message r = []
 
--- a message is skipped: it is refused, and the run keeps going
+-- The message is skipped: it is refused, and the order says to keep going.
 abbrev pub IsSkippedBy : ArchiveOrder → Tally → Position → List ℕ → List (List ℕ) → List ℕ → Tally → Type 0
 IsSkippedBy order tally at frame message text tally_after =
     (order.keep_going ≡ true) × (r : Refusal) × IsRefusedBy order.task message order.limits r
     × (text ≡ skipped_text order.task at frame message r) × (tally_after ≡ skipped tally at)
 
--- from one state to the next, a message is served or skipped
+-- The message takes the state `s` to `t`: it is served or skipped.
 abbrev pub serves : ArchiveService → Position → List ℕ → List (List ℕ) → List ℕ → ArchiveService → Type 0
 serves s at frame message text t =
     (t.order ≡ s.order)
     × (IsServedBy s.order.task s.order.limits s.tally at frame message text t.tally
     ⊎ IsSkippedBy s.order s.tally at frame message text t.tally)
 
--- a message that is refused ends a run that does not keep going
+-- The message ends the run: it is refused, and the order does not say to keep going.
 abbrev pub refuses : ArchiveService → Position → List ℕ → List (List ℕ) → Refusal → Type 0
 refuses s at frame message r = (s.order.keep_going ≡ false) × IsRefusedBy s.order.task message s.order.limits r
 
--- A message was served, and its text was added to what goes out; or it is refused, and that and the tally are as they
--- were. Or memory was refused, before the text or within it; or the writer failed within it.
+-- The message was served, and its text was added to the output. Or it is refused, and the output and the tally are
+-- unchanged. Or memory was refused, before the text or within it. Or the writer failed within the text.
 abbrev pub AddsServed : Task → Bounds → Tally → Position → List ℕ → List (List ℕ) → Outgoing → Outgoing → Bool
     → Result (Unit {0}) ServeFault → Tally → Type 0
 AddsServed task limits tally at frame message old new failed (Ok u) tally_after =
@@ -92,7 +94,7 @@ AddsServed task limits tally at frame message old new failed (Err faults.Io) tal
 AddsServed task limits tally at frame message old new failed (Err (faults.Refused r)) tally_after =
     IsRefusedBy task message limits r × (new ≡ old) × (tally_after ≡ tally) × (failed ≡ false)
 
--- a message was skipped; or memory was refused, and the text is as it was
+-- The message was skipped. Or memory was refused, and the text is unchanged.
 abbrev pub Skips : Task → Tally → Position → List ℕ → List (List ℕ) → Refusal → List ℕ → List ℕ
     → Result (Unit {0}) ServeFault → Tally → Type 0
 Skips task tally at frame message r old new (Ok u) tally_after =

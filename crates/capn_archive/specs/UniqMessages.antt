@@ -1,4 +1,4 @@
--- Which messages `uniq` keeps: those whose canonical bytes no message before them had, by their SHA-256. (Own.)
+-- The messages that `uniq` keeps: those whose canonical bytes no earlier message had, compared by their SHA-256. (Own.)
 use Rattle.std.specs.Prelude.{◌≡◌, ◌⊎◌, ℕ, ◌+◌, ◌-◌, ◌^◌, ◌<◌, min, List, [], length, Bool, true, false, Option, None}
 use Rattle.std.specs.Prelude.{Some, Result, Ok, Err}
 use Rattle.std.specs.FinSet as set
@@ -14,38 +14,38 @@ use Rattle.capn_archive.specs.declared.uniq_order.UniqOrder.{UniqOrder}
 use Rattle.capn_archive.specs.Digest.{IsDigest, IsUndigested}
 use Rattle.capn_serve.specs.Skipped.{one_more}
 
--- what `uniq` has kept: its order, the set of the digests of the messages that it has kept, how many it has served, and
--- those that it has skipped
+-- The state of `uniq`: its order, the set of the digests of the messages that it has kept, the number that it has
+-- served, and the count of those that it has skipped.
 pub record UniqState : Type 0 where
   pub order : UniqOrder
   pub digests : set.FinSet (slice_cmp nat_cmp)
   pub served : ℕ
   pub skipped : Option SkippedSoFar
 
--- nothing has been kept
+-- The state before the first message.
 abbrev pub first_state : UniqOrder → UniqState
 first_state order = record { order = order; digests = set.empty; served = 0; skipped = None }
 
--- whether a digest is among these
+-- `digest` is among `digests`.
 abbrev pub has : set.FinSet (slice_cmp nat_cmp) → List ℕ → Bool
 has digests digest = set.contains digests digest
 
--- these digests, and one more, unless it is among them
+-- `digests` with `digest` inserted, unless it is among them.
 abbrev pub and_one : set.FinSet (slice_cmp nat_cmp) → List ℕ → set.FinSet (slice_cmp nat_cmp)
 and_one digests digest = set.insert digests digest
 
--- one message more; no number passes 2^64 - 1
+-- The number of served messages after one more. It stops at 2^64 - 1.
 abbrev pub one_served : ℕ → ℕ
 one_served served = min (served + 1) (2 ^ 64 - 1)
 
--- what a message writes, by whether messages are only counted and whether one before had its digest: its frame, as it
--- stands, or nothing
+-- The text for a message: its frame, or nothing if messages are only counted or an earlier one had the same digest.
 abbrev pub kept_text : Bool → Bool → List ℕ → List ℕ
 kept_text true is_duplicate frame = []
 kept_text false true frame = []
 kept_text false false frame = frame
 
--- a message with its frame is served: it writes its frame unless it is a duplicate, and its digest is inserted
+-- `message` is served: its frame is written unless it is a duplicate or messages are only counted, and its digest is
+-- inserted.
 abbrev pub Deduplicates : UniqState → List ℕ → List (List ℕ) → List ℕ → UniqState → Type 0
 Deduplicates s frame message text t =
     (digest : List ℕ) × IsDigest message s.order.limits digest
@@ -57,8 +57,8 @@ Deduplicates s frame message text t =
       skipped = s.skipped;
     })
 
--- a message at a position is skipped: it has no digest, and the run keeps going; it writes nothing, and is not
--- among those served
+-- `message` is skipped, because it has no digest and the order says to keep going. Nothing is written, and it is not
+-- counted as served.
 abbrev pub IsSkipped : UniqState → Position → List (List ℕ) → List ℕ → UniqState → Type 0
 IsSkipped s at message text t =
     (s.order.keep_going ≡ true) × (r : Refusal) × IsUndigested message s.order.limits r × (text ≡ [])
@@ -69,22 +69,22 @@ IsSkipped s at message text t =
       skipped = Some (one_more s.skipped at);
     })
 
--- from one state to the next, a message is served or skipped
+-- The message takes the state `s` to `t`: it is served or skipped.
 abbrev pub serves : UniqState → Position → List ℕ → List (List ℕ) → List ℕ → UniqState → Type 0
 serves s at frame message text t = Deduplicates s frame message text t ⊎ IsSkipped s at message text t
 
--- a message that has no digest ends a run that does not keep going
+-- The message ends the run: it has no digest, and the order does not say to keep going.
 abbrev pub refuses : UniqState → Position → List ℕ → List (List ℕ) → Refusal → Type 0
 refuses s at frame message r = (s.order.keep_going ≡ false) × IsUndigested message s.order.limits r
 
--- a digest was inserted, and was not among those before, or was; or memory was refused
+-- `digest` was inserted, and the result says whether it was there before. Or memory was refused.
 abbrev pub InsertsDigest : set.FinSet (slice_cmp nat_cmp) → set.FinSet (slice_cmp nat_cmp) → List ℕ
     → Result Bool ServeFault → Type 0
 InsertsDigest old new digest (Ok is_duplicate) = (is_duplicate ≡ has old digest) × (new ≡ and_one old digest)
 InsertsDigest old new digest (Err fault) = fault ≡ faults.Memory
 
--- A message was served; or it has no digest, and what goes out and the state are as they were. Or memory was refused,
--- before what it writes or within it; or the writer failed within it.
+-- The message was served. Or it has no digest, and the output and the state are unchanged. Or memory was refused,
+-- before its text or within it. Or the writer failed within its text.
 abbrev pub TriesToDeduplicate : UniqState → List ℕ → List (List ℕ) → Outgoing → Outgoing → Bool
     → Result (Unit {0}) ServeFault → UniqState → Type 0
 TriesToDeduplicate s frame message old new failed (Ok u) t =

@@ -1,4 +1,4 @@
--- What a run of `uniq` did. (Own.)
+-- A whole run of `uniq`. (Own.)
 use Rattle.std.specs.Prelude.{◌≡◌, ℕ, List, [], ◌++◌, codes, Bool, true, false, Option, None, Result, refl}
 use Rattle.std.specs.FinSet as set
 use Rattle.std.specs.Fmt.{decimal, digits}
@@ -10,15 +10,15 @@ use Rattle.capn_serve.specs.Fold.{Fold, fold_of}
 use Rattle.capn_archive.specs.UniqMessages.{UniqState, first_state, serves, refuses}
 use Rattle.capn_serve.specs.StreamRun.{start}
 
--- the fold over the messages of an archive
+-- The fold over the messages of an archive.
 abbrev pub uniq_fold : UniqOrder → Fold (Run UniqState)
 uniq_fold order = fold_of serves refuses order.limits.message_words
 
--- nothing has been served
+-- The state of a run before its first message.
 abbrev pub first_run : UniqOrder → Run UniqState
 first_run order = record { service = first_state order; at = start }
 
--- the line of a count: how many messages are kept, of how many
+-- The line that `uniq --count` writes: how many messages are kept, and how many were served.
 abbrev pub count_line : ℕ → ℕ → List ℕ
 count_line kept served = decimal kept ++ (codes " of " ++ (decimal served ++ codes "\n"))
 
@@ -26,20 +26,20 @@ two_of_five : count_line 2 5 ≡ codes "2 of 5\n"
 unfolding digits
 two_of_five = refl
 
--- what is written after the last message: the line of the count, where messages are only counted
+-- The closing text: the counting line if messages are only counted, else nothing.
 abbrev pub closing_by : Bool → ℕ → ℕ → List ℕ
 closing_by true kept served = count_line kept served
 closing_by false kept served = []
 
--- what the service writes after the last message
+-- The closing text by the state of the service.
 abbrev pub closing : UniqState → List ℕ
 closing s = closing_by s.order.count (set.len s.digests) s.served
 
--- what a run does after its last message
+-- The end of a run after its last message: the closing text, and the count of the skipped messages.
 abbrev pub uniq_finish : Finish (Run UniqState)
 uniq_finish = record { closing = λ y. closing y.service; skipped = λ y. y.service.skipped; ended = λ y. None }
 
--- what a run did, over a reader (from a to b) and a writer (from c to d)
+-- The effect of a run: the reader goes from `a` to `b`, the writer from `c` to `d`, and `r` is the result.
 abbrev pub Deduplicated : UniqOrder → Option (List ℕ) → Option (List ℕ) → Option (List ℕ) → Option (List ℕ) → Bool
     → Bool → Result (Unit {0}) ArchiveFault → Type 0
 Deduplicated order a b c d reader_failed writer_failed r =

@@ -1,4 +1,4 @@
--- What no public clause cites.
+-- Definitions that no public clause cites.
 pub mod Closing
 pub mod FilterVerdict
 pub mod LineRoom

@@ -1,4 +1,4 @@
-//! A whole run over an archive.
+//! `run_archive`: a whole run of `list`, `limits` or `canonical --framed`, from its first message to its result.
 
 ghost use Rattle.std.specs.Prelude.{◌≡◌, false};
 ghost use Rattle.capn_words.specs.Watched.{inner_of, has_failed};
@@ -17,7 +17,6 @@ use capn_words::Watched;
 use std::alloc::Allocator;
 use std::io::{Read, Write};
 
-/// Returns the run of `order` before its first message.
 fn first_run(order: ArchiveOrder) -> Run<ArchiveService>
     ensures { result ≡ spec.first_run order }
 {
@@ -27,7 +26,7 @@ fn first_run(order: ArchiveOrder) -> Run<ArchiveService>
     })
 }
 
-/// Serves the messages of an input in its form.
+/// Serves the messages of the input, in the form that `order` names.
 fn serve_messages<R: Read, W: Write, A: Allocator + Copy>(
     alloc: A,
     order: &ArchiveOrder,
@@ -55,13 +54,15 @@ fn fault_of(run: &Run<ArchiveService>, fault: RunFault) -> ArchiveFault
     fault_after(run.service.tally.skipped, run.at.index, fault)
 }
 
-/// Reads the messages of an archive, and writes what its task says: of each message, and at the end.
+/// Reads the messages of an archive from `reader`, and writes to `writer` what the task of `order` writes for each
+/// message and at the end.
 ///
-/// It reads as [`serve_form`] does. The run ends as done, as `Skipped` after all of its input if messages were skipped,
-/// or with the first fault. `Refused`: a frame, a group or a message is refused, at its position. `RefusedAfterSkipped`
-/// instead, if messages were skipped before that frame or group. `InputTooLong`. `Io` if and only if the reader or the
-/// writer failed. `Memory` if a growth was refused. The texts of the messages before a fault have been written, and
-/// nothing after these. It holds what its loop holds, the canonical bytes of one message, and a tally.
+/// Input is read as [`serve_form`] reads it. The run ends with `Ok`, with `Skipped` after all of its input if messages
+/// were skipped, or with the first fault. The fault is `Refused`, with the position, if a frame, a group or a message
+/// is refused. It is `RefusedAfterSkipped` if messages were skipped before a refused frame or group. It is
+/// `InputTooLong`, or `Io` if and only if the reader or the writer failed, or `Memory` if a growth was refused. The
+/// texts of the messages before a fault have been written, and nothing after them. A run holds what its loop holds, the
+/// canonical bytes of one message, and a tally.
 pub fn run_archive<R: Read, W: Write, A: Allocator + Copy>(
     alloc: A,
     order: ArchiveOrder,

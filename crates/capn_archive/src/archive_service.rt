@@ -1,4 +1,4 @@
-//! The service of all tasks over an archive.
+//! `ArchiveService`: serves the messages of an archive for each `Task`.
 
 ghost use Rattle.std.specs.Prelude.{◌≡◌, ℕ, List, Option, false};
 ghost use Rattle.capn_words.specs.Watched.{inner_of, has_failed};
@@ -24,21 +24,21 @@ use capn_words::{Space, Watched};
 use std::alloc::Allocator;
 use std::io::Write;
 
-/// The service of an archive: the work that is done with each message, and the tally of the messages before it.
+/// The service of a run over an archive: its order, and the tally of the messages before.
 ///
-/// It writes of each message what the task asks for. A refused message ends the run, or is skipped if the order says to
-/// keep going. A skipped message is counted, and `list` writes its line, with digests or without. The tally takes the
-/// same room however long the run is.
+/// For each message it writes what the task writes. A refused message ends the run, or is skipped if the order says to
+/// keep going. A skipped message is counted, and `list` writes its line, with `--digest` or without. The tally takes
+/// the same room however long the run is.
 #[derive(Clone, Copy, Debug, PartialEq, Eq)]
 pub struct ArchiveService {
-    /// The work that is done with each message.
+    /// The task, the limits, and whether refused messages are skipped.
     pub order: ArchiveOrder,
-    /// The tally of the messages before.
+    /// The tally of the messages served so far.
     pub tally: Tally,
 }
 
-/// Adds the frame of a message's canonical bytes. If the message is canonical, these are its own bytes: one pass finds
-/// them, and no others are made.
+/// Adds the canonical bytes of `message` as a frame. If the message is canonical, one pass finds its own bytes, and no
+/// others are made.
 fn serve_canonical<S: Space, W: Write, A: Allocator + Copy>(
     alloc: A,
     limits: Limits,
@@ -62,7 +62,7 @@ fn serve_canonical<S: Space, W: Write, A: Allocator + Copy>(
     }
 }
 
-/// Appends the line of what is found of a message.
+/// Appends the line of `message` for `list` to `text`.
 fn serve_list<S: Space, A: Allocator + Copy>(
     alloc: A,
     limits: Limits,
@@ -78,7 +78,7 @@ fn serve_list<S: Space, A: Allocator + Copy>(
     put_list_line(&head_of(at, frame, message), &measured, text)
 }
 
-/// Appends the line of what is found of a message, with its digest.
+/// Appends the line of `message` for `list --digest` to `text`.
 fn serve_digests<S: Space, A: Allocator + Copy>(
     alloc: A,
     limits: Limits,
@@ -95,7 +95,7 @@ fn serve_digests<S: Space, A: Allocator + Copy>(
     put_digests_line(&head_of(at, frame, message), &measured, digest, text)
 }
 
-/// Counts a message.
+/// Adds the size, price and depth of `message` to `tally`.
 fn serve_limits<S: Space, A: Allocator + Copy>(
     alloc: A,
     limits: Limits,
@@ -119,7 +119,7 @@ fn serve_limits<S: Space, A: Allocator + Copy>(
     Ok(())
 }
 
-/// Serves a message as a task says.
+/// Serves `message` by the task of `order`.
 fn serve_task<S: Space, W: Write, A: Allocator + Copy>(
     alloc: A,
     order: &ArchiveOrder,
@@ -143,7 +143,7 @@ fn serve_task<S: Space, W: Write, A: Allocator + Copy>(
     }
 }
 
-/// Skips a message that is refused.
+/// Counts a refused message as skipped. For a `list` it also appends the message's line.
 fn skip_message<S: Space, A: Allocator + Copy>(
     alloc: A,
     task: Task,
@@ -168,7 +168,7 @@ fn skip_message<S: Space, A: Allocator + Copy>(
 }
 
 impl ArchiveService {
-    /// Serves a message as the task says, or skips it if it is refused and the order says to keep going.
+    /// Serves `message` by the task, or skips it if it is refused and the order says to keep going.
     fn add_message<S: Space, W: Write, A: Allocator + Copy>(
         &mut self,
         alloc: A,

@@ -10,7 +10,7 @@ use capn_words::Watched;
 use std::alloc::Allocator;
 use std::io::Write;
 
-/// Returns the table of one segment of this number of `words`.
+/// Returns the segment table of a frame with one segment of `words` words.
 #[tactic(auto, unfolding(capn_stream::specs::Frames::entry))]
 fn head_of(words: u32) -> [u8; 8]
     ensures { result ≡ head words }

@@ -1,4 +1,4 @@
-//! The digest of a message.
+//! The SHA-256 of a message's canonical bytes.
 
 ghost use Rattle.capn_canon.specs.MemoryNeed.{MayNeedBytes};
 ghost use Rattle.capn_canon.specs.Refusal.{IsUnaccepted};
@@ -12,8 +12,8 @@ use capn_words::Space;
 use sha2::{Digest, Sha256};
 use std::alloc::Allocator;
 
-/// Returns the digest of a message's canonical bytes. If the message is canonical, its own bytes are hashed where they
-/// lie: one pass finds them, and no others are made.
+/// Returns the SHA-256 of the canonical bytes of `message`. If the message is canonical, one pass finds its own bytes,
+/// which are hashed where they lie.
 pub(crate) fn digest_of<S: Space, A: Allocator + Copy>(
     alloc: A,
     limits: Limits,
@@ -33,7 +33,8 @@ pub(crate) fn digest_of<S: Space, A: Allocator + Copy>(
     }
 }
 
-/// Returns the digest of a message, or `None` if its value has a capability. `Refused`: its walk refuses it.
+/// Returns the digest of `message`, or `None` if its value has a capability. The error is `Refused` if its walk refuses
+/// it.
 pub(crate) fn digest_if_any<S: Space, A: Allocator + Copy>(
     alloc: A,
     limits: Limits,

@@ -17,7 +17,7 @@ use capn_words::Watched;
 use std::alloc::Allocator;
 use std::io::Write;
 
-/// Returns the fault of an input that is refused at the position `at`. If some of the `messages` before it were
+/// Returns the fault of an input that is refused at the position `at`. If some of the `messages` before `at` were
 /// skipped, the fault counts them.
 fn after_skipped(
     skipped: Option<SkippedSoFar>,
@@ -35,8 +35,8 @@ fn after_skipped(
     }
 }
 
-/// Returns the fault of an input by its `refusal`. Only the fault of a frame, or of a packed text, counts the messages
-/// that were skipped before it.
+/// Returns the fault of a run that `refusal` ended at the position `at`. Only a refused frame, or refused packed bytes,
+/// is reported with the number of messages skipped before.
 fn refused_after(
     skipped: Option<SkippedSoFar>,
     messages: u64,
@@ -54,8 +54,8 @@ fn refused_after(
     }
 }
 
-/// Maps the fault of a run over messages to the fault of a run over an archive. The run had `messages` before it, and
-/// skipped those in `skipped`.
+/// Maps the fault of a loop over messages to the fault of a run over an archive. The loop served or skipped `messages`
+/// messages, and `skipped` counts the skipped ones.
 pub(crate) fn fault_after(
     skipped: Option<SkippedSoFar>,
     messages: u64,
@@ -71,8 +71,8 @@ pub(crate) fn fault_after(
     }
 }
 
-/// Returns the outcome of a run over all of its input, which had this number of `messages`, and skipped those in
-/// `skipped` among them.
+/// Returns the outcome of a run that read all of its input. The input had `messages` messages, and `skipped` counts the
+/// skipped ones.
 pub(crate) fn outcome(skipped: Option<SkippedSoFar>, messages: u64) -> Result<(), ArchiveFault>
     ensures { result ≡ finish.outcome_by skipped messages }
 {
@@ -93,7 +93,8 @@ fn needs_of(order: &ArchiveOrder, run: &Run<ArchiveService>) -> Needs
     }
 }
 
-/// Returns the text after the last message: the limits that all need, or nothing for another task.
+/// Returns the text that follows the last message: for `Task::Limits` the limits that the messages need, for any other
+/// task nothing.
 fn closing_text<A: Allocator>(alloc: A, task: Task, needs: &Needs) -> Result<String<A>, RunFault>
     ensures found { IfOk result (λ text. string_bytes text ≡ spec.closing_by task needs.now) }
     ensures only { IfErr result (λ e. (e ≡ faults.Memory) × (spec.closing_by task needs.now ≢ [])) }
@@ -104,7 +105,7 @@ fn closing_text<A: Allocator>(alloc: A, task: Task, needs: &Needs) -> Result<Str
     }
 }
 
-/// Writes the text after the last message.
+/// Writes the text that follows the last message.
 pub(crate) fn write_closing<W: Write, A: Allocator + Copy>(
     alloc: A,
     order: &ArchiveOrder,

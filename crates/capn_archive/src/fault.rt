@@ -1,4 +1,4 @@
-//! Faults of a run over an archive.
+//! The faults that end a run over an archive, with their texts and exit status.
 
 ghost use Rattle.capn_words.specs.Watched.{inner_of, has_failed};
 ghost use Rattle.capn_serve.specs.Line.{Says, way};
@@ -9,26 +9,27 @@ use capn_serve::{Ending, Line, Position, Skipped, say_place, say_refusal, say_sk
 use capn_words::Watched;
 use std::io::Write;
 
-/// Why a run over an archive does not end as done.
+/// The reason why a run over an archive does not end with `Ok`.
 #[derive(Clone, Copy, Debug, PartialEq, Eq)]
 pub enum ArchiveFault {
     /// A growth was refused.
     Memory,
     /// The reader or the writer failed.
     Io,
-    /// There are more bytes than a run takes.
+    /// The input has more bytes than a run takes.
     InputTooLong,
     /// The message at this position is refused, or no message can begin there.
     Refused(Position, Refusal),
-    /// The message at this position is accepted and not canonical, and only canonical ones are let through.
+    /// The message at this position is accepted but not canonical, and the run lets only canonical ones through.
     NotCanonical(Position),
     /// All of the input was served, except for messages that were skipped.
     Skipped(Skipped),
-    /// The frame or the packed text at this position is refused, after messages of which these were skipped.
+    /// The frame or the packed bytes at this position are refused. Messages before it were skipped, as the first field
+    /// counts.
     RefusedAfterSkipped(Skipped, Position, Refusal),
 }
 
-/// Says that a message at a position is refused, or that none can begin there.
+/// Says that the message at `at` is refused, or that no message can begin there.
 fn say_refused<E: Write>(at: &Position, refusal: &Refusal, line: &mut Line, errors: &mut Watched<E>)
     ensures { Says (text_of_refused at.now refusal.now)
         (way line.old (E.contents (inner_of errors.old)) (has_failed errors.old))
@@ -40,7 +41,6 @@ fn say_refused<E: Write>(at: &Position, refusal: &Refusal, line: &mut Line, erro
     say_refusal(refusal, line, errors);
 }
 
-/// Says that the message at a position is not canonical.
 fn say_uncanonical<E: Write>(at: &Position, line: &mut Line, errors: &mut Watched<E>)
     ensures { Says (text_of_uncanonical at.now)
         (way line.old (E.contents (inner_of errors.old)) (has_failed errors.old))

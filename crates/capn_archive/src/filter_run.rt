@@ -1,4 +1,4 @@
-//! A whole run of `filter`.
+//! `run_filter`: a whole run of `filter`, from its first message to its result.
 
 ghost use Rattle.std.specs.Prelude.{◌≡◌, false};
 ghost use Rattle.capn_words.specs.Watched.{inner_of, has_failed};
@@ -15,15 +15,14 @@ use capn_words::Watched;
 use std::alloc::Allocator;
 use std::io::{Read, Write};
 
-/// Returns the run of `order` before its first message.
 fn first_run(order: FilterOrder) -> Run<FilterService>
     ensures { result ≡ spec.first_run order }
 {
     Run::new(FilterService::new(order))
 }
 
-/// Returns the outcome of `run`, which no fault ended: it stopped at a message that is not canonical, or at the end of
-/// its input.
+/// Returns the outcome of `run`, whose loop ended without a fault. Either a message that is not canonical ended it, or
+/// all of its input was read.
 fn outcome_of(run: &Run<FilterService>) -> Result<(), ArchiveFault>
     ensures { result ≡ finish.outcome_unless run.now.service.ended run.now.service.skipped run.now.at.index }
 {
@@ -40,7 +39,7 @@ fn fault_of(run: &Run<FilterService>, fault: RunFault) -> ArchiveFault
     fault_after(run.service.skipped, run.at.index, fault)
 }
 
-/// Has the service serve all of an input, up to the message that ends the run.
+/// Serves all messages of the input, up to the one that ends the run.
 fn run_service<R: Read, W: Write, A: Allocator + Copy>(
     alloc: A,
     order: &FilterOrder,
@@ -62,16 +61,18 @@ fn run_service<R: Read, W: Write, A: Allocator + Copy>(
     }
 }
 
-/// Reads the messages of an archive, and writes the frame of each accepted one, as it stands. From a packed input it
-/// writes the bytes that the frame unpacks to, and from a bare input all of it. If the order is for canonical messages,
-/// it writes only those: of one segment, whose contents are the canonical bytes of the value.
+/// Reads the messages of an archive from `reader`, and writes the frame of each accepted one to `writer`, unchanged. If
+/// the input is packed, the unpacked bytes of the frame are written. If the input is bare, all of it is written. If
+/// `order.canonical` is true, only canonical messages are written: those of one segment that holds the canonical bytes
+/// of their value.
 ///
-/// It reads as [`serve_form`] does, and writes what a piece decided before it reads more. The run ends as done, as
-/// `Skipped` after all of its input if messages were skipped, or with the first fault. `Refused`: a frame, a group or a
-/// message is refused, at its position. `RefusedAfterSkipped` instead, if messages were skipped before that frame or
-/// group. `NotCanonical`: a message is accepted but not canonical, at its position, and nothing is read after it.
-/// `InputTooLong`. `Io` if and only if the reader or the writer failed. `Memory` if a growth was refused. The frames
-/// let through before a fault have been written, and nothing after these. It holds what its loop holds.
+/// Input is read as [`serve_form`] reads it. The frames that a chunk of input decided are written before more is read.
+/// The run ends with `Ok`, with `Skipped` after all of its input if messages were skipped, or with the first fault. The
+/// fault is `Refused`, with the position, if a frame, a group or a message is refused. It is `RefusedAfterSkipped` if
+/// messages were skipped before a refused frame or group. It is `NotCanonical`, with the position, if a message is
+/// accepted but not canonical, and nothing is read after that message. It is `InputTooLong`, or `Io` if and only if the
+/// reader or the writer failed, or `Memory` if a growth was refused. The frames let through before a fault have been
+/// written, and nothing after them. A run holds what its loop holds.
 pub fn run_filter<R: Read, W: Write, A: Allocator + Copy>(
     alloc: A,
     order: FilterOrder,

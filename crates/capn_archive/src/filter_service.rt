@@ -1,4 +1,4 @@
-//! The service of `filter`.
+//! `FilterService`: copies the frames of accepted messages, or only of canonical ones.
 
 ghost use Rattle.std.specs.Prelude.{◌≡◌, true};
 ghost use Rattle.capn_archive.specs.FilterMessages.{first_state};
@@ -12,34 +12,34 @@ use capn_words::{Space, Watched};
 use std::alloc::Allocator;
 use std::io::Write;
 
-/// The service that lets messages through: it writes the frame of each message that is accepted, as it stands, or only
-/// of those that are canonical.
+/// The service of `filter`. It writes the frame of each accepted message unchanged, or only the frames of canonical
+/// messages.
 ///
-/// A message that is held back writes nothing. If the order says to keep going, it is skipped. Otherwise it ends the
-/// run. If its walk refuses it, the run ends with that refusal. If it is accepted but not canonical, the service keeps
-/// the position of the message, and asks for no more. It counts the skipped messages, and takes no memory.
+/// Nothing is written for a message that is not let through. If the order says to keep going, that message is skipped.
+/// Otherwise it ends the run: with the refusal of its walk, or, if it is accepted but not canonical, by its position in
+/// `ended`. The service counts the skipped messages, and takes no memory.
 #[derive(Clone, Copy, Debug, PartialEq, Eq)]
 pub struct FilterService {
-    /// The order that it carries out.
+    /// The options of the run.
     pub order: FilterOrder,
-    /// The messages that it has skipped, if any.
+    /// The count of the skipped messages, if there are any.
     pub skipped: Option<SkippedSoFar>,
     /// The position of the message that ended the run because it is not canonical, if one did.
     pub ended: Option<Position>,
 }
 
-/// The verdict on a message.
+/// The decision whether a message is let through.
 #[derive(Clone, Copy)]
 pub(crate) enum Verdict {
-    /// It is let through.
+    /// The message is let through.
     Passes,
-    /// It is accepted and not canonical, where only canonical ones are let through.
+    /// The message is accepted but not canonical, and only canonical ones are let through.
     NotCanonical,
-    /// Its walk refuses it.
+    /// The walk of the message refuses it.
     Refused(Refusal),
 }
 
-/// Judges if `message` is canonical, as `list` finds it: no canonical bytes are made.
+/// Decides whether `message` is canonical, by the same measure as `list`. No canonical bytes are made.
 fn judge_canonical<S: Space, A: Allocator + Copy>(alloc: A, limits: Limits, message: &S) -> Verdict
     ensures { IsVerdict true (S.message message.now) limits result }
 {
@@ -54,7 +54,7 @@ fn judge_canonical<S: Space, A: Allocator + Copy>(alloc: A, limits: Limits, mess
     }
 }
 
-/// Judges if `message` is let through, or why it is held back. It takes no memory.
+/// Decides whether `message` is let through. It takes no memory.
 fn judge<S: Space, A: Allocator + Copy>(alloc: A, order: &FilterOrder, message: &S) -> Verdict
     ensures { IsVerdict order.now.canonical (S.message message.now) order.now.limits result }
 {

@@ -1,9 +1,9 @@
-//! The program's commands over an archive.
-//! An archive is a stream of messages, or a bare input.
+//! The commands of the program over an archive, which is a stream of messages or a bare input: `list`, `limits`,
+//! `canonical --framed`, `uniq` and `filter`.
 //!
-//! [`run_archive`] carries out an [`ArchiveOrder`] by an [`ArchiveService`]: of each message, and at the end, it writes
-//! what the order's [`Task`] asks for. [`run_uniq`] carries out a [`UniqOrder`] by a [`UniqService`]: it leaves out
-//! each message with the canonical bytes of an earlier one. [`run_filter`] carries out a [`FilterOrder`] by a
+//! [`run_archive`] carries out an [`ArchiveOrder`] by an [`ArchiveService`]: for each message, and at the end, it
+//! writes what the order's [`Task`] writes. [`run_uniq`] carries out a [`UniqOrder`] by a [`UniqService`]: it leaves
+//! out each message whose canonical bytes equal an earlier message's. [`run_filter`] carries out a [`FilterOrder`] by a
 //! [`FilterService`]: it lets accepted messages through. The loops over the messages are those of [`capn_serve`].
 #![tactic(auto)]
 

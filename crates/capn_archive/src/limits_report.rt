@@ -1,4 +1,4 @@
-//! The limits needed for the messages of an archive.
+//! The text of the command `limits`: the limits that the messages of an archive need.
 
 ghost use Rattle.std.specs.Prelude.{◌≡◌, ◌≢◌, ◌<◌, ◌^◌, [], IfOk, IfErr, string_bytes};
 ghost use Rattle.capn_archive.specs.Lines as spec;
@@ -10,18 +10,18 @@ use capn_value::Tariff;
 use std::alloc::Allocator;
 use std::fmt;
 
-/// The limits that the messages of an archive need.
+/// The figures of the messages of an archive, displayed as the limits that they need.
 #[derive(Clone, Copy, Debug, PartialEq, Eq)]
 pub struct Needs {
     /// The number of messages.
     pub messages: u64,
-    /// The tally of them.
+    /// The greatest size, price and depth of a message.
     pub tally: Tally,
-    /// The tariff by which they were priced.
+    /// The tariff by which the messages were priced.
     pub tariff: Tariff,
 }
 
-/// The greatest amount of a message, if there is a message.
+/// The greatest amount and the number of its message, displayed as zeros if there is no message.
 #[derive(Drop)]
 struct Peak(Option<Greatest>);
 
@@ -42,7 +42,7 @@ impl fmt::Display for Peak {
     }
 }
 
-/// The option that names a tariff, or nothing if it is the usual one.
+/// The `--tariff` option for a tariff, displayed as nothing if it is the default.
 #[derive(Drop)]
 struct TariffOption(Tariff);
 
@@ -60,7 +60,7 @@ impl fmt::Display for TariffOption {
     }
 }
 
-/// Writes the number of messages, and the greatest words, price and depth of one.
+/// The lines with the number of messages, and the greatest words, price and depth of one.
 impl fmt::Display for Needs {
     ghost use Rattle.std.specs.Prelude.{Some};
     ghost use Rattle.capn_archive.specs.Lines.{needs_text};
@@ -79,7 +79,7 @@ impl fmt::Display for Needs {
     }
 }
 
-/// Returns the greatest amount, or 0 if there is no message.
+/// Returns the amount in `greatest`, or 0 if there is no message.
 fn amount_of(greatest: Option<Greatest>) -> u64
     ensures value { result ≡ spec.amount_of greatest }
     ensures small { result < 2 ^ 32 }
@@ -90,7 +90,7 @@ fn amount_of(greatest: Option<Greatest>) -> u64
     }
 }
 
-/// Limits that leave room.
+/// The last line: options whose limits leave room above the greatest amounts.
 #[derive(Drop)]
 struct Advice<'a>(&'a Needs);
 

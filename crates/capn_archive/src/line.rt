@@ -1,4 +1,4 @@
-//! A line, written from its end to its beginning.
+//! `Line`: a line of `list`, built from its end to its beginning in a fixed buffer.
 
 ghost use Rattle.std.specs.Prelude.{◌≡◌, ◌+◌, ◌≤◌, [], ◌++◌, length};
 ghost use Rattle.std.specs.Fmt.{decimal};
@@ -10,10 +10,10 @@ use capn_canon::MeasuredBare;
 use capn_serve::number_of;
 use std::marker::Model;
 
-/// The most bytes of a line.
+/// The size of the buffer, which is the greatest length of a line in bytes.
 const ROOM: usize = 352;
 
-/// A line that is written from its end to its beginning, as the digits of a number are. It takes no memory.
+/// A line that is built from its end to its beginning, as the digits of a number are. It takes no memory.
 #[derive(Drop)]
 pub struct Line {
     bytes: [u8; ROOM],
@@ -32,7 +32,6 @@ impl Model for Line {
 }
 
 impl Line {
-    /// Returns a line in which nothing is written yet.
     pub(crate) fn new() -> Line
         ensures { result ≡ [] }
     {
@@ -42,7 +41,6 @@ impl Line {
         }
     }
 
-    /// Returns the bytes of the line.
     pub(crate) fn as_bytes(&self) -> &[u8]
         ensures { result.now ≡ self.now }
     {
@@ -59,7 +57,7 @@ impl Line {
         self.start = start;
     }
 
-    /// Writes a number in front of the line.
+    /// Writes the decimal digits of `n` in front of the line.
     fn put_number(&mut self, n: u64)
         requires { 20 + length self.old ≤ most_line }
         ensures number { self.new ≡ decimal n ++ self.old }
@@ -68,7 +66,7 @@ impl Line {
         self.start = itoa::write_digits(n, &mut self.bytes, self.start);
     }
 
-    /// Writes a name and a number in front of the line.
+    /// Writes `name` and the decimal digits of `n` in front of the line.
     fn put_named(&mut self, name: &[u8], n: u64)
         requires { length name.now + 20 + length self.old ≤ most_line }
         ensures named { self.new ≡ name.now ++ (decimal n ++ self.old) }
@@ -78,7 +76,7 @@ impl Line {
         self.put(name);
     }
 
-    /// Writes the position and the size of a message in front of the line.
+    /// Writes the position and size in `head` in front of the line.
     pub(crate) fn put_head(&mut self, head: &MessageHead)
         requires { 148 + length self.old ≤ most_line }
         ensures { self.new ≡ spec.head_text head.now ++ self.old }
@@ -91,7 +89,7 @@ impl Line {
         self.put(digits.format(number_of(head.at.index)).as_bytes());
     }
 
-    /// Writes the index of a capability in front of the line, or that there is none.
+    /// Writes the index of `capability` in front of the line, or `no` if it is `None`.
     fn put_capability(&mut self, capability: Option<u32>)
         requires { 20 + length self.old ≤ most_line }
         ensures capability { self.new ≡ spec.capability_text capability ++ self.old }
@@ -103,7 +101,6 @@ impl Line {
         }
     }
 
-    /// Writes `yes` or `no` in front of the line.
     fn put_answer(&mut self, answer: bool)
         requires { 3 + length self.old ≤ most_line }
         ensures answer { self.new ≡ spec.answer_text answer ++ self.old }
@@ -116,7 +113,7 @@ impl Line {
         }
     }
 
-    /// Writes the numbers that were `measured` in front of the line.
+    /// Writes the figures in `measured` in front of the line.
     pub(crate) fn put_measured(&mut self, measured: &MeasuredBare)
         requires { 126 + length self.old ≤ most_line }
         ensures measured { self.new ≡ spec.measured_text measured.now ++ self.old }
@@ -131,7 +128,7 @@ impl Line {
         self.put_named(b"paid ", measured.survey.paid as u64);
     }
 
-    /// Writes a digest in front of the line, in 64 hexadecimal digits, or `-` if there is none.
+    /// Writes `digest` in front of the line, as 64 hexadecimal digits, or as `-` if it is `None`.
     pub(crate) fn put_digest(&mut self, digest: Option<[u8; 32]>)
         requires { 64 + length self.old ≤ most_line }
         ensures digest { self.new ≡ spec.digest_text digest ++ self.old }
@@ -140,7 +137,7 @@ impl Line {
         match digest {
             Some(digest) => {
                 let mut digits = [0; 64];
-                // 64 digits have room, so nothing is refused.
+                // The buffer has room for 64 digits, so this cannot fail.
                 let _done = hex::encode_to_slice(digest.as_slice(), &mut digits);
                 self.put(&digits);
             }

@@ -1,4 +1,4 @@
-//! The numbers of an accepted message.
+//! The figures of an accepted message: price, visits, depth, first capability, and whether it is canonical.
 
 ghost use Rattle.capn_canon.specs.Measure.{IsMeasure};
 ghost use Rattle.capn_canon.specs.Refusal.{IsUnaccepted};
@@ -10,8 +10,8 @@ use capn_walk::Limits;
 use capn_words::Space;
 use std::alloc::Allocator;
 
-/// Returns the numbers of the message `space`, if it is accepted within `limits`, or the refusal of its walk. It takes
-/// no memory.
+/// Returns the figures of the message `space`, if it is accepted within `limits`, or else the refusal of its walk. It
+/// takes no memory.
 pub(crate) fn measured_of<S: Space, A: Allocator + Copy>(
     alloc: A,
     space: &S,

@@ -5,7 +5,7 @@ ghost use Rattle.capn_archive.specs.Tally as spec;
 
 use capn_serve::{Position, SkippedSoFar, one_more};
 
-/// The greatest amount of a message so far.
+/// The greatest amount of a message so far, and the first message that has it.
 #[derive(Clone, Copy, Debug, PartialEq, Eq)]
 pub struct Greatest {
     /// The amount.
@@ -14,21 +14,20 @@ pub struct Greatest {
     pub index: u64,
 }
 
-/// The sums and maxima of the messages that a run has served.
+/// The greatest amounts of the messages that a run has served, and the count of those that it has skipped.
 #[derive(Clone, Copy, Debug, PartialEq, Eq)]
 pub struct Tally {
-    /// The messages that were skipped, if any.
+    /// The count of the skipped messages, if there are any.
     pub skipped: Option<SkippedSoFar>,
     /// The greatest number of words, if any message was counted.
     pub words: Option<Greatest>,
-    /// The greatest price.
+    /// The greatest price, if any message was counted.
     pub price: Option<Greatest>,
-    /// The greatest depth.
+    /// The greatest depth, if any message was counted.
     pub depth: Option<Greatest>,
 }
 
-/// Returns the greater of the greatest amount `so_far` and the `amount` of the message `index`: the earlier one, if
-/// they are equal.
+/// Returns the greater of `so_far` and the `amount` of the message `index`. If both amounts are equal, it is `so_far`.
 fn greater(so_far: Option<Greatest>, amount: u32, index: u64) -> Greatest
     ensures { result ≡ spec.greater so_far amount index }
 {
@@ -44,7 +43,7 @@ fn greater(so_far: Option<Greatest>, amount: u32, index: u64) -> Greatest
     }
 }
 
-/// Returns a tally in which nothing is counted.
+/// Returns the tally of a run that has not served a message.
 pub(crate) fn no_tally() -> Tally
     ensures { result ≡ spec.no_tally }
 {
@@ -56,7 +55,7 @@ pub(crate) fn no_tally() -> Tally
     }
 }
 
-/// Counts a message with these words, this price and this depth.
+/// Counts the message `index`, which has `words` words, costs `price`, and needs `depth`.
 pub(crate) fn count(tally: &mut Tally, index: u64, words: u32, price: u32, depth: u32)
     ensures { tally.new ≡ spec.counted tally.old index words price depth }
 {
@@ -65,7 +64,6 @@ pub(crate) fn count(tally: &mut Tally, index: u64, words: u32, price: u32, depth
     tally.depth = Some(greater(tally.depth, depth, index));
 }
 
-/// Counts a message that is skipped.
 pub(crate) fn skip(tally: &mut Tally, at: Position)
     ensures { tally.new ≡ spec.skipped tally.old at }
 {

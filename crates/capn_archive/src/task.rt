@@ -1,21 +1,21 @@
-//! Task and options of a run over an archive.
+//! The task and the options of a run over an archive.
 
 use capn_canon::{Form, Limits};
 
 /// The work that is done with the messages of an archive.
 #[derive(Clone, Copy, Debug, PartialEq, Eq)]
 pub enum Task {
-    /// Writes a line for each message: where it is, how large, what it costs, and whether it is canonical.
+    /// Writes a line for each message: its position, its size, its cost, and whether it is canonical.
     List,
-    /// The same, and the SHA-256 of its canonical bytes, or `-` if its value has a capability.
+    /// Writes the lines of `List`, each with the SHA-256 of the canonical bytes, or `-` if the value has a capability.
     Digests,
-    /// Writes at the end the limits that all messages need.
+    /// Writes the limits that all messages need, at the end.
     Limits,
     /// Writes the canonical bytes of each message, as a frame of one segment.
     Canonical,
 }
 
-/// The order of a run over an archive.
+/// The task of a run over an archive, and its options.
 #[derive(Clone, Copy, Debug, PartialEq, Eq)]
 pub struct ArchiveOrder {
     /// The work that is done with each message.
@@ -24,6 +24,6 @@ pub struct ArchiveOrder {
     pub form: Form,
     /// The limits of each message.
     pub limits: Limits,
-    /// True if a message that is refused is skipped, and the next one served.
+    /// True if a refused message is skipped, so that the run continues with the next one.
     pub keep_going: bool,
 }

@@ -2,15 +2,16 @@
 
 use capn_canon::{Form, Limits};
 
-/// The order of a run that leaves out each message with the canonical bytes of an earlier one, compared by SHA-256.
+/// The options of a run of `uniq`, which leaves out each message whose canonical bytes equal an earlier message's.
+/// Canonical bytes are compared by their SHA-256.
 #[derive(Clone, Copy, Debug, PartialEq, Eq)]
 pub struct UniqOrder {
     /// The encoding of the input.
     pub form: Form,
     /// The limits of each message.
     pub limits: Limits,
-    /// True if a message that is refused is skipped, and the next one served.
+    /// True if a refused message is skipped, so that the run continues with the next one.
     pub keep_going: bool,
-    /// True if messages are only counted: no frame is written, and one line at the end.
+    /// True if messages are only counted: no frame is written, but one line at the end.
     pub count: bool,
 }

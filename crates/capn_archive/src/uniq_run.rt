@@ -1,4 +1,4 @@
-//! A whole run of `uniq`.
+//! `run_uniq`: a whole run of `uniq`, from its first message to its result.
 
 ghost use Rattle.std.specs.Prelude.{◌≡◌, ◌≢◌, [], false, IfOk, IfErr, string_bytes};
 ghost use Rattle.capn_words.specs.Watched.{inner_of, has_failed};
@@ -17,14 +17,13 @@ use capn_words::Watched;
 use std::alloc::Allocator;
 use std::io::{Read, Write};
 
-/// Returns the run of `order` before its first message.
 fn first_run<A: Allocator + Copy>(alloc: A, order: UniqOrder) -> Run<UniqService<A>>
     ensures { result ≡ spec.first_run order }
 {
     Run::new(UniqService::new(alloc, order))
 }
 
-/// Returns the line of the count: how many messages are kept, and how many were served.
+/// Returns the line that says how many messages were `kept`, and how many `served`.
 #[tactic(auto, using(crate::proofs::LineParts::some_after))]
 fn count_line<A: Allocator>(alloc: A, kept: usize, served: u64) -> Result<String<A>, RunFault>
     ensures found { IfOk result (λ line. string_bytes line ≡ spec.count_line kept served) }
@@ -36,7 +35,7 @@ fn count_line<A: Allocator>(alloc: A, kept: usize, served: u64) -> Result<String
     }
 }
 
-/// Writes the line of the count after the last message, if the order asks for it.
+/// Writes the counting line after the last message, if the order says to count.
 fn write_count<W: Write, A: Allocator + Copy>(
     alloc: A,
     run: &Run<UniqService<A>>,
@@ -54,7 +53,7 @@ fn write_count<W: Write, A: Allocator + Copy>(
     write_all(writer, line.as_bytes())
 }
 
-/// Returns the outcome of `run`, which has served all of its input.
+/// Returns the outcome of `run`, which has read all of its input.
 fn outcome_of<A: Allocator>(run: &Run<UniqService<A>>) -> Result<(), ArchiveFault>
     ensures { result ≡ finish.outcome_by run.now.service.skipped run.now.at.index }
 {
@@ -68,7 +67,7 @@ fn fault_of<A: Allocator>(run: &Run<UniqService<A>>, fault: RunFault) -> Archive
     fault_after(run.service.skipped(), run.at.index, fault)
 }
 
-/// Has the service serve all of an input, and writes what is written after that.
+/// Serves all messages of the input, and writes the counting line, if it is needed.
 fn run_service<R: Read, W: Write, A: Allocator + Copy>(
     alloc: A,
     order: &UniqOrder,
@@ -93,16 +92,17 @@ fn run_service<R: Read, W: Write, A: Allocator + Copy>(
     }
 }
 
-/// Reads the messages of an archive, and writes those with canonical bytes that no message before them had, compared by
-/// SHA-256. Each is written as its frame stands. From a packed input it is the bytes that the frame unpacks to, and
-/// from a bare input all of it. If the order is to count, only a line `U of N` is written, at the end: how many
-/// messages are kept, and how many were served.
+/// Reads the messages of an archive from `reader`, and writes those whose canonical bytes no earlier message had to
+/// `writer`. Canonical bytes are compared by their SHA-256. Each message is written as its frame stands. If the input
+/// is packed, the unpacked bytes of the frame are written. If the input is bare, all of it is written. If `order.count`
+/// is true, only a line `U of N` is written, at the end: the number of messages kept, and the number served.
 ///
-/// It reads as [`serve_form`] does. The run ends as done, as `Skipped` after all of its input if messages were skipped,
-/// or with the first fault. `Refused`: a frame, a group or a message is refused, at its position. `RefusedAfterSkipped`
-/// instead, if messages were skipped before that frame or group. `InputTooLong`. `Io` if and only if the reader or the
-/// writer failed. `Memory` if a growth was refused. The frames kept before a fault have been written, and nothing after
-/// these. It holds what its loop holds, the canonical bytes of one message, and the digests of those kept.
+/// Input is read as [`serve_form`] reads it. The run ends with `Ok`, with `Skipped` after all of its input if messages
+/// were skipped, or with the first fault. The fault is `Refused`, with the position, if a frame, a group or a message
+/// is refused. It is `RefusedAfterSkipped` if messages were skipped before a refused frame or group. It is
+/// `InputTooLong`, or `Io` if and only if the reader or the writer failed, or `Memory` if a growth was refused. The
+/// frames kept before a fault have been written, and nothing after them. A run holds what its loop holds, the canonical
+/// bytes of one message, and the digests of the messages kept.
 pub fn run_uniq<R: Read, W: Write, A: Allocator + Copy>(
     alloc: A,
     order: UniqOrder,

@@ -1,4 +1,4 @@
-//! The service of `uniq`.
+//! `UniqService`: leaves out each message whose canonical bytes equal an earlier message's.
 
 ghost use Rattle.std.specs.Prelude.{◌≡◌, false, OnErr};
 ghost use Rattle.std.specs.FinSet as set;
@@ -18,12 +18,12 @@ use std::alloc::Allocator;
 use std::io::Write;
 use std::marker::Model;
 
-/// The service that leaves duplicates out: it writes the frame of a message, as it stands, if no message before it had
-/// the same canonical bytes, compared by SHA-256.
+/// The service of `uniq`. It writes the frame of a message, unchanged, if no message before it had the same canonical
+/// bytes. Canonical bytes are compared by their SHA-256.
 ///
 /// A message that is refused, by its walk or for a capability, ends the run, or is skipped if the order says to keep
-/// going. A skipped message writes nothing, and later ones are not compared with it. The service holds the digests of
-/// the messages that it has kept.
+/// going. Nothing is written for a skipped message, and later ones are not compared with it. The service holds the
+/// digests of the messages that it has kept.
 #[derive(Drop)]
 pub struct UniqService<A: Allocator> {
     order: UniqOrder,
@@ -47,7 +47,7 @@ impl<A: Allocator> Model for UniqService<A> {
         record { order = s.order; digests = s.digests.seen; served = s.served; skipped = s.skipped } };
 }
 
-/// Inserts a digest, and answers whether it was among those before.
+/// Inserts `digest` into `digests`. Returns `true` if it was there before.
 fn insert_digest<A: Allocator + Copy>(
     digests: &mut DigestSet<A>,
     digest: [u8; 32],
@@ -61,7 +61,7 @@ fn insert_digest<A: Allocator + Copy>(
     }
 }
 
-/// Adds the frame of a message, unless messages are only counted or it is a duplicate.
+/// Writes `frame`, unless messages are only counted or the message is a duplicate.
 fn add_kept<W: Write, A: Allocator>(
     count: bool,
     is_duplicate: bool,
@@ -81,28 +81,26 @@ fn add_kept<W: Write, A: Allocator>(
 }
 
 impl<B: Allocator> UniqService<B> {
-    /// Returns the order that it carries out.
     pub(crate) fn order(&self) -> UniqOrder
         ensures { result ≡ self.now.order }
     {
         self.order
     }
 
-    /// Returns the number of messages that it has kept.
     pub(crate) fn kept(&self) -> usize
         ensures { result ≡ set.len self.now.digests }
     {
         self.digests.len()
     }
 
-    /// Returns the number of messages that it has served, without those that it has skipped.
+    /// Returns the number of messages served so far, without those skipped.
     pub(crate) fn served(&self) -> u64
         ensures { result ≡ self.now.served }
     {
         self.served
     }
 
-    /// Returns the messages that it has skipped, if any.
+    /// Returns the count of the skipped messages, if there are any.
     pub(crate) fn skipped(&self) -> Option<SkippedSoFar>
         ensures { result ≡ self.now.skipped }
     {
@@ -111,7 +109,7 @@ impl<B: Allocator> UniqService<B> {
 }
 
 impl<B: Allocator + Copy> UniqService<B> {
-    /// Returns a service that has kept nothing. It takes no memory.
+    /// Returns a service that has kept no message. It takes no memory.
     pub(crate) fn new(alloc: B, order: UniqOrder) -> UniqService<B>
         ensures { result ≡ spec.first_state order }
     {
@@ -123,7 +121,7 @@ impl<B: Allocator + Copy> UniqService<B> {
         }
     }
 
-    /// Serves a message.
+    /// Writes the frame of `message` unless it is a duplicate or messages are only counted, and keeps its digest.
     fn deduplicate<S: Space, W: Write, A: Allocator + Copy>(
         &mut self,
         alloc: A,

@@ -1,4 +1,4 @@
--- What is found of a message before it is let through or held back.
+-- The decision whether `filter` lets a message through.
 use Rattle.std.specs.Prelude.{ℕ, List, Bool}
 use Rattle.capn_walk.specs.Limits.{Bounds}
 use Rattle.capn_archive.specs.declared.filter_service.Verdict.{Verdict}
@@ -7,7 +7,8 @@ use Rattle.capn_archive.specs.declared.task.Task.TheVariants as tasks
 use Rattle.capn_archive.specs.FilterMessages.{IsUncanonical, Passes}
 use Rattle.capn_archive.specs.Tasks.{IsRefusedBy}
 
--- it is let through, is not canonical, or is refused by its walk, by whether only canonical ones are let through
+-- The decision is right: the message is let through, is not canonical, or is refused by its walk. `canonical` is true
+-- if only canonical messages are let through.
 abbrev pub IsVerdict : Bool → List (List ℕ) → Bounds → Verdict → Type 0
 IsVerdict canonical message limits verdicts.Passes = Passes canonical message limits
 IsVerdict canonical message limits verdicts.NotCanonical = IsUncanonical canonical message limits

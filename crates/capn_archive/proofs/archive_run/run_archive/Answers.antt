@@ -9,7 +9,7 @@ use Rattle.capn_archive.proofs.archive_run.run_archive.Goals as goal
 abbrev Ending : Type 0
 Ending = Result (Unit {0}) ArchiveFault
 
--- an ending by a fault
+-- The result of a run that `e` ended.
 abbrev stopped : ArchiveFault → Ending
 stopped e = Err e
 

@@ -20,7 +20,7 @@ module _ (limits : Bounds) (tally : Tally) (at : Position) (frame : List ℕ) (m
   abbrev HasNone : ServeFault → Type 0
   HasNone fault = Finds (IsDigestIfAny message limits) (IsUnaccepted message limits) needs (Err fault)
 
-  -- it was not found whether there is a digest, and nothing was added
+  -- Case: the call for the digest failed, and nothing was added.
   none_found : (fault : ServeFault) → HasNone fault → (r : Result (Unit {0}) ServeFault) → IsErrAnd r (λ e. e ≡ fault)
       → AddsServed tasks.Digests limits tally at frame message a a false r tally
   none_found fault none (Ok u) is = absurd is

@@ -12,7 +12,7 @@ use Rattle.capn_archive.proofs.filter_run.run_service.Goals as goal
 abbrev Ending : Type 0
 Ending = Result (Unit {0}) ArchiveFault
 
--- an ending by a fault
+-- The result of a run that `e` ended.
 abbrev stopped : ArchiveFault → Ending
 stopped e = Err e
 
