@@ -1,4 +1,4 @@
--- A comparison that finds no difference. (For `same_exactly`.)
+-- Lemmas for `same_exactly`: a comparison that finds no difference.
 use Rattle.std.proofs.Common.{◌≡◌, ◌≢◌, ◌⊎◌, inl, inr, ℕ, ◌+◌, ◌≤◌, List, [], ◌∷◌, ◌++◌, length, Bool, true, false}
 use Rattle.std.proofs.Common.{Option, None, Result, Ok, Err, refl, ap, sym, subst, ◌∙◌, append-nil, arith, nat_lt, cond}
 use Rattle.std.proofs.lemmas.Bool.{le-ltb, ltb-false}
@@ -78,7 +78,7 @@ module _ (order : CmpOrder) where
 
   -- ---- messages that were served without a difference
 
-  -- after one none is served
+  -- No message is served after one that differs.
   pub stays : (x y : Comparing) (ps : List Part) → x.service.differs ≡ true → AreServed f x ps y
       → y.service.differs ≡ false → ⊥
   stays x y [] move is stay = both x.service.differs move (ap (λ (w : Comparing). w.service.differs) is ∙ stay)
@@ -111,7 +111,7 @@ module _ (order : CmpOrder) where
       stay =
       absurd (stays mid y ps (ap (λ (q : CmpState). q.differs) t) more stay)
 
-  -- two at least
+  -- The messages of a run without a difference have the same canonical bytes, and there are at least two.
   from_first : (y : Comparing) (ps : List Part) → AreServed f (first_run order) ps y → y.service.differs ≡ false
       → 2 ≤ y.at.index → (bytes : List ℕ) × AllHave order bytes ps × (2 ≤ length ps)
   from_first y [] is stay many =
@@ -129,7 +129,7 @@ module _ (order : CmpOrder) where
 
   -- ---- the end
 
-  -- of an input that ends as done nothing is left
+  -- Nothing is left of an input whose loop ends with `Ok`.
   nothing_left : (y : Comparing) (rest : List ℕ) (r : Ending) → r ≡ Ok tt
       → EndsUnframed f y rest None r ⊎ EndsRefused f y rest r → rest ≡ []
   nothing_left y rest r fine (inl (frame_faults.Empty, other, refused, e)) = no_bytes rest refused
@@ -157,7 +157,7 @@ module _ (order : CmpOrder) where
 
   -- ---- messages of one value
 
-  -- a run that has kept these bytes, at a position
+  -- The state of a run that has kept `bytes`, at the position `at`.
   abbrev keeping : List ℕ → Position → Comparing
   keeping bytes at = record { service = record { limits = limits; first = bytes; differs = false }; at = at }
 
@@ -183,7 +183,7 @@ module _ (order : CmpOrder) where
         ap (λ (l : List ℕ). l ++ texts_of ps) text ∙ rest.3,
       )
 
-  -- from the first on
+  -- All messages are served from the first state on, and none differs.
   abbrev AllServed : List ℕ → List Part → Type 0
   AllServed bytes ps = (z : Position) × AreServed f (first_run order) ps (keeping bytes z)
       × (z.index ≡ length ps) × (texts_of ps ≡ [])

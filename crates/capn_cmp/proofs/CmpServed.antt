@@ -1,4 +1,4 @@
--- A message that was compared, as one that the service serves. (For `compare`.)
+-- Lemmas for `compare`: a message that was compared does what the fold says.
 use Rattle.std.proofs.Common.{◌≡◌, ◌≢◌, inl, inr, ℕ, List, [], Bool, true, false, Result, Ok, Err, refl, ap, subst}
 use Rattle.std.proofs.Common.{sym, ◌∙◌}
 use Rattle.capn_walk.specs.Limits.{Bounds}
@@ -20,35 +20,35 @@ done = Ok tt
 abbrev stopped : ServeFault → Ending
 stopped fault = Err fault
 
--- a state of these parts
+-- The state of the service with these fields.
 abbrev pub state : Bounds → List ℕ → Bool → CmpState
 state limits first differs = record { limits = limits; first = first; differs = differs }
 
 module _ (s : CmpState) (at : Position) (bytes : List ℕ) where
   module _ (a : Outgoing) (failed : Bool) (fine : failed ≡ false) where
-    -- it writes nothing
+    -- A comparison that writes nothing.
     silent : (t : CmpState) → Compares s at bytes [] t → TriesToCompare s at bytes a a failed done t
     silent t is = ([], is, added_none a, fine, λ h. h)
 
-    -- it is the first
+    -- Case: the message is the first.
     pub keeps : at.index ≡ 0 → (first : List ℕ) → first ≡ bytes
         → TriesToCompare s at bytes a a failed done (state s.limits first s.differs)
     keeps zero first same =
         silent (state s.limits first s.differs)
         (inl (zero, refl, ap (λ (x : List ℕ). state s.limits x s.differs) same))
 
-    -- it agrees with the first
+    -- Case: the message agrees with the first.
     pub agrees : at.index ≢ 0 → bytes ≡ s.first → TriesToCompare s at bytes a a failed done s
     agrees later same = silent s (inr (inl (later, same, refl, refl)))
 
-    -- memory was refused before it wrote anything
+    -- Case: memory was refused before anything was written.
     pub no_memory : (t : CmpState) (fault : ServeFault) → fault ≡ faults.Memory
         → TriesToCompare s at bytes a a failed (stopped fault) t
     no_memory t fault is =
         subst (λ (e : ServeFault). TriesToCompare s at bytes a a failed (stopped e) t) (sym is)
         (inl (added_none a), fine)
 
-  -- it differs, and the report on it was added, or a beginning of that
+  -- Case: the message differs, and the report on it was added, in whole or in part.
   pub differs_with : at.index ≢ 0 → bytes ≢ s.first → (text : List ℕ) → IsReport at s.first bytes text
       → (a b : Outgoing) (failed : Bool) (r : Ending) → AddsBytes text a b failed r
       → TriesToCompare s at bytes a b failed r (state s.limits s.first true)
@@ -59,7 +59,7 @@ module _ (s : CmpState) (at : Position) (bytes : List ℕ) where
       ((text, state s.limits s.first true, count, inr (inr (later, other, report, refl)), breaks), broken)
   differs_with later other text report a b failed (Err (faults.Refused r)) none = absurd none
 
--- it was served
+-- A message that was compared is served as the fold says.
 pub tried_does : (s : CmpState) (at : Position) (frame : List ℕ) (message : List (List ℕ)) (bytes : List ℕ) (price : ℕ)
     → AnswersMessage message s.limits bytes price → (a b : Outgoing) (failed : Bool) (r : Ending) (t : CmpState)
     → TriesToCompare s at bytes a b failed r t → DoesService serves refuses s at frame message a b failed r t

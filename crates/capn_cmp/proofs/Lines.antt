@@ -1,4 +1,4 @@
--- Lines of two texts, one after the other. (For `compare`, `lines_apart` and `split_line`.)
+-- Lemmas for `compare`, `lines_apart` and `split_line`: the lines of two texts, one after the other.
 use Rattle.std.proofs.Common.{◌≡◌, ◌≢◌, ◌↔◌, ℕ, suc, ◌+◌, ◌<◌, List, [], ◌∷◌, ◌++◌, length, take, refl, sym, ap}
 use Rattle.std.proofs.Common.{subst, ◌∙◌, slice_index_or, arith, Bool, true, false, not, nat_eq}
 use Rattle.std.specs.Cmp.Lexicographic.{pointwise, pointwise_decides}
@@ -8,7 +8,7 @@ use Rattle.std.proofs.lemmas.List.{append_assoc}
 use Rattle.capn_cmp.specs.LinesApart.{AreApart, AreLines, IsUnbroken, joined}
 use Rattle.capn_cmp.specs.inner.Alike.{BeginAlike}
 
--- no line ends in bytes of which none ends in the first, and this one is no newline
+-- Bytes without a newline stay so if a byte that is no newline is appended.
 pub unbroken_more : (xs : List ℕ) (c : ℕ) → IsUnbroken xs → c ≢ 10 → IsUnbroken (xs ++ c ∷ [])
 unbroken_more [] c h other = (other, tt)
 unbroken_more (x ∷ xs) c h other = (h.0, unbroken_more xs c h.1 other)
@@ -38,7 +38,7 @@ found_equal xs ys r is e = (same_bytes xs ys).0 (sym is ∙ e)
 pub found_other : (xs ys : List ℕ) (r : Bool) → r ≡ pointwise nat_eq xs ys → r ≡ false → xs ≢ ys
 found_other xs ys r is e same = let bad : true ≡ false = sym ((same_bytes xs ys).1 same) ∙ sym is ∙ e in cc
 
--- one line more
+-- One more line at the end of lines.
 lines_more : (lines : List (List ℕ)) (line : List ℕ) → AreLines lines → IsUnbroken line → AreLines (lines ++ line ∷ [])
 lines_more [] line h is = (is, tt)
 lines_more (l ∷ ls) line h is = (h.0, lines_more ls line h.1 is)
@@ -100,7 +100,7 @@ apart_longer text other first second more behind h = record {
 
 -- ---- two texts have one such pair of lines
 
--- one first line ends where another does
+-- Equal texts have the same first line and the same rest.
 one_line : (a b x y : List ℕ) → IsUnbroken a → IsUnbroken b → a ++ 10 ∷ x ≡ b ++ 10 ∷ y → (a ≡ b) × (x ≡ y)
 one_line [] [] x y h k e = (refl, cc)
 one_line [] (c ∷ b) x y h k e = absurd (k.0 (let f : 10 ≡ c = cc in sym f))
@@ -111,13 +111,14 @@ one_line (c ∷ a) (d ∷ b) x y h k e =
     let same = one_line a b x y h.1 k.1 rest in
     (λ i. first i ∷ same.0 i, same.1)
 
--- a first line that ends in texts that begin with others
+-- A text that begins with lines has the first of them as its first line.
 after_line : (a q x more : List ℕ) (qs : List (List ℕ)) → IsUnbroken a → IsUnbroken q
     → a ++ 10 ∷ x ≡ joined (q ∷ qs) ++ more → (a ≡ q) × (x ≡ joined qs ++ more)
 after_line a q x more qs one other e =
     one_line a q x (joined qs ++ more) one other (e ∙ append_assoc q (10 ∷ joined qs) more)
 
--- texts whose first lines are these, after those before
+-- Two texts that begin with the same lines and then differ have the same different lines, however their common lines
+-- are given.
 apart_from : (ps qs : List (List ℕ)) (a b c d x y u v : List ℕ) → AreLines ps → AreLines qs → IsUnbroken a
     → IsUnbroken b → IsUnbroken c → IsUnbroken d → a ≢ b → c ≢ d
     → joined ps ++ (a ++ 10 ∷ x) ≡ joined qs ++ (c ++ 10 ∷ u)

@@ -1,4 +1,4 @@
--- What a comparison does with a message, in one way. (For `one_text`.)
+-- Lemmas for `one_text`: the state and the message decide what `cmp` does.
 use Rattle.std.proofs.Common.{◌≡◌, ◌≢◌, inl, inr, ℕ, List, [], ◌∷◌, Bool, true, false, Some, None, Result}
 use Rattle.std.proofs.Common.{refl, ap, ap₂, sym, subst, ◌∙◌}
 use Rattle.capn_words.proofs.shared.OneSegment.{one_bare}
@@ -35,7 +35,7 @@ module _ (m : List (List ℕ)) (limits : Bounds) where
   one_form a b (p, h) (q, k) =
       h.canonical ∙ ap canon (unique m h.value k.value root h.is.is k.is.is) ∙ sym k.canonical
 
-  -- a message with canonical bytes is not refused
+  -- A message with canonical bytes is not refused.
   not_formed : (bytes : List ℕ) (price : ℕ) (r : Refusal) → AnswersMessage m limits bytes price
       → IsRefusedMessage m limits r → (r ≡ refusals.Memory → ⊥) → ⊥
   not_formed bytes price r a h other = elim (message_part m limits r other h) [

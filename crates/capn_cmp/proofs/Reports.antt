@@ -1,4 +1,4 @@
--- The report on a message that differs, from its parts. (For `report_by` and `report_of`.)
+-- Lemmas for `report_by` and `report_of`: the report on a message that differs, from its parts.
 use Rattle.std.proofs.Common.{◌≡◌, ℕ, ◌+◌, List, [], ◌∷◌, ◌++◌, codes, sym, ap, subst, ◌∙◌}
 use Rattle.std.proofs.lemmas.List.{append_assoc}
 use Rattle.std.specs.Fmt.{decimal}
@@ -24,7 +24,7 @@ in_parts at line other head is =
     ∙ ap (λ (x : List ℕ). decimal (at.index + 1) ++ (codes " at " ++ x)) (append_assoc (decimal at.offset) said tail)
     ∙ sym (append_assoc (decimal (at.index + 1)) (codes " at " ++ decimal at.offset) (said ++ tail)))
 
--- beginnings of both texts have the first lines in which these differ
+-- If prefixes of both texts have the first lines that differ, these make the report.
 pub report_from : (at : Position) (first bytes beginning other line other_line text : List ℕ)
     → IsShownFrom first beginning → IsShownFrom bytes other → AreApart beginning other line other_line
     → text ≡ report at line other_line → IsReport at first bytes text

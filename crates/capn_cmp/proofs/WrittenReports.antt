@@ -1,4 +1,4 @@
--- A comparison writes something exactly where a message differs. (For `one_text`.)
+-- Lemmas for `one_text`: a comparison writes something if and only if a message differs.
 use Rattle.std.proofs.Common.{◌≡◌, ◌≢◌, ◌⊎◌, inl, inr, ℕ, List, [], ◌∷◌, ◌++◌, length, codes, Bool, true, false, Option}
 use Rattle.std.proofs.Common.{Result, Ok, Err, refl, ap, sym, subst, ◌∙◌, arith, cond, nat_lt}
 use Rattle.capn_serve.specs.Fold.{AreServed, Fold, IsFolded, Part, texts_of}
@@ -22,7 +22,7 @@ use Rattle.capn_cmp.proofs.AllSame.{Comparing, Ending, Found, both, stays}
 abbrev different : Found
 different = Ok comparisons.Different
 
--- a text that goes on after some of it is not empty
+-- A text is not empty if a part of it is not.
 some_before : (xs ys : List ℕ) → xs ≢ [] → xs ++ ys ≢ []
 some_before [] ys some = absurd (some refl)
 some_before (x ∷ xs) ys some = λ h. cc
@@ -33,7 +33,7 @@ some_report at line other h = absurd (omega (arith, ap length h))
 -- ---- one message
 
 module _ (s t : CmpState) (at : Position) (bytes text : List ℕ) where
-  -- it was silent, or it differs and is told
+  -- A message wrote nothing and did not differ, or it differed and its report was written.
   silent_or_told : Compares s at bytes text t
       → ((text ≡ []) × (t.differs ≡ s.differs)) ⊎ ((text ≢ []) × (t.differs ≡ true))
   silent_or_told (inl (first, none, is)) = inl (none, ap (λ (q : CmpState). q.differs) is)
@@ -47,7 +47,7 @@ module _ (order : CmpOrder) where
   abbrev f : Fold Comparing
   f = cmp_fold order
 
-  -- none is told where none differs
+  -- If no message differs, nothing is written.
   none_told : (x y : Comparing) (ps : List Part) → AreServed f x ps y → y.service.differs ≡ false
       → texts_of ps ≡ []
   none_told x y [] is stay = refl
@@ -57,7 +57,7 @@ module _ (order : CmpOrder) where
         | inr h ↦ absurd (stays order mid y ps h.1 more stay)
       ]
 
-  -- one is told where one differs
+  -- If a message differs, something is written.
   one_told : (x y : Comparing) (ps : List Part) → x.service.differs ≡ false → AreServed f x ps y
       → y.service.differs ≡ true → texts_of ps ≢ []
   one_told x y [] stay is move =

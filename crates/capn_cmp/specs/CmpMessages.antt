@@ -1,4 +1,4 @@
--- Which messages `cmp` finds to differ from the first: those whose canonical bytes are others. (Own.)
+-- The messages that `cmp` finds to differ from the first one: those with other canonical bytes. (Own.)
 use Rattle.std.specs.Prelude.{◌≡◌, ◌≢◌, ◌⊎◌, ℕ, ◌<◌, List, [], ◌∷◌, ◌++◌, codes, length, Bool, true, false, Result}
 use Rattle.std.specs.Prelude.{Ok, Err, refl}
 use Rattle.std.specs.Fmt.{digits}
@@ -15,21 +15,23 @@ use Rattle.capn_serve.specs.Outgoing.{Outgoing, Adds, AddsBeginning, BreaksWithi
 use Rattle.capn_cmp.specs.LinesApart.{AreApart}
 use Rattle.capn_cmp.specs.ShownText.{IsShown}
 
--- what a comparison holds: the limits of a message, the canonical bytes of the first one, and whether one differed
+-- The state of a comparison: the limits of a message, the canonical bytes of the first one, and whether a message
+-- differed.
 pub record CmpState : Type 0 where
   pub limits : Bounds
   pub first : List ℕ
   pub differs : Bool
 
--- nothing has been served
+-- The state before the first message.
 abbrev pub first_state : Bounds → CmpState
 first_state limits = record { limits = limits; first = []; differs = false }
 
--- a message is accepted, and these are its canonical bytes
+-- `bytes` are the canonical bytes of `message`, which is accepted.
 abbrev pub IsForm : List (List ℕ) → Bounds → List ℕ → Type 0
 IsForm message limits bytes = (price : ℕ) × AnswersMessage message limits bytes price
 
--- the report on the message at a position: these lines, of the first message and of it, are the first that differ
+-- The report on the message at `at`: the first lines that differ are `line` of the first message and `other` of that
+-- message.
 abbrev pub report : Position → List ℕ → List ℕ → List ℕ
 report at line other =
     codes "message " ++ (place_text at ++ (codes " differs from message 1\n< " ++ (line ++ (codes "\n> "
@@ -40,46 +42,47 @@ second : report (record { index = 1; offset = 24 }) (codes "0\t  word 0000000000
 unfolding digits
 second = refl
 
--- a text is that report, where these are the canonical bytes of both
+-- `text` is the report on the message at `at`. `first` and `bytes` are the canonical bytes of the first message and of
+-- that one.
 abbrev pub IsReport : Position → List ℕ → List ℕ → List ℕ → Type 0
 IsReport at first bytes text =
     (shown : List ℕ) × (other : List ℕ) × (line : List ℕ) × (other_line : List ℕ)
     × IsShown first shown × IsShown bytes other × AreApart shown other line other_line
     × (text ≡ report at line other_line)
 
--- the first message's canonical bytes are kept; it writes nothing
+-- The message is the first: its canonical bytes are kept, and nothing is written.
 abbrev pub Keeps : CmpState → Position → List ℕ → List ℕ → CmpState → Type 0
 Keeps s at bytes text t =
     (at.index ≡ 0) × (text ≡ []) × (t ≡ record { limits = s.limits; first = bytes; differs = s.differs })
 
--- a later message has the first one's; it writes nothing
+-- The message is a later one with the canonical bytes of the first: nothing is written.
 abbrev pub Agrees : CmpState → Position → List ℕ → List ℕ → CmpState → Type 0
 Agrees s at bytes text t = (at.index ≢ 0) × (bytes ≡ s.first) × (text ≡ []) × (t ≡ s)
 
--- a later message has others; it writes the report on it
+-- The message is a later one with other canonical bytes: the report on it is written.
 abbrev pub Differs : CmpState → Position → List ℕ → List ℕ → CmpState → Type 0
 Differs s at bytes text t =
     (at.index ≢ 0) × (bytes ≢ s.first) × IsReport at s.first bytes text
     × (t ≡ record { limits = s.limits; first = s.first; differs = true })
 
--- a message with these canonical bytes is the first, agrees with it or differs from it
+-- A message with the canonical bytes `bytes` is the first, agrees with the first, or differs from it.
 abbrev pub Compares : CmpState → Position → List ℕ → List ℕ → CmpState → Type 0
 Compares s at bytes text t = Keeps s at bytes text t ⊎ (Agrees s at bytes text t ⊎ Differs s at bytes text t)
 
--- from one state to the next, a message is compared by its canonical bytes
+-- The message takes the state `s` to `t`: it is compared by its canonical bytes.
 abbrev pub serves : CmpState → Position → List ℕ → List (List ℕ) → List ℕ → CmpState → Type 0
 serves s at frame message text t = (bytes : List ℕ) × IsForm message s.limits bytes × Compares s at bytes text t
 
--- a message that has none ends the run: it is refused by its walk, or for a capability
+-- The message ends the run: it has no canonical bytes, because it is refused by its walk or for a capability.
 abbrev pub refuses : CmpState → Position → List ℕ → List (List ℕ) → Refusal → Type 0
 refuses s at frame message r = IsRefusedMessage message s.limits r × (r ≢ refusals.Memory)
 
--- no more is served after a message that differed
+-- No more messages are served after one that differed.
 abbrev pub done : CmpState → Position → Bool
 done s at = s.differs
 
--- A message with these canonical bytes was compared. Or memory was refused, before what it writes or within it; or the
--- writer failed within it.
+-- A message with the canonical bytes `bytes` was compared. Or memory was refused, before its text or within it. Or the
+-- writer failed within its text.
 abbrev pub TriesToCompare : CmpState → Position → List ℕ → Outgoing → Outgoing → Bool → Result (Unit {0}) ServeFault
     → CmpState → Type 0
 TriesToCompare s at bytes old new failed (Ok u) t =

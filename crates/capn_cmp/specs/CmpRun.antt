@@ -1,4 +1,4 @@
--- What a run of `cmp` did, and what it found. (Own.)
+-- A whole run of `cmp`, and its result. (Own.)
 use Rattle.std.specs.Prelude.{◌≡◌, ℕ, nat_lt, List, Bool, cond, Option, Result, Ok, Err}
 use Rattle.capn_canon.specs.declared.form.Form.{Form}
 use Rattle.capn_canon.specs.declared.form.Form.TheVariants as forms
@@ -16,31 +16,31 @@ use Rattle.capn_cmp.specs.declared.cmp_run.Comparison.TheVariants as comparisons
 use Rattle.capn_cmp.specs.declared.fault.CmpFault.{CmpFault}
 use Rattle.capn_cmp.specs.declared.fault.CmpFault.TheVariants as faults
 
--- the form of an input that holds a stream so
+-- The form of an input that holds a stream in the form of the argument.
 abbrev pub form_of : StreamForm → Form
 form_of streams.Stream = forms.Stream
 form_of streams.Packed = forms.Packed
 
--- the fold over the messages of a stream, up to one that differs from the first
+-- The fold over the messages of a stream, up to one that differs from the first.
 abbrev pub cmp_fold : CmpOrder → Fold (Run CmpState)
 cmp_fold order = fold_until serves refuses done order.limits.message_words
 
--- nothing has been served
+-- The state of a run before its first message.
 abbrev pub first_run : CmpOrder → Run CmpState
 first_run order = record { service = first_state order.limits; at = start }
 
--- what is found, by whether one of so many messages differed, which no fault ended
+-- The result of a run whose loop ended without a fault, by whether a message differed, and the number of messages.
 abbrev pub found_by : Bool → ℕ → Result Comparison CmpFault
 found_by differs messages = cond differs (Ok comparisons.Different)
     (cond (nat_lt messages 2) (Err faults.TooFew) (Ok comparisons.Same))
 
--- how a run ends, by how its messages ended and the state after them
+-- The result of a run, by how its loop ended, and the state after it.
 abbrev pub outcome : Result (Unit {0}) RunFault → Run CmpState → Result Comparison CmpFault
 outcome (Ok u) y = found_by y.service.differs y.at.index
 outcome (Err fault) y = Err (faults.Run fault)
 
--- what a run did, over a reader (from a to b) and a writer (from c to d): the messages were served, and it ended as
--- they did
+-- The effect of a run: the reader goes from `a` to `b`, the writer from `c` to `d`. The messages are served, and `r` is
+-- the result that follows.
 abbrev pub Compared : CmpOrder → Option (List ℕ) → Option (List ℕ) → Option (List ℕ) → Option (List ℕ) → Bool → Bool
     → Result Comparison CmpFault → Type 0
 Compared order a b c d reader_failed writer_failed r =

@@ -7,7 +7,7 @@ use Rattle.capn_serve.specs.declared.fault.RunFault.TheVariants as run_faults
 use Rattle.capn_cmp.specs.declared.fault.CmpFault.{CmpFault}
 use Rattle.capn_cmp.specs.declared.fault.CmpFault.TheVariants as faults
 
--- why it has no answer
+-- The text of a fault, which says why there is no result.
 abbrev pub cmp_text : CmpFault → List ℕ
 cmp_text (faults.Run fault) = served.fault_text fault
 cmp_text faults.TooFew = codes "fewer than two messages"
@@ -17,7 +17,7 @@ refused : cmp_text (faults.Run (run_faults.Refused (record { index = 2; offset =
 unfolding digits
 refused = refl
 
--- 1 where there are fewer than two messages, and else that of the fault
+-- The exit status: 1 if there are fewer than two messages, else that of the fault of the loop.
 abbrev pub status_of : CmpFault → ℕ
 status_of (faults.Run fault) = served.status_of fault
 status_of faults.TooFew = 1

@@ -1,4 +1,4 @@
--- What holds of the definitions alone. (Own.)
+-- Laws: statements about the definitions alone, which hold whatever the code does. (Own.)
 use Rattle.std.specs.Prelude.{◌≡◌, ◌≢◌, ◌↔◌, ℕ, ◌≤◌, List, [], ◌∷◌, length, Result, Ok, ⊤}
 use Rattle.capn_words.specs.Message.{total}
 use Rattle.capn_stream.specs.Frames.{Frames}
@@ -12,26 +12,26 @@ use Rattle.capn_cmp.specs.CmpRun.{cmp_fold, first_run, form_of, outcome}
 use Rattle.capn_cmp.specs.declared.cmp_order.CmpOrder.{CmpOrder}
 use Rattle.capn_cmp.specs.declared.cmp_run.Comparison.TheVariants as comparisons
 
--- a comparison writes one text of an input, and ends in one way
+-- The order and the input decide the text and the result of a comparison.
 abbrev pub OneCmp : Type 0
 OneCmp = (order : CmpOrder) (input t u : List ℕ) (r s : Result (Unit {0}) RunFault) (y z : Run CmpState)
     → AreMessages (cmp_fold order) (first_run order) (form_of order.form) input t r y
     → AreMessages (cmp_fold order) (first_run order) (form_of order.form) input u s z
     → (t ≡ u) × (outcome r y ≡ outcome s z)
 
--- something is written exactly where one differs
+-- A comparison writes something if and only if a message differs.
 abbrev pub WritesExactly : Type 0
 WritesExactly = (order : CmpOrder) (input text : List ℕ) (r : Result (Unit {0}) RunFault) (y : Run CmpState)
     → AreMessages (cmp_fold order) (first_run order) (form_of order.form) input text r y
     → (outcome r y ≡ Ok comparisons.Different) ↔ (text ≢ [])
 
--- each of these is the frame of a message that is accepted and has these canonical bytes, and nothing is written of it
+-- Each part is the frame of an accepted message with the canonical bytes `bytes`, for which nothing is written.
 abbrev pub AllHave : CmpOrder → List ℕ → List Part → Type 0
 AllHave order bytes [] = ⊤
 AllHave order bytes (p ∷ ps) = Frames p.frame p.message × (total p.message ≤ order.limits.message_words)
     × IsForm p.message order.limits bytes × (p.text ≡ []) × AllHave order bytes ps
 
--- a stream is two messages at least, and all have the same canonical bytes
+-- `stream` has at least two messages, and all have the same canonical bytes.
 pub record IsOfOneValue (order : CmpOrder) (stream : List ℕ) : Type 0 where
   pub parts : List Part
   pub bytes : List ℕ
@@ -39,7 +39,7 @@ pub record IsOfOneValue (order : CmpOrder) (stream : List ℕ) : Type 0 where
   pub is : stream ≡ frames_of parts
   pub many : 2 ≤ length parts
 
--- a comparison of a stream finds that all are the same exactly where it is so
+-- A comparison of a stream returns `Same` if and only if it has at least two messages with the same canonical bytes.
 abbrev pub SameExactly : Type 0
 SameExactly = (order : CmpOrder) (stream text : List ℕ) (r : Result (Unit {0}) RunFault) (y : Run CmpState)
     → length stream ≤ most_stream

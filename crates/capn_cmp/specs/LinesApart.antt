@@ -1,22 +1,22 @@
 -- The first lines in which two texts differ. (Own.)
 use Rattle.std.specs.Prelude.{◌≡◌, ◌≢◌, ℕ, List, [], ◌∷◌, ◌++◌, ⊤}
 
--- no line ends within these bytes
+-- The bytes have no newline.
 abbrev pub IsUnbroken : List ℕ → Type 0
 IsUnbroken [] = ⊤
 IsUnbroken (c ∷ cs) = (c ≢ 10) × IsUnbroken cs
 
--- each of these is a line, without its newline
+-- Each text of the list is a line without its newline.
 abbrev pub AreLines : List (List ℕ) → Type 0
 AreLines [] = ⊤
 AreLines (line ∷ lines) = IsUnbroken line × AreLines lines
 
--- these lines, each with its newline, joined
+-- The lines, each with its newline, joined.
 abbrev pub joined : List (List ℕ) → List ℕ
 joined [] = []
 joined (line ∷ lines) = line ++ 10 ∷ joined lines
 
--- two texts begin with the same lines; then each has a whole line, and these two differ
+-- `text` and `other` begin with the same lines, and then have the different lines `first` and `second`, both whole.
 pub record AreApart (text other first second : List ℕ) : Type 0 where
   pub lines : List (List ℕ)
   pub each : AreLines lines

@@ -7,19 +7,19 @@ use Rattle.capn_walk.specs.ValueAt.{IsAt}
 use Rattle.capn_marks.specs.MarkedPart.{marked_at}
 use Rattle.capn_marks.specs.declared.marks.Marks.{Marks}
 
--- its marks: the ways alone
+-- The marks of the text: only the paths.
 abbrev pub ways_alone : Marks
 ways_alone = record { offsets = false; ways = true; quoted = false; offset = 0; table = 0 }
 
--- the line that ends it, which has no way
+-- The last line of the text, which has no path.
 abbrev pub end_line : List ℕ
 end_line = codes "\tend\n"
 
--- what it writes of one segment with this value at its root: the lines with their ways, and the line `end`
+-- The text of one segment with the value `v` at its root: the lines with their paths, and the line `end`.
 abbrev pub shown_with_ways : List ℕ → Tree → List ℕ
 shown_with_ways words v = marked_at (words ∷ []) ways_alone [] v ++ end_line
 
--- the bytes are read as one segment, and this is its text
+-- `text` is the text of `bytes`, read as one segment.
 pub record IsShown (bytes text : List ℕ) : Type 0 where
   pub words : List ℕ
   pub value : Tree
@@ -27,6 +27,6 @@ pub record IsShown (bytes text : List ℕ) : Type 0 where
   pub is : IsAt (words ∷ []) root value
   pub shown : text ≡ shown_with_ways words value
 
--- the bytes have a text that begins so
+-- The text of `bytes` begins with `beginning`.
 abbrev pub IsShownFrom : List ℕ → List ℕ → Type 0
 IsShownFrom bytes beginning = (text : List ℕ) × (more : List ℕ) × IsShown bytes text × (text ≡ beginning ++ more)

@@ -1,3 +1,3 @@
--- What no public clause cites.
+-- Definitions that no public clause cites.
 pub mod Alike
 pub mod Ended

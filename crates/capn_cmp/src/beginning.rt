@@ -1,4 +1,4 @@
-//! The beginning of the text of canonical bytes.
+//! A prefix of the text that `show` writes of canonical bytes, of a limited length.
 
 ghost use Rattle.std.specs.Prelude.{◌≡◌, [], IfErr, IfOk};
 ghost use Rattle.capn_serve.specs.declared.fault.ServeFault.TheVariants as faults;
@@ -14,7 +14,7 @@ use capn_words::{Bare, Watched};
 use std::alloc::Allocator;
 use std::io::{self, Write};
 
-/// The marks of a text: the ways alone.
+/// The marks for each line of the text: only the path to its slot, as `show --ways` writes it.
 const WAYS: Marks = Marks {
     offsets: false,
     ways: true,
@@ -23,7 +23,7 @@ const WAYS: Marks = Marks {
     table: 0,
 };
 
-/// A writer that keeps what it takes, up to the number of bytes that it has room for. Its memory is asked for before it
+/// A writer that keeps the first `room` bytes written to it, and takes no more. Its memory is allocated before it
 /// writes, so that a refused growth is never mistaken for the end of its room.
 #[derive(Drop)]
 struct Beginning<A: Allocator> {
@@ -47,7 +47,7 @@ impl<A: Allocator> Write for Beginning<A> {
     }
 }
 
-/// Returns a list without bytes that has memory for `room` of them.
+/// Returns an empty vector with memory for `room` bytes.
 fn with_room<A: Allocator>(alloc: A, room: usize) -> Result<Vec<u8, A>, ServeFault>
     ensures found { IfOk result (λ bytes. bytes.items ≡ []) }
     ensures only { IfErr result (λ e. e ≡ faults.Memory) }
@@ -58,7 +58,7 @@ fn with_room<A: Allocator>(alloc: A, room: usize) -> Result<Vec<u8, A>, ServeFau
     }
 }
 
-/// Returns a writer into `bytes`, which is empty, that takes `room` bytes.
+/// Returns a writer that appends to `bytes`, which is empty, and takes `room` bytes.
 fn new_writer<A: Allocator>(bytes: Vec<u8, A>, room: usize) -> Watched<Beginning<A>>
     requires empty { bytes.items ≡ [] }
     ensures empty { (inner_of result).bytes.items ≡ [] }
@@ -73,7 +73,7 @@ fn kept_by<A: Allocator>(writer: Watched<Beginning<A>>) -> Vec<u8, A>
     writer.into_inner().bytes
 }
 
-/// Appends the line `end` to `text`, and writes that to `writer`. `Io`: there is no more room.
+/// Appends the line `end` to `text`, and writes `text` to `writer`. The error is `Io` if the writer has no room left.
 fn end_text<A: Allocator>(
     text: &mut Vec<u8, A>,
     writer: &mut Watched<Beginning<A>>,
@@ -87,8 +87,8 @@ fn end_text<A: Allocator>(
     }
 }
 
-/// Returns a beginning of the text that `show --ways --form bare` writes of `canonical` bytes, or all of it. It is as
-/// long as there is `room` for, or a little shorter.
+/// Returns a prefix of the text that `show --ways --form bare` writes of the `canonical` bytes, or all of it. The
+/// prefix has `room` bytes or a few less.
 pub(crate) fn begin_text<A: Allocator + Copy>(
     alloc: A,
     limits: Limits,

@@ -3,7 +3,7 @@
 use capn_serve::StreamForm;
 use capn_walk::Limits;
 
-/// The order to compare the messages of a stream with the first one.
+/// The options of a run of `cmp`, which compares the messages of a stream with the first one.
 #[derive(Clone, Copy, Debug, PartialEq, Eq)]
 pub struct CmpOrder {
     /// The form in which the input holds the messages.

@@ -1,4 +1,4 @@
-//! A whole run of `cmp`.
+//! `run_cmp`: a whole run of `cmp`, from the first message to the result.
 
 ghost use Rattle.std.specs.Prelude.{◌≡◌, false};
 ghost use Rattle.capn_words.specs.Watched.{inner_of, has_failed};
@@ -14,7 +14,7 @@ use capn_words::Watched;
 use std::alloc::Allocator;
 use std::io::{Read, Write};
 
-/// The answer of a comparison.
+/// The result of a comparison.
 #[derive(Clone, Copy, Debug, PartialEq, Eq)]
 pub enum Comparison {
     /// All messages have the value of the first one.
@@ -23,7 +23,6 @@ pub enum Comparison {
     Different,
 }
 
-/// Returns the form of an input that holds a stream in this `form`.
 fn form_of(form: StreamForm) -> Form
     ensures { result ≡ spec.form_of form }
 {
@@ -33,7 +32,7 @@ fn form_of(form: StreamForm) -> Form
     }
 }
 
-/// Returns the answer of `run`, which no fault ended.
+/// Returns the result of `run`, whose loop ended without a fault.
 fn found_by<A: Allocator>(run: &Run<CmpService<A>>) -> Result<Comparison, CmpFault>
     ensures { result ≡ spec.found_by run.now.service.differs run.now.at.index }
 {
@@ -46,18 +45,20 @@ fn found_by<A: Allocator>(run: &Run<CmpService<A>>) -> Result<Comparison, CmpFau
     Ok(Comparison::Same)
 }
 
-/// Reads the messages of a stream as `order` says, and finds whether all have the value of the first one: equal
-/// canonical bytes.
+/// Reads the messages of a stream from `reader`, and tests whether all have the value of the first one: equal canonical
+/// bytes.
 ///
-/// It reads `reader` as [`serve_form`] does, and judges each message as soon as it is whole. At the first message that
-/// differs it writes three lines to `writer`, and reads no more. The first line says where the message is. The others
-/// are the first two lines that differ in the texts that `show --ways --form bare` writes of the canonical bytes: those
-/// of the first message, and those of this one. If no message differs, it writes nothing. It answers `Same` if all of
-/// the input was served and had at least two messages, `Different`, or the first fault. A frame or a group may be
-/// refused, or a message by its walk or for a capability, at its position. `TooFew`: the whole input has fewer than two
-/// messages. `InputTooLong`. `Io` if and only if the reader or the writer failed. `Memory` if a growth was refused. It
-/// holds what its loop holds, the canonical bytes of the first message and of one more, and at a difference the
-/// beginnings of both texts.
+/// Input is read as [`serve_form`] reads it, and each message is judged as soon as it is whole. At the first message
+/// that differs, three lines are written to `writer`, and no more is read. The first line says where the message is.
+/// The other two are the first lines that differ between the texts of the first message and of this one. The text of a
+/// message is the one that `show --ways --form bare` writes of its canonical bytes. If no message differs, nothing is
+/// written.
+///
+/// The result is `Same` if all of the input was served and had at least two messages, `Different`, or the first fault.
+/// A frame or a group may be refused, or a message by its walk or for a capability, with its position. `TooFew` means
+/// that the whole input has fewer than two messages. The other faults are `InputTooLong`, `Io` if and only if the
+/// reader or the writer failed, and `Memory` if a growth was refused. A run holds what its loop holds, the canonical
+/// bytes of the first message and of one more, and at a difference a prefix of each text.
 pub fn run_cmp<R: Read, W: Write, A: Allocator + Copy>(
     alloc: A,
     order: CmpOrder,

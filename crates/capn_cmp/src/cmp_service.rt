@@ -1,4 +1,4 @@
-//! The service of `cmp`.
+//! `CmpService`: compares each message with the first one.
 
 ghost use Rattle.std.specs.Prelude.{◌≡◌, false};
 ghost use Rattle.capn_words.specs.Watched.{inner_of, has_failed};
@@ -15,11 +15,11 @@ use std::alloc::Allocator;
 use std::io::Write;
 use std::marker::Model;
 
-/// The service that compares messages with the first one.
+/// The service that compares each message with the first one.
 ///
-/// A message that is refused, by its walk or for a capability, ends the run. The canonical bytes of the first message
-/// are kept. The first message with other canonical bytes differs: the service writes where it is and the first lines
-/// in which the texts of both values differ, and is done. Any other message writes nothing.
+/// A message that is refused, by its walk or for a capability, ends the run. The service keeps the canonical bytes of
+/// the first message. At the first message with other canonical bytes it writes the position of that message and the
+/// first lines that differ in the texts of both values, and is done. Nothing is written for any other message.
 #[derive(Drop)]
 pub struct CmpService<A: Allocator> {
     limits: Limits,
@@ -36,7 +36,7 @@ impl<A: Allocator> Model for CmpService<A> {
 }
 
 impl<B: Allocator> CmpService<B> {
-    /// Returns a service that has served nothing. It takes no memory.
+    /// Returns a service that has not served a message. It takes no memory.
     pub(crate) fn new(alloc: B, limits: Limits) -> CmpService<B>
         ensures { result ≡ spec.first_state limits }
     {

@@ -1,15 +1,15 @@
-//! Faults of a run that compares.
+//! The faults that end a run of `cmp`, with their texts and exit status.
 
 use capn_serve::{Ending, Line, RunFault};
 use capn_words::Watched;
 use std::io::Write;
 
-/// Why a run that compares does not end with an answer.
+/// The reason why a run of `cmp` does not end with a result.
 #[derive(Clone, Copy, Debug, PartialEq, Eq)]
 pub enum CmpFault {
-    /// Not all messages were served: one is refused, or what `RunFault` says.
+    /// Not all messages were served: one is refused, or memory, input or output failed, as `RunFault` says.
     Run(RunFault),
-    /// There are fewer than two messages.
+    /// The input has fewer than two messages.
     TooFew,
 }
 

@@ -1,4 +1,4 @@
-//! The report on a message that differs.
+//! The report of `cmp` on a message that differs: its position and the first lines that differ.
 
 ghost use Rattle.std.specs.Prelude.{◌≡◌, ◌++◌, IfErr, IfOk, IfSome, OnOk};
 ghost use Rattle.capn_serve.specs.declared.fault.ServeFault.TheVariants as faults;
@@ -11,7 +11,6 @@ use capn_serve::{Position, ServeFault};
 use capn_walk::Limits;
 use std::alloc::Allocator;
 
-/// Appends a part to a text.
 fn put_part<A: Allocator>(text: &mut Vec<u8, A>, part: &[u8]) -> Result<(), ServeFault>
     ensures put { OnOk result (text.new.items ≡ text.old.items ++ part.now) }
     ensures only { IfErr result (λ e. e ≡ faults.Memory) }
@@ -22,8 +21,8 @@ fn put_part<A: Allocator>(text: &mut Vec<u8, A>, part: &[u8]) -> Result<(), Serv
     }
 }
 
-/// Returns the report on the message at the position `at`: the first lines that differ are `line` of the first message,
-/// and `other` of this one.
+/// Returns the report on the message at `at`. The first lines that differ are `line` of the first message, and `other`
+/// of the message at `at`.
 #[tactic(auto, using(crate::proofs::Reports::in_parts))]
 fn report_of<A: Allocator + Copy>(
     alloc: A,
@@ -49,9 +48,9 @@ fn report_of<A: Allocator + Copy>(
     Ok(text)
 }
 
-/// Returns the report on the message at the position `at`. `None`: the beginnings `text` and `other` of the two texts
-/// don't reach the first lines in which these differ. `text` is of the canonical bytes `first` of the first message,
-/// and `other` of the message's own `bytes`.
+/// Returns the report on the message at `at`, or `None` if the prefixes `text` and `other` end before the first lines
+/// that differ. `text` is a prefix of the text of `first`, the canonical bytes of the first message, and `other` of the
+/// text of `bytes`, those of the message at `at`.
 fn report_by<A: Allocator + Copy>(
     alloc: A,
     at: Position,
@@ -74,11 +73,10 @@ fn report_by<A: Allocator + Copy>(
     }
 }
 
-/// Returns the report on the message at the position `at`. Its canonical `bytes` differ from those of the `first`
-/// message.
+/// Returns the report on the message at `at`, whose canonical `bytes` differ from those of the `first` message.
 ///
-/// It makes a beginning of both texts, at first of 65,536 bytes, and doubles that until both reach the first lines in
-/// which they differ. It holds both beginnings. Each is at most twice as long as the text up to the end of these lines,
+/// The call makes a prefix of each text, at first of 65,536 bytes, and doubles that size until both reach the first
+/// lines that differ. It holds both prefixes. Each is at most twice as long as the text up to the end of these lines,
 /// or 65,536 bytes.
 pub(crate) fn find_report<A: Allocator + Copy>(
     alloc: A,

@@ -1,8 +1,8 @@
--- Two texts that are the same so far.
+-- Two texts that have begun with the same lines.
 use Rattle.std.specs.Prelude.{◌≡◌, ℕ, List, ◌++◌}
 use Rattle.capn_cmp.specs.LinesApart.{AreLines, joined}
 
--- two texts begin with the same lines, and this is left of each
+-- `text` and `other` begin with the same lines, and `rest` and `left` remain.
 pub record BeginAlike (text other rest left : List ℕ) : Type 0 where
   pub lines : List (List ℕ)
   pub each : AreLines lines
