@@ -1,4 +1,5 @@
--- Missing bytes are read as zeros, so no number of a beginning is greater. (For `least_of` and `needs_of`.)
+-- Lemmas for `least_of` and `needs_of`: missing bytes are read as zeros, so no number that is read from a prefix is
+-- greater than the whole one.
 use Rattle.std.proofs.Common.{◌≡◌, ℕ, zero, suc, ◌+◌, ◌≤◌, List, [], ◌∷◌, ◌++◌, drop, sum}
 use Rattle.std.proofs.Common.{slice_index, ap, arith}
 use Rattle.std.proofs.lemmas.List.{append-nil, get_or-drop}
@@ -10,7 +11,7 @@ use Rattle.capn_stream.specs.FrameRefusal.{announced_segments, entries, entry_nu
 use Rattle.capn_explain.specs.WhatCame.{IsLeastOfFrame, IsLeastOfGroup, least_length}
 use Rattle.capn_explain.proofs.Zeros.{head-words, same_least}
 
--- no byte is greater
+-- No byte of `xs` is greater than that of `ys` at its place, where missing bytes are zeros.
 abbrev pub ReadsLess : List ℕ → List ℕ → Type 0
 ReadsLess xs ys = (i : ℕ) → slice_index xs i ≤ slice_index ys i
 
@@ -42,7 +43,7 @@ less-frame xs ys less =
     (less-drop 4 xs ys less) in
     omega (arith, count, words, head-words (announced_segments xs), head-words (announced_segments ys))
 
--- no frame that begins so has fewer bytes
+-- No frame that begins with `rest` has fewer bytes than `least`.
 pub least_of_frame : (rest : List ℕ) (least : ℕ) → least ≡ least_length rest → IsLeastOfFrame rest least
 least_of_frame rest least is more =
     omega (arith, is, same_least rest, less-frame rest (rest ++ more) (less-more rest more))
@@ -50,7 +51,7 @@ least_of_frame rest least is more =
 less-group : (tag : ℕ) (came more : List ℕ) → len_at (tag ∷ came) ≤ len_at (tag ∷ (came ++ more))
 less-group tag came more = let byte = less-more (tag ∷ came) more 9 in grind (arith, byte)
 
--- no group that begins so has fewer bytes
+-- No group that begins with `came` has fewer bytes than `least`.
 pub least_of_group : (came : List ℕ) (least : ℕ) → least ≡ len_at came → IsLeastOfGroup came least
 least_of_group [] least is some group more fits begins = absurd (omega arith)
 least_of_group (tag ∷ came) least is some group more fits begins =

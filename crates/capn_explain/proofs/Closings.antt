@@ -1,4 +1,4 @@
--- The text after the loop over the messages. (For `run_explain` and `write_refusal`.)
+-- Lemmas for `run_explain` and `write_refusal`: the text that follows the loop over the messages.
 use Rattle.std.proofs.Common.{◌≡◌, ◌≢◌, ◌↔◌, ◌⊎◌, inl, inr, ℕ, List, [], ◌++◌, Bool, true, false, Option, None}
 use Rattle.std.proofs.Common.{Some, OnOk, IsErrOf, IsErrAnd, IsOkUnless, codes, length, arith}
 use Rattle.std.proofs.Common.{Result, Ok, Err, refl, ap, sym, subst, ◌∙◌}
@@ -21,11 +21,11 @@ use Rattle.capn_explain.specs.declared.outcome.Outcome.TheVariants as outcomes
 abbrev pub Ending : Type 0
 Ending = Result (Unit {0}) RunFault
 
--- how a run ended
+-- The result of a run, by a name that proofs can use.
 abbrev pub ended : Ending → Ending
 ended r = r
 
--- an ending by a fault
+-- The result of a run that `e` ended.
 abbrev pub stopped : RunFault → Ending
 stopped e = Err e
 
@@ -35,7 +35,7 @@ no_failure : (failed : Bool) → ((ended (Ok tt) ≡ Err faults.Io) ↔ (failed 
 no_failure false io = refl
 no_failure true (to, from) = let k = from refl in absurd (cc)
 
--- it was written, or the writer failed
+-- Case: the text was written, or the writer failed.
 pub closing_wrote : (text bytes : List ℕ) (old new : Option (List ℕ)) (before after : Bool) (r : Ending)
     → before ≡ false → text ≢ [] → bytes ≡ text → OnOk r (Appends old new bytes) → HasBegun old new bytes
     → (IsErrOf r faults.Io ↔ (after ≡ true)) → IsOkUnless r faults.Io → PutsClosing text old new before after r
@@ -44,19 +44,19 @@ closing_wrote text bytes old new before after (Ok u) fine some same ok begun io 
 closing_wrote text bytes old new before after (Err e) fine some same ok begun io only =
     (some, inr (only, subst (HasBegun old new) same begun, io.0 (ap stopped only)))
 
--- memory was refused for it
+-- Case: memory was refused for the text.
 pub closing_refused : (text : List ℕ) (old new : Option (List ℕ)) (before after : Bool) (r : Ending) (fault : RunFault)
     → IsErrAnd r (λ e. e ≡ fault) → fault ≡ faults.Memory → new ≡ old → after ≡ before → text ≢ []
     → PutsClosing text old new before after r
 closing_refused text old new before after (Ok u) fault told is same fine some = absurd told
 closing_refused text old new before after (Err e) fault told is same fine some = (some, inl (told ∙ is, same, fine))
 
--- the lines of a fault are not empty
+-- The lines of a fault are not empty.
 fault_some : (limits : Bounds) (at : Position) (r : Refusal) (rest group : List ℕ)
     → fault_lines limits at r rest group ≢ []
 fault_some limits at r rest group = λ h. absurd (omega (arith, ap length h))
 
--- by whether messages are explained apart
+-- The text of a refusal if messages are not explained apart.
 pub told_without : (apart : Bool) (order : Explain) (at : Position) (r : Refusal) (came : Came) → apart ≡ false
     → told_by apart order at r came ≡ told_at order at r came
 told_without false order at r came is = refl
@@ -74,7 +74,7 @@ told_some true order at r came = λ h. absurd (omega (arith, ap length h))
 
 -- ---- how a run ends
 
--- what has been explained does not end it for the reader and the writer
+-- The ending of a run that explained no message is not `Io`.
 pub rest_not_io : (number : Option ℕ) (first : Option First) → rest_ending number first ≡ Err faults.Io → ⊥
 rest_not_io (Some number) first is = absurd (cc)
 rest_not_io None (Some (Ok text)) is = absurd (cc)
@@ -94,7 +94,7 @@ pub not_true : (failed : Bool) → (failed ≡ true → ⊥) → failed ≡ fals
 not_true false none = refl
 not_true true none = absurd (none refl)
 
--- a run that ended so has not failed to read or to write
+-- If a run ended with a refusal, neither its reader nor its writer has failed.
 pub refused_fine : (at : Position) (r : Refusal) (reader writer : Bool)
     → ((stopped (faults.Refused at r) ≡ Err faults.Io) ↔ ((reader ≡ true) ⊎ (writer ≡ true)))
     → (reader ≡ true → ⊥) × (writer ≡ false)

@@ -1,5 +1,4 @@
--- The end of a run over an input that explains messages. (For `run_explain` and `run_explain_refused`, and what each of
--- them serves.)
+-- Lemmas for `run_explain`, `run_explain_refused` and their `serve_messages`: the end of a run that explains messages.
 use Rattle.std.proofs.Common.{◌≡◌, ◌≢◌, ◌⊎◌, inl, inr, ℕ, ◌+◌, List, [], ◌++◌, length, take, Bool, true, false, Option}
 use Rattle.std.proofs.Common.{None, Some, IfSome, Result, Ok, Err, refl, ap, sym, subst, ◌∙◌, append-nil}
 use Rattle.std.proofs.Math.Seq.{take-length, take-append-add}
@@ -24,7 +23,7 @@ use Rattle.capn_explain.specs.inner.Closing.{PutsClosing, PutsFault}
 use Rattle.capn_explain.proofs.Closings.{Ending, done_fine, io_is_not_memory, refused_fine}
 use Rattle.capn_explain.proofs.Closings.{stopped}
 
--- the text of which a beginning was written
+-- A prefix of this text of messages was written.
 begun_text : {X : Type 0} (f : Fold X) (x : X) (form : Form) (bytes : List ℕ) (c d : Option (List ℕ))
     → HasWritten f x form bytes c d → (text : List ℕ) × Appends c d text
 begun_text f x forms.Stream bytes c d (parts, rest, y, count, are, wrote) = (take count (texts_of parts), wrote)
@@ -33,12 +32,12 @@ begun_text f x forms.Packed bytes c d (stream, begins, parts, rest, y, count, ar
 begun_text f x forms.Bare bytes c d (inl wrote) = ([], wrote)
 begun_text f x forms.Bare bytes c d (inr (text, y, count, writes, wrote)) = (take count text, wrote)
 
--- nothing had come
+-- The part that was read of a message, if nothing was read.
 nothing : Came
 nothing = record { rest = []; group = [] }
 
--- what had come of a message after some others is told by the state after them, which the run left unless it is refused
--- once it is whole
+-- The part that was read of a refused message is the same by the state after the loop. That is the state after the
+-- messages before it, unless the message is refused once it is whole.
 tells_left : {X : Type 0} (f : Fold X) (x : X) (form : Form) (input : List ℕ) (fault : RunFault) (came : Came) (z y : X)
     → Leaves f z fault y → TellsInput f x form input fault came y → TellsInput f x form input fault came z
 tells_left f x form input fault came z y (inl same) tells =
@@ -47,7 +46,7 @@ tells_left f x forms.Stream input fault came z y (inr refuses) tells = inl (z, r
 tells_left f x forms.Packed input fault came z y (inr refuses) tells = inl (z, refuses)
 tells_left f x forms.Bare input fault came z y (inr refuses) tells = tt
 
--- what is written after something
+-- If a part of the text was written ahead, so it was after `more` was written too.
 ahead_more : (P : List ℕ → Option (List ℕ) → Option (List ℕ) → Type 0) (bytes more : List ℕ)
     (c m d : Option (List ℕ)) → IsAhead P bytes c m → Appends m d more → IsAhead P bytes c d
 ahead_more P bytes more c m d (before, piece, mid, first, is, small, written, wrote) after =
@@ -61,7 +60,7 @@ read_so_far f x forms.Packed bytes more c m d (bound, ahead) wrote =
     (bound, ahead_more (HasWrittenAllPacked f x most_stream) bytes more c m d ahead wrote)
 read_so_far f x forms.Bare bytes more c m d bound wrote = bound
 
--- a beginning of what is written at the end was written after a text
+-- A prefix of `last` was written after `text`.
 begun_after : (c m d : Option (List ℕ)) (text last : List ℕ) (count : ℕ) → Appends c m text
     → Appends m d (take count last) → HasBegun c d (text ++ last)
 begun_after c m d text last count before wrote = (
@@ -70,12 +69,12 @@ begun_after c m d text last count before wrote = (
       (Appends-trans c m d text (take count last) before wrote),
 )
 
--- an answer that is a fault
+-- The result of a run that is the fault `e`.
 abbrev pub answered : {E : Type 0} → E → Result (Unit {0}) E
 answered e = Err e
 
--- A run answers with a fault of the reader, the writer or the memory exactly where it ended so. The state that a run
--- leaves which a fault ended tells as much as that of the messages before it.
+-- The result of a run is a fault of the reader, the writer or the memory if and only if its ending is. The state after
+-- a fault gives the same result as the state of the messages before it.
 pub record IsFaithful {X E : Type 0} (f : Fold X) (answer : Answer X E) : Type 0 where
   pub io_by : (y : X) → answer.by y (stopped faults.Io) ≡ answered (answer.of faults.Io)
   pub memory_by : (y : X) → answer.by y (stopped faults.Memory) ≡ answered (answer.of faults.Memory)
@@ -84,7 +83,7 @@ pub record IsFaithful {X E : Type 0} (f : Fold X) (answer : Answer X E) : Type 0
   pub parted : answered (answer.of faults.Io) ≡ answered (answer.of faults.Memory) → ⊥
   pub left : (z y : X) (e : RunFault) → Leaves f z e y → answer.by z (stopped e) ≡ answer.by y (stopped e)
 
--- an end that is the answer tells it
+-- `IsFaithful` holds if the result of a run is its ending.
 pub plain_faithful : {X : Type 0} (f : Fold X) → IsFaithful f plain
 plain_faithful f = record {
   io_by = λ y. refl;
@@ -97,14 +96,14 @@ plain_faithful f = record {
 
 module _ {X E : Type 0} (f : Fold X) (x : X) (finish : Finish X) (answer : Answer X E) (faithful : IsFaithful f answer)
     (form : Form) where
-  -- all texts of the messages of an input were written, and what comes after them, and the answer, are these
+  -- All texts of the messages of the input were written, `last` is the text that follows them, and `ending` the result.
   abbrev pub Serves : Option (List ℕ) → Option (List ℕ) → Ending → List ℕ → Result (Unit {0}) E → List ℕ → Type 0
   Serves c m served last ending input =
       (text : List ℕ) × (z : X) × (came : Came) × (AreMessages f x form input text served z
       × TellsEnd f x form input served came z) × Appends c m text
       × (last_text f x finish served z came ≡ last) × (answer.by z (last_ending f x finish served z) ≡ ending)
 
-  -- the messages ended in a way after which something is written
+  -- The messages ended in a way that lets a text follow them.
   pub record IsOver (a b c m : Option (List ℕ)) (reader before : Bool) (served : Ending) (last : List ℕ)
       (ending : Result (Unit {0}) E) : Type 0 where
     pub state : X
@@ -261,7 +260,7 @@ module _ {X E : Type 0} (f : Fold X) (x : X) (finish : Finish X) (answer : Answe
       closing_text z came d text same (begun_after c m d text last count first wrote),
     )
 
-    -- something is written at the end
+    -- The text that follows the messages is not empty.
     closes_by : (input : Option (List ℕ)) → IfSome input (Serves c m served last ending) → last ≢ []
         → HasClosing f x finish form input
     closes_by None is some = (served, over.state, over.came, tt, λ h. some (sym over.same ∙ h))
@@ -274,7 +273,7 @@ module _ {X E : Type 0} (f : Fold X) (x : X) (finish : Finish X) (answer : Answe
         let e : true ≡ false = sym failed ∙ fine ∙ over.writer_fine in
         absurd (cc)
 
-    -- all was written
+    -- Case: the text that follows was written in whole.
     pub finished_written : (d : Option (List ℕ)) (after : Bool) → Appends m d last → after ≡ before
         → Answered f x finish answer form a b c d reader after ending
     finished_written d after wrote fine = record {
@@ -291,7 +290,7 @@ module _ {X E : Type 0} (f : Fold X) (x : X) (finish : Finish X) (answer : Answe
       memory = λ h. inr (inr (over.for_memory h));
     }
 
-    -- memory was refused for it
+    -- Case: memory was refused for the text that follows.
     unclosed : (d : Option (List ℕ)) (after : Bool) → d ≡ m → after ≡ before → last ≢ []
         → Answered f x finish answer form a b c d reader after (answered (answer.of faults.Memory))
     unclosed d after same fine some = record {
@@ -308,7 +307,7 @@ module _ {X E : Type 0} (f : Fold X) (x : X) (finish : Finish X) (answer : Answe
       memory = λ h. inr (inl (closes_by a over.exact some));
     }
 
-    -- the writer failed within it
+    -- Case: the writer failed within the text that follows.
     broken : (d : Option (List ℕ)) (after : Bool) → HasBegun m d last → after ≡ true
         → Answered f x finish answer form a b c d reader after (answered (answer.of faults.Io))
     broken d after begun failed = record {
@@ -337,7 +336,7 @@ module _ {X E : Type 0} (f : Fold X) (x : X) (finish : Finish X) (answer : Answe
 
 module _ {X E : Type 0} (f : Fold X) (x : X) (finish : Finish X) (answer : Answer X E) (faithful : IsFaithful f answer)
     (form : Form) (a b c m : Option (List ℕ)) (reader before : Bool) (y : X) where
-  -- all messages were served, and what is written after them was written, or was not
+  -- Case: all messages were served, and the closing text was written, or failed.
   pub finished_closed : (d : Option (List ℕ)) (after : Bool) → (finish.ending y ≡ Err faults.Io → ⊥)
       → ServesMessages f x form a b c m reader before (Ok tt) y
       → PutsClosing (finish.closing y) m d before after (Ok tt)
@@ -368,7 +367,7 @@ module _ {X E : Type 0} (f : Fold X) (x : X) (finish : Finish X) (answer : Answe
         (answer.by y (stopped e))) (sym same)
         (finished_stopped f x finish answer faithful form a b c m reader before e y came none run tells))
 
-    -- a fault ended them, and its lines were written, if it has some
+    -- Case: a fault ended the messages, and its lines were written, if it has any.
     pub finished_told : (d : Option (List ℕ)) (after : Bool) (e : RunFault)
         → ServesMessages f x form a b c m reader before (Err e) y
         → IfSome a (λ input. TellsEnd f x form input (Err e) came y)
@@ -384,7 +383,7 @@ module _ {X E : Type 0} (f : Fold X) (x : X) (finish : Finish X) (answer : Answe
     finished_told d after faults.InputTooLong run tells (done, same, fine) =
         still d after faults.InputTooLong refl same fine run tells
 
-    -- or they were not written
+    -- Case: a fault ended the messages, and its lines were not written.
     pub finished_untold : (d : Option (List ℕ)) (after : Bool) (e fault : RunFault)
         → ServesMessages f x form a b c m reader before (Err e) y
         → IfSome a (λ input. TellsEnd f x form input (Err e) came y)
@@ -399,7 +398,7 @@ module _ {X E : Type 0} (f : Fold X) (x : X) (finish : Finish X) (answer : Answe
     finished_untold d after faults.InputTooLong fault run tells (done, same, fine) = absurd (cc)
 
 module _ {X : Type 0} where
-  -- the messages were served that an order says, from the state before the first
+  -- The messages were served by the limits of the order, from the first state.
   pub of_order : (fold : ℕ → Fold X) (form : Form) (words most : ℕ) (first x : X) → most ≡ words → x ≡ first
       → (a b c d : Option (List ℕ)) (reader writer : Bool) (r : Ending) (y : X)
       → ServesMessages (fold most) x form a b c d reader writer r y
@@ -408,7 +407,7 @@ module _ {X : Type 0} where
       subst (λ (z : X). ServesMessages (fold words) z form a b c d reader writer r y) fresh
       (subst (λ (n : ℕ). ServesMessages (fold n) x form a b c d reader writer r y) same ran)
 
-  -- so is what had come
+  -- The part that was read of a refused message is that of a run by the limits of the order, from the first state.
   pub told_of_order : (fold : ℕ → Fold X) (form : Form) (words most : ℕ) (first x : X) → most ≡ words → x ≡ first
       → (a : Option (List ℕ)) (r : Ending) (came : Came) (y : X)
       → IfSome a (λ input. TellsEnd (fold most) x form input r came y)

@@ -1,4 +1,4 @@
--- Where memory is refused, nothing is written. (For `run_explain`.)
+-- Lemmas for `run_explain`: if memory is refused, nothing is written.
 use Rattle.std.proofs.Common.{◌≡◌, inl, inr, ℕ, List, [], ◌∷◌, ◌++◌, take, Bool, true, false, Option, None, Some}
 use Rattle.std.proofs.Common.{Ok, Err, refl, ap, sym, subst, ◌∙◌}
 use Rattle.std.proofs.Math.Seq.{take-nil}
@@ -42,7 +42,7 @@ messages_none order x (p ∷ ps) y (mid, part, step, rest) =
     let others = messages_none order mid ps y rest in
     λ i. first i ++ others i
 
--- no beginning of nothing is anything
+-- A prefix of an empty text is empty.
 begun_none : (c d : Option (List ℕ)) (text : List ℕ) (count : ℕ) → text ≡ [] → Appends c d (take count text)
     → Appends c d []
 begun_none c d text count none wrote =
@@ -73,11 +73,11 @@ closing_none outcomes.Nothing lines number first count is = rest_none number fir
 closing_none (outcomes.Refused at s) lines number first count is = absurd (cc)
 closing_none outcomes.Accepted lines number first count is = absurd (cc)
 
--- nothing was written after nothing
+-- If nothing was written, and then nothing more, nothing was written in all.
 pub nothing_then : (c m d : Option (List ℕ)) → Appends c m [] → d ≡ m → Appends c d []
 nothing_then c m d wrote same = subst (λ (n : Option (List ℕ)). Appends c n []) (sym same) wrote
 
--- the messages ended as done, the text after them was written, and the run ends for memory
+-- Case: all messages were served, the text after them was written, and the run ends with `Memory`.
 pub closed_none : (run : Run Reporting) (c m d : Option (List ℕ)) (before after : Bool) → Appends c m []
     → PutsClosing (closing_by run.service.outcome run.service.lines run.service.order.number run.service.first
     run.at.index) m d before after (Ok tt)
@@ -87,7 +87,7 @@ closed_none run c m d before after wrote (closed, fine) is =
     Appends-trans c m d [] [] wrote
     (subst (Appends m d) (closing_none s.outcome s.lines s.order.number s.first run.at.index is) closed)
 
--- it was not written, for memory
+-- Case: the text was not written, because memory was refused.
 pub unclosed_none : (text : List ℕ) (c m d : Option (List ℕ)) (before after : Bool) (fault : RunFault) → Appends c m []
     → PutsClosing text m d before after (Err fault) → stopped fault ≡ Err faults.Memory → Appends c d []
 unclosed_none text c m d before after fault wrote (some, inl (memory, same, fine)) is = nothing_then c m d wrote same
@@ -95,7 +95,7 @@ unclosed_none text c m d before after fault wrote (some, inr (io, begun, failed)
     let k : stopped faults.Io ≡ Err faults.Memory = sym (ap stopped io) ∙ is in
     absurd (cc)
 
--- a fault ended the messages, after which nothing more is written, or its lines were
+-- Case: a fault ended the messages, and its lines were written, if it has any.
 pub told_none : (told : Position → Refusal → List ℕ) (c m d : Option (List ℕ)) (before after : Bool) (fault : RunFault)
     → Appends c m [] → PutsFault told fault m d before after (Ok tt) → stopped fault ≡ Err faults.Memory
     → Appends c d []
@@ -104,7 +104,7 @@ told_none told c m d before after faults.Memory wrote (done, same, fine) is = no
 told_none told c m d before after faults.Io wrote put is = absurd (cc)
 told_none told c m d before after faults.InputTooLong wrote put is = absurd (cc)
 
--- or its lines were not written, for memory
+-- Case: a fault ended the messages, and memory was refused for its lines.
 pub untold_none : (told : Position → Refusal → List ℕ) (c m d : Option (List ℕ)) (before after : Bool)
     (ended fault : RunFault) → Appends c m [] → PutsFault told ended m d before after (Err fault)
     → stopped fault ≡ Err faults.Memory → Appends c d []

@@ -1,4 +1,4 @@
--- What a run answers that explains every refused message. (For `run_explain_refused`.)
+-- Lemmas for `run_explain_refused`: the result of a run that explains every refused message.
 use Rattle.std.proofs.Common.{◌≡◌, inl, inr, ℕ, List, Bool, true, Option, None, Some, Result, Ok, Err, refl, ap, subst}
 use Rattle.capn_serve.specs.Fold.{Leaves}
 use Rattle.capn_serve.specs.WhatCame.{Came}
@@ -18,7 +18,7 @@ use Rattle.capn_explain.specs.inner.Closing.{PutsFault, told_by}
 use Rattle.capn_explain.proofs.Closings.{Ending, rest_not_io, stopped}
 use Rattle.capn_explain.proofs.Finishes.{IsFaithful, answered}
 
--- the answer of a fault of the reader, the writer or the memory
+-- The result of a run that a fault of the reader, the writer or the memory ended.
 abbrev ended : RunFault → Result (Unit {0}) ReportFault
 ended e = answered (faults.Ended e)
 
@@ -30,7 +30,7 @@ memory_by : (s : Option SkippedSoFar) (n : ℕ) → answer_by s n (stopped run_f
 memory_by None n = refl
 memory_by (Some s) n = refl
 
--- two faults are one if their answers are
+-- Two faults are the same if their results are.
 one_fault : (e g : RunFault) → ended e ≡ ended g → stopped e ≡ stopped g
 one_fault e g is = let k : e ≡ g = cc in ap stopped k
 
@@ -58,7 +58,7 @@ io_is_not_memory : ended run_faults.Io ≡ ended run_faults.Memory → ⊥
 io_is_not_memory is = absurd (cc)
 
 module _ (order : ExplainRefused) where
-  -- no message ends the run by its refusal, so that the state is that after the messages
+  -- No message ends the loop by its refusal, so a fault leaves the state after the messages.
   left : (z y : Run RefusedReporting) (e : RunFault) → Leaves (refused_fold order) z e y
       → refused_answer.by z (stopped e) ≡ refused_answer.by y (stopped e)
   left z y e (inl same) = ap (λ (w : Run RefusedReporting). refused_answer.by w (stopped e)) same
@@ -74,13 +74,13 @@ module _ (order : ExplainRefused) where
     left = left;
   }
 
--- after all messages a run does not end for the reader and the writer
+-- The ending of a run after all messages is not `Io`.
 pub ending_not_io : (skipped : Option SkippedSoFar) (first : Option First)
     → ending_by skipped first ≡ Err run_faults.Io → ⊥
 ending_not_io None first is = rest_not_io None first is
 ending_not_io (Some s) first is = absurd (cc)
 
--- what was written of a fault by the order for one message is what is told of it
+-- The text that was written for a fault by the order for one message is the text that the definition gives.
 pub by_order : (order : ExplainRefused) (each : Explain) → each ≡ each_of order → (came : Came) (e : RunFault)
     (old new : Option (List ℕ)) (before after : Bool) (r : Ending)
     → PutsFault (λ at r. told_by true each at r came) e old new before after r

@@ -1,4 +1,4 @@
--- Bytes that are missing are read as zeros. (For `entry_at`, `first_of`, `least_of` and `total_of`.)
+-- Lemmas for `entry_at`, `first_of`, `least_of` and `total_of`: missing bytes are read as zeros.
 use Rattle.std.proofs.Common.{◌≡◌, ℕ, zero, suc, ◌+◌, ◌*◌, ◌≤◌, ◌<◌, ◌-◌, ◌/◌, ◌^◌, min, List, [], ◌∷◌, ◌++◌}
 use Rattle.std.proofs.Common.{length, drop, replicate, sum, slice_index, refl, ap, sym, ◌∙◌, arith}
 use Rattle.std.proofs.lemmas.List.{get_or-drop}
@@ -8,11 +8,11 @@ use Rattle.capn_stream.specs.FrameRefusal.{head_length}
 use Rattle.capn_stream.proofs.shared.Entries.{entries-suc, sum-entries_more}
 use Rattle.capn_explain.specs.WhatCame.{least_length}
 
--- the same bytes are read at each place
+-- `xs` and `ys` have the same byte at each place, where missing bytes are zeros.
 abbrev pub ReadSame : List ℕ → List ℕ → Type 0
 ReadSame xs ys = (i : ℕ) → slice_index xs i ≡ slice_index ys i
 
--- zeros behind change none of them
+-- Zeros at the end change no byte that is read.
 pub same-zeros : (xs : List ℕ) (n : ℕ) → ReadSame (xs ++ replicate n 0) xs
 same-zeros [] zero i = refl
 same-zeros [] (suc n) zero = refl
@@ -34,7 +34,7 @@ same-entries (suc n) xs ys same =
     let rest = same-entries n (drop 4 xs) (drop 4 ys) (same-drop 4 xs ys same) in
     rw (first, rest) refl
 
--- so they are of no account for what a table announces
+-- Zeros at the end do not change the length that a table announces.
 pub frame_length-zeros : (rest : List ℕ) (n : ℕ) → frame_length (rest ++ replicate n 0) ≡ frame_length rest
 frame_length-zeros rest n =
     let same = same-zeros rest n in
@@ -45,7 +45,7 @@ frame_length-zeros rest n =
     ap (λ (c : ℕ). head_length c + 8 * sum (entries c (drop 4 (rest ++ replicate n 0)))) count
     ∙ ap (λ (ns : List ℕ). head_length (announced_segments rest) + 8 * sum ns) sizes
 
--- an entry, by its bytes
+-- The number of an entry, by its four bytes.
 pub entry-bytes : (k : ℕ) (bs : List ℕ) → entry_number (drop k bs) ≡ slice_index bs k
     + 256 * (slice_index bs (k + 1) + 256 * (slice_index bs (k + 2) + 256 * slice_index bs (k + 3)))
 unfolding entry_number
@@ -55,12 +55,12 @@ entry-bytes k bs =
     get_or-drop k bs 0 0 ∙ ap (λ (j : ℕ). slice_index bs j) here in
     omega (arith, first, get_or-drop k bs 1 0, get_or-drop k bs 2 0, get_or-drop k bs 3 0)
 
--- of nothing it is zero
+-- The number of an entry without bytes is zero.
 entry-nothing : entry_number [] ≡ 0
 unfolding entry_number
 entry-nothing = refl
 
--- behind what came all sizes are zero
+-- The sizes after the bytes that were read are zero.
 pub sum-behind : (n k : ℕ) (bs : List ℕ) → length bs ≤ 4 * n → sum (entries (n + k) bs) ≡ sum (entries n bs)
 sum-behind n zero bs all = let e : n + zero ≡ n = omega arith in rw e refl
 sum-behind n (suc k) bs all =
@@ -75,27 +75,27 @@ sum-more : (n k : ℕ) (bs : List ℕ) → (0 < k → length bs ≤ 4 * n) → s
 sum-more n zero bs all = let e : n + zero ≡ n = omega arith in rw e refl
 sum-more n (suc k) bs all = sum-behind n (suc k) bs (all (omega arith))
 
--- so the sizes that have begun to come have the same sum as all
+-- The sizes that begin within the bytes read have the same sum as all sizes.
 pub sum-begun : (begun count : ℕ) (bs : List ℕ) → begun ≤ count → (begun < count → length bs ≤ 4 * begun)
     → sum (entries count bs) ≡ sum (entries begun bs)
 sum-begun begun count bs few all =
     let e : count ≡ begun + (count - begun) = omega arith in
     ap (λ (n : ℕ). sum (entries n bs)) e ∙ sum-more begun (count - begun) bs (λ h. all (omega (arith, h)))
 
--- the table has whole words
+-- The length of a table, in whole words.
 pub head-words : (count : ℕ) → 8 * (count / 2 + 1) ≡ head_length count
 head-words count = grind arith
 
--- the least length, without zeros
+-- The least length of a frame, without the appended zeros.
 pub same_least : (rest : List ℕ) → least_length rest ≡ min (frame_length rest) (2 ^ 64 - 1)
 same_least rest = ap (λ (n : ℕ). min n (2 ^ 64 - 1))
     (frame_length-zeros rest (head_length (announced_segments (rest ++ replicate 4 0))))
 
--- a count that stops twice
+-- A count that stops at `most` twice is the same as one that stops once.
 stops : (n m most : ℕ) → min (min n most + m) most ≡ min (n + m) most
 stops n m most = grind arith
 
--- how many bytes a frame has at least, by its words
+-- The least length of a frame, by its words and its table.
 pub least-words : (rest : List ℕ) (words table : ℕ) → words ≡ announced_words rest
     → table ≡ head_length (announced_segments rest)
     → min (min (words * 8) (2 ^ 64 - 1) + table) (2 ^ 64 - 1) ≡ least_length rest
@@ -103,7 +103,7 @@ least-words rest words table is head =
     let all : frame_length rest ≡ words * 8 + table = omega (arith, is, head) in
     stops (words * 8) table (2 ^ 64 - 1) ∙ ap (λ (n : ℕ). min n (2 ^ 64 - 1)) (sym all) ∙ sym (same_least rest)
 
--- the first eight sizes
+-- The first eight sizes.
 pub eight : (bs : List ℕ) → entries 8 bs ≡ entry_number bs ∷ entry_number (drop 4 bs) ∷ entry_number (drop 8 bs)
     ∷ entry_number (drop 12 bs) ∷ entry_number (drop 16 bs) ∷ entry_number (drop 20 bs) ∷ entry_number (drop 24 bs)
     ∷ entry_number (drop 28 bs) ∷ []

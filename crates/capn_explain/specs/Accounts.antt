@@ -1,4 +1,4 @@
--- The account of a message that is accepted. (Own.)
+-- The account of an accepted message. (Own.)
 use Rattle.std.specs.Prelude.{◌≡◌, ℕ, List, [], ◌∷◌, ◌++◌, None, Some, codes, refl}
 use Rattle.std.specs.Fmt.{decimal, digits}
 use Rattle.capn_walk.specs.Limits.{Bounds}
@@ -14,12 +14,12 @@ use Rattle.capn_mismatch.specs.declared.answer.Mismatch.TheVariants as mismatche
 use Rattle.capn_mismatch.specs.declared.canonical_lines.CanonicalLines.{CanonicalLines}
 use Rattle.capn_explain.specs.declared.account.Account.{Account}
 
--- the place of a message, and its segments
+-- The position of a message, and its segments.
 abbrev pub head_of : Position → List (List ℕ) → MessageHead
 head_of at message = record { index = at.index; offset = at.offset; segments = Some (segments_of message) }
 
 module _ {A : Type 0} where
-  -- the account of a message that was measured, and has these lines
+  -- The account of a message with the figures `m` and these lines about its canonical form.
   abbrev pub account_by : Position → List (List ℕ) → MeasuredBare → CanonicalLines A → Account A
   account_by at message m lines = record {
     head = head_of at message;
@@ -29,21 +29,21 @@ module _ {A : Type 0} where
     lines = lines;
   }
 
-  -- the message is accepted, and this is what its walk pays and visits, how deep it is, and whether it is canonical and
-  -- why not
+  -- `account` is the account of `message`, which is accepted: its price, visits and depth, and whether it is canonical
+  -- or why not.
   abbrev pub IsAccount : Form → Position → List (List ℕ) → Bounds → Account A → Type 0
   IsAccount form at message limits account =
       (m : MeasuredBare) × IsMeasure message limits m
       × AreLinesOf message limits at.offset (table_words form message) account.lines
       × (account ≡ account_by at message m account.lines)
 
-  -- its lines
+  -- The lines of an account.
   abbrev pub account_text : Account A → List ℕ
   account_text a =
       head_lines a.head ++ (codes "accepted: paid " ++ (decimal a.paid ++ (codes " visits " ++ (decimal a.visits
       ++ (codes " depth " ++ (decimal a.depth ++ (codes "\n" ++ canonical_lines a.lines)))))))
 
--- these lines tell that; where its paths are kept, no line says
+-- `text` has the lines of the account of `message`. It does not depend on the allocator of the paths.
 abbrev pub IsAccountText : Form → Position → List (List ℕ) → Bounds → List ℕ → Type 0
 IsAccountText form at message limits text =
     (account : Account (Unit {0})) × IsAccount form at message limits account × (text ≡ account_text account)

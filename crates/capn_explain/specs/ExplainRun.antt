@@ -1,4 +1,5 @@
--- A run that explains one message: the text at its end, and the rest by the definition for all such runs. (Own.)
+-- A whole run that explains one message: its closing text, and the rest by `Finish`, which defines every run that
+-- explains. (Own.)
 use Rattle.std.specs.Prelude.{◌≡◌, ℕ, List, [], ◌++◌, Bool, Option, Some, None, Result, Ok, Err, codes, refl}
 use Rattle.std.specs.Fmt.{digits}
 use Rattle.std.specs.Io.KnownBytes.{Appends}
@@ -21,63 +22,64 @@ use Rattle.capn_explain.specs.declared.explain.Explain.{Explain}
 use Rattle.capn_explain.specs.declared.outcome.Outcome.{Outcome}
 use Rattle.capn_explain.specs.declared.outcome.Outcome.TheVariants as outcomes
 
--- the fold over the messages of an input, up to the one that is explained
+-- The fold over the messages of an input, up to the one that is explained.
 abbrev pub explain_fold : Explain → Fold (Run Reporting)
 explain_fold order = fold_until serves refuses done order.limits.message_words
 
--- nothing has been served
+-- The state of a run before its first message.
 abbrev pub first_run : Explain → Run Reporting
 first_run order = record {
   service = first_reporting order;
   at = start;
 }
 
--- the line of a count
+-- The line of a count.
 abbrev pub count_line : CountText → List ℕ
 count_line count = count_text count ++ codes "\n"
 
--- the text of a run of this number of messages that explained nothing: with a number, the count of messages; else the
--- lines of the only message, nothing if memory was refused for them, or the count of messages of which none is refused
+-- The text of a run that read `count` messages and explained none. If the order has a number, it is the count of
+-- messages. Otherwise it is the lines of the only message, nothing if memory was refused for them, or the count of
+-- messages, none of which is refused.
 abbrev pub rest_text : Option ℕ → Option First → ℕ → List ℕ
 rest_text (Some number) first count = count_line (counts.Fewer count)
 rest_text None (Some (Ok text)) count = text
 rest_text None (Some (Err memory)) count = []
 rest_text None None count = count_line (counts.NoneRefused count)
 
--- the text after all messages: the lines of the one that was explained, if one was
+-- The closing text: the lines of the message that was explained, if there is one.
 abbrev pub closing_by : Outcome → List ℕ → Option ℕ → Option First → ℕ → List ℕ
 closing_by outcomes.Nothing lines number first count = rest_text number first count
 closing_by (outcomes.Refused at stopped) lines number first count = lines
 closing_by outcomes.Accepted lines number first count = lines
 
--- that text by the state after them
+-- The closing text by the state after the last message.
 abbrev pub closing : Run Reporting → List ℕ
 closing run =
     closing_by run.service.outcome run.service.lines run.service.order.number run.service.first run.at.index
 
--- the end of a run whose messages explained nothing: for memory, if that was refused for the lines of the only message;
--- else as done
+-- The ending of a run that explained no message: `Memory` if that was refused for the lines of the only message, else
+-- `Ok`.
 abbrev pub rest_ending : Option ℕ → Option First → Result (Unit {0}) RunFault
 rest_ending (Some number) first = Ok tt
 rest_ending None (Some (Ok text)) = Ok tt
 rest_ending None (Some (Err memory)) = Err faults.Memory
 rest_ending None None = Ok tt
 
--- the end of a run whose messages ended as done: as refused if a message was explained that is
+-- The ending of a run whose loop ended without a fault: `Refused` if the explained message is refused, else `Ok`.
 abbrev pub ending_by : Outcome → Option ℕ → Option First → Result (Unit {0}) RunFault
 ending_by outcomes.Nothing number first = rest_ending number first
 ending_by (outcomes.Refused at stopped) number first = Err (faults.Refused at (refusals.Walk stopped))
 ending_by outcomes.Accepted number first = Ok tt
 
--- that end by the state after them
+-- The ending by the state after the last message.
 abbrev pub ending : Run Reporting → Result (Unit {0}) RunFault
 ending run = ending_by run.service.outcome run.service.order.number run.service.first
 
--- the text of a message that is refused before its walk, by the part of it that had come
+-- The text of a message that is refused before its walk, by the part that was read of it.
 abbrev pub told_at : Explain → Position → Refusal → Came → List ℕ
 told_at order at refusal came = fault_lines order.limits at refusal came.rest came.group
 
--- the end of a run after its messages
+-- The end of a run after its messages: the closing text, the ending, and the lines of a refusal.
 abbrev pub explain_finish : Explain → Finish (Run Reporting)
 explain_finish order = record {
   closing = λ y. closing y;
@@ -85,7 +87,8 @@ explain_finish order = record {
   told = λ at r came. told_at order at r came;
 }
 
--- a run, over a reader (from a to b) and a writer (from c to d); if memory was refused, nothing was written
+-- The effect of a run: the reader goes from `a` to `b`, the writer from `c` to `d`, and `r` is the result. If memory
+-- was refused, nothing was written.
 pub record Explained (order : Explain) (a b c d : Option (List ℕ)) (reader_failed writer_failed : Bool)
     (r : Result (Unit {0}) RunFault) : Type 0 where
   pub run : Finished (explain_fold order) (first_run order) (explain_finish order) order.form a b c d reader_failed

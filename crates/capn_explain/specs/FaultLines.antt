@@ -22,8 +22,8 @@ use Rattle.capn_diagnostics.specs.declared.message_text.MessageHead.{MessageHead
 use Rattle.capn_diagnostics.specs.declared.segments_text.SegmentsText.{SegmentsText}
 use Rattle.capn_explain.specs.WhatCame.{group, segments, there}
 
--- the number that a table announces and that is too great, and the most that is allowed; or the number of bytes that
--- came of a frame that is cut
+-- The figures of a refused frame. If a count in its table is too great, they are that count and the limit. If the frame
+-- is cut, they are the number of bytes read and the least number that it can have.
 abbrev pub frame_key : FrameFault → ℕ → List ℕ → FrameKey
 frame_key (frames.TooManySegments count) most_words rest = keys.Announced count most_segments
 frame_key (frames.TooManyWords count) most_words rest = keys.Announced count most_words
@@ -32,49 +32,49 @@ frame_key frames.Memory most_words rest = keys.Nothing
 frame_key frames.Empty most_words rest = keys.Nothing
 frame_key frames.Failed most_words rest = keys.Nothing
 
--- the part of a group that came, if it is cut
+-- The figures of a cut group, by the part that was read of it.
 abbrev pub packed_key : UnpackFault → List ℕ → FrameKey
 packed_key (packings.Cut at) came = group at came
 packed_key packings.Memory came = keys.Nothing
 packed_key (packings.TooLong at) came = keys.Nothing
 packed_key packings.Failed came = keys.Nothing
 
--- the bytes that came of a bare input, by its fault; counts stop at the greatest number of 64 bits, far above the bytes
--- that such an input may have
+-- The number of bytes of a bare input, by its fault. Counts stop at 2^64 - 1, far above the bytes that a bare input can
+-- have.
 abbrev pub bare_key : BareFault → FrameKey
 bare_key (bares.NotWhole bytes) = keys.There bytes
 bare_key (bares.TooLong words) = keys.There (min (8 * words) (2 ^ 64 - 1))
 
--- the line of a refusal beside its name, by the parts of the message and of a group that came
+-- The figures that follow the name of a refusal, by the parts that were read of the message and of a group.
 abbrev pub key_of : Refusal → ℕ → List ℕ → List ℕ → FrameKey
 key_of (refusals.Frame fault) most_words rest came = frame_key fault most_words rest
 key_of (refusals.Packed fault) most_words rest came = packed_key fault came
 key_of (refusals.Bare fault) most_words rest came = bare_key fault
 key_of _ most_words rest came = keys.Nothing
 
--- the segments of a message whose frame is refused, if their sizes came; none if they are too many
+-- The segments of a message whose frame is refused, if their sizes were read and they are not too many.
 abbrev pub frame_segments : FrameFault → List ℕ → Option SegmentsText
 frame_segments (frames.TooManySegments count) rest = None
 frame_segments _ rest = segments rest
 
--- the segments of a message in a frame, if their sizes came and they are not too many
+-- The segments of a message in a frame, if their sizes were read and they are not too many.
 abbrev pub segments_at : Refusal → List ℕ → Option SegmentsText
 segments_at (refusals.Frame fault) rest = frame_segments fault rest
 segments_at (refusals.Packed fault) rest = segments rest
 segments_at _ rest = None
 
--- the place of a message, and its segments
+-- The position of a message, and its segments.
 abbrev pub head_at : Position → Refusal → List ℕ → MessageHead
 head_at at refusal rest = record { index = at.index; offset = at.offset; segments = segments_at refusal rest }
 
--- all lines, by the parts of the message and of a group that came
+-- All lines, by the parts that were read of the message and of a group.
 abbrev pub fault_lines : Bounds → Position → Refusal → List ℕ → List ℕ → List ℕ
 fault_lines limits at refusal rest came =
     frame_lines (head_at at refusal rest) (refusal_text refusal) (key_of refusal limits.message_words rest came)
 
 -- ---- one of each kind
 
--- two segments, of 3 and of 4 words
+-- Two segments, of 3 and 4 words.
 too_many_words : fault_lines (record { message_words = 6; budget = 0; depth = 1; tariff = tariffs.Strict })
     (record { index = 2; offset = 40 }) (refusals.Frame (frames.TooManyWords 7))
     (1 ∷ 0 ∷ 0 ∷ 0 ∷ 3 ∷ 0 ∷ 0 ∷ 0 ∷ 4 ∷ 0 ∷ 0 ∷ 0 ∷ 0 ∷ 0 ∷ 0 ∷ 0 ∷ []) []

@@ -1,4 +1,4 @@
--- The text of a fault that ends a run which explains every message that is refused, and its exit status. (Own.)
+-- The text of a fault that ends a run which explains every refused message, and its exit status. (Own.)
 use Rattle.std.specs.Prelude.{ℕ, ◌≡◌, List, ◌++◌, codes, refl}
 use Rattle.std.specs.Fmt.{digits}
 use Rattle.capn_stream.specs.declared.fault.FrameFault.TheVariants as frame_faults
@@ -11,24 +11,24 @@ use Rattle.capn_serve.specs.declared.skipped.Skipped.{Skipped}
 use Rattle.capn_explain.specs.declared.fault.ReportFault.{ReportFault}
 use Rattle.capn_explain.specs.declared.fault.ReportFault.TheVariants as faults
 
--- how many messages were refused by their walk, and on a line of its own why the run ended
+-- The number of messages that were refused by their walk, and, on a line of its own, the fault that ended the run.
 abbrev pub text_after_skipped : Skipped → RunFault → List ℕ
 text_after_skipped skipped fault = text_of_skipped skipped ++ (codes "\ncapn: " ++ served.fault_text fault)
 
--- why a run did not end as done
+-- The text of a fault, which says why a run did not end with `Ok`.
 abbrev pub report_text : ReportFault → List ℕ
 report_text (faults.Ended fault) = served.fault_text fault
 report_text (faults.Skipped skipped) = text_of_skipped skipped
 report_text (faults.RefusedAfterSkipped skipped at refusal) =
     text_after_skipped skipped (run_faults.Refused at refusal)
 
--- 1 where a message was refused, else the status of a run over messages
+-- The exit status: 1 if messages were refused by their walk, else that of the fault of the loop.
 abbrev pub status_of : ReportFault → ℕ
 status_of (faults.Ended fault) = served.status_of fault
 status_of (faults.Skipped skipped) = 1
 status_of (faults.RefusedAfterSkipped skipped at refusal) = 1
 
--- the second message, at the offset 24, was explained, and the third, at the offset 40, is cut
+-- The second message, at offset 24, was explained, and the third, at offset 40, is cut.
 after_one : report_text (faults.RefusedAfterSkipped
     (record { refused = 1; messages = 2; first = record { index = 1; offset = 24 } })
     (record { index = 2; offset = 40 }) (refusals.Frame frame_faults.Cut))

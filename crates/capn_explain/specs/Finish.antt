@@ -1,5 +1,5 @@
--- A run over an input that explains messages: the text of its input, its end, and the text that was written whatever it
--- answers. (Own.)
+-- A run over an input that explains messages: the text of the input, the result, and what is written in every case.
+-- (Own.)
 use Rattle.std.specs.Prelude.{◌≡◌, ◌≢◌, ◌⊎◌, ◌↔◌, ℕ, List, [], ◌++◌, Bool, true, Option, IfSome, Result, Ok, Err}
 use Rattle.std.specs.Prelude.{IfErr}
 use Rattle.std.specs.Io.KnownBytes.{Consumes, Appends}
@@ -14,67 +14,67 @@ use Rattle.capn_serve.specs.FormRun.{AreMessages, HasWritten, IsNeededSoFar, IsR
 use Rattle.capn_serve.specs.FormRun.{MayNeedMemory}
 use Rattle.capn_serve.specs.WhatCame.{Came, TellsInput}
 
--- the text for a fault that ended the messages: the lines of a refusal, by the part that had come, else nothing
+-- The text for a fault that ended the messages: for a refusal its lines, by the part of the message that was read, else
+-- nothing.
 abbrev pub fault_text : (Position → Refusal → Came → List ℕ) → RunFault → Came → List ℕ
 fault_text told (faults.Refused at r) came = told at r came
 fault_text told faults.Memory came = []
 fault_text told faults.Io came = []
 fault_text told faults.InputTooLong came = []
 
--- the end of a run after its messages: the text that it writes by its state, and its ending then; or the lines of a
--- refusal that ended them, by the part of the message that had come
+-- The end of a run after its messages. `closing` is the text and `ending` the result after the last message, by the
+-- state. `told` is the text of a refusal, by the part of the message that was read.
 pub record Finish (X : Type 0) : Type 0 where
   pub closing : X → List ℕ
   pub ending : X → Result (Unit {0}) RunFault
   pub told : Position → Refusal → Came → List ℕ
 
--- the answer of a run, by how it ends and the state after its messages; and a fault, as the answer of a run that has
--- nothing more to tell
+-- The result of a run: by its state and its ending, or, for a fault that ends it at once, from that fault.
 pub record Answer (X E : Type 0) : Type 0 where
   pub of : RunFault → E
   pub by : X → Result (Unit {0}) RunFault → Result (Unit {0}) E
 
--- the end of a run is its answer, as it stands
+-- The result of a run is its ending.
 abbrev pub plain : {X : Type 0} → Answer X RunFault
 plain = record { of = λ e. e; by = λ y r. r }
 
--- the part that had come of the message whose refusal ended the messages of an input, in the state after them; if they
--- ended as done, anything
+-- `came` is the part that was read of the message whose refusal ended the messages of `input`, in the state `y`. If
+-- they ended with `Ok`, nothing is said of `came`.
 abbrev pub TellsEnd : {X : Type 0} → Fold X → X → Form → List ℕ → Result (Unit {0}) RunFault → Came → X → Type 0
 TellsEnd f x form input served came y = IfErr served (λ fault. TellsInput f x form input fault came y)
 
 module _ {X : Type 0} (f : Fold X) (x : X) (finish : Finish X) where
-  -- the text after the messages, by their end
+  -- The text that follows the messages, by how they ended.
   abbrev pub last_text : Result (Unit {0}) RunFault → X → Came → List ℕ
   last_text (Ok u) y came = finish.closing y
   last_text (Err fault) y came = fault_text finish.told fault came
 
-  -- the end of a run whose messages ended so
+  -- The ending of a run, by how its messages ended.
   abbrev pub last_ending : Result (Unit {0}) RunFault → X → Result (Unit {0}) RunFault
   last_ending (Ok u) y = finish.ending y
   last_ending (Err fault) y = Err fault
 
-  -- the messages of an input were served, and a beginning of their text and of what is written after them was written;
-  -- how they end, the state after them, and what had come is not known of an input that is not known
+  -- The messages of the input were served, and a prefix of their text and of what follows it was written. If the input
+  -- is not known, neither is how they end, the state after them, or the part that was read.
   abbrev pub HasBegunClosing : Form → Option (List ℕ) → Option (List ℕ) → Option (List ℕ) → Type 0
   HasBegunClosing form input old new =
       (messages : List ℕ) × (served : Result (Unit {0}) RunFault) × (y : X) × (came : Came)
       × IfSome input (λ bytes. AreMessages f x form bytes messages served y × TellsEnd f x form bytes served came y)
       × HasBegun old new (messages ++ last_text served y came)
 
-  -- the messages of an input were served, and something is written after them
+  -- The messages of the input were served, and the text that follows them is not empty.
   abbrev pub HasClosing : Form → Option (List ℕ) → Type 0
   HasClosing form input = (served : Result (Unit {0}) RunFault) × (y : X) × (came : Came)
       × IfSome input (λ bytes. (messages : List ℕ) × AreMessages f x form bytes messages served y
       × TellsEnd f x form bytes served came y) × (last_text served y came ≢ [])
 
-  -- the messages of an input were served as done, and the state after them ends the run for memory
+  -- All messages of the input were served, and by the state after them the run ends with `Memory`.
   abbrev pub EndsForMemory : Form → Option (List ℕ) → Type 0
   EndsForMemory form input = (y : X)
       × IfSome input (λ bytes. (messages : List ℕ) × AreMessages f x form bytes messages (Ok tt) y)
       × (finish.ending y ≡ Err faults.Memory)
 
-  -- a reader gave some bytes, as far as is read, and a writer took a beginning of their text
+  -- A reader gave `bytes`, as many as are read, and a writer took a prefix of their text.
   pub record Begins (form : Form) (a b c d : Option (List ℕ)) : Type 0 where
     pub bytes : List ℕ
     pub read : Consumes a b bytes
@@ -83,7 +83,7 @@ module _ {X : Type 0} (f : Fold X) (x : X) (finish : Finish X) where
     pub written : HasWritten f x form bytes c d ⊎ HasBegunClosing form a c d
 
 module _ {X E : Type 0} (f : Fold X) (x : X) (finish : Finish X) (answer : Answer X E) where
-  -- the whole text of an input, and what a run over it answers
+  -- `text` is the whole text of `input`, and `ending` is the result of a run over it.
   abbrev pub IsWholeText : Form → List ℕ → List ℕ → Result (Unit {0}) E → Type 0
   IsWholeText form input text ending =
       (messages : List ℕ) × (served : Result (Unit {0}) RunFault) × (y : X) × (came : Came)
@@ -91,14 +91,14 @@ module _ {X E : Type 0} (f : Fold X) (x : X) (finish : Finish X) (answer : Answe
       × (text ≡ messages ++ last_text f x finish served y came)
       × (ending ≡ answer.by y (last_ending f x finish served y))
 
-  -- a run has written the text of its input and answered as that does; or memory was refused, or the reader or the
-  -- writer failed
+  -- A run has written the text of its input, and has the result that belongs to it. Or memory was refused, or the
+  -- reader or the writer failed.
   abbrev pub AnswersAs : Form → Option (List ℕ) → Option (List ℕ) → Result (Unit {0}) E → List ℕ → Type 0
   AnswersAs form old new r input =
       (r ≡ Err (answer.of faults.Memory))
       ⊎ ((r ≡ Err (answer.of faults.Io)) ⊎ ((text : List ℕ) × IsWholeText form input text r × Appends old new text))
 
-  -- a run, over a reader (from a to b) and a writer (from c to d)
+  -- The effect of a run: the reader goes from `a` to `b`, the writer from `c` to `d`, and `r` is the result.
   pub record Answered (form : Form) (a b c d : Option (List ℕ)) (reader_failed writer_failed : Bool)
       (r : Result (Unit {0}) E) : Type 0 where
     pub exact : IfSome a (AnswersAs form c d r)
@@ -108,7 +108,7 @@ module _ {X E : Type 0} (f : Fold X) (x : X) (finish : Finish X) (answer : Answe
     pub memory : r ≡ Err (answer.of faults.Memory)
         → MayNeedMemory form a b ⊎ (HasClosing f x finish form a ⊎ EndsForMemory f x finish form a)
 
--- a run whose end is its answer
+-- The effect of a run whose result is its ending.
 abbrev pub Finished : {X : Type 0} → Fold X → X → Finish X → Form → Option (List ℕ) → Option (List ℕ)
     → Option (List ℕ) → Option (List ℕ) → Bool → Bool → Result (Unit {0}) RunFault → Type 0
 Finished f x finish = Answered f x finish plain

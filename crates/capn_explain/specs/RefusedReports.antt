@@ -1,4 +1,4 @@
--- The text of each message where every message that is refused is explained. (Own.)
+-- The text of each message in a run that explains every refused one. (Own.)
 use Rattle.std.specs.Prelude.{◌≡◌, ◌⊎◌, ℕ, List, [], ◌++◌, codes, Option, Some, None, Result, Ok, Err}
 use Rattle.capn_walk.specs.Accepted.{IsAccepted}
 use Rattle.capn_walk.specs.declared.walk_answer.Stopped.{Stopped}
@@ -12,48 +12,47 @@ use Rattle.capn_explain.specs.Reports.{First, IsFirst, IsTold}
 use Rattle.capn_explain.specs.declared.explain.Explain.{Explain}
 use Rattle.capn_explain.specs.declared.explain_refused.ExplainRefused.{ExplainRefused}
 
--- the order to explain the first message that is refused: each of them is explained so
+-- The order to explain the first refused message, by which each refused message is explained.
 abbrev pub each_of : ExplainRefused → Explain
 each_of order = record { form = order.form; limits = order.limits; number = None }
 
--- the state of a service that explains each of them: the order for one, those explained so far, and the first message
--- until another one has begun
+-- The state of the service: the order for one message, the count of those explained, and the account of the first
+-- message until a second one is served.
 pub record RefusedReporting : Type 0 where
   pub order : Explain
   pub skipped : Option SkippedSoFar
   pub first : Option First
 
--- nothing has been served
+-- The state before the first message.
 abbrev pub first_state : ExplainRefused → RefusedReporting
 first_state order = record { order = each_of order; skipped = None; first = None }
 
--- the message is refused, and the text has the lines that explain it, and an empty line
+-- `message` is refused, and `text` has the lines that explain it and an empty line.
 abbrev pub IsToldApart : Explain → Position → List (List ℕ) → List ℕ → Type 0
 IsToldApart order at message text =
     (stopped : Stopped) × (lines : List ℕ) × IsTold order at message stopped lines × (text ≡ lines ++ codes "\n")
 
--- a message that is refused writes that text, and is counted; nothing is kept of the first message any more
+-- A refused message is explained in `text` and counted, and the account of the first message is dropped.
 abbrev pub TellsOne : RefusedReporting → Position → List (List ℕ) → List ℕ → RefusedReporting → Type 0
 TellsOne s at message text t = IsToldApart s.order at message text
     × (t ≡ record { order = s.order; skipped = Some (one_more s.skipped at); first = None })
 
--- a message that is accepted writes nothing, and what is told of it is kept if it is the first, and nothing if another
--- one has begun
+-- An accepted message writes nothing. Its account is kept if it is the first message, and dropped if it is a later one.
 abbrev pub TellsNone : RefusedReporting → Position → List (List ℕ) → List ℕ → RefusedReporting → Type 0
 TellsNone s at message text t =
     (first : Option First) × IsAccepted message s.order.limits
     × IsFirst s.order.form at message s.order.limits first × (text ≡ [])
     × (t ≡ record { order = s.order; skipped = s.skipped; first = first })
 
--- from one state to the next, a message is refused or accepted
+-- The message takes the state `s` to `t`: it is refused or accepted.
 abbrev pub serves : RefusedReporting → Position → List ℕ → List (List ℕ) → List ℕ → RefusedReporting → Type 0
 serves s at frame message text t = TellsOne s at message text t ⊎ TellsNone s at message text t
 
--- no message ends a run by its refusal
+-- No message ends the loop by its refusal.
 abbrev pub refuses : RefusedReporting → Position → List ℕ → List (List ℕ) → Refusal → Type 0
 refuses s at frame message r = ⊥
 
--- such a text was appended; or memory was refused, and the text is as it was
+-- The lines that explain `message` and an empty line were appended to `old`. If memory was refused, nothing was.
 abbrev pub PutsToldApart : Explain → Position → List (List ℕ) → List ℕ → List ℕ → Result (Unit {0}) ServeFault
     → Type 0
 PutsToldApart order at message old new (Ok u) =

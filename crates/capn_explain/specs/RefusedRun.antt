@@ -1,5 +1,5 @@
--- A run that explains every message that is refused: the text at its end, its answer, and the rest by the definition
--- for all such runs. (Own.)
+-- A whole run that explains every refused message: its closing text, its result, and the rest by `Finish`, which
+-- defines every run that explains. (Own.)
 use Rattle.std.specs.Prelude.{◌≡◌, ℕ, List, [], ◌++◌, Bool, Option, Some, None, Result, Ok, Err, codes, refl}
 use Rattle.std.specs.Fmt.{digits}
 use Rattle.capn_canon.specs.declared.refusal.Refusal.{Refusal}
@@ -20,36 +20,36 @@ use Rattle.capn_explain.specs.declared.explain_refused.ExplainRefused.{ExplainRe
 use Rattle.capn_explain.specs.declared.fault.ReportFault.{ReportFault}
 use Rattle.capn_explain.specs.declared.fault.ReportFault.TheVariants as faults
 
--- the fold over all messages of an input
+-- The fold over all messages of an input.
 abbrev pub refused_fold : ExplainRefused → Fold (Run RefusedReporting)
 refused_fold order = fold_of serves refuses order.limits.message_words
 
--- nothing has been served
+-- The state of a run before its first message.
 abbrev pub first_run : ExplainRefused → Run RefusedReporting
 first_run order = record { service = first_state order; at = start }
 
--- the text after all messages: that of `explain` if none was refused, else nothing more
+-- The closing text: that of `explain` if no message was refused, else nothing.
 abbrev pub closing_by : Option SkippedSoFar → Option First → ℕ → List ℕ
 closing_by None first count = rest_text None first count
 closing_by (Some skipped) first count = []
 
--- the end of a run after all messages: that of `explain` if none was refused, else as done
+-- The ending of a run after all messages: that of `explain` if no message was refused, else `Ok`.
 abbrev pub ending_by : Option SkippedSoFar → Option First → Result (Unit {0}) RunFault
 ending_by None first = rest_ending None first
 ending_by (Some skipped) first = Ok tt
 
--- that text, and that end, by the state after them
+-- The closing text, and then the ending, by the state after the last message.
 abbrev pub closing : Run RefusedReporting → List ℕ
 closing run = closing_by run.service.skipped run.service.first run.at.index
 
 abbrev pub ending : Run RefusedReporting → Result (Unit {0}) RunFault
 ending run = ending_by run.service.skipped run.service.first
 
--- the text of a message that is refused before its walk, and an empty line
+-- The text of a message that is refused before its walk, and an empty line.
 abbrev pub told_apart : ExplainRefused → Position → Refusal → Came → List ℕ
 told_apart order at refusal came = told_at (each_of order) at refusal came ++ codes "\n"
 
--- the end of a run after its messages
+-- The end of a run after its messages: the closing text, the ending, and the lines of a refusal.
 abbrev pub refused_finish : ExplainRefused → Finish (Run RefusedReporting)
 refused_finish order = record {
   closing = λ y. closing y;
@@ -57,7 +57,8 @@ refused_finish order = record {
   told = λ at r came. told_apart order at r came;
 }
 
--- the fault of a run that this fault ended after this many messages, of which these were refused by their walk
+-- The fault of a run whose loop `fault` ended after `messages` messages. `skipped` counts those that were refused by
+-- their walk.
 abbrev pub fault_after : Option SkippedSoFar → ℕ → RunFault → ReportFault
 fault_after None messages fault = faults.Ended fault
 fault_after (Some skipped) messages run_faults.Memory = faults.Ended run_faults.Memory
@@ -66,18 +67,18 @@ fault_after (Some skipped) messages run_faults.InputTooLong = faults.Ended run_f
 fault_after (Some skipped) messages (run_faults.Refused at r) =
     faults.RefusedAfterSkipped (skipped_of skipped messages) at r
 
--- the answer of a run over this many messages, of which these were refused by their walk, by its end: done only if
--- there are none
+-- The result of a run over `messages` messages by its ending. `skipped` counts those that were refused by their walk.
+-- The result is `Ok` only if there are none.
 abbrev pub answer_by : Option SkippedSoFar → ℕ → Result (Unit {0}) RunFault → Result (Unit {0}) ReportFault
 answer_by None messages (Ok u) = Ok tt
 answer_by (Some skipped) messages (Ok u) = Err (faults.Skipped (skipped_of skipped messages))
 answer_by skipped messages (Err fault) = Err (fault_after skipped messages fault)
 
--- that answer by the state after the messages
+-- The result of a run by the state after its messages.
 abbrev pub refused_answer : Answer (Run RefusedReporting) ReportFault
 refused_answer = record { of = λ e. faults.Ended e; by = λ y r. answer_by y.service.skipped y.at.index r }
 
--- a run, over a reader (from a to b) and a writer (from c to d)
+-- The effect of a run: the reader goes from `a` to `b`, the writer from `c` to `d`, and `r` is the result.
 abbrev pub ExplainedRefused : ExplainRefused → Option (List ℕ) → Option (List ℕ) → Option (List ℕ) → Option (List ℕ)
     → Bool → Bool → Result (Unit {0}) ReportFault → Type 0
 ExplainedRefused order a b c d reader_failed writer_failed r =

@@ -1,4 +1,4 @@
-//! The account of a message that is accepted.
+//! The lines in which `explain` describes an accepted message.
 
 ghost use Rattle.std.specs.Prelude.{◌≡◌, IfOk, IsErr};
 ghost use Rattle.capn_mismatch.specs.Mismatches.{HasMismatch};
@@ -15,18 +15,18 @@ use capn_words::{Memory, Space};
 use std::alloc::{Allocator, Global};
 use std::fmt;
 
-/// The account of a message that is accepted, displayed in lines.
+/// The facts about an accepted message, displayed in lines.
 #[derive(Debug, Drop)]
 pub struct Account<A: Allocator = Global> {
-    /// Its place and its size.
+    /// The position and the size of the message.
     pub head: MessageHead,
-    /// The words that its walk pays.
+    /// The number of words that the walk pays.
     pub paid: u32,
-    /// The visits that its walk makes.
+    /// The number of slots that the walk visits.
     pub visits: u32,
-    /// The least depth that admits it.
+    /// The least limit on depth within which the message is accepted.
     pub depth: u32,
-    /// The lines about its canonical form.
+    /// The lines about the canonical form of the message.
     pub lines: CanonicalLines<A>,
 }
 
@@ -49,7 +49,7 @@ impl<A: Allocator> fmt::Display for Account<A> {
     }
 }
 
-/// Returns the account of a message that was `measured`, and has these `lines`.
+/// Returns the account of `message` at `at`, from the figures in `measured` and the `lines` about its canonical form.
 fn account_by<S: Space, A: Allocator>(
     at: Position,
     message: &S,
@@ -71,10 +71,10 @@ fn account_by<S: Space, A: Allocator>(
     }
 }
 
-/// Returns the account of `message`, which is accepted and was `surveyed` within `limits`.
+/// Returns the account of `message`, which is accepted within `limits` with the figures in `surveyed`.
 ///
-/// `Memory` comes only for a message of one segment that is not canonical, if a growth on `alloc` was refused. Memory:
-/// that of [`lines_of_measured`].
+/// `Memory` is returned only for a message of one segment that is not canonical, if a growth on `alloc` was refused. It
+/// takes the memory that [`lines_of_measured`] takes.
 pub(crate) fn account_of<S: Space, A: Allocator + Copy>(
     alloc: A,
     form: Form,

@@ -1,4 +1,4 @@
-//! The text after the loop over the messages, and the end of a run.
+//! The text that `explain` writes after the loop over the messages, and the result of its run.
 
 ghost use Rattle.std.specs.Prelude.{◌≡◌, ◌++◌, codes, false, IfOk, IfErr, Some, string_bytes};
 ghost use Rattle.capn_words.specs.Watched.{inner_of, has_failed};
@@ -20,7 +20,7 @@ use capn_words::{Memory, Watched};
 use std::alloc::Allocator;
 use std::io::Write;
 
-/// Returns the end of a run that explained nothing.
+/// Returns the result of a run that read all of its input and explained no message.
 pub(crate) fn rest_ending<A: Allocator>(
     number: Option<u64>,
     first: &Option<Result<Account<A>, Memory>>,
@@ -39,7 +39,7 @@ pub(crate) fn rest_ending<A: Allocator>(
     }
 }
 
-/// Returns the end of `run`, whose messages ended as done.
+/// Returns the result of `run`, whose loop ended without a fault.
 pub(crate) fn ending_of<A: Allocator + Copy>(run: &Run<Reporter<A>>) -> Result<(), RunFault>
     ensures { result ≡ spec.ending run.now }
 {
@@ -51,7 +51,6 @@ pub(crate) fn ending_of<A: Allocator + Copy>(run: &Run<Reporter<A>>) -> Result<(
     }
 }
 
-/// Writes the line of `count`.
 fn count_line<A: Allocator>(alloc: A, count: CountText) -> Result<String<A>, RunFault>
     ensures found { IfOk result (λ line. string_bytes line ≡ spec.count_line count) }
     ensures only { IfErr result (λ e. e ≡ faults.Memory) }
@@ -62,7 +61,7 @@ fn count_line<A: Allocator>(alloc: A, count: CountText) -> Result<String<A>, Run
     }
 }
 
-/// Writes the lines of the only message.
+/// Returns the lines of `account`, which is that of the only message.
 fn only_lines<B: Allocator, A: Allocator>(
     alloc: A,
     account: &Account<B>,
@@ -76,7 +75,7 @@ fn only_lines<B: Allocator, A: Allocator>(
     }
 }
 
-/// Writes the text of a run of `count` messages that explained nothing.
+/// Writes the text of a run that read `count` messages and explained none.
 pub(crate) fn rest_lines<B: Allocator, A: Allocator>(
     alloc: A,
     number: Option<u64>,
@@ -98,7 +97,7 @@ pub(crate) fn rest_lines<B: Allocator, A: Allocator>(
     Ok(Some(lines))
 }
 
-/// Writes the `lines` of the message that has been explained.
+/// Writes `lines`, which explain a message, unless they are empty.
 fn write_kept<W: Write>(lines: &[u8], writer: &mut Watched<W>) -> Result<(), RunFault>
     requires { has_failed writer.old ≡ false }
     ensures { PutsClosing lines.now (W.contents (inner_of writer.old)) (W.contents (inner_of writer.new))
@@ -110,7 +109,7 @@ fn write_kept<W: Write>(lines: &[u8], writer: &mut Watched<W>) -> Result<(), Run
     write_all(writer, lines)
 }
 
-/// Writes the text of a run of `count` messages that explained nothing.
+/// Writes the text of a run that read `count` messages and explained none.
 fn write_rest<W: Write, B: Allocator, A: Allocator>(
     alloc: A,
     number: Option<u64>,
@@ -128,7 +127,7 @@ fn write_rest<W: Write, B: Allocator, A: Allocator>(
     }
 }
 
-/// Writes the text after all messages.
+/// Writes the text that follows the last message.
 pub(crate) fn write_closing<W: Write, B: Allocator + Copy, A: Allocator + Copy>(
     alloc: A,
     run: &Run<Reporter<B>>,
@@ -159,8 +158,8 @@ fn with_empty_line<A: Allocator>(mut lines: String<A>) -> Result<String<A>, RunF
     }
 }
 
-/// Returns the lines of a refusal that ended the loop over the messages, by the part of the message that had come; with
-/// an empty line behind them if messages are explained `apart`.
+/// Returns the lines of the `refusal` that ended the loop over the messages at the position `at`. `begun` has the part
+/// that was read of the message. An empty line follows if messages are explained `apart`.
 fn refusal_lines<B: Allocator + Copy, A: Allocator>(
     alloc: A,
     order: &Explain,
@@ -182,7 +181,7 @@ fn refusal_lines<B: Allocator + Copy, A: Allocator>(
     Ok(lines)
 }
 
-/// Writes the lines of a refusal that ended the loop over the messages.
+/// Writes the lines of the `refusal` that ended the loop over the messages.
 fn write_refusal<W: Write, B: Allocator + Copy, A: Allocator + Copy>(
     alloc: A,
     order: &Explain,
@@ -200,8 +199,8 @@ fn write_refusal<W: Write, B: Allocator + Copy, A: Allocator + Copy>(
     write_all(writer, lines.as_bytes())
 }
 
-/// Writes the lines of the `fault` that ended the loop over the messages, and an empty line if messages are explained
-/// `apart`.
+/// Writes the lines of the refusal in `fault`, which ended the loop over the messages, and an empty line if messages
+/// are explained `apart`. Nothing is written for another fault.
 pub(crate) fn write_fault<W: Write, B: Allocator + Copy, A: Allocator + Copy>(
     alloc: A,
     order: &Explain,

@@ -1,8 +1,8 @@
-//! The order of a run that explains every message that is refused.
+//! The options of a run that explains every refused message.
 
 use capn_canon::{Form, Limits};
 
-/// The order to explain every message of an input that is refused.
+/// The options of a run that explains every refused message of an input.
 #[derive(Clone, Copy, Debug, PartialEq, Eq)]
 pub struct ExplainRefused {
     /// The form in which the input holds the messages.

@@ -1,4 +1,4 @@
-//! A run that explains one message of an input.
+//! `run_explain`: a whole run that explains one message of an input.
 
 ghost use Rattle.std.specs.Prelude.{◌≡◌, false, IfSome};
 ghost use Rattle.capn_words.specs.Watched.{inner_of, has_failed};
@@ -15,15 +15,14 @@ use capn_words::Watched;
 use std::alloc::Allocator;
 use std::io::{Read, Write};
 
-/// Returns the run of `order` before its first message.
 fn first_run<A: Allocator + Copy>(alloc: A, order: Explain) -> Run<Reporter<A>>
     ensures { result ≡ spec.first_run order }
 {
     Run::new(Reporter::new(alloc, order))
 }
 
-/// Serves the messages of an input in its form, and keeps the part that had come of one that is refused before its
-/// walk.
+/// Serves the messages of the input, in the form that `order` names. If one is refused before its walk, `begun` keeps
+/// the part of it that was read.
 fn serve_messages<R: Read, W: Write, A: Allocator + Copy>(
     alloc: A,
     order: &Explain,
@@ -46,21 +45,21 @@ fn serve_messages<R: Read, W: Write, A: Allocator + Copy>(
     serve_form_with(alloc, order.form, most, run, begun, reader, writer)
 }
 
-/// Explains one message of the input of `reader`, by `order`: the first that is refused, or the one of a number. Writes
-/// the lines to `writer`.
+/// Explains one message of the input of `reader`, by `order`: the first refused one, or the one with a given number.
+/// Writes the lines to `writer`.
 ///
-/// Without a number that is the first message whose frame, packing, length or walk is refused, and nothing is read
-/// beyond the piece that has it. If none is refused, it is the only message; or the line is written that says how many
-/// there are. With a number it is the message of that, refused or accepted; a message before it is not walked, and what
-/// keeps the input from being read as far is explained instead. If there are fewer messages, the line is written that
-/// says how many.
+/// Without a number, the first message is explained whose frame, packing, length or walk is refused, and nothing is
+/// read after the chunk that has it. If none is refused, the only message is explained. If there is not exactly one, a
+/// line says how many there are. With a number, the message with that number is explained, refused or accepted. The
+/// messages before it are not walked. If the input is refused before that message, that refusal is explained instead.
+/// If there are fewer messages, a line says how many there are.
 ///
-/// It reads as [`serve_form`] does. The run ends as done, or as refused if the message that is explained is refused:
-/// its lines have been written then. It ends with `InputTooLong`; with `Io` if and only if the reader or the writer
-/// failed; and with `Memory` if a growth on `alloc` was refused; if that was for the account of the first message, only
-/// if no other has come. Then no explanation has been written, unless the writer failed within it: its lines are kept,
-/// and written at the end. It holds what its loop holds, the canonical bytes of the message that is explained, the
-/// paths of its account, and the lines.
+/// Input is read as [`serve_form`] reads it. The run ends with `Ok`, or with `Refused` if the explained message is
+/// refused, whose lines have been written by then. It ends with `InputTooLong`, with `Io` if and only if the reader or
+/// the writer failed, or with `Memory` if a growth on `alloc` was refused. If memory was refused for the account of the
+/// first message, the run ends with `Memory` only if there is no second message. After such an ending no explanation
+/// has been written, unless the writer failed within it, because the lines are kept and written at the end. A run holds
+/// what its loop holds, the canonical bytes of the explained message, the paths of its account, and the lines.
 pub fn run_explain<R: Read, W: Write, A: Allocator + Copy>(
     alloc: A,
     order: Explain,

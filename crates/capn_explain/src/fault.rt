@@ -1,4 +1,4 @@
-//! Faults of a run that explains every message that is refused.
+//! The faults that end a run which explains every refused message, with their texts and exit status.
 
 ghost use Rattle.capn_words.specs.Watched.{inner_of, has_failed};
 ghost use Rattle.capn_serve.specs.Line.{Says, way};
@@ -9,16 +9,16 @@ use capn_serve::{Ending, Line, Position, RunFault, Skipped, say_skipped};
 use capn_words::Watched;
 use std::io::Write;
 
-/// A fault that ends a run which explains every message that is refused.
+/// The reason why a run that explains every refused message does not end with `Ok`.
 #[derive(Clone, Copy, Debug, PartialEq, Eq)]
 pub enum ReportFault {
-    /// The run over the messages ended so, and no message was refused by its walk before; or memory, the reader or the
-    /// writer failed, or the input is too long.
+    /// The loop over the messages ended with this fault. It is a refusal only if no message was refused by its walk
+    /// before.
     Ended(RunFault),
-    /// All of the input was served, and messages were refused by their walk and explained.
+    /// All of the input was served. Some messages were refused by their walk and explained, as the count says.
     Skipped(Skipped),
-    /// The frame or the packed text at this position is refused, after messages of which these were refused by their
-    /// walk and explained.
+    /// The frame or the packed bytes at this position are refused. Messages before it were refused by their walk and
+    /// explained, as the first field counts.
     RefusedAfterSkipped(Skipped, Position, Refusal),
 }
 

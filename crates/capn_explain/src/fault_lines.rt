@@ -13,8 +13,9 @@ use capn_walk::Limits;
 use capn_words::{BareFault, MOST_SEGMENTS};
 use std::alloc::Allocator;
 
-/// Returns the counts that a table announces, if they are too great; or the number of bytes that came of a frame that
-/// is cut.
+/// Returns the figures for a refused frame, of which `rest` was read. If a count in its table is too great, they are
+/// that count and the limit. If the frame is cut, they are the number of bytes read and the least number that it can
+/// have.
 fn frame_key(fault: FrameFault, most_words: u32, rest: &[u8]) -> FrameKey
     ensures { result ≡ spec.frame_key fault most_words rest.now }
 {
@@ -28,7 +29,7 @@ fn frame_key(fault: FrameFault, most_words: u32, rest: &[u8]) -> FrameKey
     }
 }
 
-/// Returns the part that came of a group that is cut.
+/// Returns the figures for a cut group, from `came`, the part of it that was read. There are none for another fault.
 fn packed_key(fault: UnpackFault, came: &[u8]) -> FrameKey
     ensures { result ≡ spec.packed_key fault came.now }
 {
@@ -40,7 +41,7 @@ fn packed_key(fault: UnpackFault, came: &[u8]) -> FrameKey
     }
 }
 
-/// Returns the number of bytes that came of a bare input.
+/// Returns the number of bytes of a bare input that is refused.
 fn bare_key(fault: BareFault) -> FrameKey
     ensures { result ≡ spec.bare_key fault }
 {
@@ -50,7 +51,8 @@ fn bare_key(fault: BareFault) -> FrameKey
     }
 }
 
-/// Returns the line of a refusal beside its name: `rest` came of the message, and `came` of a group.
+/// Returns the figures that follow the name of `refusal`. `rest` is what was read of the message, and `came` what was
+/// read of a group.
 fn key_of(refusal: &Refusal, most_words: u32, rest: &[u8], came: &[u8]) -> FrameKey
     ensures { result ≡ spec.key_of refusal.now most_words rest.now came.now }
 {
@@ -62,7 +64,7 @@ fn key_of(refusal: &Refusal, most_words: u32, rest: &[u8], came: &[u8]) -> Frame
     }
 }
 
-/// Returns the segments of a message whose frame is refused, if their sizes came and they are not too many.
+/// Returns the segments of a message whose frame is refused, if `rest` has all their sizes and they are not too many.
 fn frame_segments(fault: FrameFault, rest: &[u8]) -> Option<SegmentsText>
     ensures { result ≡ spec.frame_segments fault rest.now }
 {
@@ -72,7 +74,7 @@ fn frame_segments(fault: FrameFault, rest: &[u8]) -> Option<SegmentsText>
     }
 }
 
-/// Returns the segments of a message in a frame, if their sizes came and they are not too many.
+/// Returns the segments of a message in a frame, if `rest` has all their sizes and they are not too many.
 fn segments_at(refusal: &Refusal, rest: &[u8]) -> Option<SegmentsText>
     ensures { result ≡ spec.segments_at refusal.now rest.now }
 {
@@ -83,8 +85,8 @@ fn segments_at(refusal: &Refusal, rest: &[u8]) -> Option<SegmentsText>
     }
 }
 
-/// Writes the lines of a message at the position `at` that is refused before its walk: `rest` came of it, and `came` of
-/// a group.
+/// Returns the lines of the message at `at`, which is refused before its walk. `rest` is what was read of the message,
+/// and `came` what was read of a group.
 pub(crate) fn fault_lines<A: Allocator>(
     alloc: A,
     limits: Limits,

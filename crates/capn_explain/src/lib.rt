@@ -1,8 +1,8 @@
-//! The text of the program about one message of an input, or about each that is refused.
+//! The command `explain`: the text about one message of an input, or about each refused message.
 //!
-//! [`run_explain`] carries an order out, an [`Explain`]: by its service, the [`Reporter`], it finds the message that is
-//! explained, a refused one or the one of a number, and writes the lines that explain it. [`run_explain_refused`]
-//! carries out an [`ExplainRefused`] by a [`RefusedReporter`]: it explains every message that is refused. The loop over
+//! [`run_explain`] carries out an [`Explain`] order by the service [`Reporter`]. It finds the message to explain, the
+//! first refused one or the one with a given number, and writes the lines that explain it. [`run_explain_refused`]
+//! carries out an [`ExplainRefused`] order by a [`RefusedReporter`], and explains every refused message. The loop over
 //! the messages is that of [`capn_serve`].
 #![tactic(auto)]
 

@@ -15,7 +15,7 @@ use capn_walk::{Measured, Stopped};
 use capn_words::Space;
 use std::alloc::Allocator;
 
-/// Returns the lines that explain `message`, whose walk `stopped`.
+/// Returns the lines that explain `message`, whose walk ended with `stopped`.
 pub(crate) fn told_of<S: Space, A: Allocator + Copy>(
     alloc: A,
     order: &Explain,
@@ -54,7 +54,6 @@ pub(crate) fn put_bytes<A: Allocator>(text: &mut Vec<u8, A>, bytes: &[u8]) -> Re
     }
 }
 
-/// Writes the lines of `account`.
 fn lines_of<B: Allocator, A: Allocator>(
     alloc: A,
     account: &Account<B>,
@@ -80,7 +79,8 @@ fn put_account<B: Allocator, A: Allocator + Copy>(
     put_bytes(text, lines.as_bytes())
 }
 
-/// Appends the lines that explain an accepted `message` to `text`, or nothing if memory is refused.
+/// Appends the lines that explain `message` to `text`, or nothing if memory is refused. The message is accepted with
+/// the figures in `surveyed`.
 pub(crate) fn put_accepted<S: Space, A: Allocator + Copy>(
     alloc: A,
     order: &Explain,

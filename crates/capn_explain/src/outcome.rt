@@ -3,13 +3,13 @@
 use capn_serve::Position;
 use capn_walk::Stopped;
 
-/// The message that has been explained.
+/// The message that has been explained so far, if there is one.
 #[derive(Clone, Copy, Debug, PartialEq, Eq)]
 pub enum Outcome {
-    /// None yet.
+    /// No message has been explained.
     Nothing,
-    /// The message at this position, which its walk refuses: the place and the reason at which that stopped.
+    /// The message at this position is refused, and its walk stopped at this place for this reason.
     Refused(Position, Stopped),
-    /// A message that is accepted.
+    /// An accepted message has been explained.
     Accepted,
 }

@@ -1,4 +1,4 @@
-//! The text after all messages, and the answer, of a run that explains every message that is refused.
+//! The text that `explain` of every refused message writes after the loop over the messages, and the result of its run.
 
 ghost use Rattle.std.specs.Prelude.{◌≡◌, false};
 ghost use Rattle.capn_words.specs.Watched.{inner_of, has_failed};
@@ -13,7 +13,7 @@ use capn_words::Watched;
 use std::alloc::Allocator;
 use std::io::Write;
 
-/// Returns the end of `run`, whose messages ended as done.
+/// Returns the result of `run`, whose loop ended without a fault, before the refused messages are counted.
 pub(crate) fn ending_of<A: Allocator>(run: &Run<RefusedReporter<A>>) -> Result<(), RunFault>
     ensures { result ≡ spec.ending run.now }
 {
@@ -24,7 +24,7 @@ pub(crate) fn ending_of<A: Allocator>(run: &Run<RefusedReporter<A>>) -> Result<(
     }
 }
 
-/// Returns the text after all messages.
+/// Returns the text that follows the last message, or `None` if there is none.
 fn closing_lines<B: Allocator, A: Allocator>(
     alloc: A,
     run: &Run<RefusedReporter<B>>,
@@ -38,7 +38,7 @@ fn closing_lines<B: Allocator, A: Allocator>(
     }
 }
 
-/// Writes the text after all messages.
+/// Writes the text that follows the last message.
 pub(crate) fn write_closing<W: Write, B: Allocator, A: Allocator + Copy>(
     alloc: A,
     run: &Run<RefusedReporter<B>>,
@@ -54,7 +54,7 @@ pub(crate) fn write_closing<W: Write, B: Allocator, A: Allocator + Copy>(
     }
 }
 
-/// Returns the fault of a run that `fault` ended after this number of `messages`, of which those in `skipped` were
+/// Returns the fault of a run whose loop ended with `fault` after `messages` messages. `skipped` counts those that were
 /// refused by their walk.
 fn fault_after(skipped: Option<SkippedSoFar>, messages: u64, fault: RunFault) -> ReportFault
     ensures { result ≡ spec.fault_after skipped messages fault }
@@ -70,7 +70,8 @@ fn fault_after(skipped: Option<SkippedSoFar>, messages: u64, fault: RunFault) ->
     }
 }
 
-/// Returns the answer of a run over this number of `messages` by its `end`.
+/// Returns the result of a run over `messages` messages whose loop and closing text ended with `end`. `skipped` counts
+/// the messages that were refused by their walk.
 fn answer_by(
     skipped: Option<SkippedSoFar>,
     messages: u64,
@@ -87,7 +88,7 @@ fn answer_by(
     }
 }
 
-/// Returns the answer of `run` by its `end`.
+/// Returns the result of `run`, whose loop and closing text ended with `end`.
 pub(crate) fn answer_of<A: Allocator>(
     run: &Run<RefusedReporter<A>>,
     end: Result<(), RunFault>,

@@ -18,11 +18,11 @@ use std::alloc::{Allocator, Global};
 use std::io::Write;
 use std::marker::Model;
 
-/// The service that explains each message that is refused.
+/// The service that explains every refused message.
 ///
-/// It walks each message. One that is refused writes the lines that explain it, and an empty line. No message ends its
-/// run. It keeps how many it has explained, and the account of the first message, or that memory was refused for it,
-/// until another one has begun.
+/// The service walks each message. For a refused one it writes the lines that explain it, and an empty line. A refused
+/// message does not end the run. The service keeps the number of messages that it has explained. Until the second
+/// message is served, it also keeps the account of the first, or the fact that memory was refused for that account.
 #[derive(Drop)]
 pub struct RefusedReporter<A: Allocator = Global> {
     alloc: A,
@@ -40,7 +40,7 @@ impl<A: Allocator> Model for RefusedReporter<A> {
     ghost view = { λ s. record { order = s.order; skipped = s.skipped; first = lines_first s.first } };
 }
 
-/// Returns the order to explain the first message that is refused.
+/// Returns an order to explain the first refused message, with the form and the limits of `order`.
 pub(crate) fn each_of(order: ExplainRefused) -> Explain
     ensures { result ≡ spec.each_of order }
 {
@@ -51,8 +51,8 @@ pub(crate) fn each_of(order: ExplainRefused) -> Explain
     }
 }
 
-/// Appends the lines that explain `message`, whose walk `stopped`, and an empty line to `text`, or nothing if memory is
-/// refused.
+/// Appends the lines that explain `message`, whose walk ended with `stopped`, and an empty line to `text`. If memory is
+/// refused, nothing is appended.
 fn put_apart<S: Space, A: Allocator + Copy>(
     alloc: A,
     order: &Explain,
@@ -71,7 +71,7 @@ fn put_apart<S: Space, A: Allocator + Copy>(
 }
 
 impl<B: Allocator> RefusedReporter<B> {
-    /// Returns a reporter that has explained nothing. It takes no memory.
+    /// Returns a reporter that has explained no message. It takes no memory.
     pub(crate) fn new(alloc: B, order: ExplainRefused) -> RefusedReporter<B>
         ensures { result ≡ spec.first_state order }
     {
@@ -83,14 +83,14 @@ impl<B: Allocator> RefusedReporter<B> {
         }
     }
 
-    /// Returns the messages that it has explained, if any was.
+    /// Returns the count of the messages explained so far, if there are any.
     pub(crate) fn skipped(&self) -> Option<SkippedSoFar>
         ensures { result ≡ self.now.skipped }
     {
         self.skipped
     }
 
-    /// Returns the account of the only message so far, if that is accepted.
+    /// Returns the account of the only message so far, if it is accepted.
     pub(crate) fn first(&self) -> &Option<Result<Account<B>, Memory>>
         ensures { lines_first result.now ≡ self.now.first }
     {
@@ -99,7 +99,7 @@ impl<B: Allocator> RefusedReporter<B> {
 }
 
 impl<B: Allocator + Copy> RefusedReporter<B> {
-    /// Keeps those that were explained, and the account of the first message.
+    /// Replaces the count of explained messages and the account of the first message.
     fn keep(&mut self, skipped: Option<SkippedSoFar>, first: Option<Result<Account<B>, Memory>>)
         ensures { self.new ≡ record { order = self.old.order; skipped = skipped; first = lines_first first } }
     {
@@ -107,7 +107,7 @@ impl<B: Allocator + Copy> RefusedReporter<B> {
         self.first = first;
     }
 
-    /// Reports on `message`.
+    /// Walks `message`. If it is refused, appends its explanation to `text` and counts it.
     fn report<S: Space, A: Allocator + Copy>(
         &mut self,
         alloc: A,

@@ -1,4 +1,4 @@
-//! A run that explains every message of an input that is refused.
+//! `run_explain_refused`: a whole run that explains every refused message of an input.
 
 ghost use Rattle.std.specs.Prelude.{◌≡◌, false, IfSome};
 ghost use Rattle.capn_words.specs.Watched.{inner_of, has_failed};
@@ -17,15 +17,14 @@ use capn_words::Watched;
 use std::alloc::Allocator;
 use std::io::{Read, Write};
 
-/// Returns the run of `order` before its first message.
 fn first_run<A: Allocator>(alloc: A, order: ExplainRefused) -> Run<RefusedReporter<A>>
     ensures { result ≡ spec.first_run order }
 {
     Run::new(RefusedReporter::new(alloc, order))
 }
 
-/// Serves the messages of an input in its form, and keeps the part that had come of one that is refused before its
-/// walk.
+/// Serves the messages of the input, in the form that `order` names. If one is refused before its walk, `begun` keeps
+/// the part of it that was read.
 fn serve_messages<R: Read, W: Write, A: Allocator + Copy>(
     alloc: A,
     order: &ExplainRefused,
@@ -48,20 +47,21 @@ fn serve_messages<R: Read, W: Write, A: Allocator + Copy>(
     serve_form_with(alloc, order.form, most, run, begun, reader, writer)
 }
 
-/// Explains every message of the input of `reader` that is refused, by `order`. Writes the lines to `writer`, an empty
-/// line behind those of each message.
+/// Explains every refused message of the input of `reader`, by `order`. Writes the lines to `writer`, with an empty
+/// line after those of each message.
 ///
-/// Each message that its walk refuses is explained as [`run_explain`](crate::run_explain) explains the first, and its
-/// lines are written before more is read; then the next one is served. A message whose frame, packing or length is
-/// refused ends the run, and is explained last. If none is refused, what is written is what `run_explain` writes: the
+/// A message that its walk refuses is explained as [`run_explain`](crate::run_explain) explains the first one. Its
+/// lines are written before more is read, and then the next message is served. A message whose frame, packing or length
+/// is refused ends the run, and is explained last. If no message is refused, the text is that of `run_explain`: the
 /// lines of the only message, or the line that says how many there are, and no empty line.
 ///
-/// It reads as [`serve_form_with`] does. The run ends as done; as `Skipped` after all of its input, if messages were
-/// refused by their walk; or with the first fault: a frame, a group or a bare input that is refused, at its position,
-/// which is `RefusedAfterSkipped` if messages were refused by their walk before; `InputTooLong`; `Io` if and only if
-/// the reader or the writer failed; and `Memory` if a growth on `alloc` was refused; if that was for the account of the
-/// first message, only if no other has come. It holds what its loop holds, the canonical bytes of the first message,
-/// the paths of one account, and its lines.
+/// Input is read as [`serve_form_with`] reads it. The run ends with `Ok`, with `Skipped` after all of its input if
+/// messages were refused by their walk, or with the first fault. A refused frame, group or bare input ends it with
+/// `Ended`, which has the position, or with `RefusedAfterSkipped` if messages were refused by their walk before. The
+/// other faults are `InputTooLong`, `Io` if and only if the reader or the writer failed, and `Memory` if a growth on
+/// `alloc` was refused. If memory was refused for the account of the first message, the run ends with `Memory` only if
+/// there is no second message. A run holds what its loop holds, the canonical bytes of the first message, the paths of
+/// one account, and its lines.
 pub fn run_explain_refused<R: Read, W: Write, A: Allocator + Copy>(
     alloc: A,
     order: ExplainRefused,

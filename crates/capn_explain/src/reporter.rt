@@ -1,4 +1,4 @@
-//! The service that finds the message that is explained.
+//! `Reporter`: finds the message to explain, and keeps the lines that explain it.
 
 ghost use Rattle.std.specs.Prelude.{◌≡◌, [], false};
 ghost use Rattle.capn_explain.specs.Reports as spec;
@@ -16,13 +16,13 @@ use std::alloc::{Allocator, Global};
 use std::io::Write;
 use std::marker::Model;
 
-/// The service that finds the message that is explained, and its outcome.
+/// The service that finds the message to explain.
 ///
-/// Without a number it walks each message. The first one that is refused is explained, and no more is served. With a
-/// number it passes over the messages before that one, which are not walked; that one is explained, refused or
-/// accepted, and no more is served. No message ends its run, and none writes anything: the lines that explain one are
-/// kept, and written at the end. It keeps the account of the first message, or that memory was refused for it, until
-/// another one has begun.
+/// Without a number the service walks each message. The first refused one is explained, and then the service is done.
+/// With a number the service skips the messages before that one, which are not walked. The message with that number is
+/// explained, refused or accepted, and then the service is done. A refused message does not end the run with a fault.
+/// Nothing is written during the loop: the lines are kept, and written at the end. Until the second message is served,
+/// the service also keeps the account of the first, or the fact that memory was refused for that account.
 #[derive(Drop)]
 pub struct Reporter<A: Allocator = Global> {
     alloc: A,
@@ -45,7 +45,7 @@ impl<A: Allocator> Model for Reporter<A> {
     } };
 }
 
-/// Returns `true` if the message at the position `at` comes before the one of `number`.
+/// Tests whether the message at `at` comes before the one with the number `number`.
 fn is_before(at: Position, number: Option<u64>) -> bool
     ensures { result ≡ spec.is_before at number }
 {
@@ -55,7 +55,7 @@ fn is_before(at: Position, number: Option<u64>) -> bool
     }
 }
 
-/// Returns the account of an accepted `message` that is kept, if it is the first.
+/// Returns the account of an accepted `message`, if it is the first of the input.
 pub(crate) fn first_of<S: Space, A: Allocator + Copy>(
     alloc: A,
     order: &Explain,
@@ -73,7 +73,7 @@ pub(crate) fn first_of<S: Space, A: Allocator + Copy>(
 }
 
 impl<B: Allocator + Copy> Reporter<B> {
-    /// Returns a reporter that has found nothing. It takes no memory.
+    /// Returns a reporter that has explained no message. It takes no memory.
     pub(crate) fn new(alloc: B, order: Explain) -> Reporter<B>
         ensures { result ≡ spec.first_reporting order }
     {
@@ -86,14 +86,13 @@ impl<B: Allocator + Copy> Reporter<B> {
         }
     }
 
-    /// Returns its order.
     pub(crate) fn order(&self) -> Explain
         ensures { result ≡ self.now.order }
     {
         self.order
     }
 
-    /// Returns its outcome so far.
+    /// Returns the message explained so far, if there is one.
     pub(crate) fn outcome(&self) -> Outcome
         ensures { result ≡ self.now.outcome }
     {
@@ -107,7 +106,7 @@ impl<B: Allocator + Copy> Reporter<B> {
         &self.lines
     }
 
-    /// Returns the account of the only message so far, if that is accepted and no number is asked for.
+    /// Returns the account of the only message so far, if it is accepted and the order has no number.
     pub(crate) fn first(&self) -> &Option<Result<Account<B>, Memory>>
         ensures { spec.lines_first result.now ≡ self.now.first }
     {
@@ -116,7 +115,7 @@ impl<B: Allocator + Copy> Reporter<B> {
 }
 
 impl<B: Allocator + Copy> Reporter<B> {
-    /// Remembers what has been explained, and its `lines`.
+    /// Keeps the `outcome` of the explained message, and its `lines`.
     fn explain(&mut self, outcome: Outcome, lines: Vec<u8, B>)
         ensures { self.new ≡ spec.with_outcome self.old outcome lines.items }
     {
@@ -124,14 +123,15 @@ impl<B: Allocator + Copy> Reporter<B> {
         self.lines = lines;
     }
 
-    /// Keeps this of the first message.
+    /// Keeps `first`, the account of the first message.
     fn keep(&mut self, first: Option<Result<Account<B>, Memory>>)
         ensures { self.new ≡ spec.with_first self.old (spec.lines_first first) }
     {
         self.first = first;
     }
 
-    /// Reports on a `message` that is accepted and was `surveyed`.
+    /// Serves an accepted `message`: explains it if the order has a number, or else keeps its account if it is the
+    /// first.
     fn report_accepted<S: Space>(
         &mut self,
         at: Position,
@@ -156,7 +156,8 @@ impl<B: Allocator + Copy> Reporter<B> {
         }
     }
 
-    /// Reports on a `message` that isn't before the one that is explained.
+    /// Walks `message`, which is not before the one to explain. Explains it if it is refused or has the number of the
+    /// order.
     fn report_known<S: Space, A: Allocator + Copy>(
         &mut self,
         alloc: A,
@@ -176,7 +177,7 @@ impl<B: Allocator + Copy> Reporter<B> {
         }
     }
 
-    /// Reports on `message`.
+    /// Serves `message`: skips it if it is before the one to explain, and walks it otherwise.
     fn report<S: Space, A: Allocator + Copy>(
         &mut self,
         alloc: A,

@@ -1,4 +1,4 @@
-//! The part that came of a message whose frame or packing is refused.
+//! The figures of a message whose frame or packing is refused, from the bytes of it that were read.
 
 ghost use Rattle.std.specs.Prelude.{◌≡◌, ◌*◌, ◌^◌, ◌≤◌, drop, slice_index, sum};
 ghost use Rattle.capn_pack.specs.UnpackRefusal.{len_at};
@@ -9,7 +9,7 @@ ghost use Rattle.capn_explain.specs.WhatCame.{IsLeastOfFrame, IsLeastOfGroup};
 use capn_diagnostics::{FrameKey, SegmentsText};
 use capn_words::MOST_SEGMENTS;
 
-/// Returns the byte at `place`, or zero if that is missing.
+/// Returns the byte at `place`, or zero if `bytes` ends before it.
 fn byte_at(bytes: &[u8], place: usize) -> u8
     ensures { result ≡ slice_index bytes.now place }
 {
@@ -19,7 +19,7 @@ fn byte_at(bytes: &[u8], place: usize) -> u8
     }
 }
 
-/// Returns the number of 4 bytes that begins at byte `4 * index`. Missing bytes are zeros.
+/// Returns the little-endian number of 4 bytes at byte `4 * index`. Missing bytes count as zeros.
 fn entry_at(bytes: &[u8], index: usize) -> u32
     requires { index ≤ 2 ^ 32 }
     ensures { result ≡ entry_number (drop (4 * index) bytes.now) }
@@ -32,12 +32,12 @@ fn entry_at(bytes: &[u8], index: usize) -> u32
     first + 256 * (second + 256 * (third + 256 * fourth))
 }
 
-/// Returns the sum of the first `count` sizes. Missing bytes are zeros.
+/// Returns the sum of the first `count` numbers of 4 bytes in `sizes`. Missing bytes count as zeros.
 fn total_of(sizes: &[u8], count: u64) -> u64
     requires { count ≤ 2 ^ 32 }
     ensures { result ≡ sum (entries count sizes.now) }
 {
-    // All others are zero.
+    // Entries that begin after the end of `sizes` are zero.
     let begun = (sizes.len() / 4 + 1).min(count as usize);
     let mut total: u64 = 0;
     for index in 0..begun {
@@ -46,7 +46,7 @@ fn total_of(sizes: &[u8], count: u64) -> u64
     total
 }
 
-/// Returns the number of segments that a table announces. Missing bytes are zeros.
+/// Returns the number of segments that the table at the start of `rest` announces. Missing bytes count as zeros.
 fn segments_of(rest: &[u8]) -> u64
     ensures is { result ≡ announced_segments rest.now }
     ensures most { result ≤ 2 ^ 32 }
@@ -54,7 +54,7 @@ fn segments_of(rest: &[u8]) -> u64
     u64::from(entry_at(rest, 0)) + 1
 }
 
-/// Returns the bytes that came behind the number of segments.
+/// Returns the bytes of `rest` after the number of segments.
 fn sizes_of(rest: &[u8]) -> &[u8]
     ensures { result.now ≡ drop 4 rest.now }
 {
@@ -64,14 +64,14 @@ fn sizes_of(rest: &[u8]) -> &[u8]
     &rest[4..]
 }
 
-/// Returns the number of words that a table announces. Missing bytes are zeros.
+/// Returns the number of words that the table at the start of `rest` announces. Missing bytes count as zeros.
 fn words_of(rest: &[u8]) -> u64
     ensures { result ≡ announced_words rest.now }
 {
     total_of(sizes_of(rest), segments_of(rest))
 }
 
-/// Returns the number of bytes that a frame has at least, by the part of it that came.
+/// Returns the least number of bytes that a frame beginning with `rest` can have.
 fn least_of(rest: &[u8]) -> u64
     ensures is { result ≡ spec.least_length rest.now }
     ensures least { IsLeastOfFrame rest.now result }
@@ -80,14 +80,14 @@ fn least_of(rest: &[u8]) -> u64
     words_of(rest).saturating_mul(8).saturating_add(table)
 }
 
-/// Returns the number of bytes that came of a frame, and of those that it has at least.
+/// Returns the number of bytes read of a frame, and the least number that it can have.
 pub(crate) fn there(rest: &[u8]) -> FrameKey
     ensures { result ≡ spec.there rest.now }
 {
     FrameKey::AtLeast(rest.len() as u64, least_of(rest))
 }
 
-/// Returns the sizes of the first eight segments, behind their number.
+/// Returns the first eight of the segment sizes in `sizes`. Missing bytes count as zeros.
 fn first_of(sizes: &[u8]) -> [u32; 8]
     ensures { result ≡ entries 8 sizes.now }
 {
@@ -103,7 +103,7 @@ fn first_of(sizes: &[u8]) -> [u32; 8]
     ]
 }
 
-/// Returns the segments that a table announces, if all sizes came and they are not too many.
+/// Returns the segments that the table in `rest` announces, if all sizes were read and they are not too many.
 pub(crate) fn segments(rest: &[u8]) -> Option<SegmentsText>
     ensures { result ≡ spec.segments rest.now }
 {
@@ -121,7 +121,7 @@ pub(crate) fn segments(rest: &[u8]) -> Option<SegmentsText>
     })
 }
 
-/// Returns the number of bytes that a group has by its tag and its count. Missing bytes are zeros.
+/// Returns the number of bytes of a group by its tag and its count byte. Missing bytes count as zeros.
 fn len_of(came: &[u8]) -> u64
     ensures { result ≡ len_at came.now }
 {
@@ -132,7 +132,7 @@ fn len_of(came: &[u8]) -> u64
     }
 }
 
-/// Returns the number of bytes that a group has at least, by the part of it that came.
+/// Returns the least number of bytes that a group beginning with `came` can have.
 #[tactic(auto, using(crate::proofs::AtLeast::least_of_group))]
 fn needs_of(came: &[u8]) -> u64
     ensures is { result ≡ len_at came.now }
@@ -141,8 +141,8 @@ fn needs_of(came: &[u8]) -> u64
     len_of(came)
 }
 
-/// Returns the part that came of the group that begins at byte `at` of the packed input, and the number of bytes that
-/// it has at least.
+/// Returns the figures of the group at byte `at` of the packed input, whose bytes in `came` were read. The figures are
+/// its tag, the least number of bytes that it can have, and the number of bytes read.
 pub(crate) fn group(at: u64, came: &[u8]) -> FrameKey
     ensures { result ≡ spec.group at came.now }
 {

@@ -1,11 +1,12 @@
--- The finding of a survey of an accepted message.
+-- The figures that a survey of an accepted message finds.
 use Rattle.std.specs.Prelude.{ℕ, List}
 use Rattle.capn_walk.specs.Limits.{Bounds}
 use Rattle.capn_walk.specs.Depth.{IsDepth}
 use Rattle.capn_walk.specs.Surveyed.{IsSurvey}
 use Rattle.capn_walk.specs.declared.survey_answer.Measured.{Measured}
 
--- the message is accepted: a survey reports this of it, and the least depth under which it is accepted (Own.)
+-- `message` is accepted: `m` has what a survey reports, and the least limit on depth within which it is accepted.
+-- (Own.)
 pub record AreFigures (message : List (List ℕ)) (limits : Bounds) (m : Measured) : Type 0 where
   pub survey : IsSurvey message limits m.survey
   pub depth : IsDepth message limits m.depth
