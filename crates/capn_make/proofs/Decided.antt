@@ -1,4 +1,4 @@
--- The texts that are whole in some bytes, and in more. (For `deciding` and `stuck`.)
+-- Lemmas for the laws `deciding` and `stuck`: the texts that are whole in some bytes, and in more bytes.
 use Rattle.std.proofs.Common.{◌≡◌, ℕ, List, [], ◌∷◌, ◌++◌, Err, refl, sym, ap₂, subst, ◌∙◌}
 use Rattle.std.specs.List.{AllByRecursion}
 use Rattle.capn_value.specs.Tree.{Tree}

@@ -1,4 +1,4 @@
--- The refusal of an input for good, by its end. (For `find_refusal` and `finish`.)
+-- Lemmas for `find_refusal` and `finish`: whether an input is refused for good, by the result of its texts.
 use Rattle.std.proofs.Common.{◌≡◌, inl, inr, ℕ, ◌+◌, ◌≤◌, List, [], ◌∷◌, ◌++◌, length, take, drop, Bool, true, false}
 use Rattle.std.proofs.Common.{Some, None, Option, Result, Ok, Err, refl, sym, ap, subst, ◌∙◌, append_assoc, arith}
 use Rattle.std.proofs.lemmas.List.{append-nil, length-append, take-append-drop, take-append-le}
@@ -28,7 +28,7 @@ use Rattle.capn_make.proofs.Unended.{nothing_unended}
 use Rattle.capn_make.proofs.OneText.{none_at, none_yet, one_at, whole_input}
 use Rattle.capn_make.proofs.WhateverFollows.{first_on, whole_from, whole_to}
 
--- what was made so ends so
+-- The result of what was made is the result of the input.
 pub so_ends : (form : Form) (input made : List ℕ) (r : Result (Unit {0}) MakeFault) → IsMadeSo form input made r
     → Ends form input r
 so_ends forms.Stream input made r h = (h.0, h.1, h.2, h.4)
@@ -36,13 +36,13 @@ so_ends forms.Packed input made r h = (h.0, h.1, h.2, h.4)
 so_ends forms.Bare input made (Ok u) h = (h.0, h.1)
 so_ends forms.Bare input made (Err fault) h = h
 
--- unless memory was refused, what was made is made so
+-- Unless memory was refused, the bytes that were made are those of the input.
 pub so_made : (form : Form) (input made : List ℕ) (place : Place) (fault : MakeFault) → (fault ≡ faults.Memory → ⊥)
     → GoesOn form input place made (Err fault) → IsMadeSo form input made (Err fault)
 so_made form input made place fault other (inl memory) = absurd (other memory)
 so_made form input made place fault other (inr so) = so.1
 
--- ---- a fault that stays
+-- ---- a fault that stays whatever follows
 
 made_stays : FaultStays → (form : Form) (input made more : List ℕ) (fault : MakeFault) → IsWhole input fault
     → IsMadeSo form input made (Err fault) → IsMadeSo form (input ++ more) made (Err fault)
@@ -97,9 +97,9 @@ lost_made form input made place n more m (inr follows) =
     subst (λ f. IsMadeSo f (input ++ more) made (Err (faults.NotText n))) (sym follows.0)
     (follows_made input made place n more here follows.1 (follows.2 more))
 
--- ---- a fault that doesn't
+-- ---- a fault that more bytes may take away
 
--- how texts and one more end
+-- The result after texts and one text more.
 abbrev Decided : Form → List ℕ → Type 0
 Decided form input = (r : Result (Unit {0}) MakeFault) × Ends form input r
     × ((n : ℕ) → r ≡ Err (faults.NotText n) → ⊥)
@@ -186,7 +186,6 @@ module _ (vs : List Tree) (all : AllByRecursion IsMakeable vs) (v : Tree) (shows
   decided : (form : Form) → (form ≡ forms.Bare → vs ≡ []) → Decided form longer
   decided form one = decided_by form one (misfit v) refl (first_cap v) refl
 
--- an input without a text has no bytes
 nothing_by : (input : List ℕ) → Ends forms.Bare input (Err faults.NoText) → input ≡ []
 nothing_by input (inl none) = none.0
 nothing_by input (inr (inl refused)) = absurd refused
@@ -198,7 +197,6 @@ nothing_read forms.Stream input ends n far = ends.3
 nothing_read forms.Packed input ends n far = ends.3
 nothing_read forms.Bare input ends n far = let none = ap length (nothing_by input ends) in omega arith
 
--- and nothing of it is left
 nothing_left : (form : Form) (input made : List ℕ) (place : Place) → HasMade form input place made
     → Ends form input (Err faults.NoText) → place.rest ≡ []
 nothing_left forms.Stream input made place m ends = absurd ends.3
@@ -208,13 +206,13 @@ nothing_left forms.Bare input made place m ends =
     let parts = ap length m.first.are ∙ length-append (stream_text m.values) place.rest in
     none_left place.rest (omega arith)
 
--- before the first line's text none is made
+-- In form `Bare`, no text was made if the place is at line 1.
 none_of : (form : Form) (input made : List ℕ) (place : Place) → (m : HasMade form input place made)
     → (form ≡ forms.Bare → place.line ≡ 1) → form ≡ forms.Bare → m.values ≡ []
 none_of form input made place m first bare = none_at m.values place.line m.line (first bare)
 
 module _ (one : OneEnding) (form : Form) where
-  -- one whose beginning ends otherwise with something after it is not lost
+  -- An input is not lost if a prefix of it, with other bytes after it, has another result.
   abbrev IsNotLost : List ℕ → Type 0
   IsNotLost input = (n : ℕ) → n + few ≤ length input → IsLostForGood form (take n input) → ⊥
 
@@ -232,7 +230,6 @@ module _ (one : OneEnding) (form : Form) where
       let same = one form input (Err fault) (Err good.0) ends here in
       differ (one form (base ++ more) r (Err good.0) other there ∙ sym same)
 
-  -- an input that ends well is not
   well_ended : (input : List ℕ) → Ends form input (Ok tt) → IsNotLost input
   well_ended input ends n far good =
       let here = subst (λ t. Ends form t (Err good.0)) (take-append-drop n input) (good.1 (drop n input)) in
@@ -305,7 +302,7 @@ module _ (one : OneEnding) (form : Form) where
     unfinished_by (faults.Another n) cut m tells final half ends = absurd (half tt)
     unfinished_by faults.NoText cut m tells final half ends = λ n far good. nothing_read form input ends n far
 
-    -- then no text stands with its end
+    -- If a wrong line is cut, no text with its end is there.
     unended_by : (fault : MakeFault) (cut : Bool) → HasMade form input place made → TellsCut form place cut fault
         → is_lost fault cut ≡ false → (IsWholeFrom place.line place.rest fault → ⊥) → Ends form input (Err fault)
         → IsUnended place.rest
@@ -322,7 +319,7 @@ module _ (one : OneEnding) (form : Form) where
 
     module _ (fault : MakeFault) (cut : Bool) (other : fault ≡ faults.Memory → ⊥)
         (h : GoesOn form input place made (Err fault)) (tells : TellsCut form place cut fault) where
-      -- one that ends with a fault is if that is whole
+      -- An input is refused for good if the part that causes its fault is complete.
       pub found : FaultStays → IsWholeFrom place.line place.rest fault
           → TellsRefusal form input place made (Some fault)
       found stays whole = elim h [
@@ -335,7 +332,7 @@ module _ (one : OneEnding) (form : Form) where
             so)
       ]
 
-      -- so is one with a wrong line that isn't cut
+      -- An input is refused for good if it has a wrong line that is not cut.
       pub found_lost : is_lost fault cut ≡ true → TellsRefusal form input place made (Some fault)
       found_lost final = elim h [
         | inl memory ↦ absurd (other memory)
@@ -343,7 +340,7 @@ module _ (one : OneEnding) (form : Form) where
         | inr (inr m, so) ↦ found_by fault cut m tells final
       ]
 
-      -- and otherwise not
+      -- An input is not refused for good otherwise.
       pub unfinished : (IsWholeFrom place.line place.rest fault → ⊥) → is_lost fault cut ≡ false
           → TellsRefusal form input place made None
       unfinished half final = elim h [

@@ -1,4 +1,4 @@
--- The messages that are written in frames are frames. (For `framing`.)
+-- Lemmas for the law `framing`: the bytes written for a value in frames are a frame.
 use Rattle.std.proofs.Common.{◌≡◌, ℕ, zero, suc, ◌/◌, ◌^◌, ◌<◌, List, [], ◌∷◌, ◌++◌, length, replicate}
 use Rattle.std.proofs.Common.{slice_index, refl, sym, ap, ap₂, ◌∙◌, arith}
 use Rattle.std.proofs.lemmas.List.{append-nil}

@@ -1,4 +1,4 @@
--- Bytes that came on an input, or its end, are looked at. (For `look` and `end`.)
+-- Lemmas for `look` and `end`: the rest of an input is read again, or the input has ended.
 use Rattle.std.proofs.Common.{◌≡◌, ◌≢◌, inl, inr, ℕ, zero, suc, ◌+◌, ◌*◌, ◌-◌, ◌^◌, ◌≤◌, ◌<◌, List, [], ◌∷◌, ◌++◌}
 use Rattle.std.proofs.Common.{length, take, drop, Bool, true, false, Option, Some, None, Result, Ok, Err, OnOk, OnErr}
 use Rattle.std.proofs.Common.{IsOkUnless, refl, sym, ap, ap₂, subst, ◌∙◌, append_assoc, arith}
@@ -23,7 +23,7 @@ use Rattle.capn_make.proofs.TestedInput.{all_tested, some_left}
 use Rattle.capn_make.proofs.WhateverFollows.{first_on}
 use Rattle.capn_make.proofs.UnderWay.{all_begun}
 
--- more lines than 64 bits count are of as many bytes
+-- If the number of a line passes 64 bits, the input has as many bytes.
 many_bytes : (form : Form) (input made rest : List ℕ) (line : ℕ)
     → HasMade form input (record { rest = rest; line = line }) made → 2 ^ 64 ≤ line + length rest
     → length rest < 2 ^ 63 → 2 ^ 64 ≤ length input
@@ -42,7 +42,7 @@ take_past (x ∷ xs) ys n =
     let more : length (x ∷ xs) + n ≡ suc (length xs + n) = omega arith in
     ap (λ m. take m (x ∷ xs ++ ys)) more ∙ ap (λ t. x ∷ t) (take_past xs ys n)
 
--- a beginning of what comes after what was written
+-- A first part of a text, after what was written.
 begun_on : (c d e : Option (List ℕ)) (written text : List ℕ) → Appends c d written → HasBegun d e text
     → HasBegun c e (written ++ text)
 begun_on c d e written text wrote begun = (
@@ -76,7 +76,6 @@ none_memory input (inl none) = absurd cc
 none_memory input (inr (inl refused)) = refused
 none_memory input (inr (inr more)) = more.3
 
--- what is made of an input says nothing of memory
 not_memory : (form : Form) (input text : List ℕ) → Makes form input text (Err faults.Memory) → ⊥
 not_memory forms.Stream input text h = h.4
 not_memory forms.Packed input text h = h.4
@@ -98,7 +97,7 @@ made_well forms.Stream input made u so = so
 made_well forms.Packed input made u so = so
 made_well forms.Bare input made u so = so
 
--- what was made of an input that is refused is written, but in form bare
+-- The messages of an input that is refused were written, except in form `Bare`.
 refused_ends : (form : Form) (input written new : List ℕ) (fault : MakeFault) → IsKept form written new
     → IsMadeSo form input (written ++ new) (Err fault) → Makes form input written (Err fault)
 refused_ends forms.Stream input written new fault kept so =
@@ -113,7 +112,7 @@ err_of x = Err x
 err_inj : (x y : MakeFault) → err_of x ≡ err_of y → x ≡ y
 err_inj x y e = cc
 
--- a beginning of frames that were made
+-- A first part of the frames that were made was written.
 so_begun : (form : Form) (input made : List ℕ) (c d : Option (List ℕ)) (fault : MakeFault) → (form ≡ forms.Bare → ⊥)
     → IsMadeSo form input made (Err fault) → HasBegun c d made → HasBegunText form input c d
 so_begun forms.Stream input made c d fault framed so begun =
@@ -135,11 +134,11 @@ refused_begun forms.Packed input more made place c d None framed tells begun =
     (m.values, place.rest ++ more, made, first_on m.values input place.rest more m.first, m.are, begun)
 refused_begun forms.Bare input more made place c d None framed tells begun = absurd (framed refl)
 
--- ---- what came
+-- ---- the bytes that were added
 
 module _ (form : Form) (input : List ℕ) (c d : Option (List ℕ)) (made rest : List ℕ) (line tested before : ℕ)
     (h : HasCome form input c d made rest line tested before) where
-  -- nothing ended a text
+  -- No text has ended, and the rest is not much longer than before.
   pub goes_on_at : HoldsNoEnd (drop (before - 3) rest) → length rest ≤ 4 * tested
       → IsUnderWay form input c d made rest line tested
   goes_on_at none few = record {
@@ -152,7 +151,6 @@ module _ (form : Form) (input : List ℕ) (c d : Option (List ℕ)) (made rest :
     unended = h.unended none;
   }
 
-  -- memory was refused for what is left
   pub refused_at : rest ≢ [] → (more : List ℕ) → GivesMade form input more c d (Err faults.Memory)
   refused_at some more = (
     inl refl,
@@ -160,7 +158,6 @@ module _ (form : Form) (input : List ℕ) (c d : Option (List ℕ)) (made rest :
     λ e. some_left form input (h.written ++ made) (record { rest = rest; line = line }) h.made_so_far some,
   )
 
-  -- there are more lines than 64 bits count
   pub too_long_at : 2 ^ 64 ≤ line + length rest → length rest < 2 ^ 63 → (more : List ℕ)
       → GivesMade form input more c d (Err faults.InputTooLong)
   too_long_at many left more =
@@ -172,7 +169,6 @@ module _ (form : Form) (input : List ℕ) (c d : Option (List ℕ)) (made rest :
     abbrev place : Place
     place = record { rest = left; line = at }
 
-    -- the writer failed at what was made
     broken_at : (io : MakeFault) (more : List ℕ) → WritesMade form d e broken after new (Err io)
         → (HasBegun c e (h.written ++ after) → HasBegunText form (input ++ more) c e)
         → GivesMade form input more c e (Err io)
@@ -190,12 +186,12 @@ module _ (form : Form) (input : List ℕ) (c d : Option (List ℕ)) (made rest :
       broken_writes io w,
     )
 
-    -- what was made is written
+    -- The messages that were made were written.
     pub made_writes : (u : Unit {0}) (r : Result (Unit {0}) MakeFault) → WritesMade form d e broken after new (Ok u)
         → (r ≡ Err faults.Io → ⊥) → Writes faults.Io d e broken r
     made_writes u r w other = ((w.1, w.2), (λ is. absurd (other is), λ f. let fine = w.0 in absurd cc))
 
-    -- and a whole input is refused
+    -- The messages were written, and the whole input is refused.
     refused_so : (more : List ℕ) (fault : MakeFault) (u : Unit {0})
         → IsMadeSo form (input ++ more) (h.written ++ after) (Err fault) → WritesMade form d e broken after new (Ok u)
         → GivesMade form input more c e (Err fault) × Writes faults.Io d e broken (Err fault)
@@ -217,7 +213,7 @@ module _ (form : Form) (input : List ℕ) (c d : Option (List ℕ)) (made rest :
               (subst (λ f. Makes form all (h.written ++ text) (Err f)) (err_inj fault faults.Io is) makes)),
         )
 
-    -- it is refused whatever follows
+    -- The messages were written, and the input is refused whatever follows.
     pub refuses_at : (fault : MakeFault) (u : Unit {0})
         → TellsRefusal form input place (h.written ++ after) (Some fault)
         → WritesMade form d e broken after new (Ok u)
@@ -225,7 +221,7 @@ module _ (form : Form) (input : List ℕ) (c d : Option (List ℕ)) (made rest :
     refuses_at fault u tells w =
         (λ more. (refused_so more fault u (tells more) w).0, (refused_so [] fault u (tells []) w).1)
 
-    -- an input that ended is refused
+    -- An input that has ended is refused.
     ended_so : (fault : MakeFault) → (fault ≡ faults.Memory → ⊥)
         → GoesOn form input place (h.written ++ after) (Err fault)
         → IsMadeSo form (input ++ []) (h.written ++ after) (Err fault)
@@ -238,7 +234,7 @@ module _ (form : Form) (input : List ℕ) (c d : Option (List ℕ)) (made rest :
         → GivesMade form input [] c e (Err fault) × Writes faults.Io d e broken (Err fault)
     ended_refused fault u other goes w = refused_so [] fault u (ended_so fault other goes) w
 
-    -- or the writer failed before
+    -- An input that has ended is refused, but the writer failed before that.
     pub ended_broken : (fault io : MakeFault) → (fault ≡ faults.Memory → ⊥)
         → GoesOn form input place (h.written ++ after) (Err fault) → WritesMade form d e broken after new (Err io)
         → GivesMade form input [] c e (Err io) × Writes faults.Io d e broken (Err io)
@@ -248,7 +244,6 @@ module _ (form : Form) (input : List ℕ) (c d : Option (List ℕ)) (made rest :
       broken_writes io w,
     )
 
-    -- what was made was written
     pub written_at : (u : Unit {0}) → TellsRefusal form input place (h.written ++ after) None
         → WritesMade form d e broken after new (Ok u) → IsUnderWay form input c e new left at (length left)
     written_at u told w =
@@ -277,7 +272,7 @@ module _ (form : Form) (input : List ℕ) (c d : Option (List ℕ)) (made rest :
       ((take begun.0 after, begun.1), (λ is. failed, λ f. ap err_of only)),
     )
 
-    -- what was made of all is written, or the writer failed at it
+    -- The messages of the whole input were written, or the writer failed at them.
     pub ended_as : (u : Unit {0}) (r : Result (Unit {0}) MakeFault)
         → GoesOn form input place (h.written ++ after) (Ok u)
         → OnOk r (Appends d e after) → HasBegun d e after → OnOk r (broken ≡ false) → OnErr r (broken ≡ true)

@@ -1,5 +1,4 @@
--- The texts of an input, made one after the other: before the first, one more, and how that ends. (For `next_text.rt`,
--- `progress.rt` and `whole_texts.rt`.)
+-- Lemmas for `next_text.rt`, `progress.rt` and `whole_texts.rt`: the texts of an input are made one after the other.
 use Rattle.std.specs.Prelude.{IfErr}
 use Rattle.std.proofs.Common.{◌≡◌, ◌≢◌, ◌⊎◌, Bool, true, false, inl, inr}
 use Rattle.std.proofs.Common.{ℕ, ◌+◌, ◌≤◌, List, [], ◌∷◌, ◌++◌, length, drop}
@@ -36,7 +35,6 @@ same_place place = ([], refl)
 pub place_after : (a b c : Place) → IsAfter a b → IsAfter b c → IsAfter a c
 place_after a b c h k = (h.0 ++ k.0, h.1 ∙ ap (λ x. h.0 ++ x) k.1 ∙ sym (append_assoc h.0 k.0 c.rest))
 
--- after a text and its end
 pub after_text : (v : Tree) (old new : Place) → old.rest ≡ show_text v ++ (end_line ++ new.rest) → IsAfter old new
 after_text v old new is = (show_text v ++ end_line, is ∙ sym (append_assoc (show_text v) end_line new.rest))
 
@@ -48,23 +46,20 @@ pub place_is : (place : Place) (rest : List ℕ) (line : ℕ) → place.rest ≡
     → place ≡ record { rest = rest; line = line }
 place_is place rest line r l = ap₂ (λ (x : List ℕ) (n : ℕ). record { rest = x; line = n }) r l
 
--- what is left is shorter by what was passed
 pub left_after : (old new : Place) → IsAfter old new → (length new.rest ≤ length old.rest)
 left_after old new h = let e = ap length h.1 ∙ length-append h.0 new.rest in omega arith
 
--- nothing is as long as nothing
 pub none_left : (xs : List ℕ) → length xs ≤ 0 → xs ≡ []
 none_left [] le = refl
 none_left (x ∷ xs) le = absurd (omega arith)
 
--- what is left at a later place was left before
 pub left_before : (old new : Place) → IsAfter old new → new.rest ≢ [] → old.rest ≢ []
 left_before old new h some none =
     let less = left_after old new h in
     let empty = ap length none in
     some (none_left new.rest (omega arith))
 
--- a text with its end is some bytes
+-- A text with its end is not empty.
 pub text_left : (v : Tree) (old rest : List ℕ) → old ≡ show_text v ++ (end_line ++ rest) → old ≢ []
 text_left v old rest is none =
     let all = length-append (show_text v) (end_line ++ rest) in
@@ -82,7 +77,7 @@ dropped_after old new count h size =
 
 -- ---- texts
 
--- in frames all that was made is written, however the input ends
+-- In frames everything that was made is written, whatever the result.
 made_so : (form : Form) (input made : List ℕ) (r : Result (Unit {0}) MakeFault) → (form ≡ forms.Bare → ⊥)
     → MakesEach form input made r → IsMadeSo form input made r
 made_so forms.Stream input made r framed h = h
@@ -143,14 +138,14 @@ module _ (form : Form) (input : List ℕ) where
     ),
   )
 
--- ---- why the next text is refused
+-- ---- the reason why the next text is refused
 
 pub wrong_on : (line : ℕ) (rest more : List ℕ) (n : ℕ) → rest ≢ [] → IsWrongAt line (rest ++ more) n
     → IsWrong line (rest ++ more) n
 wrong_on line rest more n some h =
     record { some = λ e. some (nil_front rest more (sym e)); none = h.0; first = (h.1, h.2, h.3) }
 
--- by the fault of reading it
+-- The refusal of the next text, from the fault of reading it.
 pub refused_text : (line : ℕ) (rest : List ℕ) (e : TextFault) → rest ≢ []
     → ((n : ℕ) → Names e n → (v : Tree) (more : List ℕ) → IsShowable v → height v ≤ most_height
     → rest ≢ show_text v ++ (end_line ++ more))
@@ -166,7 +161,7 @@ refused_text line rest (texts.Cut n) some none first mis =
     inr (record { some = some; none = none n (inr refl); first = first n (inr refl) })
 refused_text line rest (texts.Misfit m) some none first mis = inr (refl, mis m refl)
 
--- a line of that fault
+-- The line that a fault of reading names.
 pub named_line : (line : ℕ) (e : TextFault) (n : ℕ) → unread line e ≡ faults.NotText n
     → (is_cut e ≡ true → e ≡ texts.Cut n) × (is_cut e ≡ false → e ≡ texts.Line n)
 named_line line texts.Memory n is = absurd cc
@@ -180,14 +175,14 @@ pub refused_next : (old new : Place) (fault : MakeFault) → new ≡ old
 refused_next old new fault kept (inl memory) = inl memory
 refused_next old new fault kept (inr refused) = inr (inr kept, refused)
 
--- after a wrong line the place is the same
+-- After a wrong line the place is unchanged.
 pub kept_for : (A : Type 0) (form : Form) (old new : Place) (fault : MakeFault) (n : ℕ)
     → MakesNext {A = A} form old new (Err fault) → fault ≡ faults.NotText n → new ≡ old
 kept_for A form old new fault n (inl memory) is = let same = sym memory ∙ is in absurd cc
 kept_for A form old new fault n (inr (inl c, refused)) is = let same = sym c.2 ∙ is in absurd cc
 kept_for A form old new fault n (inr (inr same, refused)) is = same
 
--- what follows the one text, told as of a place
+-- The finding on what follows the only text, as one on its place.
 pub end_tells : (place : Place) (cut : Bool) (r : Result (Unit {0}) MakeFault) → (place.line ≡ 1 → ⊥)
     → IfErr r (λ e. TellsEnd place cut e) → IfErr r (λ e. TellsCut forms.Bare place cut e)
 end_tells place cut (Ok u) later h = tt

@@ -1,4 +1,4 @@
--- The rest after the texts of an input is refused for one reason. (For `end_of_one`.)
+-- Lemmas for `end_of_one`: the rest after the texts of an input is refused for one reason.
 use Rattle.std.proofs.Common.{◌≡◌, inl, inr, ℕ, ◌≤◌, List, [], ◌∷◌, ◌++◌, length}
 use Rattle.std.proofs.Common.{Some, Result, Ok, Err, refl, sym, ap, ap₂, subst}
 use Rattle.std.proofs.Common.{◌∙◌, arith}
@@ -18,7 +18,7 @@ use Rattle.capn_make.specs.declared.fault.MakeFault.{MakeFault}
 use Rattle.capn_make.specs.declared.fault.MakeFault.TheVariants as faults
 use Rattle.capn_make.proofs.OneReading.{fit_not, next_same}
 
--- ---- nothing is refused where nothing is left
+-- ---- nothing is refused if nothing is left
 
 text_some : (v : Tree) (more : List ℕ) → [] ≡ show_text v ++ (end_line ++ more) → ⊥
 text_some v more e =
@@ -72,7 +72,7 @@ nothing_follows line faults.NoText h = h
 
 module _ (apart : TextsAreApart) (shows : FittingIsShowable) (one_line : OneWrongLine) (not_deep : WrongIsNotDeep)
     (high : DeepIsHigh) where
-  -- no text of a value of at most 256 levels is next where the text goes too deep
+  -- If the rest goes too deep, it does not begin with the text of a value of at most 256 levels.
   too_high : (rest more : List ℕ) (v : Tree) → GoesTooDeep rest → IsShowable v → height v ≤ most_height
       → rest ≡ show_text v ++ (end_line ++ more) → ⊥
   too_high rest more v deep s low e =

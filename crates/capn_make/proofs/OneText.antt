@@ -1,4 +1,4 @@
--- The one text that is asked for, and what follows it. (For `make_first` and `make_one`.)
+-- Lemmas for `make_first` and `make_one`: the only text that form `Bare` takes, and what follows it.
 use Rattle.std.proofs.Common.{◌≡◌, inl, inr, ℕ, ◌+◌, ◌≤◌, List, [], ◌∷◌, ◌++◌, length, Some}
 use Rattle.std.proofs.Common.{Result, Ok, Err, refl, sym, ap, subst, ◌∙◌, arith, Vec}
 use Rattle.std.proofs.lemmas.List.{append-nil}
@@ -14,7 +14,7 @@ use Rattle.capn_make.specs.declared.fault.MakeFault.TheVariants as faults
 use Rattle.capn_make.proofs.FirstTexts.{lines_append}
 use Rattle.capn_make.proofs.NextTexts.{one_more}
 
--- a text has a line, and its end is one more
+-- A text and its end have at least one line.
 line_more : (v : Tree) (vs : List Tree) → 1 ≤ ended_lines (stream_text (v ∷ vs))
 line_more v vs =
     let a = lines_append (show_text v) (end_line ++ stream_text vs) in
@@ -22,19 +22,19 @@ line_more v vs =
     let one : ended_lines end_line ≡ 1 = refl in
     omega arith
 
--- at the first line no text is made
+-- At line 1 no text has been made.
 pub none_at : (vs : List Tree) (line : ℕ) → line ≡ line_after vs → line ≡ 1 → vs ≡ []
 none_at [] line is first = refl
 none_at (v ∷ vs) line is first = let more = line_more v vs in absurd (omega arith)
 
--- after it one is
+-- At any later line one text has been made.
 pub one_at : (vs : List Tree) (line : ℕ) → line ≡ line_after vs → (line ≡ 1 → ⊥) → length vs ≤ 1
     → (v : Tree) × (vs ≡ v ∷ [])
 one_at [] line is later few = absurd (later is)
 one_at (v ∷ []) line is later few = (v, refl)
 one_at (v ∷ w ∷ vs) line is later few = absurd (omega arith)
 
--- what follows the one text is not refused because memory ran out
+-- The bytes after the only text are never refused because memory was.
 pub ends_for_a_reason : (place : Place) (r : Result (Unit {0}) MakeFault) → EndsOne place r → r ≡ Err faults.Memory → ⊥
 ends_for_a_reason place (Ok u) h e = absurd cc
 ends_for_a_reason place (Err faults.Memory) h e = h
@@ -50,15 +50,13 @@ module _ (input : List ℕ) (place : Place) (made : List ℕ) (h : HasMade forms
   pub none_yet : place.line ≡ 1 → h.values ≡ []
   none_yet first = none_at h.values place.line h.line first
 
-  -- before the first text, that is all of the input
+  -- Before the first text, the whole input is left.
   pub whole_input : h.values ≡ [] → input ≡ place.rest
   whole_input none = h.first.are ∙ ap (λ vs. stream_text vs ++ place.rest) none
 
-  -- there is no text
   pub no_text : place.line ≡ 1 → place.rest ≡ [] → GoesOn forms.Bare input place made (Err faults.NoText)
   no_text first over = inr (inr h, inl (whole_input (none_yet first) ∙ over, refl))
 
-  -- the first text is refused, or memory was
   pub first_refused : (A : Type 0) (new : Place) (fault : MakeFault) → place.line ≡ 1
       → MakesNext {A = A} forms.Bare place new (Err fault) → GoesOn forms.Bare input new made (Err fault)
   first_refused A new fault first (inl memory) = inl memory
@@ -74,7 +72,7 @@ module _ (input : List ℕ) (place : Place) (made : List ℕ) (h : HasMade forms
             ))),
       )
 
-  -- one text was made, and so the input ends
+  -- The only text was made, and what follows it decides the result.
   pub ends_so : (r : Result (Unit {0}) MakeFault) → (place.line ≡ 1 → ⊥) → EndsOne place r
       → GoesOn forms.Bare input place made r
   ends_so (Ok u) later over =
@@ -89,7 +87,6 @@ module _ (input : List ℕ) (place : Place) (made : List ℕ) (h : HasMade forms
       let line = h.line ∙ ap line_after one.1 in
       inr (inr h, inr (inr (one.0, place.rest, first, subst (λ n. Follows n place.rest fault) line follows)))
 
--- after a text the line is not the first
 pub later_line : (v : Tree) (old new : Place) → old.rest ≡ show_text v ++ (end_line ++ new.rest)
     → new.line + ended_lines new.rest ≡ old.line + ended_lines old.rest → old.line ≡ 1 → new.line ≡ 1 → ⊥
 later_line v old new is counted first again =
@@ -98,7 +95,7 @@ later_line v old new is counted first again =
     let one : ended_lines end_line ≡ 1 = refl in
     absurd (omega arith)
 
--- the first text was made, and so the input ends
+-- The first text was made, and what follows it decides the result.
 pub first_made : (A : Type 0) (input : List ℕ) (old new : Place) (made after : List ℕ) (piece : Vec ℕ A)
     → HasMade forms.Bare input old made → old.line ≡ 1 → MakesNext {A = A} forms.Bare old new (Ok (Some piece))
     → after ≡ made ++ piece.items → (r : Result (Unit {0}) MakeFault) → EndsOne new r

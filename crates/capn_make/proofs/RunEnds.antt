@@ -1,4 +1,4 @@
--- The end of a run over texts. (For `make`.)
+-- Lemmas for `make`: the result of a run over texts.
 use Rattle.std.proofs.Common.{◌≡◌, ◌≢◌, inl, inr, ℕ, List, [], ◌++◌, Bool, Option, IfSome, Result, Err}
 use Rattle.std.proofs.Common.{refl, sym, subst}
 use Rattle.std.proofs.lemmas.List.{append-nil}
@@ -12,7 +12,7 @@ use Rattle.capn_make.specs.declared.fault.MakeFault.TheVariants as faults
 use Rattle.capn_make.proofs.SinkRuns.{ahead_of, exactly, here}
 use Rattle.capn_make.proofs.UnderWay.{begun_by, served, timely}
 
--- texts are under way
+-- The state of the sink for texts, as a statement on the bytes that it took.
 abbrev pub UnderWay : Form → Taking
 UnderWay form bytes c d = (made : List ℕ) × (rest : List ℕ) × (line : ℕ) × (tested : ℕ)
     × IsUnderWay form bytes c d made rest line tested

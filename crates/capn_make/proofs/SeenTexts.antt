@@ -1,4 +1,4 @@
--- A text with quotes that was read so far: its plain form, and the lines of that. (For `UnderTexts`.)
+-- Lemmas for `UnderTexts`: the plain form of the text with quotes that was read so far, and its lines.
 use Rattle.std.proofs.Common.{◌≡◌, ◌≢◌, ℕ, ◌+◌, ◌≤◌, Bool, true, false, cond, List, [], ◌++◌, length}
 use Rattle.std.proofs.Common.{Result, Ok, Err}
 use Rattle.std.proofs.Common.{refl, sym, ap, ap₂, ◌∙◌, append_assoc, arith}
@@ -51,7 +51,7 @@ same_digits q r more through line front =
     ap (λ (b : Bool). cond b (digits_through r.line more) (digits_after r.line r.front more)) through
     ∙ ap₂ (λ (n : ℕ) (l : List ℕ). cond q.through (digits_through n more) (digits_after n l more)) line front
 
--- what is left at the end of a text
+-- The bytes that are left at the end of a text.
 last_by : (b : Bool) (front : List ℕ) → (b ≡ true → front ≡ []) → cond b [] front ≡ front
 last_by true front empty = sym (empty refl)
 last_by false front empty = refl
@@ -60,7 +60,7 @@ no_digits : (b : Bool) (x : List ℕ) → x ≡ [] → cond b x x ≡ []
 no_digits true x e = e
 no_digits false x e = e
 
--- what is before a line that isn't before the last is forgotten
+-- The lines of digits before a later line are forgotten.
 pub forgotten_on : (q r : Unquoting) (line at : ℕ) (bytes input : List ℕ) → line ≤ at → HasSeen q line bytes input
     → Forgets at q r → HasSeen r at bytes input
 forgotten_on q r line at bytes input further h f =
@@ -91,13 +91,11 @@ forgotten_on q r line at bytes input further h f =
       empty = λ given. f.front ∙ h.empty (sym f.through ∙ given);
     }
 
--- the plain form of all that was read
 pub seen_plain : (q : Unquoting) (line : ℕ) (bytes input : List ℕ) → HasSeen q line bytes input
     → plain bytes ≡ input ++ q.front
 seen_plain q line bytes input h = ap plain (sym (append-nil bytes)) ∙ h.plain []
     ∙ ap (λ (l : List ℕ). input ++ l) (last_by q.through q.front h.empty)
 
--- and the lines of it
 pub seen_lines : (q : Unquoting) (line : ℕ) (bytes input : List ℕ) → HasSeen q line bytes input
     → (n : ℕ) → line ≤ n → own_at q n ≡ own_line bytes n
 seen_lines q line bytes input h n at =
@@ -112,7 +110,6 @@ seen_lines q line bytes input h n at =
     let passed = h.passed in
     omega arith
 
--- a line that was begun is of some bytes
 pub some_seen : (q : Unquoting) (line : ℕ) (bytes input : List ℕ) → HasSeen q line bytes input → q.front ≢ []
     → bytes ≢ []
 some_seen q line bytes input h some none =
@@ -135,7 +132,7 @@ same_fault f g line (faults.Capability n index) same from = ap (λ k. faults.Cap
 same_fault f g line (faults.Another n) same from = ap (λ m. faults.Another m) (same n from)
 same_fault f g line faults.NoText same from = refl
 
--- what is made of a plain form is made of the input, where no line is refused that was forgotten
+-- The messages of the plain form are those of the input, if the fault names no line that was forgotten.
 pub of_lines : (form : Form) (own : ℕ → ℕ) (line : ℕ) (bytes all text : List ℕ) (r : Result (Unit {0}) MakeFault)
     → ((n : ℕ) → line ≤ n → own n ≡ own_line bytes n)
     → ((fault : MakeFault) → Makes form (plain all) text (Err fault) → IsFrom line fault)

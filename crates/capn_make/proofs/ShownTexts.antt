@@ -1,4 +1,4 @@
--- The texts that `show` writes are made, and nothing else is made of them. (For `making` and `showing`.)
+-- Lemmas for the laws `making` and `showing`: the texts that `show` writes are made, and nothing else is made of them.
 use Rattle.std.proofs.Common.{◌≡◌, ℕ, List, [], ◌∷◌, ◌++◌, Result, Ok, Err, refl, sym, ap₂, subst}
 use Rattle.std.proofs.Common.{◌∙◌}
 use Rattle.std.proofs.lemmas.List.{append-nil}

@@ -1,4 +1,4 @@
--- The run of a sink, between two pieces and at its end. (For `run` and for those who call it.)
+-- Lemmas for `run` and its callers: the run of a sink, between two chunks and at its end.
 use Rattle.std.proofs.Common.{◌≡◌, ◌≢◌, ◌⊎◌, ◌↔◌, inl, inr, ℕ, ◌+◌, ◌^◌, ◌≤◌, List, [], ◌∷◌, ◌++◌, length}
 use Rattle.std.proofs.Common.{take, Bool, true, false, Option, Some, None, IfSome, Result, Ok, Err}
 use Rattle.std.proofs.Common.{refl, sym, ap, subst, ◌∙◌, arith}
@@ -8,7 +8,7 @@ use Rattle.std.proofs.KnownBytes.{Appends-nil, Consumes-trans, Consumes-whole}
 use Rattle.capn_make.specs.MakeRun.{IsAhead}
 use Rattle.capn_make.specs.inner.SinkRun.{Feeds, Giving, IsTakenAhead, ReadsPiece, Runs, Taking, Writes}
 
--- These bytes were read, so many, and taken.
+-- The sink took the bytes that were read, and `taken` is their number.
 pub record HasTaken (Takes : Taking) (a b c d : Option (List ℕ)) (taken : ℕ) : Type 0 where
   pub bytes : List ℕ
   pub read : Consumes a b bytes
@@ -19,12 +19,12 @@ none_of : (xs : List ℕ) → length xs ≡ 0 → xs ≡ []
 none_of [] e = refl
 none_of (x ∷ xs) e = absurd (omega arith)
 
--- neither the reader nor the writer has failed
+-- Neither the reader nor the writer has failed.
 nobody : (read wrote : Bool) → read ≡ false → wrote ≡ false → (read ≡ true) ⊎ (wrote ≡ true) → ⊥
 nobody read wrote fine kept (inl r) = absurd cc
 nobody read wrote fine kept (inr w) = absurd cc
 
--- one of the two has failed: only the writer may
+-- If one of the two has failed, and the reader has not, the writer has.
 only_writer : (read wrote : Bool) → read ≡ false → (read ≡ true) ⊎ (wrote ≡ true) → wrote ≡ true
 only_writer read wrote fine (inl r) = absurd cc
 only_writer read wrote fine (inr w) = w
@@ -38,7 +38,7 @@ done_well u = Ok u
 stop_inj : {F : Type 0} (x y : F) → stop x ≡ stop y → x ≡ y
 stop_inj x y e = cc
 
--- a call that ended well is none at which the writer failed
+-- The writer did not fail in a call that ended well.
 pub not_broken : {F : Type 0} (io : F) (wrote : Bool) (u : Unit {0}) → ((done_well u ≡ stop io) ↔ (wrote ≡ true))
     → wrote ≡ false
 not_broken io false u h = refl
@@ -53,7 +53,6 @@ module _ {S F : Type 0} (Takes : S → Taking) (Gives : Giving F) (io : F) (s : 
       → (r ≡ Err io) ↔ ((read ≡ true) ⊎ (wrote ≡ true))
   broken_by r fine is = (λ e. inr (is.0 e), λ f. is.1 (only_writer read wrote fine f))
 
-  -- the reader failed
   pub run_failed : ReadsPiece b e read buffer None → Runs Takes Gives io s a e c d read wrote (Err io)
   run_failed none = record {
     bytes = h.bytes;
@@ -71,7 +70,6 @@ module _ {S F : Type 0} (Takes : S → Taking) (Gives : Giving F) (io : F) (s : 
     read_on : Consumes a e (h.bytes ++ piece)
     read_on = Consumes-trans a b e h.bytes piece h.read given.3
 
-    -- the input ended
     pub run_ended : (last : S) (f : Option (List ℕ)) (r : Result (Unit {0}) F) → count ≡ 0 → Gives h.bytes [] c f r
         → Writes io d f wrote r → Runs Takes Gives io last a e c f read wrote r
     run_ended last f r zero gives w = record {
@@ -87,7 +85,6 @@ module _ {S F : Type 0} (Takes : S → Taking) (Gives : Giving F) (io : F) (s : 
     pub some_given : (count ≡ 0 → ⊥) → piece ≢ []
     some_given some none = some (sym given.2 ∙ ap length none)
 
-    -- more bytes were refused
     pub run_refused : (last : S) (f : Option (List ℕ)) (fault : F)
         → Feeds (Takes last) Gives (h.bytes ++ piece) c f (Err fault) → Writes io d f wrote (stop fault)
         → Runs Takes Gives io last a e c f read wrote (Err fault)
@@ -102,7 +99,6 @@ module _ {S F : Type 0} (Takes : S → Taking) (Gives : Giving F) (io : F) (s : 
           ahead = (h.bytes, piece, s, d, w.0.0, refl, omega arith, h.takes, w.0.1);
         }
 
-    -- there are too many
     pub run_too_long : (fault : F) → fault ≢ io → wrote ≡ false → 2 ^ 64 ≤ taken + count
         → ((bytes more : List ℕ) (c d : Option (List ℕ)) → Takes s bytes c d → 2 ^ 64 ≤ length (bytes ++ piece)
         → Gives (bytes ++ piece) more c d (Err fault))
@@ -114,7 +110,6 @@ module _ {S F : Type 0} (Takes : S → Taking) (Gives : Giving F) (io : F) (s : 
         run_refused s d fault (λ more. gives h.bytes more c d h.takes (omega arith))
         (([], Appends-nil d), (λ e. absurd (other (stop_inj fault io e)), λ f. absurd cc))
 
-    -- they were taken
     pub taken_on : (next : S) (f : Option (List ℕ)) (u : Unit {0})
         → Feeds (Takes next) Gives (h.bytes ++ piece) c f (Ok u) → HasTaken (Takes next) a e c f (taken + count)
     taken_on next f u takes =
@@ -127,9 +122,9 @@ module _ {S F : Type 0} (Takes : S → Taking) (Gives : Giving F) (io : F) (s : 
           takes = takes;
         }
 
--- ---- what a run says of an input
+-- ---- the promises of a run on an input
 
--- what is true whatever follows the bytes that were read is true of the input
+-- A statement that holds whatever follows the bytes that were read holds of the input.
 known_whole : (a b : Option (List ℕ)) (bytes : List ℕ) (P : List ℕ → Type 0) → Consumes a b bytes
     → ((more : List ℕ) → P (bytes ++ more)) → IfSome a P
 known_whole None b bytes P consumed h = tt
@@ -142,7 +137,7 @@ any_known (Some x) P h = h x
 
 module _ {S F : Type 0} (Takes : S → Taking) (Gives : Giving F) (io : F) (last : S) (a b c d : Option (List ℕ))
     (read wrote : Bool) (r : Result (Unit {0}) F) (h : Runs Takes Gives io last a b c d read wrote r) where
-  -- if the input is known, this is so of it, unless the reader failed
+  -- If the input is known, `P` holds of it, unless the reader failed.
   pub exactly : (P : List ℕ → Type 0) → (r ≡ Err io → (input : List ℕ) → P input)
       → ((more : List ℕ) → Gives h.bytes more c d r → P (h.bytes ++ more)) → IfSome a P
   exactly P unread so = elim h.ended [
@@ -152,7 +147,7 @@ module _ {S F : Type 0} (Takes : S → Taking) (Gives : Giving F) (io : F) (last
     | inr (inr good) ↦ known_whole a b h.bytes P h.read (λ more. so more (good more))
   ]
 
-  -- this is so of the bytes that were read, if it is so of bytes to which nothing follows, and of all that are taken
+  -- `P` holds of the bytes that were read, if it holds of an input that has ended, and of bytes that were taken.
   pub here : (P : Type 0) → (Takes last h.bytes c d → r ≡ Err io → P) → (Gives h.bytes [] c d r → P) → P
   here P unread so = elim h.ended [
     | inl failed ↦ unread (h.heard failed) (h.broken.1 (inl failed))
@@ -160,7 +155,7 @@ module _ {S F : Type 0} (Takes : S → Taking) (Gives : Giving F) (io : F) (last
     | inr (inr good) ↦ so (good [])
   ]
 
-  -- if this was written of all that is taken, it was written ahead
+  -- If `W` holds of all bytes that are taken, it held before the last chunk was read.
   pub ahead_of : (W : Taking) → ((s : S) (bytes : List ℕ) (e f : Option (List ℕ)) → Takes s bytes e f → W bytes e f)
       → IsAhead W h.bytes c d
   ahead_of W so = let p = h.ahead in (p.0, p.1, p.3, p.4, p.5, p.6, so p.2 p.0 c p.3 p.7, p.8)

@@ -1,4 +1,4 @@
--- An input that is made, and tested, as it grows. (For `UnderTexts` and `UnderWay`.)
+-- Lemmas for `UnderTexts` and `UnderWay`: an input that is made, and tested, as it grows.
 use Rattle.std.proofs.Common.{◌≡◌, ◌≢◌, inl, inr, ℕ, ◌+◌, ◌*◌, ◌≤◌, List, [], ◌++◌, length, take, drop}
 use Rattle.std.proofs.Common.{Ok, Err, refl, sym, ap, subst, ◌∙◌, append_assoc, arith}
 use Rattle.std.proofs.lemmas.Bool.{cases_lt}
@@ -15,7 +15,7 @@ use Rattle.capn_make.specs.declared.fault.MakeFault.TheVariants as faults
 use Rattle.capn_make.proofs.NextTexts.{none_left}
 use Rattle.capn_make.proofs.WhateverFollows.{first_on}
 
--- an empty input is not refused for good
+-- An empty input is not refused for good.
 nothing_refused : OneEnding → (form : Form) → IsRefusedForGood form [] → ⊥
 nothing_refused one forms.Stream h =
     let e = one forms.Stream [] (Ok tt) (Err h.0) ([], [], record { each = tt; are = refl }, refl) h.1 in absurd cc
@@ -38,7 +38,6 @@ none_tested one form = record {
   );
 }
 
--- all was tested that is there
 pub all_tested : (form : Form) (input rest : List ℕ) → IsNotYet form input
     → HasTested form (length rest) input rest
 all_tested form input rest not_yet = record {
@@ -49,7 +48,6 @@ all_tested form input rest not_yet = record {
   not_yet = not_yet;
 }
 
--- more has come
 pub more_tested : (form : Form) (tested : ℕ) (input rest more : List ℕ) → HasTested form tested input rest
     → HasTested form tested (input ++ more) (rest ++ more)
 more_tested form tested input rest more h =
@@ -64,7 +62,7 @@ more_tested form tested input rest more h =
       not_yet = h.not_yet;
     }
 
--- a place after which more has come
+-- A place after which more bytes have arrived.
 pub made_on : (form : Form) (input made rest more : List ℕ) (line : ℕ)
     → HasMade form input (record { rest = rest; line = line }) made
     → HasMade form (input ++ more) (record { rest = rest ++ more; line = line }) made
@@ -76,13 +74,11 @@ made_on form input made rest more line h = record {
   few = h.few;
 }
 
--- what is left is no more than the input
 pub left_within : (form : Form) (input made : List ℕ) (place : Place) → HasMade form input place made
     → length place.rest ≤ length input
 left_within form input made place h =
     let parts = ap length h.first.are ∙ length-append (stream_text h.values) place.rest in omega arith
 
--- what is left was read
 pub some_left : (form : Form) (input made : List ℕ) (place : Place) → HasMade form input place made → place.rest ≢ []
     → input ≢ []
 some_left form input made place h some none =
@@ -90,7 +86,6 @@ some_left form input made place h some none =
     let empty = ap length none in
     some (none_left place.rest (omega arith))
 
--- bytes with some after them are some
 pub some_after : (xs ys : List ℕ) → ys ≢ [] → xs ++ ys ≢ []
 some_after xs ys some none =
     let all = length-append xs ys in
@@ -100,8 +95,8 @@ some_after xs ys some none =
 module _ (stays : RefusalStays) (form : Form) (tested : ℕ) (input made rest : List ℕ) (line : ℕ)
     (m : HasMade form input (record { rest = rest; line = line }) made) (h : HasTested form tested input rest)
     (short : length rest ≤ 4 * tested) where
-  -- What is left is not much more than was tested of it. So all that was read is no more than in time, with the bytes
-  -- of one more call.
+  -- The bytes that are left are at most four times those that were tested. So the bytes that were read, with those of
+  -- one more call, are in time.
   pub in_time : (more : List ℕ) → length more ≤ 65536 → AreInTime form (input ++ more)
   in_time more small n =
       let cut = ap (λ t. t ++ more) h.are ∙ append_assoc h.front h.more more in

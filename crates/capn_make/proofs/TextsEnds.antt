@@ -1,4 +1,4 @@
--- The end of a run over texts with quotes. (For `make_texts`.)
+-- Lemmas for `make_texts`: the result of a run over texts with lists between quotes.
 use Rattle.std.proofs.Common.{◌≢◌, inl, inr, ℕ, List, [], ◌++◌, Bool, Option, IfSome, Result}
 use Rattle.std.proofs.Common.{refl, sym, subst}
 use Rattle.std.proofs.lemmas.List.{append-nil}
@@ -15,7 +15,7 @@ use Rattle.capn_make.specs.declared.fault.MakeFault.TheVariants as faults
 use Rattle.capn_make.proofs.SinkRuns.{ahead_of, exactly, here}
 use Rattle.capn_make.proofs.UnderTexts.{begun_at, served, timely}
 
--- texts are under way
+-- The state of the sink for texts with quotes, as a statement on the bytes that it took.
 abbrev pub UnderTexts : Form → Taking
 UnderTexts form bytes c d = (made : List ℕ) × (rest : List ℕ) × (line : ℕ) × (tested : ℕ) × (q : Unquoting)
     × IsUnderTexts form bytes c d made rest line tested q

@@ -1,4 +1,4 @@
--- A run over texts with quotes. (For `feed` and `finish` of `QuotedTexts`.)
+-- Lemmas for `feed` and `finish` of `QuotedTexts`: a run over texts with lists between quotes.
 use Rattle.std.proofs.Common.{◌≡◌, ◌≢◌, inl, inr, ℕ, ◌+◌, ◌^◌, ◌≤◌, List, [], ◌∷◌, ◌++◌, length}
 use Rattle.std.proofs.Common.{Bool, true, Option, Result, Ok, Err}
 use Rattle.std.proofs.Common.{refl, sym, ap, subst, ◌∙◌, append_assoc, arith}
@@ -27,7 +27,7 @@ use Rattle.capn_make.proofs.UnderWay.{begins as begins_plain, begun_by, come_at,
 use Rattle.capn_make.proofs.UnderWay.{served_by, timely as timely_plain}
 use Rattle.capn_make.proofs.WhateverFollows.{first_on}
 
--- ---- a line that is unfinished ends no text
+-- ---- an unfinished line ends no text
 
 unended_before : (rest front : List ℕ) → ended_lines front ≡ 0 → IsUnended rest → IsUnended (rest ++ front)
 unended_before rest front quiet none v after shows low e =
@@ -54,7 +54,7 @@ unended_before rest front quiet none v after shows low e =
 
 -- ---- a fault at another line
 
--- a fault without a line is the same at another line
+-- A fault without a line stays the same.
 io_back : (own : ℕ → ℕ) (f : MakeFault) → at_own own f ≡ faults.Io → f ≡ faults.Io
 io_back own faults.Memory e = absurd cc
 io_back own faults.Io e = refl
@@ -95,7 +95,7 @@ memory_of own (Ok u) e = absurd cc
 memory_of own (Err fault) e =
     let same : at_own own fault ≡ faults.Memory = cc in ap (λ x. Err x) (memory_back own fault same)
 
--- ---- what is given of the plain form is given of the texts
+-- ---- the result of the plain form is that of the texts
 
 module _ (form : Form) (bytes more input rest : List ℕ) (whole : plain (bytes ++ more) ≡ input ++ rest)
     (own : ℕ → ℕ) (line : ℕ) (same : (n : ℕ) → line ≤ n → own n ≡ own_line bytes n)
@@ -127,9 +127,8 @@ module _ (form : Form) (bytes more input rest : List ℕ) (whole : plain (bytes 
     λ e. some (h.2 (memory_of own r e)),
   )
 
--- ---- between two pieces
+-- ---- between two chunks
 
--- before the first
 pub begins : OneEnding → (form : Form) (c : Option (List ℕ)) (made rest : List ℕ) (line tested : ℕ) (q : Unquoting)
     → IsFresh made rest line tested → q ≡ first_unquoting
     → IsUnderTexts form [] c c made rest line tested q
@@ -167,7 +166,7 @@ module _ (form : Form) (bytes : List ℕ) (c d : Option (List ℕ)) (made rest :
         (timely_plain form u.input c d made rest line tested u.way stays [] (omega arith)),
   )
 
-  -- a beginning was written, whatever follows
+  -- A first part of the messages was written, whatever follows.
   pub begun_at : (more : List ℕ) → HasBegunText form (plain (bytes ++ more)) c d
   begun_at more =
       subst (λ t. HasBegunText form t c d) (sym (u.seen.plain more))
@@ -177,23 +176,21 @@ module _ (form : Form) (bytes : List ℕ) (c d : Option (List ℕ)) (made rest :
   begun_past piece more =
       subst (λ t. HasBegunText form (plain t) c d) (sym (append_assoc bytes piece more)) (begun_at (piece ++ more))
 
-  -- memory was refused for a piece
   pub unheld : (piece : List ℕ) → piece ≢ [] → (more : List ℕ)
       → GivesTexts form (bytes ++ piece) more c d (Err faults.Memory)
   unheld piece some more = (inl refl, begun_past piece more, λ e. some_after bytes piece some)
 
-  -- or for the line that is left
+  -- Memory was refused for the unfinished line at the end.
   pub unheld_last : q.front ≢ [] → GivesTexts form bytes [] c d (Err faults.Memory)
   unheld_last some = (inl refl, begun_at [], λ e. some_seen q line bytes u.input u.seen some)
 
-  -- the input is longer than what is taken
   pub longer : (piece more : List ℕ) → 2 ^ 64 ≤ length (bytes ++ piece)
       → GivesTexts form (bytes ++ piece) more c d (Err faults.InputTooLong)
   longer piece more long =
       let all = length-append (bytes ++ piece) more in
       (inr (inr (inl (refl, omega arith))), begun_past piece more, λ e. absurd cc)
 
-  -- a piece came, and was read
+  -- A chunk was read.
   module _ (v : Unquoting) (piece added : List ℕ) (some : piece ≢ []) (next : Unquotes q v piece added)
       (quiet : ended_lines v.front ≡ 0) (empty : v.through ≡ true → v.front ≡ []) where
     seen : HasSeen v line (bytes ++ piece) (u.input ++ added)
@@ -212,7 +209,6 @@ module _ (form : Form) (bytes : List ℕ) (c d : Option (List ℕ)) (made rest :
         (after form m.values ((u.input ++ added) ++ plain_on v more) ((rest ++ added) ++ plain_on v more) text fault
         first m.few (subst (λ t. Makes form t text (Err fault)) (seen.plain more) makes))
 
-    -- its plain form is refused whatever follows
     pub refused : RefusedAfter → (e : Option (List ℕ)) (fault : MakeFault)
         → ((more : List ℕ) → GivesMade form (u.input ++ added) more c e (Err fault)) → (more : List ℕ)
         → GivesTexts form (bytes ++ piece) more c e (Err (at_own (own_at v) fault))
@@ -221,7 +217,6 @@ module _ (form : Form) (bytes : List ℕ) (c d : Option (List ℕ)) (made rest :
         (seen_lines v line (bytes ++ piece) (u.input ++ added) seen) (from_here after more) c e
         (λ others. some_after bytes piece some) (Err fault) (gives (plain_on v more))
 
-    -- it is under way
     pub goes_on : UnendedIsLast → (e : Option (List ℕ)) (after left : List ℕ) (at now : ℕ) (w : Unquoting)
         → IsUnderWay form (u.input ++ added) c e after left at now → Forgets at v w
         → IsUnderTexts form (bytes ++ piece) c e after left at now w
@@ -238,7 +233,7 @@ module _ (form : Form) (bytes : List ℕ) (c d : Option (List ℕ)) (made rest :
           way = way;
         }
 
-  -- ---- the input ended
+  -- ---- the input has ended
 
   pub come_last : (new : List ℕ) → new ≡ rest ++ q.front
       → HasCome form (u.input ++ q.front) c d made new line tested (length rest)

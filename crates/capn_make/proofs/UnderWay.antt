@@ -1,4 +1,4 @@
--- An input that is made, and written, as it comes, between two pieces. (For `feed`, `finish` and `make`.)
+-- Lemmas for `feed`, `finish` and `make`: an input that is made, and whose messages are written, between two chunks.
 use Rattle.std.proofs.Common.{◌≡◌, ◌≢◌, inl, inr, ℕ, ◌^◌, ◌≤◌, List, [], ◌++◌, length, Bool, false, Option}
 use Rattle.std.proofs.Common.{Result, Err, refl, sym, ap, subst, ◌∙◌, append_assoc, arith}
 use Rattle.std.proofs.lemmas.List.{append-nil, length-append}
@@ -23,7 +23,6 @@ use Rattle.capn_make.proofs.WhateverFollows.{first_on}
 
 -- ---- what was written
 
--- nothing was written
 pub no_writes : (d : Option (List ℕ)) (failed : Bool) (r : Result (Unit {0}) MakeFault) → failed ≡ false
     → (r ≡ Err faults.Io → ⊥) → Writes faults.Io d d failed r
 no_writes d failed r fine other = (([], Appends-nil d), (λ e. absurd (other e), λ f. absurd cc))
@@ -49,14 +48,13 @@ begun_by forms.Packed before piece c d h =
     (h.0, h.1 ++ piece, h.4.0, first_on h.0 before h.1 piece h.2, h.4.1, all_begun c d h.4.0 h.4.2)
 begun_by forms.Bare before piece c d h = inl h.4.1
 
--- ---- between two pieces
+-- ---- between two chunks
 
 nothing_kept : (form : Form) → IsKept form [] []
 nothing_kept forms.Stream = refl
 nothing_kept forms.Packed = refl
 nothing_kept forms.Bare = refl
 
--- before the first
 pub begins : OneEnding → (form : Form) (c : Option (List ℕ)) (made rest : List ℕ) (line tested : ℕ)
     → IsFresh made rest line tested → IsUnderWay form [] c c made rest line tested
 begins one form c made rest line tested (none, empty, at, nothing) =
@@ -86,7 +84,6 @@ module _ (form : Form) (input : List ℕ) (c d : Option (List ℕ)) (made rest :
   timely stays piece small =
       in_time stays form tested input (u.written ++ made) rest line u.made_so_far u.tested_so_far u.short piece small
 
-  -- memory was refused for a piece
   pub unheld : (piece : List ℕ) → piece ≢ [] → (more : List ℕ)
       → GivesMade form (input ++ piece) more c d (Err faults.Memory)
   unheld piece some more = (
@@ -96,7 +93,6 @@ module _ (form : Form) (input : List ℕ) (c d : Option (List ℕ)) (made rest :
     λ e. some_after input piece some,
   )
 
-  -- a piece came
   pub come_at : (piece new : List ℕ) (before : ℕ) → new ≡ rest ++ piece → before ≡ length rest
       → HasCome form (input ++ piece) c d made new line tested before
   come_at piece new before grown size = rw (grown, size) record {
@@ -110,7 +106,6 @@ module _ (form : Form) (input : List ℕ) (c d : Option (List ℕ)) (made rest :
         (begun_by form input (piece ++ more) c d served);
   }
 
-  -- nothing more comes
   pub come_last : HasCome form input c d made rest line tested (length rest)
   come_last = record {
     written = u.written;
@@ -122,7 +117,6 @@ module _ (form : Form) (input : List ℕ) (c d : Option (List ℕ)) (made rest :
     begun = λ more. begun_by form input more c d served;
   }
 
-  -- the input is longer than what is taken
   pub longer : (piece more : List ℕ) → 2 ^ 64 ≤ length (input ++ piece)
       → GivesMade form (input ++ piece) more c d (Err faults.InputTooLong)
   longer piece more long =

@@ -1,4 +1,4 @@
--- A fault of what is complete in an input stays, whatever follows. (For `refusing`.)
+-- Lemmas for the law `refusing`: a fault of a complete part of an input stays, whatever follows.
 use Rattle.std.proofs.Common.{◌≡◌, inl, inr, ℕ, ◌≤◌, List, [], ◌∷◌, ◌++◌, Err, refl, sym, ap, subst, ◌∙◌}
 use Rattle.std.proofs.Common.{append_assoc, arith}
 use Rattle.capn_value.specs.Tree.{Tree}

@@ -1,4 +1,4 @@
--- The end of an input of texts, and the cases in which it is refused whatever follows it. (Own.)
+-- The result of a run on an input of texts, and the cases in which the input is refused whatever bytes follow. (Own.)
 use Rattle.std.specs.Prelude.{◌≤◌, ℕ, ⊤, List, [], ◌∷◌, ◌++◌, Result, Ok, Err}
 use Rattle.capn_value.specs.Tree.{Tree}
 use Rattle.capn_text.specs.Streams.{ended_lines}
@@ -8,22 +8,22 @@ use Rattle.capn_make.specs.MadeInput.{AreFirst, EndsAfter, IsNotOne}
 use Rattle.capn_make.specs.declared.fault.MakeFault.{MakeFault}
 use Rattle.capn_make.specs.declared.fault.MakeFault.TheVariants as faults
 
--- each text up to the end, or up to the first that is refused, can be made
+-- A run that makes each text of `input` has the result `ending`: it ends well, or at the first text that is refused.
 abbrev pub EndsEach : List ℕ → Result (Unit {0}) MakeFault → Type 0
 EndsEach input ending = (vs : List Tree) × (rest : List ℕ) × AreFirst vs input rest × EndsAfter vs rest ending
 
--- an input is one text that can be made, or it is not
+-- A run that takes one text has this result: `input` is one text that can be made, or it is refused.
 abbrev pub EndsOnly : List ℕ → Result (Unit {0}) MakeFault → Type 0
 EndsOnly input (Ok u) = (v : Tree) × AreFirst (v ∷ []) input []
 EndsOnly input (Err fault) = IsNotOne input fault
 
--- the end of an input in a form: that of the messages that are made of it
+-- A run on `input` in a form has the result `ending`.
 abbrev pub Ends : Form → List ℕ → Result (Unit {0}) MakeFault → Type 0
 Ends forms.Stream input ending = EndsEach input ending
 Ends forms.Packed input ending = EndsEach input ending
 Ends forms.Bare input ending = EndsOnly input ending
 
--- the subject of a fault of an input is complete: if it is a wrong line, that line has its end
+-- The part of `input` that causes a fault is complete. A wrong line is complete if it has its newline.
 abbrev pub IsWhole : List ℕ → MakeFault → Type 0
 IsWhole input faults.Memory = ⊤
 IsWhole input faults.Io = ⊤
@@ -34,15 +34,15 @@ IsWhole input (faults.Capability n index) = ⊤
 IsWhole input (faults.Another n) = ⊤
 IsWhole input faults.NoText = ⊥
 
--- an input is refused by what is complete in it, and so whatever follows it
+-- `input` is refused by a part that is complete, and so whatever bytes follow.
 abbrev pub IsRefusedForGood : Form → List ℕ → Type 0
 IsRefusedForGood form input = (fault : MakeFault) × Ends form input (Err fault) × IsWhole input fault
 
--- whatever follows an input, it ends with one fault
+-- `input` has one fault whatever bytes follow.
 abbrev pub IsLostForGood : Form → List ℕ → Type 0
 IsLostForGood form input = (fault : MakeFault) × ((more : List ℕ) → Ends form (input ++ more) (Err fault))
 
--- a fault names no line before this one
+-- A fault names no line before `line`.
 abbrev pub IsFrom : ℕ → MakeFault → Type 0
 IsFrom line faults.Memory = ⊤
 IsFrom line faults.Io = ⊤

@@ -1,4 +1,4 @@
--- The messages that are made of an input of texts, each with its line `end`, and their end. (Own.)
+-- The messages that are made of an input of texts, each with its line `end`, and the result of the run. (Own.)
 use Rattle.std.specs.Prelude.{◌≡◌, ◌≢◌, ◌⊎◌, ℕ, ◌+◌, ◌≤◌, List, [], ◌∷◌, ◌++◌, Some, Result, Ok, Err}
 use Rattle.std.specs.List.{AllByRecursion}
 use Rattle.capn_value.specs.Tree.{Tree}
@@ -17,34 +17,35 @@ use Rattle.capn_make.specs.WrittenValue.{IsMakeable, AreMade}
 use Rattle.capn_make.specs.declared.fault.MakeFault.{MakeFault}
 use Rattle.capn_make.specs.declared.fault.MakeFault.TheVariants as faults
 
--- an input begins with the texts of these values, each of which can be made, and this is left of it
+-- `input` begins with the texts of `vs`, and `rest` follows them. Each of these values can be made.
 pub record AreFirst (vs : List Tree) (input rest : List ℕ) : Type 0 where
   pub each : AllByRecursion IsMakeable vs
   pub are : input ≡ stream_text vs ++ rest
 
--- the line after the texts of these values
+-- The line after the texts of `vs`.
 abbrev pub line_after : List Tree → ℕ
 line_after vs = 1 + ended_lines (stream_text vs)
 
--- no text of a value that can be made is next with its end
+-- `rest` does not begin with the text and end of a value that can be made.
 abbrev pub IsStuck : List ℕ → Type 0
 IsStuck rest = (v : Tree) (more : List ℕ) → IsMakeable v → rest ≡ show_text v ++ (end_line ++ more) → ⊥
 
--- no text of a value of at most 256 levels, fit or not, is next with its end
+-- `rest` does not begin with the text and end of any value of at most 256 levels, even of one that does not fit.
 abbrev pub IsUnended : List ℕ → Type 0
 IsUnended rest = (v : Tree) (more : List ℕ) → IsShowable v → height v ≤ most_height
     → rest ≢ show_text v ++ (end_line ++ more)
 
--- Something is left, from a line on, and no text of a value of at most 256 levels, fit or not, is next with its end.
--- Line n is the first that doesn't go on with one.
+-- `rest`, which begins at `line`, is not empty, and does not begin with the text and end of any value of at most 256
+-- levels. Line `n` is its first wrong line.
 pub record IsWrong (line : ℕ) (rest : List ℕ) (n : ℕ) : Type 0 where
   pub some : rest ≢ []
   pub none : (v : Tree) (more : List ℕ) → IsShowable v → height v ≤ most_height
       → rest ≢ show_text v ++ (end_line ++ more)
   pub first : (k : ℕ) × (n + 1 ≡ line + k) × IsFirstWrong ended_text k rest
 
--- The text that is next, from a line on, is refused: a line is wrong; or it goes too deep, whatever follows; or its
--- value is of at most 256 levels and has a misfit; or its value fits, and has a capability.
+-- The text at the front of `rest`, which begins at `line`, is refused. Either a line is wrong, or the text goes too
+-- deep whatever follows, or its value is of at most 256 levels and has a misfit, or its value fits and has a
+-- capability.
 abbrev pub IsTextRefused : ℕ → List ℕ → MakeFault → Type 0
 IsTextRefused line rest faults.Memory = ⊥
 IsTextRefused line rest faults.Io = ⊥
@@ -59,18 +60,18 @@ IsTextRefused line rest (faults.Capability n index) = (n ≡ line)
 IsTextRefused line rest (faults.Another n) = ⊥
 IsTextRefused line rest faults.NoText = ⊥
 
--- after the texts that were made nothing is left, or the next one is refused
+-- After the texts of `vs` nothing is left, or the next text is refused.
 abbrev pub EndsAfter : List Tree → List ℕ → Result (Unit {0}) MakeFault → Type 0
 EndsAfter vs rest (Ok u) = rest ≡ []
 EndsAfter vs rest (Err fault) = IsTextRefused (line_after vs) rest fault
 
--- each text up to the end, or up to the first that is refused, is made
+-- `text` is made of each text of `input`, up to the end or to the first text that is refused.
 abbrev pub MakesEach : Form → List ℕ → List ℕ → Result (Unit {0}) MakeFault → Type 0
 MakesEach form input text ending = (vs : List Tree) × (rest : List ℕ) × AreFirst vs input rest × AreMade form vs text
     × EndsAfter vs rest ending
 
--- The one text that is asked for is followed, from a line on, by a line that begins another text, or by a line that
--- doesn't.
+-- The only text that the form takes is followed by a line that begins another text, or by one that does not. `rest`,
+-- which begins at `line`, follows the text.
 abbrev pub Follows : ℕ → List ℕ → MakeFault → Type 0
 Follows line rest faults.Memory = ⊥
 Follows line rest faults.Io = ⊥
@@ -81,17 +82,17 @@ Follows line rest (faults.Capability n index) = ⊥
 Follows line rest (faults.Another n) = (n ≡ line) × (v : Tree) × BeginsAs rest v
 Follows line rest faults.NoText = ⊥
 
--- an input is not one text: it is empty, its first text is refused, or more follows
+-- `input` is not exactly one text: it is empty, its first text is refused, or something follows that.
 abbrev pub IsNotOne : List ℕ → MakeFault → Type 0
 IsNotOne input fault = ((input ≡ []) × (fault ≡ faults.NoText)) ⊎ (IsTextRefused 1 input fault
     ⊎ ((v : Tree) × (rest : List ℕ) × AreFirst (v ∷ []) input rest × Follows (line_after (v ∷ [])) rest fault))
 
--- an input of exactly one text is made, and of any other nothing is
+-- `text` is made of an input of exactly one text, and nothing of any other.
 abbrev pub MakesOne : List ℕ → List ℕ → Result (Unit {0}) MakeFault → Type 0
 MakesOne input text (Ok u) = (v : Tree) × AreFirst (v ∷ []) input [] × (text ≡ canon v)
 MakesOne input text (Err fault) = (text ≡ []) × IsNotOne input fault
 
--- the messages that are made of an input in a form, and their end
+-- `text` is made of `input` in a form, with the result `ending`.
 abbrev pub Makes : Form → List ℕ → List ℕ → Result (Unit {0}) MakeFault → Type 0
 Makes forms.Stream input text ending = MakesEach forms.Stream input text ending
 Makes forms.Packed input text ending = MakesEach forms.Packed input text ending

@@ -14,72 +14,73 @@ use Rattle.capn_make.specs.Endings.{IsRefusedForGood, IsLostForGood}
 use Rattle.capn_make.specs.declared.fault.MakeFault.{MakeFault}
 use Rattle.capn_make.specs.declared.fault.MakeFault.TheVariants as faults
 
--- a beginning was written of the messages that are made of the first texts of an input
+-- A first part of the messages of the first texts of `input` was written.
 abbrev pub HasBegunEach : Form → List ℕ → Option (List ℕ) → Option (List ℕ) → Type 0
 HasBegunEach form input c d = (vs : List Tree) × (rest : List ℕ) × (text : List ℕ) × AreFirst vs input rest
     × AreMade form vs text × HasBegun c d text
 
--- nothing was written, or a beginning of the message that is made of the one text of an input
+-- Nothing was written, or a first part of the message of the only text of `input`.
 abbrev pub HasBegunOne : List ℕ → Option (List ℕ) → Option (List ℕ) → Type 0
 HasBegunOne input c d = Appends c d [] ⊎ ((v : Tree) × AreFirst (v ∷ []) input [] × HasBegun c d (canon v))
 
--- a beginning was written of the messages that are made of an input in a form
+-- A first part of the messages of `input` in a form was written.
 abbrev pub HasBegunText : Form → List ℕ → Option (List ℕ) → Option (List ℕ) → Type 0
 HasBegunText forms.Stream input c d = HasBegunEach forms.Stream input c d
 HasBegunText forms.Packed input c d = HasBegunEach forms.Packed input c d
 HasBegunText forms.Bare input c d = HasBegunOne input c d
 
--- the messages of these texts were written, and in form bare nothing was, of one text at most
+-- The messages of the texts of `vs` were written. In form `Bare` there is at most one text, and nothing was written.
 abbrev pub IsServed : Form → List Tree → Option (List ℕ) → Option (List ℕ) → Type 0
 IsServed forms.Stream vs c d = (text : List ℕ) × AreMade forms.Stream vs text × Appends c d text
 IsServed forms.Packed vs c d = (text : List ℕ) × AreMade forms.Packed vs text × Appends c d text
 IsServed forms.Bare vs c d = (length vs ≤ 1) × Appends c d []
 
--- so were all texts that are whole in these bytes: no other one is next with its end
+-- The messages of all texts that are whole in `bytes` were written. No further text is next with its end.
 abbrev pub HasServed : Form → List ℕ → Option (List ℕ) → Option (List ℕ) → Type 0
 HasServed form bytes c d = (vs : List Tree) × (rest : List ℕ) × AreFirst vs bytes rest × IsUnended rest
     × IsServed form vs c d
 
--- the last piece of these bytes has at most 65,536, and what this says of the bytes before it was written before it
--- was read
+-- The last chunk of `bytes` has at most 65,536 bytes. When it was read, what `Written` says of the bytes before it was
+-- true.
 abbrev pub IsAhead : (List ℕ → Option (List ℕ) → Option (List ℕ) → Type 0) → List ℕ → Option (List ℕ)
     → Option (List ℕ) → Type 0
 IsAhead Written bytes c d = (before : List ℕ) × (piece : List ℕ) × (mid : Option (List ℕ)) × (more : List ℕ)
     × (bytes ≡ before ++ piece) × (length piece ≤ 65536) × Written before c mid × Appends mid d more
 
--- the messages that are made of all of an input were written, and the run ended as that does; or memory was refused, or
--- the reader or the writer failed, or the input is too long
+-- The messages of all of `input` were written, and the run had their result. Or memory was refused, or the reader or
+-- the writer failed, or the input is too long.
 abbrev pub EndsAs : Form → Option (List ℕ) → Option (List ℕ) → Result (Unit {0}) MakeFault → List ℕ → Type 0
 EndsAs form c d (Ok u) input = (text : List ℕ) × Makes form input text (Ok u) × Appends c d text
 EndsAs form c d (Err fault) input = (fault ≡ faults.Memory) ⊎ ((fault ≡ faults.Io)
     ⊎ (((fault ≡ faults.InputTooLong) × (2 ^ 64 ≤ length input))
     ⊎ ((text : List ℕ) × Makes form input text (Err fault) × Appends c d text)))
 
--- a run, over a reader (from a to b) and a writer (from c to d), and its end
+-- A run with the result `r`. The rest of the reader went from `a` to `b`, and the content of the writer from `c` to
+-- `d`.
 pub record Made (form : Form) (a b c d : Option (List ℕ)) (reader_failed writer_failed : Bool)
     (r : Result (Unit {0}) MakeFault) : Type 0 where
-  -- of an input that is known it has written the messages that are made, and ended as they do
+  -- If the rest of the reader is known, the run has written its messages, and had their result.
   pub exact : IfSome a (EndsAs form c d r)
-  -- it ended with Io if and only if one of the two has failed
+  -- The result is `Io` if and only if the reader or the writer has failed.
   pub io : (r ≡ Err faults.Io) ↔ ((reader_failed ≡ true) ⊎ (writer_failed ≡ true))
-  -- however it ended, a beginning was written of the messages that are made of the bytes that were read
+  -- However the run ended, a first part of the messages of the bytes that were read was written.
   pub begun : (bytes : List ℕ) × Consumes a b bytes × HasBegunText form bytes c d
-  -- if the reader failed, the messages of the texts that are whole in the bytes that it gave were written
+  -- If the reader failed, the messages of the texts that are whole in the bytes that it gave were written.
   pub heard : reader_failed ≡ true → (bytes : List ℕ) × Consumes a b bytes × HasServed form bytes c d
-  -- however it ended, it has read no more than a piece beyond the bytes that were served and written
+  -- However the run ended, it has read at most one chunk after the bytes whose messages were written.
   pub ahead : (bytes : List ℕ) × Consumes a b bytes × IsAhead (HasServed form) bytes c d
 
--- If the first n of these bytes are refused whatever follows, there are at most four times as many and 65,536 more. If
--- they end with one fault whatever follows, also by a line without its end, so many hold of 2,048 bytes more than n:
--- only a line of digits is longer.
+-- If the first `n` of `bytes` have a complete part that refuses them, `bytes` are at most 4 `n` + 65,536. If they have
+-- one fault whatever follows, even by a line without its newline, `bytes` are at most 4 (`n` + 2,048) + 65,536. Only a
+-- line of digits has more than 2,048.
 abbrev pub AreInTime : Form → List ℕ → Type 0
 AreInTime form bytes = (n : ℕ) → (IsRefusedForGood form (take n bytes) → length bytes ≤ 4 * n + 65536)
     × (IsLostForGood form (take n bytes) → length bytes ≤ 4 * (n + few) + 65536)
 
--- the bytes that were read are no more than that
+-- The bytes that were read are no more than `AreInTime` allows.
 abbrev pub StopsInTime : Form → Option (List ℕ) → Option (List ℕ) → Type 0
 StopsInTime form a b = (bytes : List ℕ) × Consumes a b bytes × AreInTime form bytes
 
--- some bytes were read
+-- Some bytes were read.
 abbrev pub TakesBytes : Option (List ℕ) → Option (List ℕ) → Type 0
 TakesBytes a b = (bytes : List ℕ) × Consumes a b bytes × (bytes ≢ [])

@@ -1,4 +1,4 @@
--- The bytes that are written of one value. (Page: serialization over a stream, packing, canonicalization.)
+-- The bytes that are written for one value. (Page: serialization over a stream, packing, canonicalization.)
 use Rattle.std.specs.Prelude.{◌≡◌, ℕ, ◌/◌, List, [], ◌∷◌, ◌++◌, length, replicate, None}
 use Rattle.std.specs.Int.{to_le_bytes, w32}
 use Rattle.capn_pack.specs.Chosen.{Chosen}
@@ -10,27 +10,28 @@ use Rattle.capn_canon.specs.Layout.{canon}
 use Rattle.capn_canon.specs.declared.form.Form.{Form}
 use Rattle.capn_canon.specs.declared.form.Form.TheVariants as forms
 
--- a value of which bytes can be made: it fits into a message, its numbers are in range, and it has no capability
+-- A value that can be made: it fits into a message, its numbers are in range, and it has no capability.
 pub record IsMakeable (v : Tree) : Type 0 where
   pub fits : Fits v
   pub in_range : InRange v
   pub free : first_cap v ≡ None
 
--- the frame of one segment of these bytes: four zero bytes, the number of words as four bytes, the words
+-- The frame of one segment with `bytes`: four zero bytes, the number of words in four bytes, and the words.
 abbrev pub framed : List ℕ → List ℕ
 framed bytes = replicate 4 0 ++ (to_le_bytes w32 (length bytes / 8) ++ bytes)
 
--- the bytes that are written of canonical bytes: their frame, the packer's text of that frame, or the bytes alone
+-- `piece` is what a form writes for the canonical `bytes`: their frame, the packer's text of that frame, or the bytes
+-- alone.
 abbrev pub IsInForm : Form → List ℕ → List ℕ → Type 0
 IsInForm forms.Stream bytes piece = piece ≡ framed bytes
 IsInForm forms.Packed bytes piece = Chosen piece (framed bytes)
 IsInForm forms.Bare bytes piece = piece ≡ bytes
 
--- the bytes that are written of a value
+-- `piece` is what a form writes for the value `v`.
 abbrev pub IsWrittenValue : Form → Tree → List ℕ → Type 0
 IsWrittenValue form v piece = IsInForm form (canon v) piece
 
--- the bytes that are written of these values, one after the other
+-- `text` is what a form writes for the values, one after the other.
 abbrev pub AreMade : Form → List Tree → List ℕ → Type 0
 AreMade form [] text = text ≡ []
 AreMade form (v ∷ vs) text = (piece : List ℕ) × (rest : List ℕ) × IsWrittenValue form v piece × AreMade form vs rest

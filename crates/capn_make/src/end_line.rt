@@ -1,4 +1,4 @@
-//! The line that ends a text.
+//! The test whether an unfinished text is to be read again, by the lines `end` in it.
 
 ghost use Rattle.std.specs.Prelude.{◌≡◌, ◌≤◌, ◌*◌, ◌-◌, ◌⊎◌, length, drop, true, false};
 ghost use Rattle.capn_text.specs.Streams.{end_line};
@@ -25,7 +25,7 @@ fn begins_with_end(bytes: &[u8]) -> bool
     true
 }
 
-/// Returns `true` if the line `end` stands anywhere in `bytes`.
+/// Returns `true` if `bytes` have the line `end` at any place, even within a line.
 fn holds_end(bytes: &[u8]) -> bool
     ensures { result ≡ spec.holds_end bytes.now }
 {
@@ -39,8 +39,8 @@ fn holds_end(bytes: &[u8]) -> bool
     false
 }
 
-/// Returns `true` if `rest`, the part of an input that is left, is to be looked at. That is so if it has four times as
-/// many bytes as the last time, when it had `tested`, or if an end of a text has come since it had `before` bytes.
+/// Returns `true` if `rest`, the unread part of an input, is to be read again. It is if a text may have ended since it
+/// had `before` bytes, or if it has at least four times as many bytes as at the last reading, when it had `tested`.
 pub(crate) fn is_due(rest: &[u8], before: usize, tested: usize) -> bool
     requires { before ≤ length rest.now }
     ensures due { result ≡ true

@@ -1,4 +1,4 @@
-//! Faults of a run of `make`.
+//! The faults with which a run of `make` ends, their texts, and their exit status.
 
 ghost use Rattle.std.specs.Prelude.{◌≡◌};
 ghost use Rattle.capn_value.specs.Display.{misfit_name};
@@ -13,30 +13,33 @@ use std::error::Error;
 use std::fmt;
 use std::io::Write;
 
-/// The reason why a run ends without having made all of its input. Lines are counted from 1 over the whole input.
+/// The reason why a run ends before all of its input was made into messages. Lines are counted from 1 over the whole
+/// input.
 #[derive(Clone, Copy, Debug, PartialEq, Eq)]
 pub enum MakeFault {
-    /// A growth was refused.
+    /// A growth of memory was refused.
     Memory,
     /// The reader or the writer failed.
     Io,
     /// The input has 2^64 bytes or more.
     InputTooLong,
-    /// The first line that doesn't go on with a text and its end. A line that is missing is the one after the last.
+    /// The first wrong line, with which no text and its end can continue. If a line is missing, it is the one after the
+    /// last.
     NotText(u64),
     /// The value of the text that begins at this line fits into no message.
     Misfit(u64, Misfit),
-    /// The value of the text that begins at this line has a capability: the index of the first in preorder.
+    /// The value of the text that begins at this line has a capability. The second number is the index of the first one
+    /// in preorder.
     Capability(u64, u32),
-    /// One text is asked for, and a second one begins at this line.
+    /// The form takes one text only, and a second one begins at this line.
     Another(u64),
-    /// One text is asked for, and the input is empty.
+    /// The form takes one text, and the input is empty.
     NoText,
 }
 
 impl MakeFault {
-    /// Returns the exit status of a run that ends so: 1 if the input is refused, 3 if memory, the reader or the writer
-    /// failed or the input is too long.
+    /// Returns the exit status of a run that ends with this fault. It is 1 if the input is refused, and 3 if memory,
+    /// the reader or the writer failed or the input is too long.
     pub fn status(self) -> u8
         ensures { result ≡ status_of self }
     {
@@ -51,7 +54,7 @@ impl MakeFault {
     }
 }
 
-/// Shows the text that a program prints after its name.
+/// Displays the text that a program prints after its name.
 impl fmt::Display for MakeFault {
     ghost use Rattle.std.specs.Prelude.{Some};
     ghost use Rattle.capn_make.specs.FaultText.{fault_text};
@@ -72,7 +75,7 @@ impl fmt::Display for MakeFault {
     }
 }
 
-/// Returns the name of `misfit`.
+/// Returns the name of `misfit` as it is printed.
 fn name_of(misfit: Misfit) -> &'static [u8]
     ensures { result.now ≡ misfit_name misfit }
 {

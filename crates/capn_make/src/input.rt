@@ -1,4 +1,4 @@
-//! Texts as a sink.
+//! The implementation of `Sink` for an input of texts.
 
 use crate::fault::MakeFault;
 use crate::progress::Progress;
@@ -8,7 +8,7 @@ use capn_words::Watched;
 use std::alloc::Allocator;
 use std::io::Write;
 
-/// Texts are taken as they come, and their messages are written before more of them.
+/// A sink for texts, which makes the texts that have arrived and writes their messages before more is read.
 impl<A: Allocator + Copy> Sink for Progress<A> {
     ghost use Rattle.capn_make.specs.inner.RunParts.{GivesMade, IsUnderWay};
     ghost use Rattle.capn_make.specs.declared.fault.MakeFault.TheVariants as faults;

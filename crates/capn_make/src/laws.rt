@@ -1,4 +1,4 @@
-//! The laws of what is made, as functions that do nothing.
+//! The laws of what is made of texts, as the clauses of functions that do nothing.
 
 ghost use Rattle.capn_make.specs.Laws.{ShownAreMade, ShownAreMadeOnly, OneShownIsMade, OneShownIsMadeOnly};
 ghost use Rattle.capn_make.specs.Laws.{FramedAreFrames, OneMaking, OneBareMaking, OneTextInFrames};
@@ -9,8 +9,8 @@ ghost use Rattle.capn_make.specs.Laws.{OneDeciding, DecidedStay, UnendedIsStuck,
 use capn_canon::laws::canonicity;
 use capn_text::laws::{plain_forms, refusals, texts, whole_lines};
 
-/// States: the texts that [`capn_value::show`] writes, each with its line `end`, are made again: of values that fit and
-/// have no capability nothing but their canonical bytes, in order.
+/// States that the texts which [`capn_value::show`] writes, each with its line `end`, are made into messages again. If
+/// the values fit and have no capability, their canonical bytes are made, in order, and nothing else.
 pub fn showing()
     ensures made { ShownAreMade }
     ensures only { ShownAreMadeOnly }
@@ -21,7 +21,7 @@ pub fn showing()
     refusals();
 }
 
-/// States: an input is made in one way, and ends as done or with one fault.
+/// States that an input has one result: what is made of it, and whether it ends well or with which fault.
 pub fn making()
     ensures one { OneMaking }
     ensures bare { OneBareMaking }
@@ -31,8 +31,8 @@ pub fn making()
     refusals();
 }
 
-/// States: an input that is refused by what is complete in it, a text or a wrong line with its line end, is refused so
-/// whatever follows it.
+/// States that an input is refused whatever bytes follow, if it is refused by a part that is complete. Such a part is a
+/// whole text, or a wrong line with its newline.
 pub fn refusing()
     ensures stays { FaultStays }
     ensures goes_on { RefusalStays }
@@ -44,8 +44,8 @@ pub fn refusing()
     whole_lines();
 }
 
-/// States: the texts that are whole in some bytes have one list of values, which is the beginning of that of more
-/// bytes.
+/// States that the whole texts at the front of some bytes have one list of values, and that the list of more bytes
+/// begins with it.
 pub fn deciding()
     ensures one { OneDeciding }
     ensures stay { DecidedStay }
@@ -54,7 +54,7 @@ pub fn deciding()
     texts();
 }
 
-/// States: if the texts of some bytes are refused for good, no other one is whole, whatever follows.
+/// States that if the texts of some bytes are refused for good, no further text becomes whole, whatever bytes follow.
 pub fn stuck()
     ensures { RefusedIsStuck }
 {
@@ -63,7 +63,7 @@ pub fn stuck()
     whole_lines();
 }
 
-/// States: what comes after texts that are made is at no line before their end.
+/// States that a fault after texts that are made names no line before their end.
 pub fn following()
     ensures after { RefusedAfter }
     ensures last { UnendedIsLast }
@@ -72,14 +72,15 @@ pub fn following()
     refusals();
 }
 
-/// States: what is written of a value in [`crate::Form::Stream`] is a frame of one segment, as [`capn_canon`] reads it.
+/// States that the bytes written for a value in [`crate::Form::Stream`] are a frame of one segment, as [`capn_canon`]
+/// reads it.
 pub fn framing()
     ensures { FramedAreFrames }
 {
     canonicity();
 }
 
-/// States: what is shown of values with texts between quotes is made as what is shown of them without.
+/// States that texts shown with lists between quotes are made into the same messages as those shown without.
 pub fn quoting()
     ensures { QuotedAreMade }
 {

@@ -1,4 +1,4 @@
-//! A run from the texts of an input to messages.
+//! The run that makes messages of the texts of an input.
 
 ghost use Rattle.std.specs.Prelude.{◌≡◌, false, IsErrOf};
 ghost use Rattle.capn_words.specs.Watched.{inner_of, has_failed};
@@ -14,28 +14,29 @@ use std::alloc::Allocator;
 use std::io::{Read, Write};
 
 /// Reads texts of values from `reader` to the end of the input, each with its line `end`, and writes the canonical
-/// bytes of each value to `writer`, by `form`: in [`Form::Stream`] as a frame of one segment, in [`Form::Packed`] as
-/// the packed text of that frame, in [`Form::Bare`] as they are, of exactly one text. This is the inverse of
+/// bytes of each value to `writer`. In [`Form::Stream`] they are written as a frame of one segment, in [`Form::Packed`]
+/// as the packed text of that frame, and in [`Form::Bare`] as they are, of exactly one text. This is the inverse of
 /// [`capn_value::show`].
 ///
-/// It ends as done, or with the first fault. `NotText`, `Misfit` or `Capability`: the next text is refused, in this
-/// order; those before it have been written. In form `Bare` nothing is written then, and more than one text is
-/// `Another`, or `NotText` if the line after the first text begins none; no text is `NoText`. In the other forms an
-/// input without texts is done. `Io` if and only if the reader or the writer failed; `Memory` if a growth on `alloc`
-/// was refused, which takes some bytes; `InputTooLong` for an input of 2^64 bytes and more that isn't refused before,
-/// which takes centuries.
+/// A run ends well, or with the first fault. A text is refused with `NotText`, `Misfit` or `Capability`, in this order,
+/// and the messages of the texts before it have been written. In form `Bare` nothing is written after a refusal. Bytes
+/// after the first text are refused there with `Another`, or with `NotText` if their first line begins no value. An
+/// input without a text is refused there with `NoText`, and ends well in the other forms. The fault is `Io` if and only
+/// if the reader or the writer failed. It is `Memory` if a growth on `alloc` was refused, which happens only after some
+/// bytes were read. It is `InputTooLong` for an input of 2^64 bytes or more that is not refused before, which takes
+/// centuries.
 ///
-/// The reader is asked for at most 65,536 bytes at once, and the messages of the texts that are whole by then are
-/// written before it is asked again: if it fails, those of all texts that it gave with their ends were written. Form
-/// `Bare` alone writes at the end of the input. It holds the text that is unfinished and, once it is whole, its value
-/// and the bytes that are written of it, with the messages of one piece. What a text announces is never allocated.
+/// A call of the reader returns at most 65,536 bytes. The messages of the texts that are whole by then are written
+/// before the next call. So if the reader fails, the messages of all texts that it gave with their ends were written.
+/// Form `Bare` alone writes at the end of the input. The memory holds the unfinished text, its value and the bytes
+/// written for it once it is whole, and the messages of one chunk. What a text announces is never allocated.
 ///
-/// An input that is refused whatever follows isn't read to its end. A text that is refused once it is whole, as by a
-/// misfit, is refused in the piece that its end came with. If n bytes are enough to refuse an input otherwise, by a
-/// text that goes too deep or by a wrong line with its line end, at most 4 n + 65,536 bytes are taken. A line is
-/// refused before its end, too, once it can't become one that may stand there: then n is counted with 2,048 bytes more,
-/// since only a line of the digits of a list is longer. To test for that, an unfinished text is read again each time
-/// there are four times as many bytes of it.
+/// An input that is refused whatever follows is not read to its end. A whole text that is refused, as for a misfit, is
+/// refused in the chunk that has its end. A text that goes too deep, or a wrong line with its newline, may be found
+/// later. If the first n bytes are enough to refuse the input, at most 4 n + 65,536 bytes are read. A wrong line
+/// without its newline is refused, too, once no bytes can mend it. Then at most 4 (n + 2,048) + 65,536 bytes are read,
+/// since only a line with the digits of a list has more than 2,048. To find such lines, an unfinished text is read
+/// again each time that it has grown to four times its length.
 pub fn make<R: Read, W: Write, A: Allocator + Copy>(
     alloc: A,
     form: Form,
@@ -47,7 +48,7 @@ pub fn make<R: Read, W: Write, A: Allocator + Copy>(
     ensures made { Made form (R.remaining (inner_of reader.old)) (R.remaining (inner_of reader.new))
         (W.contents (inner_of writer.old)) (W.contents (inner_of writer.new)) (has_failed reader.new)
         (has_failed writer.new) result }
-    // However it ended, little more was read than was needed to know that the input is refused.
+    // However the run ended, it read little more than was needed to know that the input is refused.
     ensures stops { StopsInTime form (R.remaining (inner_of reader.old)) (R.remaining (inner_of reader.new)) }
     // Memory is needed only if some bytes were read.
     ensures memory { IsErrOf result MakeFault.Memory

@@ -1,4 +1,4 @@
-//! The next text of an input, and the bytes that are written of its value.
+//! The step of a run that makes the next text of an input.
 
 ghost use Rattle.std.specs.Prelude.{◌≡◌, ◌≢◌, [], None, Some, IfErr, IsErrOf};
 ghost use Rattle.capn_make.specs.inner.RunParts as spec;
@@ -11,7 +11,7 @@ use capn_text::{TextFault, Texts};
 use capn_value::Tree;
 use std::alloc::Allocator;
 
-/// Returns the reason why the next text, from `line` on, is not read.
+/// Converts the `fault` of the next text, which begins at `line`, to the fault of the run.
 pub(crate) fn unread(line: u64, fault: TextFault) -> MakeFault
     ensures { result ≡ spec.unread line fault }
 {
@@ -23,7 +23,7 @@ pub(crate) fn unread(line: u64, fault: TextFault) -> MakeFault
     }
 }
 
-/// Returns `true` if `fault` is that of an unfinished text, which more bytes may take away.
+/// Returns `true` if `fault` is that of an unfinished text, which more bytes may complete.
 fn is_cut(fault: TextFault) -> bool
     ensures { result ≡ spec.is_cut fault }
 {
@@ -33,7 +33,7 @@ fn is_cut(fault: TextFault) -> bool
     }
 }
 
-/// Writes the bytes of `tree`, whose text begins at `line`, in this `form`.
+/// Returns the bytes that are written in this `form` for `tree`, whose text begins at `line`.
 fn made<A: Allocator + Copy>(
     alloc: A,
     form: Form,
@@ -49,8 +49,8 @@ fn made<A: Allocator + Copy>(
     }
 }
 
-/// Writes the bytes of the value of the next text; `None` at the end of the input. After a wrong line `cut` says
-/// whether more bytes may make it another.
+/// Returns the bytes that are written for the value of the next text, or `None` at the end of the input. If a line is
+/// wrong, `cut` is set to whether more bytes may mend it.
 pub(crate) fn next_piece<A: Allocator + Copy>(
     alloc: A,
     form: Form,

@@ -1,4 +1,4 @@
-//! A text on its way to the writer.
+//! The writing of messages that were made.
 
 ghost use Rattle.std.specs.Prelude.{◌≡◌, true, false, OnOk, OnErr, IsOkUnless};
 ghost use Rattle.std.specs.Io.KnownBytes.{Appends};
@@ -8,7 +8,7 @@ use crate::fault::MakeFault;
 use capn_words::Watched;
 use std::io::Write;
 
-/// Writes all of `text`, or a beginning of it if the writer fails, which is `Io`.
+/// Writes all of `text`. If the writer fails, which is `Io`, it has taken a first part of it.
 pub(crate) fn write_all<W: Write>(writer: &mut Watched<W>, text: &[u8]) -> Result<(), MakeFault>
     requires { has_failed writer.old ≡ false }
     ensures ok { OnOk result (Appends (W.contents (inner_of writer.old)) (W.contents (inner_of writer.new)) text.now) }

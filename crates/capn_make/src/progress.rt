@@ -1,4 +1,4 @@
-//! The messages made of an input that comes in pieces.
+//! The state of a run between two chunks of its input, and the steps that make and write messages.
 
 ghost use Rattle.std.specs.Prelude.{◌≡◌, ◌≢◌, ◌≤◌, ◌+◌, ◌^◌, ℕ, List, [], ◌++◌, length, drop, true, false};
 ghost use Rattle.std.specs.Prelude.{Option, IfOk, IfErr, IsErrOf, OnErr};
@@ -19,23 +19,23 @@ use capn_words::Watched;
 use std::alloc::{AllocError, Allocator};
 use std::io::Write;
 
-/// Texts that come in pieces: the messages that were made so far, and what is left of the input.
+/// The state of a run: the messages that were made but not written, and the part of the input that is not made.
 #[derive(Drop)]
 pub(crate) struct Progress<A: Allocator> {
     alloc: A,
-    /// The form of the messages.
+    /// The form in which the messages are written.
     pub(crate) form: Form,
-    /// The messages that were made of the first texts and aren't written yet.
+    /// The messages that were made and are not written yet.
     pub(crate) made: Vec<u8, A>,
-    /// The bytes after those texts.
+    /// The bytes of the input after the texts that were made.
     pub(crate) rest: Vec<u8, A>,
-    /// The line of the input at which these begin.
+    /// The line of the input at which `rest` begins.
     pub(crate) line: u64,
-    /// The number of bytes that were left when they were looked at.
+    /// The length of `rest` when its texts were last read.
     pub(crate) tested: usize,
 }
 
-/// Drops the first `count` of `bytes`.
+/// Removes the first `count` of `bytes`.
 fn drop_front<A: Allocator>(bytes: &mut Vec<u8, A>, count: usize)
     requires { count ≤ length bytes.old.items }
     ensures { bytes.new.items ≡ drop count bytes.old.items }
@@ -45,7 +45,7 @@ fn drop_front<A: Allocator>(bytes: &mut Vec<u8, A>, count: usize)
     bytes.truncate(len - count);
 }
 
-/// Returns `true` if 64 bits count the lines of `rest`, what is left of an input from `line` on.
+/// Returns `true` if the numbers of all lines of `rest`, which begins at `line` of the input, are below 2^64.
 fn has_room(line: u64, rest: &[u8]) -> bool
     ensures room { result ≡ true → HasRoom line rest.now }
     ensures none { result ≡ false → 2 ^ 64 ≤ line + length rest.now }
@@ -53,7 +53,8 @@ fn has_room(line: u64, rest: &[u8]) -> bool
     rest.len() as u64 <= u64::MAX - line
 }
 
-/// Returns `true` if the subject of `fault` is complete in `rest`, what is left from `line` on.
+/// Returns `true` if the part of the input that causes `fault` is complete in `rest`, which begins at `line`. A wrong
+/// line is complete if its newline is there.
 fn is_whole(rest: &[u8], line: u64, fault: MakeFault) -> bool
     ensures whole { result ≡ true → IsWholeFrom line rest.now fault }
     ensures cut { result ≡ false → IsWholeFrom line rest.now fault → ⊥ }
@@ -65,8 +66,8 @@ fn is_whole(rest: &[u8], line: u64, fault: MakeFault) -> bool
     }
 }
 
-/// Returns `true` if `fault` is a wrong line that isn't `cut`. It is wrong whatever follows, even if its end is still
-/// to come.
+/// Returns `true` if `fault` is a wrong line that no more bytes can mend, which is so if it is not `cut`. The line need
+/// not have its newline yet.
 fn is_lost(fault: MakeFault, cut: bool) -> bool
     ensures { result ≡ spec.is_lost fault cut }
 {
@@ -83,7 +84,7 @@ fn is_lost(fault: MakeFault, cut: bool) -> bool
 }
 
 impl<A: Allocator + Copy> Progress<A> {
-    /// Returns the beginning of an input. It takes no memory.
+    /// Creates the state at the beginning of an input. Takes no memory.
     pub(crate) fn new(alloc: A, form: Form) -> Progress<A>
         ensures form { result.form ≡ form }
         ensures new { IsFresh result.made.items result.rest.items result.line result.tested }
@@ -98,8 +99,8 @@ impl<A: Allocator + Copy> Progress<A> {
         }
     }
 
-    /// Makes the texts that are complete by now, and keeps what is left. Returns the end of the input if nothing
-    /// follows, and after a wrong line, by `cut`, whether more bytes may make it another.
+    /// Makes the texts that are complete, and keeps the bytes after them. Returns the result that the run has if no
+    /// bytes follow. If a line is wrong, `cut` is set to whether more bytes may mend it.
     fn go_on(&mut self, cut: &mut bool) -> Result<(), MakeFault>
         requires { HasRoom self.old.line self.old.rest.items }
         ensures made { (input : List ℕ) (written : List ℕ)
@@ -123,8 +124,8 @@ impl<A: Allocator + Copy> Progress<A> {
         ending
     }
 
-    /// Makes the texts that are complete by now, and keeps what is left. Returns the reason why the input is refused
-    /// whatever follows, if it is.
+    /// Makes the texts that are complete, and keeps the bytes after them. Returns the fault of the input if it is
+    /// refused whatever bytes follow.
     fn find_refusal(&mut self) -> Result<Option<MakeFault>, AllocError>
         requires { HasRoom self.old.line self.old.rest.items }
         ensures found { IfOk result (λ told. (input : List ℕ) (written : List ℕ)
@@ -154,7 +155,8 @@ impl<A: Allocator + Copy> Progress<A> {
         }
     }
 
-    /// Writes the messages that were made. In form bare they are kept: nothing is written before the end.
+    /// Writes the messages that were made. In form `Bare` they are kept, since nothing is written before the end of the
+    /// input.
     fn write_made<W: Write>(&mut self, writer: &mut Watched<W>) -> Result<(), MakeFault>
         requires { has_failed writer.old ≡ false }
         ensures wrote { WritesMade self.old.form (W.contents (inner_of writer.old)) (W.contents (inner_of writer.new))
@@ -169,9 +171,9 @@ impl<A: Allocator + Copy> Progress<A> {
         Ok(())
     }
 
-    /// Looks at the bytes that are left, after some were added to the first `before` of them. If a text may have ended,
-    /// or there are four times as many as the last time, it makes the texts that are whole and writes their messages;
-    /// in the form bare it writes none. Returns the fault of an input that is refused whatever follows.
+    /// Reads `rest` again after bytes were added behind its first `before`, if a text may have ended or `rest` has four
+    /// times as many bytes as at the last time. Makes the complete texts and writes their messages, or keeps them in
+    /// form `Bare`. Returns the fault of an input that is refused whatever bytes follow.
     pub(crate) fn look<W: Write>(
         &mut self,
         before: usize,
@@ -203,7 +205,7 @@ impl<A: Allocator + Copy> Progress<A> {
         Ok(())
     }
 
-    /// Makes the texts of an input to which nothing follows, and writes what is left to write.
+    /// Makes the texts of an input that has ended, and writes the messages that are not written yet.
     pub(crate) fn end<W: Write>(&mut self, writer: &mut Watched<W>) -> Result<(), MakeFault>
         requires { has_failed writer.old ≡ false }
         ensures { (input : List ℕ) (c : Option (List ℕ)) (before : ℕ)

@@ -1,8 +1,8 @@
-//! Sinks: machines that take an input piece by piece, and the loop of this crate that reads for them.
+//! The trait of sinks, which take an input in chunks, and the loop of this crate that reads for them.
 //!
-//! Nothing here names anything else of this crate, so that it can stand below all that read an input. A sink says by
-//! its ghost members what it holds of the bytes that it took ([`Sink::takes`]) and what is true at the end of an input
-//! ([`Sink::gives`]); [`run`] says from these what every run promises.
+//! This file names nothing else of the crate, so that it can stand below everything that reads an input. By its ghost
+//! members a sink says what is true after the bytes that it took ([`Sink::takes`]) and at the end of an input
+//! ([`Sink::gives`]). [`run`] promises for every run what follows from them.
 
 ghost use Rattle.std.specs.Prelude.{◌≡◌, ◌≢◌, ◌≤◌, ◌<◌, ◌+◌, ◌^◌, ◌++◌, ℕ, false, List, [], length};
 ghost use Rattle.std.specs.Prelude.{Option, Result, Err, MatchOption};
@@ -12,24 +12,25 @@ ghost use Rattle.capn_make.specs.inner.SinkRun.{Feeds, Holds, ReadsPiece, Runs, 
 use capn_words::Watched;
 use std::io::{Read, Write};
 
-/// The most bytes that one call of a reader is asked for.
+/// The most bytes that one call of a reader may return.
 const CHUNK: usize = 65_536;
 
-/// A machine that takes an input piece by piece, and writes what it makes of it.
+/// A machine that takes an input in chunks, and writes what it makes of them.
 pub(crate) trait Sink {
     /// The reason why a run ends early.
     type Fault;
 
-    /// The part of a sink that stays the same for all of a run, as the form of the output.
+    /// The part of a sink that does not change during a run, such as the form of the output.
     type Task;
 
-    /// This is the task of a sink.
+    /// The task of the sink.
     ghost task: { Self → Self.Task };
 
-    /// These bytes were taken, and a writer went from one content to another.
+    /// The sink took these bytes, and meanwhile the writer went from the first content to the second.
     ghost takes: { Self → List ℕ → Option (List ℕ) → Option (List ℕ) → Type 0 };
 
-    /// By a task, these bytes are read and those follow, a writer goes from one content to another, and a run ends so.
+    /// A run by this task read the first bytes of an input, and the second bytes were left. Meanwhile the writer went
+    /// from the first content to the second, and the run had this result.
     ghost gives: { Self.Task → List ℕ → List ℕ → Option (List ℕ) → Option (List ℕ) → Result (Unit {0}) Self.Fault
         → Type 0 };
 
@@ -40,15 +41,15 @@ pub(crate) trait Sink {
     fn broken() -> Self::Fault
         ensures { result ≡ io };
 
-    /// Returns the fault of an input of 2^64 bytes and more.
+    /// Returns the fault of an input of 2^64 bytes or more.
     fn too_long(&self) -> Self::Fault
         ensures long { (bytes : List ℕ) (piece : List ℕ) (more : List ℕ) (c : Option (List ℕ)) (d : Option (List ℕ))
             → takes self.now bytes c d → 2 ^ 64 ≤ length (bytes ++ piece)
             → gives (task self.now) (bytes ++ piece) more c d (Err result) }
         ensures other { result ≢ io };
 
-    /// Takes the next `piece`, and writes to `writer` what has to be written before more is read. Returns the fault of
-    /// an input that is refused whatever follows, or of a run that can't go on.
+    /// Takes the next chunk, `piece`, and writes to `writer` what has to be written before more is read. Returns the
+    /// fault of an input that is refused whatever bytes follow, or of a run that cannot continue.
     fn feed<W: Write>(&mut self, piece: &[u8], writer: &mut Watched<W>) -> Result<(), Self::Fault>
         requires fine { has_failed writer.old ≡ false }
         requires some { piece.now ≢ [] }
@@ -58,7 +59,7 @@ pub(crate) trait Sink {
             (has_failed writer.new) result }
         ensures same { task self.new ≡ task self.old };
 
-    /// Ends an input that has no more bytes, and writes to `writer` what is left to write.
+    /// Ends an input that has no more bytes, and writes to `writer` what is not written yet.
     fn finish<W: Write>(&mut self, writer: &mut Watched<W>) -> Result<(), Self::Fault>
         requires fine { has_failed writer.old ≡ false }
         ensures { (bytes : List ℕ) (c : Option (List ℕ)) → takes self.old bytes c (W.contents (inner_of writer.old))
@@ -67,8 +68,8 @@ pub(crate) trait Sink {
             result };
 }
 
-/// Reads once into `buffer`. Returns the number of bytes, which is 0 only at the end of the input; `None` if the reader
-/// failed.
+/// Reads once into `buffer`. Returns the number of bytes, which is 0 only at the end of the input, or `None` if the
+/// reader failed.
 fn read_piece<R: Read>(reader: &mut Watched<R>, buffer: &mut [u8]) -> Option<usize>
     requires fine { has_failed reader.old ≡ false }
     requires some { 0 < length buffer.old }
@@ -82,15 +83,16 @@ fn read_piece<R: Read>(reader: &mut Watched<R>, buffer: &mut [u8]) -> Option<usi
     }
 }
 
-/// Returns the number of bytes that came, `count` after `taken`, unless they are 2^64 or more, which takes centuries.
+/// Returns the sum of `taken` and `count`, the number of bytes that were read. Returns `None` if it is 2^64 or more,
+/// which takes centuries.
 fn counted(taken: u64, count: usize) -> Option<u64>
     ensures { MatchOption result (2 ^ 64 ≤ taken + count) (λ sum. (sum ≡ taken + count) × (sum < 2 ^ 64)) }
 {
     taken.checked_add(count as u64)
 }
 
-/// Reads an input, in pieces of at most 65,536 bytes, and has `sink` take each before it reads again, until that
-/// refuses the input or the input ends. Asks for no memory.
+/// Reads an input in chunks of at most 65,536 bytes, and has `sink` take each before it reads again. It stops when the
+/// sink refuses the input, or when the input ends. Takes no memory.
 pub(crate) fn run<S: Sink, R: Read, W: Write>(
     sink: &mut S,
     reader: &mut Watched<R>,

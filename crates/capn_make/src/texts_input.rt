@@ -1,4 +1,4 @@
-//! Texts with lists of bytes between quotes, as a sink before that of texts.
+//! The sink for texts with lists of bytes between quotes, which gives their plain form to the sink for texts.
 
 ghost use Rattle.std.specs.Prelude.{◌≡◌};
 ghost use Rattle.capn_text.specs.Unquoting.{first_unquoting, own_at};
@@ -15,14 +15,15 @@ use capn_words::Watched;
 use std::alloc::Allocator;
 use std::io::Write;
 
-/// Texts with lists of bytes between quotes: each line that is whole goes on to the texts in its plain form.
+/// A sink for texts with lists of bytes between quotes. It converts each whole line to its plain form, which the sink
+/// for texts takes.
 #[derive(Drop)]
 pub(crate) struct QuotedTexts<A: Allocator + Copy> {
     unquoter: Unquoter<A>,
     texts: Progress<A>,
 }
 
-/// Returns `fault` at the line of the input.
+/// Converts the line that `fault` names, one of the plain form, to the line of the input.
 fn at_own<A: Allocator + Copy>(unquoter: &Unquoter<A>, fault: MakeFault) -> MakeFault
     ensures { result ≡ texts.at_own (own_at unquoter.now) fault }
 {
@@ -38,7 +39,7 @@ fn at_own<A: Allocator + Copy>(unquoter: &Unquoter<A>, fault: MakeFault) -> Make
 }
 
 impl<A: Allocator + Copy> QuotedTexts<A> {
-    /// Returns the beginning of an input. It takes no memory.
+    /// Creates the sink at the beginning of an input. Takes no memory.
     pub(crate) fn new(alloc: A, form: Form) -> QuotedTexts<A>
         ensures form { result.texts.form ≡ form }
         ensures new { IsFresh result.texts.made.items result.texts.rest.items result.texts.line result.texts.tested }

@@ -1,4 +1,4 @@
-//! A run from texts between quotes to messages.
+//! The run that makes messages of texts in which lists of bytes may stand between quotes.
 
 ghost use Rattle.std.specs.Prelude.{◌≡◌, false};
 ghost use Rattle.capn_words.specs.Watched.{inner_of, has_failed};
@@ -13,15 +13,15 @@ use capn_words::Watched;
 use std::alloc::Allocator;
 use std::io::{Read, Write};
 
-/// Makes messages of the plain form of the input of `reader` and writes them to `writer` in this `form`, as
-/// [`crate::make`] does: a list of bytes may stand on one line there, between quotes, as `bytes N "T"` or `bytes "T"`
-/// (see [`capn_text::plain_text`]). It refuses what that refuses, at the line of the input.
+/// Makes messages of the plain form of the input of `reader`, and writes them to `writer` in this `form`, as
+/// [`crate::make`] does. In the input a list of bytes may stand on one line between quotes, as `bytes N "T"` or `bytes
+/// "T"` (see [`capn_text::plain_text`]). What `make` refuses of the plain form is refused, and the fault names the line
+/// of the input.
 ///
-/// It reads and writes as [`crate::make`] does. Beside what is held there, eight bytes are held for each line between
-/// quotes of the texts that aren't made yet, to find the line of the input that is refused, and the line that is
-/// unfinished while by its first 1,024 bytes it may be one between quotes: after an indent `bytes ` and a quote or a
-/// digit, or a beginning of these. Of such a line, which may be of any length, nothing is looked at before its end. Any
-/// other is looked at as it comes.
+/// It reads and writes as [`crate::make`] does. It also holds eight bytes for each line between quotes of the texts
+/// that are not made yet, to find the line of the input that is refused. The unfinished line is held, too, while its
+/// first 1,024 bytes may begin a line between quotes: they are an indent, `bytes ` and a quote or a digit, or a prefix
+/// of these. Such a line may be of any length, and is not read before its end. Any other line is read as it arrives.
 pub fn make_texts<R: Read, W: Write, A: Allocator + Copy>(
     alloc: A,
     form: Form,

@@ -1,4 +1,4 @@
-//! The texts that are complete in the rest of an input.
+//! The making of the texts that are complete in the rest of an input.
 
 ghost use Rattle.std.specs.Prelude.{◌≡◌, ◌≢◌, ℕ, List, [], ◌++◌, IfErr, IsErrOf};
 ghost use Rattle.capn_canon.specs.declared.form.Form.TheVariants as forms;
@@ -10,7 +10,7 @@ use capn_canon::Form;
 use capn_text::Texts;
 use std::alloc::Allocator;
 
-/// Makes each text up to the end, or up to the first that is refused.
+/// Makes each text, up to the end of the input or to the first text that is refused.
 fn make_each<A: Allocator + Copy>(
     alloc: A,
     form: Form,
@@ -31,7 +31,7 @@ fn make_each<A: Allocator + Copy>(
     Ok(())
 }
 
-/// Refuses the bytes that follow the one text, by their first line. Nothing after that line is looked at.
+/// Refuses the bytes that follow the only text, if there are any, by their first line. Nothing after that line is read.
 fn end_of_one(texts: &Texts, cut: &mut bool) -> Result<(), MakeFault>
     ensures end { EndsOne texts.now result }
     ensures cut { IfErr result (λ e. TellsEnd texts.now cut.new e) }
@@ -47,7 +47,7 @@ fn end_of_one(texts: &Texts, cut: &mut bool) -> Result<(), MakeFault>
     }
 }
 
-/// Makes the first text of an input, and refuses the bytes that follow it.
+/// Makes the first text of an input, and refuses any bytes that follow it.
 fn make_first<A: Allocator + Copy>(
     alloc: A,
     texts: &mut Texts,
@@ -68,7 +68,7 @@ fn make_first<A: Allocator + Copy>(
     end_of_one(texts, cut)
 }
 
-/// Makes the one text, unless it is made already, and refuses the bytes that follow it.
+/// Makes the only text of an input, unless it was made before, and refuses any bytes that follow it.
 fn make_one<A: Allocator + Copy>(
     alloc: A,
     texts: &mut Texts,
@@ -81,14 +81,14 @@ fn make_one<A: Allocator + Copy>(
     ensures cut { IfErr result (λ e. TellsCut forms.Bare texts.new cut.new e) }
     ensures memory { IsErrOf result MakeFault.Memory → texts.old.rest ≢ [] }
 {
-    // A text has two lines or more: at the first line none is made.
+    // A text has two lines or more, so at line 1 none has been made.
     if texts.line() == 1 {
         return make_first(alloc, texts, made, cut);
     }
     end_of_one(texts, cut)
 }
 
-/// Makes the next texts, as far as the `form` takes them, and returns the end of the input whose rest they are.
+/// Makes the next texts, as many as the `form` takes. Returns the result that the run has if no bytes follow.
 pub(crate) fn make_texts<A: Allocator + Copy>(
     alloc: A,
     form: Form,

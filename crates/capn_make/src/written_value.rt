@@ -1,4 +1,4 @@
-//! The bytes that are written of one value.
+//! The bytes that are written for one value, in each form.
 
 ghost use Rattle.std.specs.Prelude.{◌≡◌, ◌%◌, ◌<◌, ◌^◌, length, None, IfOk, IfErr, OnOk};
 ghost use Rattle.capn_pack.specs.Chosen.{Chosen};
@@ -14,7 +14,7 @@ use capn_pack::{PackFault, pack};
 use capn_value::Tree;
 use std::alloc::{AllocError, Allocator};
 
-/// Returns the frame of one segment of `bytes`, which are whole words.
+/// Returns the frame of one segment with `bytes`, which are whole words.
 fn framed<A: Allocator>(alloc: A, bytes: &[u8]) -> Result<Vec<u8, A>, AllocError>
     requires { length bytes.now < 2 ^ 35 }
     ensures { IfOk result (λ text. text.items ≡ spec.framed bytes.now) }
@@ -27,7 +27,7 @@ fn framed<A: Allocator>(alloc: A, bytes: &[u8]) -> Result<Vec<u8, A>, AllocError
     Ok(text)
 }
 
-/// Returns the packed text of that frame.
+/// Returns the packed text of the frame of one segment with `bytes`.
 fn packed<A: Allocator + Copy>(alloc: A, bytes: &[u8]) -> Result<Vec<u8, A>, AllocError>
     requires short { length bytes.now < 2 ^ 35 }
     requires whole { length bytes.now % 8 ≡ 0 }
@@ -41,7 +41,7 @@ fn packed<A: Allocator + Copy>(alloc: A, bytes: &[u8]) -> Result<Vec<u8, A>, All
     }
 }
 
-/// Returns the canonical bytes of `tree`: whole words, and no more than any message may have.
+/// Returns the canonical bytes of `tree`, which are whole words, and no more than a message may have.
 fn canonical<A: Allocator + Copy, B: Allocator>(
     alloc: A,
     tree: &Tree<B>,
@@ -58,7 +58,7 @@ fn canonical<A: Allocator + Copy, B: Allocator>(
     layout(alloc, tree)
 }
 
-/// Writes canonical `bytes` in this `form`.
+/// Returns the canonical `bytes` as they are written in this `form`.
 fn in_form<A: Allocator + Copy>(
     alloc: A,
     form: Form,
@@ -75,7 +75,7 @@ fn in_form<A: Allocator + Copy>(
     }
 }
 
-/// Writes `tree` in this `form`.
+/// Returns the bytes that are written for `tree` in this `form`.
 pub(crate) fn piece_of<A: Allocator + Copy, B: Allocator>(
     alloc: A,
     form: Form,

@@ -1,4 +1,4 @@
--- The parts of a run.
+-- The definitions for the steps of a run.
 use Rattle.std.specs.Prelude.{◌≡◌, ◌≢◌, ◌⊎◌, ◌≤◌, ◌<◌, ⊤, ℕ, ◌+◌, ◌*◌, ◌-◌, ◌^◌, ◌==◌, List, [], ◌∷◌, ◌++◌}
 use Rattle.std.specs.Prelude.{length, take, drop}
 use Rattle.std.specs.Prelude.{Bool, true, false, not, cond}
@@ -21,7 +21,7 @@ use Rattle.capn_make.specs.Endings.{IsRefusedForGood, IsLostForGood}
 use Rattle.capn_make.specs.declared.fault.MakeFault.{MakeFault}
 use Rattle.capn_make.specs.declared.fault.MakeFault.TheVariants as faults
 
--- Of the first texts of an input this was made, in form bare of one at most, and here is what comes after them.
+-- `made` is made of the first texts of `input`, in form `Bare` of at most one, and `place` is behind them.
 pub record HasMade (form : Form) (input : List ℕ) (place : Place) (made : List ℕ) : Type 0 where
   pub values : List Tree
   pub first : AreFirst values input place.rest
@@ -29,57 +29,59 @@ pub record HasMade (form : Form) (input : List ℕ) (place : Place) (made : List
   pub line : place.line ≡ line_after values
   pub few : form ≡ forms.Bare → length values ≤ 1
 
--- Of an input, if nothing follows, this was made, and so it ends. In form bare what was made is written only if it ends
--- well.
+-- `made` is made of `input` with this result, if no bytes follow. In form `Bare` what was made is written only if the
+-- result is good.
 abbrev pub IsMadeSo : Form → List ℕ → List ℕ → Result (Unit {0}) MakeFault → Type 0
 IsMadeSo forms.Stream input made r = MakesEach forms.Stream input made r
 IsMadeSo forms.Packed input made r = MakesEach forms.Packed input made r
 IsMadeSo forms.Bare input made (Ok u) = MakesOne input made (Ok u)
 IsMadeSo forms.Bare input made (Err fault) = IsNotOne input fault
 
--- a text is refused for a capability
+-- A fault is that of a text with a capability.
 abbrev pub HasCapability : MakeFault → Type 0
 HasCapability fault = (n : ℕ) × (index : ℕ) × (fault ≡ faults.Capability n index)
 
--- So it is made on, up to a place, or to the end; or memory was refused. A capability is refused whatever follows:
--- after it there is no place.
+-- A step made texts of `input` up to `place` or to the end, or memory was refused. After a capability, which is refused
+-- whatever follows, nothing is known of `place`.
 abbrev pub GoesOn : Form → List ℕ → Place → List ℕ → Result (Unit {0}) MakeFault → Type 0
 GoesOn form input place made (Ok u) = HasMade form input place made × IsMadeSo form input made (Ok u)
     × (place.rest ≡ [])
 GoesOn form input place made (Err fault) = (fault ≡ faults.Memory)
     ⊎ ((HasCapability fault ⊎ HasMade form input place made) × IsMadeSo form input made (Err fault))
 
--- Whatever follows, line n is wrong at a place: no text goes on with it; or, after the one text that is asked for, it
--- begins none.
+-- Line `n` at `place` is wrong whatever bytes follow: no text continues with it, or it follows the only text that the
+-- form takes and begins none.
 abbrev pub IsLostAt : Form → Place → ℕ → Type 0
 IsLostAt form place n =
     ((form ≡ forms.Bare → place.line ≡ 1) × ((more : List ℕ) → IsWrong place.line (place.rest ++ more) n))
     ⊎ ((form ≡ forms.Bare) × (place.line ≡ 1 → ⊥)
     × ((more : List ℕ) → Follows place.line (place.rest ++ more) (faults.NotText n)))
 
--- all that is left but few bytes at its end goes on; or, after the one text that is asked for, few bytes are left
+-- All bytes at `place`, except for a few at the end, can be continued. After the only text that the form takes, only a
+-- few bytes are left.
 abbrev pub IsOpenAt : Form → Place → Type 0
 IsOpenAt form place = ((form ≡ forms.Bare → place.line ≡ 1) × MayGoOn place.rest)
     ⊎ ((form ≡ forms.Bare) × (place.line ≡ 1 → ⊥) × (length place.rest ≤ few))
 
--- `cut` says if a wrong line at a place may become another by what follows: then no text stands there with its end
+-- If the fault is a wrong line, `cut` says whether more bytes may mend it. If they may, no text with its end is at
+-- `place`.
 abbrev pub TellsCut : Form → Place → Bool → MakeFault → Type 0
 TellsCut form place cut fault = (n : ℕ) → fault ≡ faults.NotText n
     → (cut ≡ true → IsOpenAt form place × IsUnended place.rest) × (cut ≡ false → IsLostAt form place n)
 
--- `cut` says if a wrong line of the next text may
+-- If the fault is a wrong line of the next text, `cut` says whether more bytes may mend it.
 abbrev pub TellsNext : Place → Bool → MakeFault → Type 0
 TellsNext place cut fault = (n : ℕ) → fault ≡ faults.NotText n
     → (cut ≡ true → MayGoOn place.rest × IsUnended place.rest)
     × (cut ≡ false → (more : List ℕ) → IsWrong place.line (place.rest ++ more) n)
 
--- `cut` says if a wrong line after the one text may
+-- If the fault is a wrong line after the only text, `cut` says whether more bytes may mend it.
 abbrev pub TellsEnd : Place → Bool → MakeFault → Type 0
 TellsEnd place cut fault = (n : ℕ) → fault ≡ faults.NotText n
     → (cut ≡ true → (length place.rest ≤ few) × IsUnended place.rest)
     × (cut ≡ false → (more : List ℕ) → Follows place.line (place.rest ++ more) (faults.NotText n))
 
--- the subject of a fault is complete in the rest, from a line on
+-- The part of `rest`, which begins at `line`, that causes a fault is complete.
 abbrev pub IsWholeFrom : ℕ → List ℕ → MakeFault → Type 0
 IsWholeFrom line rest faults.Memory = ⊤
 IsWholeFrom line rest faults.Io = ⊤
@@ -90,7 +92,7 @@ IsWholeFrom line rest (faults.Capability n index) = ⊤
 IsWholeFrom line rest (faults.Another n) = ⊤
 IsWholeFrom line rest faults.NoText = ⊥
 
--- true if a fault is that of a wrong line that isn't cut
+-- True if the fault is a wrong line that no more bytes can mend.
 abbrev pub is_lost : MakeFault → Bool → Bool
 is_lost faults.Memory cut = false
 is_lost faults.Io cut = false
@@ -101,19 +103,19 @@ is_lost (faults.Capability n index) cut = false
 is_lost (faults.Another n) cut = false
 is_lost faults.NoText cut = false
 
--- An input is not refused by what is complete in it; nor do its first n bytes end with one fault whatever follows,
--- where few bytes or more come after them.
+-- `input` is not refused by a part that is complete. Nor do its first `n` bytes have one fault whatever follows, unless
+-- `few` bytes or less come after them.
 abbrev pub IsNotYet : Form → List ℕ → Type 0
 IsNotYet form input = (IsRefusedForGood form input → ⊥)
     × ((n : ℕ) → n + few ≤ length input → IsLostForGood form (take n input) → ⊥)
 
--- Whatever follows an input, this is made of it and so it ends; or it is made up to a place, where no text stands with
--- its end, and not refused for good.
+-- If a fault is given, `input` has it whatever bytes follow, and `made` is made of it. If none is given, texts were
+-- made up to `place`, no text with its end is there, and `input` is not refused for good.
 abbrev pub TellsRefusal : Form → List ℕ → Place → List ℕ → Option MakeFault → Type 0
 TellsRefusal form input place made (Some fault) = (more : List ℕ) → IsMadeSo form (input ++ more) made (Err fault)
 TellsRefusal form input place made None = HasMade form input place made × IsNotYet form input × IsUnended place.rest
 
--- This many of the bytes that are left were tested, with all before them: they are not refused for good.
+-- The first `tested` bytes of `rest` were tested, with all bytes before `rest`. They do not refuse the input for good.
 pub record HasTested (form : Form) (tested : ℕ) (input rest : List ℕ) : Type 0 where
   pub front : List ℕ
   pub more : List ℕ
@@ -121,32 +123,33 @@ pub record HasTested (form : Form) (tested : ℕ) (input rest : List ℕ) : Type
   pub size : length front + length rest ≡ length input + tested
   pub not_yet : IsNotYet form front
 
--- no line that ends a text stands in these bytes
+-- The line `end` is at no place in `bytes`.
 abbrev pub HoldsNoEnd : List ℕ → Type 0
 HoldsNoEnd bytes = (front : List ℕ) (rest : List ℕ) → bytes ≢ front ++ (end_line ++ rest)
 
--- true if bytes begin with others
+-- True if the second bytes begin with the first.
 abbrev pub begins_with : List ℕ → List ℕ → Bool
 begins_with [] bytes = true
 begins_with (c ∷ cs) [] = false
 begins_with (c ∷ cs) (d ∷ ds) = cond (c == d) (begins_with cs ds) false
 
--- true if a line that ends a text stands in these bytes
+-- True if the line `end` is at any place in the bytes.
 abbrev pub holds_end : List ℕ → Bool
 holds_end [] = false
 holds_end (c ∷ cs) = cond (begins_with end_line (c ∷ cs)) true (holds_end cs)
 
--- the line and the bytes of a place are no more than 64 bits can count
+-- The numbers of all lines of `rest`, which begins at `line`, are below 2^64.
 abbrev pub HasRoom : ℕ → List ℕ → Type 0
 HasRoom line rest = line + length rest < 2 ^ 64
 
--- of what was made this was written, and that is still to be: of frames nothing, and in form bare all
+-- In frames, everything that was made was written, and `made` is empty. In form `Bare` nothing was, and `written` is
+-- empty.
 abbrev pub IsKept : Form → List ℕ → List ℕ → Type 0
 IsKept forms.Stream written made = made ≡ []
 IsKept forms.Packed written made = made ≡ []
 IsKept forms.Bare written made = written ≡ []
 
--- the messages that were made are written, and in form bare they are kept; or the writer fails at them
+-- The messages that were made were written, and in form `Bare` they were kept, or the writer failed at them.
 abbrev pub WritesMade : Form → Option (List ℕ) → Option (List ℕ) → Bool → List ℕ → List ℕ
     → Result (Unit {0}) MakeFault → Type 0
 WritesMade form c d failed old new (Ok u) = (failed ≡ false)
@@ -154,8 +157,8 @@ WritesMade form c d failed old new (Ok u) = (failed ≡ false)
 WritesMade form c d failed old new (Err fault) = (failed ≡ true) × (fault ≡ faults.Io) × (form ≡ forms.Bare → ⊥)
     × HasBegun c d old
 
--- These bytes were made up to a place, where no text stands with its end, and tested. What is made was written, but in
--- form bare.
+-- The texts of `input` were made up to `rest`, which begins at `line`, and no text with its end is there. Of `rest` the
+-- first `tested` bytes were tested. What was made was written, except in form `Bare`.
 pub record IsUnderWay (form : Form) (input : List ℕ) (c d : Option (List ℕ)) (made rest : List ℕ) (line tested : ℕ)
     : Type 0 where
   pub written : List ℕ
@@ -166,12 +169,12 @@ pub record IsUnderWay (form : Form) (input : List ℕ) (c d : Option (List ℕ))
   pub short : length rest ≤ 4 * tested
   pub unended : IsUnended rest
 
--- nothing was made, and nothing is left
+-- The state at the beginning of an input: nothing was made, and nothing is left.
 abbrev pub IsFresh : List ℕ → List ℕ → ℕ → ℕ → Type 0
 IsFresh made rest line tested = (made ≡ []) × (rest ≡ []) × (line ≡ 1) × (tested ≡ 0)
 
--- So they were up to this many of the bytes that are left; the others have come. A beginning was written whatever
--- follows.
+-- The texts of `input` were made up to `rest`, as in `IsUnderWay`, when `rest` had `before` bytes. The other bytes of
+-- `rest` were added since. Whatever follows, a first part of the messages was written.
 pub record HasCome (form : Form) (input : List ℕ) (c d : Option (List ℕ)) (made rest : List ℕ)
     (line tested before : ℕ) : Type 0 where
   pub written : List ℕ
@@ -182,38 +185,38 @@ pub record HasCome (form : Form) (input : List ℕ) (c d : Option (List ℕ)) (m
   pub unended : HoldsNoEnd (drop (before - 3) rest) → IsUnended rest
   pub begun : (more : List ℕ) → HasBegunText form (input ++ more) c d
 
--- Of bytes that were read and those that follow, the messages were written, or a beginning, and the run ended as that
--- does. Memory was refused only for some bytes.
+-- `bytes` were read and `more` follow. Their messages were written, or a first part of them, and the run had their
+-- result. Memory was refused only if some bytes were read.
 abbrev pub GivesMade : Form → List ℕ → List ℕ → Option (List ℕ) → Option (List ℕ) → Result (Unit {0}) MakeFault → Type 0
 GivesMade form bytes more c d r = EndsAs form c d r (bytes ++ more) × HasBegunText form (bytes ++ more) c d
     × (r ≡ Err faults.Memory → bytes ≢ [])
 
--- true if the fault of a text is that of an unfinished one
+-- True if the fault of a text is that of an unfinished one.
 abbrev pub is_cut : TextFault → Bool
 is_cut texts.Memory = false
 is_cut (texts.Line n) = false
 is_cut (texts.Cut n) = true
 is_cut (texts.Misfit m) = false
 
--- the reason why the next text, from a line on, is not read
+-- The fault of a run whose next text begins at `line` and is not read.
 abbrev pub unread : ℕ → TextFault → MakeFault
 unread line texts.Memory = faults.Memory
 unread line (texts.Line n) = faults.NotText n
 unread line (texts.Cut n) = faults.NotText n
 unread line (texts.Misfit m) = faults.Misfit line m
 
--- the bytes that are written of a value whose text begins at a line, or the reason why there are none
+-- The bytes that are written for the value `v`, whose text begins at `line`, or the fault that there is instead.
 abbrev pub MakesValue : {A : Type 0} → Form → ℕ → Tree → Result (Vec ℕ A) MakeFault → Type 0
 MakesValue form line v (Ok piece) = IsWrittenValue form v piece.items × (first_cap v ≡ None)
 MakesValue form line v (Err fault) = (fault ≡ faults.Memory)
     ⊎ ((index : ℕ) × (fault ≡ faults.Capability line index) × (first_cap v ≡ Some index))
 
--- a place is the same, or after some bytes
+-- The place `new` is at `old`, or behind it.
 abbrev pub IsAfter : Place → Place → Type 0
 IsAfter old new = (front : List ℕ) × (old.rest ≡ front ++ new.rest)
 
--- The next text was made, and the place is after it; or nothing is left; or it is refused, and the place is the same,
--- unless that is for a capability; or memory was refused.
+-- The next text was made, and `new` is behind it, or nothing is left. Or the text is refused, and the place is the same
+-- unless it has a capability, or memory was refused.
 abbrev pub MakesNext : {A : Type 0} → Form → Place → Place → Result (Option (Vec ℕ A)) MakeFault → Type 0
 MakesNext form old new (Ok None) = (old.rest ≡ []) × (new ≡ old)
 MakesNext form old new (Ok (Some piece)) = (v : Tree) × IsMakeable v
@@ -222,7 +225,7 @@ MakesNext form old new (Ok (Some piece)) = (v : Tree) × IsMakeable v
 MakesNext form old new (Err fault) = (fault ≡ faults.Memory)
     ⊎ ((HasCapability fault ⊎ (new ≡ old)) × IsTextRefused old.line old.rest fault)
 
--- nothing follows, or this does
+-- Nothing follows the only text, or what follows it is refused.
 abbrev pub EndsOne : Place → Result (Unit {0}) MakeFault → Type 0
 EndsOne place (Ok u) = place.rest ≡ []
 EndsOne place (Err fault) = Follows place.line place.rest fault

@@ -4,7 +4,8 @@ use Rattle.capn_make.specs.inner.SinkRun.{Holds}
 use Rattle.capn_make.proofs.SinkRuns.{HasTaken}
 use Rattle.capn_make.proofs.sink.run.Given as goal
 
--- Neither the reader nor the writer has failed. The bytes so far are counted, and were taken.
+-- Neither the reader nor the writer has failed. The sink took the bytes so far, and `taken` is their number, below
+-- 2^64.
 abbrev pub invariant-pieces : goal.invariant-pieces
 invariant-pieces g l = record {
   fine : has_failed l.reader ≡ false;
@@ -15,6 +16,6 @@ invariant-pieces g l = record {
       (g.W.Write.contents (inner_of l.fn.writer)) (g.W.Write.contents (inner_of l.writer)) l.taken;
 }
 
--- no more bytes than this are counted
+-- The number of bytes that can still be counted decreases.
 abbrev pub decreases-pieces : goal.decreases-pieces
 decreases-pieces g l = 2 ^ 64 - l.taken
