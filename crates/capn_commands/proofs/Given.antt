@@ -1,4 +1,4 @@
--- A reader that gives an input, read by read. (For `read_words`.)
+-- Lemmas on a reader that gives an input, read by read. (For `read_words`.)
 use Rattle.std.proofs.Common.{◌≡◌, inl, inr, ℕ, ◌<◌, ◌^◌, List, length, refl}
 use Rattle.std.proofs.Common.{Option, Bool, true}
 use Rattle.std.proofs.Common.{Result, Ok, Err}
@@ -10,7 +10,7 @@ use Rattle.capn_commands.specs.inner.ReadInput.{IsUntaken, TakesAll}
 use Rattle.capn_commands.specs.declared.fault.ToolFault.{ToolFault}
 use Rattle.capn_commands.specs.declared.fault.ToolFault.TheVariants as faults
 
--- a reader has given `taken` bytes, of which these words are unpacked and the beginning of a group is held
+-- A reader has given `taken` bytes. They are unpacked to `words`, and `held` is an unfinished group.
 pub record Unpacked (old new : Option (List ℕ)) (failed : Bool) (most taken : ℕ) (words : List ℕ) (len : ℕ)
     (held : List ℕ) (at left : ℕ) (long : Bool) : Type 0 where
   pub seen : List ℕ
@@ -19,22 +19,21 @@ pub record Unpacked (old new : Option (List ℕ)) (failed : Bool) (most taken : 
   pub pending : IsPending most seen words held at left long
   pub short : len < most_group
 
--- the read that failed
 pub given_broken : (a b c : Option (List ℕ)) (f g : Bool) (seen : List ℕ) → HasGiven a b f seen → Consumes a c seen
     → g ≡ true → IsUntaken a c g faults.Io
 given_broken a b c f g seen h read broken = (seen, inr (read, h.bounded, broken, refl))
 
--- memory was refused for bytes that came
+-- Case: memory was refused for bytes that were read.
 pub given_memory : (a b : Option (List ℕ)) (f : Bool) (seen : List ℕ) → HasGiven a b f seen → 0 < length seen
     → IsUntaken a b f faults.Memory
 given_memory a b f seen h some = (seen, inl (h, inl (refl, some)))
 
--- there are more bytes than a run takes
+-- Case: there are more bytes than a run takes.
 pub given_long : (a b : Option (List ℕ)) (f : Bool) (seen : List ℕ) → HasGiven a b f seen → 2 ^ 32 < length seen
     → IsUntaken a b f faults.InputTooLong
 given_long a b f seen h long = (seen, inl (h, inr (refl, long)))
 
--- what is answered of an input that was read to its end
+-- The result for an input that was read to its end.
 pub takes_so : {T : Type 0} (P : List ℕ → Result T ToolFault → Type 0) (a b : Option (List ℕ)) (f : Bool)
     (r : Result T ToolFault) (bytes : List ℕ) → HasGivenAll a b f bytes → P bytes r → TakesAll P a b f r
 takes_so P a b f (Ok x) bytes all p = (bytes, all, p)

@@ -1,4 +1,4 @@
--- The words that are held back. (For `before_dense`, `settle` and `unpacked_part`.)
+-- Lemmas on the words that are held back. (For `before_dense`, `settle` and `unpacked_part`.)
 use Rattle.std.proofs.Common.{◌≡◌, ℕ, zero, suc, ◌+◌, ◌-◌, ◌*◌, ◌≤◌, List, [], ◌++◌, length, take, drop, replicate}
 use Rattle.std.proofs.Common.{refl, ap}
 use Rattle.std.proofs.Common.{sym, subst, ◌∙◌, arith, append-nil, append_assoc, drop-drop, length-drop, length-take}
@@ -66,11 +66,11 @@ open_more a b n o more = record {
 
 -- ---- the cut before dense words
 
--- behind all words are none
+-- No words follow the last one.
 pub dense_end : (words : List ℕ) (cut : ℕ) → cut ≡ length words → (n : ℕ) × AllDense n (drop cut words)
 dense_end words cut all = (0, drop_all cut words (omega (arith, all)))
 
--- before dense words stands one more
+-- One more dense word stands before dense words.
 pub dense_before : (words : List ℕ) (cut : ℕ) → 8 ≤ cut → cut ≤ length words
     → zero_count (slice_range words (cut - 8) cut) ≤ 1 → (n : ℕ) × AllDense n (drop cut words)
     → (n : ℕ) × AllDense n (drop (cut - 8) words)

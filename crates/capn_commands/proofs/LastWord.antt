@@ -1,4 +1,4 @@
--- The last group of a packer's text, by the last word of it. (For `settled_part` and `zeros_part`.)
+-- Lemmas on the last group of a packer's text, by its last word. (For `settled_part` and `zeros_part`.)
 use Rattle.std.proofs.Common.{◌≡◌, ◌≢◌, ◌⊎◌, inl, inr, ℕ, zero, suc, ◌+◌, ◌-◌, ◌*◌, ◌/◌, ◌^◌, ◌<◌, ◌≤◌, List, [], ◌∷◌}
 use Rattle.std.proofs.Common.{◌++◌}
 use Rattle.std.proofs.Common.{length, take, drop, replicate, get_or, eqb, false, refl, ap, sym, subst, ◌∙◌, arith}
@@ -31,7 +31,7 @@ few_zeros [] = omega arith
 few_zeros (zero ∷ xs) = omega (arith, few_zeros xs)
 few_zeros (suc x ∷ xs) = omega (arith, few_zeros xs, (some_first x xs).1)
 
--- a full tag leaves no zero byte
+-- A tag with all bits set leaves no zero byte.
 pub full_tag : (n : ℕ) (xs : List ℕ) → length xs ≡ n → 1 + tag_of xs ≡ 2 ^ n → zero_count xs ≡ 0
 full_tag zero [] size full = refl
 full_tag zero (x ∷ xs) size full = absurd (omega (arith, size))
@@ -41,7 +41,7 @@ full_tag (suc n) (suc x ∷ xs) size full =
     let some = some_first x xs in
     some.1 ∙ full_tag n xs (omega (arith, size)) (omega (arith, full, some.0))
 
--- zero bytes alone have no tag
+-- Zero bytes alone have the tag 0.
 zero_tag : (xs : List ℕ) → zero_count xs ≡ length xs → tag_of xs ≡ 0
 zero_tag [] all = refl
 zero_tag (zero ∷ xs) all = omega (arith, zero_tag xs (omega (arith, all)))
@@ -59,7 +59,7 @@ last_alone word size =
     let at : length word - 8 ≡ 0 = omega (arith, size) in
     ap (λ (k : ℕ). drop k word) at
 
--- dense words end with one
+-- Dense words end with a dense word.
 dense_last : (n : ℕ) (bs : List ℕ) → AllDense (suc n) bs → length bs ≡ 8 * suc n → zero_count (last_word bs) ≤ 1
 dense_last zero bs dense long =
     let all : take 8 bs ≡ last_word bs = take_all 8 bs (omega (arith, long))
@@ -93,7 +93,6 @@ zeros_last more =
 
 -- ---- the last group
 
--- a row of some groups has a last one
 pub record HasLast (gs : List Group) : Type 0 where
   pub front : List Group
   pub last : Group
@@ -109,7 +108,7 @@ some_last : (gs : List Group) → 0 < length (contents gs) → HasLast gs
 some_last [] some = absurd (omega (arith, some))
 some_last (g ∷ gs) some = has_last g gs
 
--- all that a text says of its last group
+-- The facts about the last group of a packer's text.
 module _ (t bs : List ℕ) (count : ℕ) (c : Chosen t bs) (size : length bs ≡ 8 * count) (r : HasLast c.groups) where
   last_row : IsChosenRow (r.front ++ r.last ∷ [])
   last_row = subst IsChosenRow r.whole c.chosen
@@ -151,7 +150,8 @@ module _ (t bs : List ℕ) (count : ℕ) (c : Chosen t bs) (size : length bs ≡
 
 -- ---- which group is the last
 
--- by the zero bytes of its last word: few are those of a run of raw words, and all of a run of zero words
+-- The number of zero bytes in the last word of a group: eight for a run of zero words, at most one for a run of raw
+-- words, and fewer than eight for any other group.
 abbrev pub EndsBy : Group → ℕ → Type 0
 EndsBy (Zeros more) nulls = nulls ≡ 8
 EndsBy (Named tag word) nulls = nulls < 8
@@ -186,7 +186,7 @@ zeros_by (Zeros more) nulls kind all = (more, refl)
 zeros_by (Named tag word) nulls kind all = absurd (omega (arith, kind, all))
 zeros_by (Raw word count more) nulls kind all = absurd (omega (arith, kind, all))
 
--- a group that may go on, by its tag, is open
+-- A group with the tag 0 or 255 has open words.
 pub open_group : (g : Group) (behind : List ℕ) → IsGroup g → IsChoice g behind
     → (get_or (group_text g) 0 0 ≡ 0) ⊎ (get_or (group_text g) 0 0 ≡ 255) → AreOpen (group_bytes g)
 open_group (Zeros more) behind is choice tag = open_zeros more (group_bytes (Zeros more)) refl
@@ -196,7 +196,7 @@ open_group (Raw word count more) behind is choice tag =
     let none : zero_count word ≡ 0 = full_tag 8 word is.0 (omega (arith, choice.0)) in
     open_raw word more count (group_bytes (Raw word count more)) (is.0, omega (arith, none)) choice.1 refl
 
--- the same, by the byte where the last group of a text begins
+-- A last group with the tag 0 or 255, at the byte where it begins, has open words.
 pub open_last : (t bs : List ℕ) (count taken known tag : ℕ) (l : Last t bs count taken known)
     → get_or t taken 0 ≡ tag → (tag ≡ 0) ⊎ (tag ≡ 255) → AreOpen (group_bytes l.last)
 open_last t bs count taken known tag l is kind =
@@ -209,7 +209,7 @@ open_last t bs count taken known tag l is kind =
 
 -- ---- what is settled
 
--- a text whose last word is zero: how many zero words its last group has, and what is settled
+-- The last group of a text whose last word is zero: its number of zero words, and the settled part of the text.
 pub record ZerosEnd (t bs : List ℕ) : Type 0 where
   pub more : ℕ
   pub byte : get_or t (length t - 1) 0 ≡ more
@@ -232,7 +232,7 @@ module _ (t bs : List ℕ) (count taken known : ℕ) (l : Last t bs count taken 
       subst (λ (w : List ℕ). EndsBy l.last (zero_count w)) (sym word_is)
       (ends_by l.last [] group_is.0 group_is.1)
 
-  -- all, if the last word is neither zero nor dense
+  -- All of a text is settled if its last word is neither zero nor dense.
   named_settled : Chosen t bs → 2 ≤ zero_count (last_word bs) → zero_count (last_word bs) < 8
       → IsSettled t bs (length t) (length bs)
   named_settled c some few =

@@ -1,5 +1,5 @@
--- What is made of an input, from what was read of it. (For `make_framed`, `make_text`, `make_trimmed` and
--- `make_verdict`.)
+-- Lemmas on the output that is made of an input, from what was read of it. (For `make_framed`, `make_text`,
+-- `make_trimmed` and `make_verdict`.)
 use Rattle.std.proofs.Common.{◌≡◌, ◌⊎◌, inl, inr, ℕ, ◌+◌, ◌*◌, ◌^◌, List, Bool, Option, Result, Ok}
 use Rattle.std.proofs.Common.{Err, IsErr, IsErrAnd}
 use Rattle.std.proofs.Common.{Vec, ap, sym, subst, ◌∙◌, arith, take_all}
@@ -33,33 +33,33 @@ use Rattle.capn_commands.specs.declared.fault.ToolFault.TheVariants as faults
 use Rattle.capn_commands.proofs.FirstBytes.{fails_unpacked, gives_first, gives_packed}
 use Rattle.capn_commands.proofs.Given.{takes_so}
 
--- why nothing is made, or that memory was refused
+-- Nothing is made of the bytes, or memory was refused.
 abbrev Fails : Whole → List ℕ → ToolFault → Type 0
 Fails whole bytes fault = (fault ≡ faults.Memory) ⊎ MakesNothing whole bytes fault
 
--- an input was not taken, or was read to its end and fails so
+-- An input was not read to its end, or was read to its end and `P` holds of its bytes.
 abbrev TakesNone : (List ℕ → Type 0) → Option (List ℕ) → Option (List ℕ) → Bool → ToolFault → Type 0
 TakesNone P a b f fault = IsUntaken a b f fault ⊎ ((bytes : List ℕ) × HasGivenAll a b f bytes × P bytes)
 
--- why bytes are no segment
+-- The bytes are refused as no segment.
 abbrev FailsBare : List ℕ → ToolFault → Type 0
 FailsBare bytes fault = (e : BareFault) × (fault ≡ faults.Refused (refusals.Bare e)) × ReadsBare bytes (Err e)
 
--- an input that was not read to its end
+-- Case: an input was not read to its end.
 pub untaken : (a b : Option (List ℕ)) (f : Bool) (fault : RunFault) → served.IsUntaken a b f fault
     → IsUntaken a b f (unplaced fault)
 untaken a b f fault (bytes, inl (given, inl (is, some))) = (bytes, inl (given, inl (ap unplaced is, some)))
 untaken a b f fault (bytes, inl (given, inr (is, long))) = (bytes, inl (given, inr (ap unplaced is, long)))
 untaken a b f fault (bytes, inr (read, bound, broken, is)) = (bytes, inr (read, bound, broken, ap unplaced is))
 
--- of no bytes was anything else said
+-- Case: an input was not read to its end, which is the only fault of the call.
 pub unread : (a b : Option (List ℕ)) (f : Bool) (fault : RunFault) (whole : Whole)
     → served.IsUntaken a b f fault ⊎ ((bytes : List ℕ) × HasGivenAll a b f bytes × ⊥)
     → TakesNone (λ bytes. Fails whole bytes (unplaced fault)) a b f (unplaced fault)
 unread a b f fault whole (inl h) = inl (untaken a b f fault h)
 unread a b f fault whole (inr (bytes, all, none)) = absurd none
 
--- or they are no segment
+-- Case: an input was not read to its end, or is no segment.
 pub unread_bare : (a b : Option (List ℕ)) (f : Bool) (fault : RunFault) (at : Position)
     → served.IsUntaken a b f fault ⊎ ((bytes : List ℕ) × HasGivenAll a b f bytes × IsUnbare at bytes fault)
     → TakesNone (λ bytes. FailsBare bytes (unplaced fault)) a b f (unplaced fault)
@@ -72,7 +72,7 @@ module _ (a b : Option (List ℕ)) (f : Bool) (fault : ToolFault) where
   none_else P Q change (inl untaken) = inl untaken
   none_else P Q change (inr (bytes, all, p)) = inr (bytes, all, change bytes p)
 
-  -- bytes that are no segment
+  -- Bytes that are no segment have no canonical bytes.
   pub unmade_canonical : (limits : Bounds) → TakesNone (λ bytes. FailsBare bytes fault) a b f fault
       → TakesNone (λ bytes. Fails (wholes.Canonical forms.Bare limits) bytes fault) a b f fault
   unmade_canonical limits h =
@@ -88,7 +88,7 @@ module _ (a b : Option (List ℕ)) (f : Bool) (fault : ToolFault) where
       none_else (λ bytes. FailsBare bytes fault) (λ bytes. Fails (wholes.Bare piece limits) bytes fault)
       (λ bytes why. inr (inl why)) h
 
--- bytes that have no canonical bytes
+-- Case: the bytes have no canonical bytes.
 pub gives_refused : {A : Type 0} (form : Form) (bytes : List ℕ) (limits : Bounds) (r : Refusal)
     (result : Result (Vec ℕ A) ToolFault) → IsRefused form bytes limits r
     → IsErr result × IsErrAnd result (IsFaultOf r) → Gives (wholes.Canonical form limits) bytes result
@@ -97,7 +97,7 @@ gives_refused form bytes limits r (Err fault) refused (is_err, inl (memory, is))
 gives_refused form bytes limits r (Err fault) refused (is_err, inr (other, is)) = inr (r, is, other, refused)
 
 module _ {A : Type 0} (a b : Option (List ℕ)) (f : Bool) where
-  -- all of it is held
+  -- Case: all of the input is held.
   pub made_held : (whole : Whole) (input : WholeInput A) (held : List ℕ) (r : Result (Vec ℕ A) ToolFault)
       → served.TakesAll (IsBeginning (2 ^ 32)) a b f (Ok input) → held ≡ input.bytes.items
       → Gives whole held r → TakesAll (Gives whole) a b f r
@@ -105,7 +105,7 @@ module _ {A : Type 0} (a b : Option (List ℕ)) (f : Bool) where
       takes_so (Gives whole) a b f r bytes all
       (subst (λ (xs : List ℕ). Gives whole xs r) (same ∙ sym is.0 ∙ take_all (2 ^ 32) bytes all.within) gives)
 
-  -- of a frame its beginning is, and of a packed one what it packs
+  -- Case: the first part of a frame is held, or the words that a packed input packs.
   pub made_framed : (form : StreamForm) (limits : Bounds) (most : ℕ) (frame : Vec ℕ A) (held : List ℕ)
       (r : Result (Vec ℕ A) ToolFault) → most ≡ limits.message_words
       → TakesAll {T = Vec ℕ A} (HoldsFrame form most) a b f (Ok frame)
@@ -130,7 +130,7 @@ module _ {A : Type 0} (a b : Option (List ℕ)) (f : Bool) where
       takes_so (Gives whole) a b f r bytes all
       (subst (λ (xs : List ℕ). Gives whole xs r) (same ∙ sym is) gives)
 
--- no frame is made of it
+-- Case: no frame is read from the input.
 pub unmade_framed : (A : Type 0) (a b : Option (List ℕ)) (f : Bool) (form : StreamForm) (limits : Bounds) (most : ℕ)
     (fault : ToolFault) → most ≡ limits.message_words
     → TakesAll {T = Vec ℕ A} (HoldsFrame form most) a b f (Err fault)

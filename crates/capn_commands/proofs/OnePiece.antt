@@ -1,4 +1,4 @@
--- A run over the one message of an input that is served is the run of its plan. (For `run_framed`.)
+-- Lemmas that a run of the service over the one message of an input is a run of its plan. (For `run_framed`.)
 use Rattle.std.proofs.Common.{◌≡◌, ◌≢◌, inl, inr, ℕ, List, Bool, Option, Result, sym, subst}
 use Rattle.capn_walk.specs.Limits.{Bounds}
 use Rattle.capn_walk.specs.declared.walk_answer.Stopped.{Stopped}
@@ -30,7 +30,7 @@ use Rattle.capn_commands.proofs.OneRun.{runs_more}
 abbrev Ending : Type 0
 Ending = Result (Unit {0}) ToolFault
 
--- a run over a whole input is that of its plan
+-- A run over an input that is taken whole is a run of its plan.
 runs_plan : (whole : Whole) (a b c d : Option (List ℕ)) (r w : Bool) (e : Ending)
     → RunsWhole (Makes whole) (MakesNothing whole) a b c d r w e → Runs (plans.Whole whole) a b c d r w e
 runs_plan whole a b c d r w e h = record {
@@ -45,7 +45,7 @@ runs_plan whole a b c d r w e h = record {
   memory = h.memory;
 }
 
--- a frame of a message is read as that
+-- Bytes with the frame of a message are read as that message.
 pub reads_of : (form : StreamForm) (most : ℕ) (bytes frame : List ℕ) (message : List (List ℕ))
     → IsFrameOf form most bytes frame → IsFramed frame most message → Reads (form_of form) bytes most message
 reads_of streams.Stream most bytes frame message is framed =
@@ -57,7 +57,7 @@ module _ (bytes : List ℕ) (limits : Bounds) where
   abbrev IsRefusal : MessageText → Form → Refusal → Type 0
   IsRefusal piece form r = (r ≢ refusals.Memory) × IsOneRefused piece form bytes limits r
 
-  -- bytes that are not read are refused as `canonical` refuses them
+  -- Bytes that are no message are refused as `canonical` refuses them.
   pub misread_known : (form : Form) (r : Refusal) → IsMisread form bytes limits.message_words r
       → (piece : MessageText) → IsRefusal piece form r
   misread_known form (refusals.Bare e) h kinds.Text = (λ is. cc, h)
@@ -83,12 +83,12 @@ module _ (bytes : List ℕ) (limits : Bounds) where
   misread_known forms.Packed refusals.Memory h piece = absurd h.2
 
   module _ (form : Form) (message : List (List ℕ)) (reads : Reads form bytes limits.message_words message) where
-    -- a walk that is refused
+    -- A message with a refused walk is refused.
     stops : (r : Refusal) (s : Stopped) (piece : MessageText) → r ≡ refusals.Walk s
         → IsRefusal piece form (refusals.Walk s) → IsRefusal piece form r
     stops r s piece is h = subst (λ (q : Refusal). IsRefusal piece form q) (sym is) h
 
-    -- a message that has no piece
+    -- A message that has no text is refused.
     no_piece : (r : Refusal) (piece : MessageText) → IsNoMessageText piece message limits (faults.Refused r)
         → IsRefusal piece form r
     no_piece r kinds.Text (s, e, h) =

@@ -1,5 +1,5 @@
--- The frame of the one message of an input, as it was read, and how the message was served. (For `read_frame`,
--- `serve_frame` and `serve_message`.)
+-- Lemmas on the frame of the one message of an input, as it was read, and how the message was served. (For
+-- `read_frame`, `serve_frame` and `serve_message`.)
 use Rattle.std.proofs.Common.{◌≡◌, ◌⊎◌, ◌||◌, inl, inr, ℕ, ◌+◌, ◌*◌, ◌≤◌, List, [], ◌++◌, length, take, Bool, true}
 use Rattle.std.proofs.Common.{false, Option, Result, Ok, Err, Vec, ap, sym, subst, ◌∙◌, arith, length-take}
 use Rattle.std.proofs.Math.Seq.{take-append-add, take-append_seam, take-length, take-nil, take_all}
@@ -46,7 +46,7 @@ stopped fault = Err fault
 abbrev ended : ServeFault → Result (Unit {0}) ServeFault
 ended fault = Err fault
 
--- ---- what is held of an input
+-- ---- the bytes that are held of an input
 
 module _ {A : Type 0} (a b : Option (List ℕ)) (f : Bool) (most : ℕ) where
   pub first_held : (n : ℕ) (input : WholeInput A) → n ≡ 8 * (most + most_table_words) + 1
@@ -80,7 +80,7 @@ module _ (frame : List ℕ) (most : ℕ) where
       let all : take taken frame ≡ frame = ap (λ (n : ℕ). take n frame) e ∙ take-length frame in
       record { frame = subst (λ (l : List ℕ). Frames l m) all h.frame; room = h.room }
 
-  -- no frame comes first
+  -- Case: the bytes begin with no frame.
   pub frame_refused : (writes : List ℕ → Type 0) (refuses : List ℕ → List (List ℕ) → Refusal → Type 0)
       (c : Option (List ℕ)) (failed : Bool) (fault : FrameFault) (r : Refusal) (e : ToolFault) → failed ≡ false
       → IsFrameRefused frame most fault → IsOfFrame fault r → IsFaultOf r e
@@ -104,18 +104,18 @@ take_less m n l = elim (cases_lt n m) [
   | inr more ↦ (m, take-take m n l more)
 ]
 
--- what was written of a text of which the rest is kept
+-- The part of a text that was written, if the rest is kept, is a prefix of the text.
 written_front : (w kept text : List ℕ) → w ++ kept ≡ text → w ≡ take (length w) text
 written_front w kept text is = sym (take-append_seam w kept) ∙ ap (λ (l : List ℕ). take (length w) l) is
 
 module _ {S : Type 0} (serves : S → Position → List ℕ → List (List ℕ) → List ℕ → S → Type 0)
     (refuses : S → Position → List ℕ → List (List ℕ) → Refusal → Type 0) (s t : S) (frame : List ℕ)
     (message : List (List ℕ)) (c m : Option (List ℕ)) (none kept : List ℕ) (fine : Bool) (empty : none ≡ []) where
-  -- how the service ended
+  -- The service ended with `r`.
   abbrev Does : Result (Unit {0}) ServeFault → Type 0
   Does r = DoesService serves refuses s start frame message (outgoing c none) (outgoing m kept) fine r t
 
-  -- how the run ends then
+  -- The run ends with `e` after the service.
   abbrev Serves : Option (List ℕ) → Bool → Ending → Type 0
   Serves d failed e =
       ServesWhole (Writes serves s frame message) (refuses s start frame message) c d failed e
@@ -123,7 +123,7 @@ module _ {S : Type 0} (serves : S → Position → List ℕ → List (List ℕ) 
   joined : (w text : List ℕ) → w ++ kept ≡ none ++ text → w ++ kept ≡ text
   joined w text is = is ∙ ap (λ (l : List ℕ). l ++ text) empty
 
-  -- it was served, and the rest of its text was written
+  -- Case: the message was served, and the rest of its text was written.
   pub message_served : (d : Option (List ℕ)) (piece : List ℕ) (failed : Bool) → Does (Ok tt) → piece ≡ kept
       → Appends m d piece → failed ≡ (fine || false) → Serves d failed (Ok tt)
   message_served d piece failed ((text, is, (w, wrote, e), good), short) same more still = (
@@ -136,7 +136,7 @@ module _ {S : Type 0} (serves : S → Position → List ℕ → List (List ℕ) 
     still ∙ ap (λ (x : Bool). x || false) good,
   )
 
-  -- or a beginning of that
+  -- Case: the message was served, and the writer failed within the rest of its text.
   pub message_broken : (d : Option (List ℕ)) (piece : List ℕ) (failed : Bool) → Does (Ok tt) → piece ≡ kept
       → HasBegun m d piece → failed ≡ (fine || true) → Serves d failed (Err faults.Io)
   message_broken d piece failed ((text, is, (w, wrote, e), good), short) same (count, begun) broke =
@@ -152,16 +152,14 @@ module _ {S : Type 0} (serves : S → Position → List ℕ → List (List ℕ) 
         broke ∙ ap (λ (x : Bool). x || true) good,
       )
 
-  -- nothing was added
+  -- Nothing was added, so nothing was written.
   unwritten : Adds (outgoing c none) (outgoing m kept) [] → Appends c m []
   unwritten (w, wrote, e) =
       subst (Appends c m) (written_front w kept [] (joined w [] e) ∙ take-nil (length w)) wrote
 
-  -- it is refused
   pub message_refused : (r : Refusal) → Does (Err (serve_faults.Refused r)) → Serves m fine (Err (faults.Refused r))
   message_refused r (why, adds, good) = (why, unwritten adds, good)
 
-  -- memory was refused
   of_memory : Does (Err serve_faults.Memory) → Serves m fine (Err faults.Memory)
   of_memory (inl adds, good) = (inl (unwritten adds), good)
   of_memory (inr (text, y, count, is, (w, wrote, e)), good) =
@@ -174,7 +172,6 @@ module _ {S : Type 0} (serves : S → Position → List ℕ → List (List ℕ) 
       → Serves m fine (Err faults.Memory)
   message_memory fault is h = of_memory (subst (λ (x : ServeFault). Does (ended x)) is h)
 
-  -- the writer failed
   pub message_io : Does (Err serve_faults.Io) → Serves m fine (Err faults.Io)
   message_io ((text, y, count, is, wrote), broke) = (
     (

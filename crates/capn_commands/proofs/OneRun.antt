@@ -1,5 +1,5 @@
--- A run over the one message that an input is, from what was read and how the message was served. (For `serve_frame`
--- and `serve_one`.)
+-- Lemmas on a run over the one message that an input is, from what was read and how the message was served. (For
+-- `serve_frame` and `serve_one`.)
 use Rattle.std.proofs.Common.{◌≡◌, ◌⊎◌, ◌↔◌, inl, inr, ℕ, ◌+◌, ◌*◌, ◌<◌, ◌≤◌, ◌^◌, List, [], length, take, Bool, true}
 use Rattle.std.proofs.Common.{false, Option, None, Some, IfSome, Result, Ok, Err, Vec, refl, ap, sym, subst, ◌∙◌, arith}
 use Rattle.std.proofs.Common.{take_all}
@@ -36,7 +36,7 @@ Ending = Result (Unit {0}) ToolFault
 abbrev stopped : ToolFault → Ending
 stopped fault = Err fault
 
--- ---- all that a reader had, where that is known
+-- ---- all that a reader had, if that is known
 
 some_all : (a : Option (List ℕ)) (P : List ℕ → Type 0) → ((all : List ℕ) → P all) → IfSome a P
 some_all None P h = tt
@@ -58,7 +58,7 @@ all_kept P (Some all) b kept bytes is_longer k h =
 
 module _ (makes : List ℕ → List ℕ → Type 0) (fails : List ℕ → ToolFault → Type 0) (a b c : Option (List ℕ))
     (r w : Bool) where
-  -- how it ends
+  -- The run ends with `e`.
   abbrev Ends : Option (List ℕ) → Ending → Type 0
   Ends d e = IfSome a (λ input. WholeEnds makes fails c d e (taken_of input) (has_more input))
 
@@ -97,7 +97,7 @@ module _ (makes : List ℕ → List ℕ → Type 0) (fails : List ℕ → ToolFa
       })
       (inr (inr ([], (refl, ap stopped is), Appends-nil c)))
 
-  -- what it has written
+  -- The run has written nothing.
   begins_none : (d : Option (List ℕ)) (bytes : List ℕ) → Consumes a b bytes → length bytes ≤ 2 ^ 32 + 1
       → Appends c d [] → WholeBegins makes fails a b c d
   begins_none d bytes read bound wrote = record {
@@ -121,7 +121,7 @@ module _ (makes : List ℕ → List ℕ → Type 0) (fails : List ℕ → ToolFa
     );
   }
 
-  -- neither has failed
+  -- Case: neither the reader nor the writer has failed.
   io_none : (e : Ending) → r ≡ false → w ≡ false → (e ≡ Err faults.Io → ⊥)
       → (e ≡ Err faults.Io) ↔ ((r ≡ true) ⊎ (w ≡ true))
   io_none e fine good other = (λ is. absurd (other is), from)
@@ -130,7 +130,7 @@ module _ (makes : List ℕ → List ℕ → Type 0) (fails : List ℕ → ToolFa
       from (inl bad) = absurd (let no : true ≡ false = sym bad ∙ fine in cc)
       from (inr bad) = absurd (let no : true ≡ false = sym bad ∙ good in cc)
 
-  -- the input was not taken
+  -- Case: the input was not read to its end.
   pub runs_untaken : (fault : ToolFault) → w ≡ false → IsUntaken a b r fault
       → RunsWhole makes fails a b c c r w (Err fault)
   runs_untaken fault good (bytes, inl (h, inl (memory, some))) = record {
@@ -155,12 +155,12 @@ module _ (makes : List ℕ → List ℕ → Type 0) (fails : List ℕ → ToolFa
     memory = λ e. absurd (cc);
   }
 
-  -- it was taken
+  -- Cases: the input was read to its end.
   module _ (bytes : List ℕ) (all : HasGivenAll a b r bytes) where
     heard_all : (d : Option (List ℕ)) → r ≡ true → Appends c d []
     heard_all d failed = absurd (let no : true ≡ false = sym failed ∙ all.given.fine in cc)
 
-    -- and nothing is made of it
+    -- Case: nothing is made of the input.
     pub runs_none : (d : Option (List ℕ)) (fault : ToolFault) → w ≡ false → Appends c d []
         → (fault ≡ faults.Io → ⊥) → (fault ≡ faults.Memory) ⊎ fails bytes fault
         → RunsWhole makes fails a b c d r w (Err fault)
@@ -176,7 +176,7 @@ module _ (makes : List ℕ → List ℕ → Type 0) (fails : List ℕ → ToolFa
         ends (inl memory) = ends_unread d fault (inl memory)
         ends (inr why) = ends_given d bytes [] (Err fault) all (refl, why) none
 
-    -- its message was served, or was not
+    -- Case: the message of the input was served, or was not.
     pub runs_served : (d : Option (List ℕ)) (e : Ending)
         → ServesWhole (makes bytes) (λ (q : Refusal). fails bytes (faults.Refused q)) c d w e
         → RunsWhole makes fails a b c d r w e
@@ -209,7 +209,7 @@ module _ (makes : List ℕ → List ℕ → Type 0) (fails : List ℕ → ToolFa
     runs_served d (Err faults.InputTooLong) none = absurd none
     runs_served d (Err (faults.NotWhole n)) none = absurd none
 
--- ---- the same run, by what more is known of
+-- ---- the same run, for a more general statement
 
 pub serves_more : (writes also : List ℕ → Type 0) (refuses too : Refusal → Type 0) (c d : Option (List ℕ))
     (failed : Bool) (e : Ending) → ((t : List ℕ) → writes t → also t) → ((q : Refusal) → refuses q → too q)
@@ -318,7 +318,7 @@ module _ {S : Type 0} (serves : S → Position → List ℕ → List (List ℕ) 
         (q, refl, inr (frame, message, record { packs = packs; room = room }, framed, why))
 
   module _ {A : Type 0} (a b c : Option (List ℕ)) (r w : Bool) where
-    -- the frame was held, and its message was served
+    -- Case: the frame was held, and its message was served.
     pub one_served : (form : StreamForm) (d : Option (List ℕ)) (kept : Vec ℕ A) (frame : List ℕ) (e : Ending)
         → TakesAll {T = Vec ℕ A} (HoldsFrame form most) a b r (Ok kept) → frame ≡ kept.items
         → ServesWhole (IsWritten frame) (IsUnwritten frame) c d w e
@@ -338,7 +338,7 @@ module _ {S : Type 0} (serves : S → Position → List ℕ → List (List ℕ) 
         (λ (q : Refusal). RefusesOne serves refuses s most streams.Packed bytes (faults.Refused q)) c d w e
         (packed_writes bytes frame P R) (packed_refuses bytes frame P R) served)
 
-  -- no frame was held
+  -- Case: no frame was held.
   pub one_unread : (A : Type 0) (a b c : Option (List ℕ)) (r w : Bool) (form : StreamForm) (fault : ToolFault)
       → w ≡ false → TakesAll {T = Vec ℕ A} (HoldsFrame form most) a b r (Err fault)
       → RunsWhole (WritesOne serves refuses s most form) (RefusesOne serves refuses s most form) a b c c r w (Err fault)

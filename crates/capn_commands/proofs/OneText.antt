@@ -1,4 +1,4 @@
--- An input has one text and one ending. (For `run`.)
+-- Lemmas that the text and the ending of an input are unique. (For `run`.)
 use Rattle.std.proofs.Common.{◌≡◌, ◌⊎◌, inl, inr, ℕ, List, [], ◌∷◌, ◌++◌, length, take, codes, Bool, true, false}
 use Rattle.std.proofs.Common.{Option, Some, None, IfSome, Result, Ok, Err, refl, ap, sym, subst, ◌∙◌, append_assoc}
 use Rattle.std.proofs.Common.{arith, length-append}
@@ -54,7 +54,7 @@ use Rattle.capn_commands.specs.declared.fault.ToolFault.{ToolFault}
 use Rattle.capn_commands.specs.declared.fault.ToolFault.TheVariants as faults
 use Rattle.capn_canon.proofs.shared.OneRefusal.{message_part, one_message_refusal, one_refusal, one_stop}
 
--- ---- a message has one piece, or none for one reason
+-- ---- a message has one text, or none for one reason
 
 module _ (message : List (List ℕ)) (limits : Bounds) where
   pub one_piece : (piece : MessageText) (t u : List ℕ) → IsMessageText piece message limits t
@@ -135,7 +135,7 @@ one_made (wholes.One piece form limits) bytes t u (m, h, i) (n, k, j) =
     (one_message (form_of form) bytes limits.message_words m n h k) i) j
 
 module _ (form : Form) (bytes : List ℕ) (limits : Bounds) where
-  -- one message that has a piece is not refused
+  -- A message that has a text is not refused.
   one_or_none : (piece : MessageText) (m : List (List ℕ)) (t : List ℕ) (r : Refusal)
       → Reads form bytes limits.message_words m → IsMessageText piece m limits t
       → IsOneRefused piece form bytes limits r → r ≡ refusals.Memory
@@ -146,7 +146,7 @@ module _ (form : Form) (bytes : List ℕ) (limits : Bounds) where
   one_or_none kinds.Digest m t r reads (answer, price, a, e) h =
       not_refused form bytes limits a.value r (record { message = m; reads = reads; value = a.is }) a.free h
 
-  -- what is not accepted is refused
+  -- Bytes that are not accepted are refused.
   unaccepted : (r : Refusal) → IsUnacceptedIn form bytes limits r → IsRefused form bytes limits r
   unaccepted (refusals.Walk s) h = h
   unaccepted (refusals.Capability k) h = absurd h
@@ -210,7 +210,7 @@ one_due_whole whole bytes false t u (Err f) (Err g) h k =
 -- ---- a stream
 
 module _ (piece : MessageText) (limits : Bounds) (last : Option ToolFault) where
-  -- how a run ends after the parts
+  -- The ending of a run after its parts.
   abbrev Behind : List ℕ → Result (Unit {0}) ToolFault → Type 0
   Behind rest ending = EndsUnframed limits rest last ending ⊎ EndsRefused piece limits rest ending
 
@@ -228,7 +228,7 @@ module _ (piece : MessageText) (limits : Bounds) (last : Option ToolFault) where
       ought in
       a ∙ ap (λ (x : ToolFault). Err x) fault ∙ sym b
 
-  -- the frame of a part comes first, before what follows it
+  -- Bytes that begin with the frame of a part have its message first.
   part_first : (part : Part) (more : List ℕ) → IsPart piece limits part
       → StandsFirst (part.frame ++ more) limits.message_words part.message (length part.frame)
   part_first part more h =
@@ -240,7 +240,7 @@ module _ (piece : MessageText) (limits : Bounds) (last : Option ToolFault) where
         room = h.room;
       }
 
-  -- a run does not end where a part comes first
+  -- A run does not end before a part.
   no_end : (rest more : List ℕ) (part : Part) (r : Result (Unit {0}) ToolFault) → IsPart piece limits part
       → rest ≡ part.frame ++ more → Behind rest r → ⊥
   no_end rest more part r h is ends =
@@ -303,7 +303,7 @@ one_due (plans.Packed piece limits) bytes is_longer t u r s h k =
     second in
     one_due_each piece limits (behind_packed is_longer k.group k.at) k.words t u r s third k.due
 
--- a run that ended as it must wrote the text and ended as the input says, whichever text and ending are right
+-- A run that ended as it must wrote `t` and ended with `s`, if these are the text and the ending of the input.
 ends_by : (command : Command) (old new : Option (List ℕ)) (r : Result (Unit {0}) ToolFault) (input t : List ℕ)
     (s : Result (Unit {0}) ToolFault) → EndsAs command old new r input → IsText command input t s → EndsBy t s old new r
 ends_by command old new r input t s (inl m) k = inl m

@@ -1,4 +1,4 @@
--- The progress of packing. (For `pack_chunk`, `pack_last` and `pack_stream`.)
+-- Lemmas on the progress of packing. (For `pack_chunk`, `pack_last` and `pack_stream`.)
 use Rattle.std.proofs.Common.{◌≡◌, ◌⊎◌, ◌↔◌, inl, inr, ℕ, ◌+◌, ◌<◌, ◌≤◌, List, [], ◌++◌, length, take}
 use Rattle.std.proofs.Common.{if◌then◌else◌, ◌%◌, eqb}
 use Rattle.std.proofs.Common.{Bool, true, false, Option, Ok, Err, refl, ap, sym, subst, ◌∙◌, append-nil}
@@ -22,7 +22,7 @@ stopped fault = Err fault
 abbrev wrote : Unit {0} → Ending
 wrote u = Ok u
 
--- nothing is settled, and all is held
+-- Nothing is settled, and all bytes are held.
 pub settles_none : (bytes : List ℕ) → Settles bytes [] bytes
 settles_none bytes = record { settled = λ more t c. c }
 
@@ -44,7 +44,7 @@ module _ (bytes text rest more : List ℕ) (s : Settles bytes text rest) where
   front_more next (inl (after, n)) = inl (after, settles_more next after n)
   front_more next (inr c) = inr (s.settled more next c)
 
-  -- a beginning of the text that follows was written
+  -- A prefix of the text that follows the settled part was written.
   pub written_more : (c d e : Option (List ℕ)) → Appends c d text → HasWritten packing (rest ++ more) d e
       → HasWritten packing (bytes ++ more) c e
   written_more c d e done (v, count, front, part) = (
@@ -59,7 +59,7 @@ module _ (bytes text rest more : List ℕ) (s : Settles bytes text rest) where
   packs_stop c d e failed fault done stop =
       record { kind = stop.kind; io = stop.io; written = written_more c d e done stop.written }
 
--- of the bytes of a buffer that come first
+-- A run that stops within the first bytes of a buffer.
 pub front_stop : (rest buf tail : List ℕ) (w : ℕ) (c d : Option (List ℕ)) (failed : Bool) (fault : FlowFault)
     → w ≤ length buf → Stops packing (rest ++ take w (buf ++ tail)) c d failed fault
     → Stops packing (rest ++ take w buf) c d failed fault
@@ -68,7 +68,7 @@ front_stop rest buf tail w c d failed fault within stop =
 
 -- ---- the end
 
--- what was held is packed
+-- Cases: the held bytes are packed at the end.
 module _ (bytes text held : List ℕ) (s : Settles bytes text held) (count : ℕ) (size : length bytes ≡ count)
     (c d e : Option (List ℕ)) (done : Appends c d text) where
   last_ended : (is_longer : Bool) (r : Ending) → HasEnded (packing_last count) held is_longer d e r
@@ -104,7 +104,7 @@ module _ (bytes text held : List ℕ) (s : Settles bytes text held) (count : ℕ
 
 -- ---- the whole stream
 
--- these bytes are held, and the text of those before them was written
+-- `held` is left of `bytes`, and `text` is their settled text, which was written.
 abbrev pub Holds : List ℕ → List ℕ → List ℕ → Type 0
 Holds held bytes text = Settles bytes text held × (length held < most_held) × MayGoOn held
 
@@ -116,14 +116,14 @@ holds_begins held bytes text h = inl (held, h.0)
 
 -- ---- a chunk
 
--- a beginning of what is settled was written
+-- Case: a prefix of the settled text was written.
 pub packs_broken : (bytes text rest : List ℕ) (count : ℕ) (c d : Option (List ℕ)) (failed : Bool) (fault : FlowFault)
     → Settles bytes text rest → Appends c d (take count text) → (fault ≡ faults.Memory) ⊎ (fault ≡ faults.Io)
     → (fault ≡ faults.Io) ↔ (failed ≡ true) → Stops packing bytes c d failed fault
 packs_broken bytes text rest count c d failed fault s done kind io =
     record { kind = kind; io = io; written = (text, count, inl (rest, s), done) }
 
--- memory was refused before anything was written
+-- Case: memory was refused before anything was written.
 pub packs_memory : (bytes : List ℕ) (c : Option (List ℕ)) (failed : Bool) → failed ≡ false
     → Stops packing bytes c c failed faults.Memory
 packs_memory bytes c failed fine = record {
@@ -132,13 +132,13 @@ packs_memory bytes c failed fine = record {
   written = ([], 0, inl (bytes, settles_none bytes), Appends-nil c);
 }
 
--- ---- what the writer did
+-- ---- the result of the write
 
 wrote_fine : (failed : Bool) (u : Unit {0}) → (wrote u ≡ Err faults.Io) ↔ (failed ≡ true) → failed ≡ false
 wrote_fine false u io = refl
 wrote_fine true u io = absurd (let e = io.1 refl in cc)
 
--- what is settled was written, and the rest is held
+-- Case: the settled text was written, and the rest is held.
 pub packs_part : (before bytes held text rest : List ℕ) (c d : Option (List ℕ)) (failed : Bool) (u v : Unit {0})
     → held ≡ before ++ bytes → Settles held text rest → length rest < most_held → length rest ≤ length held
     → MayGoOn rest → Appends c d text
@@ -153,7 +153,7 @@ packs_part before bytes held text rest c d failed u v is s short few open_rest d
   open_rest,
 )
 
--- a beginning of what is settled was written, and the writer failed
+-- Case: a prefix of the settled text was written, and the writer failed.
 pub packs_unwritten : (bytes held text rest : List ℕ) (c d : Option (List ℕ)) (failed : Bool) (fault : FlowFault)
     → held ≡ bytes → Settles held text rest → HasBegun c d text
     → (stopped fault ≡ Err faults.Io) ↔ (failed ≡ true) → fault ≡ faults.Io → Stops packing bytes c d failed fault
@@ -182,7 +182,7 @@ no_ending : (is_longer : Bool) (count : ℕ) → ending_of is_longer count ≡ E
 no_ending true count e = cc
 no_ending false count e = no_whole (eqb (count % 8) 0) count e
 
--- the text of all whole words was written
+-- Case: the text of all whole words was written.
 pub last_packed : (held text : List ℕ) (count : ℕ) (is_longer : Bool) (c d : Option (List ℕ)) (failed : Bool)
     (u : Unit {0}) (r : Ending) → Chosen text (whole_of held) → Appends c d text
     → (wrote u ≡ Err faults.Io) ↔ (failed ≡ true) → r ≡ ending_of is_longer count
@@ -199,7 +199,7 @@ last_packed held text count is_longer c d failed u r chosen done io is =
       memory = λ h. absurd (no_memory is_longer count (sym is ∙ h));
     }
 
--- a beginning of it was written, and the writer failed
+-- Case: a prefix of the text of all whole words was written, and the writer failed.
 pub last_unwritten : (held text : List ℕ) (count : ℕ) (is_longer : Bool) (c d : Option (List ℕ)) (failed : Bool)
     (fault : FlowFault) → Chosen text (whole_of held) → HasBegun c d text
     → (stopped fault ≡ Err faults.Io) ↔ (failed ≡ true) → fault ≡ faults.Io
@@ -211,7 +211,7 @@ last_unwritten held text count is_longer c d failed fault chosen (n, begun) io o
   memory = λ h. absurd (let bad : stopped faults.Io ≡ stopped faults.Memory = sym (ap stopped only) ∙ h in cc);
 }
 
--- memory was refused for it
+-- Case: memory was refused for the text of the last words.
 pub last_memory : (held : List ℕ) (count : ℕ) (is_longer : Bool) (c : Option (List ℕ)) (failed : Bool)
     → failed ≡ false → 0 < length held → Ends (packing_last count) held is_longer c c failed (Err faults.Memory)
 last_memory held count is_longer c failed fine some = record {

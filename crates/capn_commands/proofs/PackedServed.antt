@@ -1,4 +1,4 @@
--- A run over a packed stream whose messages are served is the run of its plan. (For `run_each_packed`.)
+-- Lemmas that a run of the service over a packed stream is a run of its plan. (For `run_each_packed`.)
 use Rattle.std.proofs.Common.{◌≡◌, ◌⊎◌, inl, inr, ℕ, ◌+◌, ◌*◌, ◌-◌, ◌^◌, ◌≤◌, List, [], ◌∷◌, ◌++◌, length}
 use Rattle.std.proofs.Common.{Bool, true, false, Option, Some, None, IfSome, Ok, Err, refl, ap, sym, subst, arith}
 use Rattle.std.proofs.Common.{length-append, length-take}
@@ -48,7 +48,7 @@ all_spread (g ∷ gs) (here, each) = omega (
   length-append (group_text g) (texts gs),
 )
 
--- the most bytes that are taken of what an input unpacks to
+-- The greatest number of bytes that are taken of what an input unpacks to.
 abbrev most_unpacked : ℕ
 most_unpacked = 2 ^ 64 - 1
 
@@ -63,7 +63,7 @@ within bytes stream rest gs each is are short = omega (
   short,
 )
 
--- so all of it is taken
+-- All bytes that an input unpacks to are taken.
 all_taken : (stream : List ℕ) → length stream ≤ most_unpacked → streams.taken_of most_unpacked stream ≡ stream
 all_taken stream short = take_all most_unpacked stream short
 
@@ -184,7 +184,8 @@ module _ (piece : MessageText) (limits : Bounds) (x : Run MessageTexts) (of : Is
     memory = λ e. h.memory (memory_from r e);
   }
 
-  -- the maximum of words is that of the limits
+  -- If the greatest number of words is that of the limits, a run of the service over a packed stream is a run of its
+  -- plan.
   pub packed_served : (most : ℕ) → most ≡ limits.message_words → (a b c d : Option (List ℕ))
       (reader_failed writer_failed : Bool) (r : Ending) (y : Run MessageTexts)
       → served.RunsPacked (fold_of serves refuses most) x most_input most_unpacked a b c d reader_failed

@@ -1,4 +1,5 @@
--- A message of which a part is shown, as a message that a service served. (For `message_texts.rt` and `part_texts.rt`.)
+-- Lemmas that a message with a part shown is a message that a service served. (For `message_texts.rt` and
+-- `part_texts.rt`.)
 use Rattle.std.proofs.Common.{◌≡◌, inl, inr, ℕ, List, [], ◌++◌, false, Option, Result}
 use Rattle.std.proofs.Common.{Ok, Err, refl, sym, subst, ◌∙◌, append-nil, take, Bool, true, IsErrAnd}
 use Rattle.std.specs.Prelude.{if◌then◌else◌}
@@ -27,9 +28,9 @@ Ending = Result (Unit {0}) ServeFault
 abbrev stopped : ServeFault → Ending
 stopped fault = Err fault
 
--- ---- what ends a text
+-- ---- the end of a text
 
--- it is kept, and then what is long was written
+-- Case: the end is kept, and then the text was written if it was long.
 pub end_added : (line : List ℕ) (p q r : Outgoing) (end : Ending) → q.taken ≡ p.taken → q.failed ≡ p.failed
     → q.kept ≡ p.kept ++ line → p.failed ≡ false
     → served.Flushes (served.outgoing q.taken q.kept) (served.outgoing r.taken r.kept) r.failed end
@@ -53,7 +54,7 @@ end_added line p q r (Err faults.Memory) taken failed kept fine (io, begun, brok
 end_added line p q r (Err (faults.Refused f)) taken failed kept fine (io, begun, broke) = absurd (cc)
 
 module _ (m : List (List ℕ)) (limits : Bounds) (of : Tree → List ℕ) (line : List ℕ) where
-  -- ---- the text of a message, and then what ends it
+  -- ---- the text of a message, and then its end
 
   pub part_line : (p q r : Outgoing) (end : Ending) → IsWritten m limits of p q → AddsEnd line q r end
       → AddsPart m limits of line p r end
@@ -65,7 +66,7 @@ module _ (m : List (List ℕ)) (limits : Bounds) (of : Tree → List ℕ) (line 
       (shown.value, shown.is, then-broken p q r broken.Io (of shown.value) line shown.text added)
   part_line p q r (Err (faults.Refused f)) shown added = absurd added
 
-  -- memory is refused for what ends it
+  -- Case: memory is refused for the end of the text.
   pub no_line : (p q : Outgoing) (end : Ending) (fault : ServeFault) → IsErrAnd end (λ e. e ≡ fault)
       → fault ≡ faults.Memory → IsWritten m limits of p q → AddsPart m limits of line p q end
   no_line p q (Ok u) fault told is shown = absurd told
@@ -73,7 +74,7 @@ module _ (m : List (List ℕ)) (limits : Bounds) (of : Tree → List ℕ) (line 
       subst (λ (f : ServeFault). AddsPart m limits of line p q (stopped f)) (sym (told ∙ is))
       (part_line p q q (stopped faults.Memory) shown (0, same q))
 
-  -- ---- it is refused, or its text breaks off
+  -- ---- a message that is refused, or whose text breaks off
 
   part_stop : (s : Stopped) (p q : Outgoing) (fault : ServeFault) → IsFaultOf (ends.Stopped s) fault
       → IsUnwritten m limits of (ends.Stopped s) p q → AddsPart m limits of line p q (stopped fault)
@@ -109,7 +110,7 @@ module _ (m : List (List ℕ)) (limits : Bounds) (of other : Tree → List ℕ) 
   pub without_marks : (b : Bool) → b ≡ false → AddsPart m limits other rest p q end → IsChosen b
   without_marks b is added = subst IsChosen (sym is) added
 
--- ---- as a service does it
+-- ---- the result as that of a service
 
 module _ (m : List (List ℕ)) (s : PartTexts) (at : Position) (frame : List ℕ) (p q : Outgoing) where
   abbrev old : served.Outgoing

@@ -1,4 +1,4 @@
--- One more read. (For `read_words`.)
+-- Lemmas on one more read of the input. (For `read_words`.)
 use Rattle.std.proofs.Common.{◌≡◌, ℕ, ◌<◌, ◌^◌, List, ◌++◌, length, refl, ap, ◌∙◌}
 use Rattle.std.proofs.Common.{arith, length-append, append-nil, Option, None, Some, IfSome, Bool, true}
 use Rattle.std.proofs.Common.{false, nat_lt, ◌||◌}
@@ -10,7 +10,7 @@ use Rattle.capn_commands.specs.inner.ReadInput.{Kept}
 is_below : (a b : ℕ) → a < b → nat_lt a b ≡ true
 is_below a b h = grind (arith, nat_tests)
 
--- a reader that answered an error has failed, and one that gave bytes has not
+-- A reader that returned an error has failed. A reader that returned bytes has not.
 pub has_broken : (old new : Bool) → new ≡ (old || true) → new ≡ true
 has_broken false new is = is
 has_broken true new is = is
@@ -19,7 +19,7 @@ pub still_fine : (old new : Bool) → old ≡ false → new ≡ (old || false) �
 still_fine false new fine is = is
 still_fine true new fine is = absurd (cc)
 
--- what was kept is what a run takes of all that a reader had, where that is known
+-- The bytes that were kept are those that a run takes of all that the reader had, if that is known.
 pub kept_all : (old new : Option (List ℕ)) (kept bytes : List ℕ) (is_longer : Bool) → Kept old new kept is_longer bytes
     → IfSome old (λ all. (taken_of all ≡ kept) × (has_more all ≡ is_longer))
 kept_all None new kept bytes is_longer h = tt

@@ -1,4 +1,4 @@
--- The end of a run. (For `pack_stream` and `unpack_stream`.)
+-- Lemmas on the end of a run. (For `pack_stream` and `unpack_stream`.)
 use Rattle.std.proofs.Common.{◌≡◌, ◌⊎◌, inl, inr, ℕ, ◌+◌, ◌-◌, ◌<◌, ◌≤◌, min, List, ◌++◌, length, take, Bool, true}
 use Rattle.std.proofs.Common.{[], append-nil, false, Option, None, Some, IfSome, Err, refl, ap, sym, subst, ◌∙◌, arith}
 use Rattle.std.proofs.Common.{length-append, length-take, length-take-le}
@@ -16,7 +16,6 @@ use Rattle.capn_commands.proofs.InputRead.{kept_all, read_end, read_past, taken_
 abbrev stopped : FlowFault → Ending
 stopped fault = Err fault
 
--- a reader that has not failed has not
 not_read : (r : Bool) → r ≡ false → r ≡ true → ⊥
 not_read r fine bad = let e : true ≡ false = sym bad ∙ fine in cc
 
@@ -24,7 +23,7 @@ writer_only : (r w : Bool) → r ≡ false → (r ≡ true) ⊎ (w ≡ true) →
 writer_only r w fine (inl h) = absurd (not_read r fine h)
 writer_only r w fine (inr h) = h
 
--- one chunk more was heard
+-- One more chunk was read, and `P` still holds.
 pub heard_more : (P Q : List ℕ → List ℕ → Type 0) (a b b2 c d e : Option (List ℕ)) (taken w k : ℕ) (buf words : List ℕ)
     → w ≡ k → (h : Consumed P a b c d taken) → Consumes b b2 (take k buf) → k ≤ length buf → Appends d e words
     → Q (h.bytes ++ take k buf) (h.text ++ words) → Consumed Q a b2 c e (taken + w)
@@ -67,7 +66,7 @@ module _ (f : Flow) where
       subst (λ (m : Bool). HasEnded f (taken_of all) m c d r) (sym same.1)
       (subst (λ (xs : List ℕ). HasEnded f xs is_longer c d r) (sym same.0) h)
 
-  -- all that is taken has come
+  -- Case: all bytes that are taken were read.
   run_kept : (a b c d : Option (List ℕ)) (kept bytes : List ℕ) (is_longer : Bool) (rf wf : Bool) (r : Ending)
       → rf ≡ false → Kept a b kept is_longer bytes → IsAhead f bytes c d → Ends f kept is_longer c d wf r
       → Runs f a b c d rf wf r
@@ -81,7 +80,7 @@ module _ (f : Flow) where
 
   module _ (P : List ℕ → List ℕ → Type 0) (settles : (bytes text : List ℕ) → P bytes text → f.settles bytes text)
       (begins : (bytes text : List ℕ) → P bytes text → f.begins bytes text) where
-    -- what is settled of the bytes that were heard was written, and then more, within one piece
+    -- The settled output of the bytes before the last chunk was written, and then more, before the next read.
     ahead : (a b c d e : Option (List ℕ)) (taken k : ℕ) (buf more : List ℕ) → (h : Consumed P a b c d taken)
         → k ≤ length buf → k ≤ 65536 → Appends d e more → IsAhead f (h.bytes ++ take k buf) c e
     ahead a b c d e taken k buf more h within small wrote = (
@@ -97,7 +96,7 @@ module _ (f : Flow) where
       wrote,
     )
 
-    -- no piece came after them
+    -- No chunk was read after the bytes whose settled output was written.
     ahead_all : (a b c d e : Option (List ℕ)) (taken : ℕ) (more : List ℕ) → (h : Consumed P a b c d taken)
         → Appends d e more → IsAhead f h.bytes c e
     ahead_all a b c d e taken more h wrote = (
@@ -113,7 +112,6 @@ module _ (f : Flow) where
       wrote,
     )
 
-    -- the reader failed
     pub run_unread : (a b b2 c d : Option (List ℕ)) (taken : ℕ) (rf wf : Bool) → rf ≡ true → taken ≤ most
         → Consumed P a b c d taken → Keeps b b2 → Runs f a b2 c d rf wf (Err faults.Io)
     run_unread a b b2 c d taken rf wf broken short h kept =
@@ -129,7 +127,6 @@ module _ (f : Flow) where
           memory = λ e. absurd (cc);
         }
 
-    -- the input ended
     pub run_ended : (a b b2 c d e : Option (List ℕ)) (taken : ℕ) (buf : List ℕ) (n : ℕ) (rf wf : Bool) (r : Ending)
         → rf ≡ false → taken ≤ most → (h : Consumed P a b c d taken) → n ≡ 0
         → Consumes b b2 (take n buf) × (n ≡ 0 → 0 < length buf → IsAtEnd b2) → 0 < length buf
@@ -139,7 +136,7 @@ module _ (f : Flow) where
         (read_end a b b2 h.bytes buf n zero h.read more some (omega (arith, h.count, short)))
         (ahead_all a b c d e taken last h wrote) ends
 
-    -- a byte past the greatest number was read
+    -- Case: a byte past the greatest number was read.
     pub run_long : (a b b2 c d e : Option (List ℕ)) (taken : ℕ) (buf : List ℕ) (w k : ℕ) (rf wf : Bool) (r : Ending)
         → rf ≡ false → taken + w ≡ most → w < k → taken + k ≤ most + 1 → k ≤ 65536 → (h : Consumed P a b c d taken)
         → Consumes b b2 (take k buf) → k ≤ length buf → (last : List ℕ) → Appends d e last
@@ -149,7 +146,6 @@ module _ (f : Flow) where
         (read_past a b b2 h.bytes buf k w h.read more within (omega (arith, h.count, full)) past
         (omega (arith, h.count, bound))) (ahead a b c d e taken k buf last h within small wrote) ends
 
-    -- the run stopped within a chunk
     pub run_stopped : (a b b2 c d e : Option (List ℕ)) (taken : ℕ) (buf : List ℕ) (w k : ℕ) (rf wf : Bool)
         (fault : FlowFault) → rf ≡ false → taken ≤ most → w ≡ min k (most - taken) → taken + k ≤ most + 1
         → 0 < k → k ≤ 65536 → (h : Consumed P a b c d taken) → Consumes b b2 (take k buf) → k ≤ length buf

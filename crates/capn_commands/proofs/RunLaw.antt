@@ -1,4 +1,4 @@
--- A run ends as it must for all that its reader had to give. (For `perform`, `run` and `run_bare_piece`.)
+-- Lemmas that a run ends as it must for all that its reader had. (For `perform`, `run` and `run_bare_piece`.)
 use Rattle.std.proofs.Common.{◌≡◌, ◌⊎◌, inl, inr, ℕ, ◌+◌, ◌≤◌, ◌^◌, List, [], Bool, Option, None, Some, IfSome, Result}
 use Rattle.std.proofs.Common.{Err, refl, ap, sym, subst}
 use Rattle.std.proofs.KnownBytes.{Appends-nil}
@@ -11,7 +11,7 @@ use Rattle.capn_commands.specs.declared.fault.ToolFault.{ToolFault}
 use Rattle.capn_commands.specs.declared.fault.ToolFault.TheVariants as faults
 use Rattle.capn_commands.proofs.ReadMore.{kept_all}
 
--- each text begins with nothing
+-- The empty text is a possible first part of any output.
 front_none : (plan : Plan) (bytes : List ℕ) (is_longer : Bool) → IsFront plan bytes is_longer []
 front_none (plans.Whole whole) bytes is_longer = inl refl
 front_none (plans.Each piece limits) bytes is_longer = ([], bytes, record { each = tt; is = refl }, refl)
@@ -24,7 +24,7 @@ front_none (plans.Packed piece limits) bytes is_longer = (
   refl,
 )
 
--- nothing was written
+-- Nothing was written, which is a prefix of any output.
 pub begins_none : (plan : Plan) (old new writer : Option (List ℕ)) → HasRead old new (λ n. n ≤ 2 ^ 32 + 1)
     → PlanBegins plan old new writer writer
 begins_none plan old new writer (bytes, read, bound) = (
@@ -36,7 +36,7 @@ begins_none plan old new writer (bytes, read, bound) = (
   },
 )
 
--- what was written for the bytes that were kept was written for those that were read,
+-- The output that was written for the bytes that were kept was written for those that were read.
 pub begins_kept : (plan : Plan) (old new writer written : Option (List ℕ)) (kept : List ℕ) (is_longer : Bool)
     → (bytes : List ℕ) × Kept old new kept is_longer bytes
     → HasWritten plan kept is_longer writer written → PlanBegins plan old new writer written
@@ -51,7 +51,7 @@ begins_kept plan old new writer written kept is_longer (bytes, k) h = (
   },
 )
 
--- and a run that ended like this ended as it must for all that the reader had to give
+-- A run that ended as it must for the bytes that were kept ended as it must for all that the reader had.
 pub ends_kept : (plan : Plan) (old new writer written : Option (List ℕ)) (kept : List ℕ) (is_longer : Bool)
     (r : Result (Unit {0}) ToolFault) → (bytes : List ℕ) × Kept old new kept is_longer bytes
     → HasEnded plan kept is_longer writer written r → IfSome old (PlanEndsAs plan writer written r)
@@ -61,19 +61,19 @@ ends_kept plan (Some all) new writer written kept is_longer r (bytes, k) h =
     subst (λ (b : Bool). HasEnded plan (taken_of all) b writer written r) (sym same.1)
     (subst (λ (xs : List ℕ). HasEnded plan xs is_longer writer written r) (sym same.0) h)
 
--- the reader failed, or memory was refused
+-- Case: the reader failed, or memory was refused.
 pub ends_unread : (plan : Plan) (old writer written : Option (List ℕ)) (fault : ToolFault) → (fault ≡ faults.Memory)
     ⊎ (fault ≡ faults.Io) → IfSome old (PlanEndsAs plan writer written (Err fault))
 ends_unread plan None writer written fault h = tt
 ends_unread plan (Some all) writer written fault (inl m) = inl (ap (λ (f : ToolFault). Err f) m)
 ends_unread plan (Some all) writer written fault (inr e) = inr (inl (ap (λ (f : ToolFault). Err f) e))
 
--- a run of a plan is one of the command whose plan it is
+-- A run of a plan is a run of the command with that plan.
 pub ends_planned : (plan other : Plan) (known old new : Option (List ℕ)) (r : Result (Unit {0}) ToolFault)
     → plan ≡ other → IfSome known (PlanEndsAs plan old new r) → IfSome known (PlanEndsAs other old new r)
 ends_planned plan other known old new r e h = subst (λ (p : Plan). IfSome known (PlanEndsAs p old new r)) e h
 
--- a run of a plan is one of any plan that equals it
+-- A run of a plan is a run of any plan that equals it.
 pub runs_planned : (plan this : Plan) (a b c d : Option (List ℕ)) (reader_failed writer_failed : Bool)
     (r : Result (Unit {0}) ToolFault) → plan ≡ this → Runs this a b c d reader_failed writer_failed r
     → Runs plan a b c d reader_failed writer_failed r

@@ -1,4 +1,4 @@
--- The settled part of a packer's text. (For `settle` and `unpacked_part`.)
+-- Lemmas on the settled part of a packer's text. (For `settle` and `unpacked_part`.)
 use Rattle.std.proofs.Common.{◌≡◌, inl, inr, ℕ, ◌+◌, ◌-◌, ◌*◌, ◌/◌, ◌<◌, ◌≤◌, List, [], ◌∷◌}
 use Rattle.std.proofs.Common.{◌++◌, length, take, drop, get_or, refl, ap, sym, subst, ◌∙◌, arith}
 use Rattle.std.proofs.Common.{append-nil, append_assoc, length-append, length-drop, length-take-le, take-append-drop}
@@ -22,7 +22,7 @@ use Rattle.capn_commands.proofs.HeldBack.{open_more, open_none}
 
 -- ---- whole words
 
--- of bytes after whole words
+-- The whole words of bytes that follow whole words.
 pub whole_after : (front bytes : List ℕ) (n : ℕ) → length front ≡ 8 * n
     → whole_of (front ++ bytes) ≡ front ++ whole_of bytes
 whole_after front bytes n size =
@@ -32,14 +32,14 @@ whole_after front bytes n size =
 
 -- ---- what follows a group
 
--- a choice hangs on the first word that follows
+-- The packer's choice of a group depends only on the first word that follows it.
 choice_longer : (g : Group) (a b : List ℕ) → 8 ≤ length a → IsChoice g a → IsChoice g (a ++ b)
 choice_longer (Zeros more) a b long c = λ less e. c less (sym (take-append-le 8 a b long) ∙ e)
 choice_longer (Named tag word) a b long c = c
 choice_longer (Raw word count more) a b long c =
     (c.0, c.1, λ less dense. c.2 less (subst IsDense (take-append-le 8 a b long) dense))
 
--- a group that no later word changes
+-- A group that no later word changes, because it is full.
 abbrev pub IsFull : Group → Type 0
 IsFull (Zeros more) = more ≡ 255
 IsFull (Named tag word) = ⊤
@@ -50,7 +50,7 @@ choice_full (Zeros more) a b full c = λ less e. absurd (omega (arith, full, les
 choice_full (Named tag word) a b full c = c
 choice_full (Raw word count more) a b full c = (c.0, c.1, λ less dense. absurd (omega (arith, full, less)))
 
--- a row may go on otherwise, as long as what follows it begins as it did
+-- A list of groups may be followed by other groups, if these begin with the same words.
 row_join : (gs us vs : List Group) (more : List ℕ) → IsChosenRow (gs ++ us) → contents vs ≡ contents us ++ more
     → 8 ≤ length (contents us) → IsChosenRow vs → IsChosenRow (gs ++ vs)
 row_join [] us vs more row same long next = next
@@ -71,13 +71,12 @@ pub row_after : (gs us : List Group) → IsChosenRow (gs ++ us) → IsChosenRow 
 row_after [] us row = row
 row_after (g ∷ gs) us row = row_after gs us row.2
 
--- a group has a word
 pub words_some : (g : Group) → 1 ≤ group_words g
 words_some (Zeros more) = omega arith
 words_some (Named tag word) = omega arith
 words_some (Raw word count more) = omega arith
 
--- a row, whose last group is settled, goes on
+-- A list of groups with a settled last group may be followed by any groups.
 row_full : (gs : List Group) (h : Group) (vs : List Group) → IsFull h → IsChosenRow (gs ++ h ∷ []) → IsChosenRow vs
     → IsChosenRow (gs ++ h ∷ vs)
 row_full gs h vs full row next =
@@ -98,7 +97,7 @@ pub each_front : (gs us : List Group) → IsChosenRow (gs ++ us) → AllByRecurs
 each_front [] us row = tt
 each_front (g ∷ gs) us row = (row.0, each_front gs us row.2)
 
--- a row settles its text, where it goes on as the rest does
+-- A list of groups settles its text, if any groups that follow it are chosen as those of the rest are.
 settles_row : (gs : List Group) (rest : List ℕ) → AllByRecursion IsGroup gs
     → ((next : List ℕ) (vs : List Group) → contents vs ≡ whole_of (rest ++ next) → IsChosenRow vs
     → IsChosenRow (gs ++ vs)) → Settles (contents gs ++ rest) (texts gs) rest
@@ -115,7 +114,7 @@ settles_row gs rest each law = record {
   };
 }
 
--- all but the last group
+-- All groups but the last one are settled.
 settles_front : (gs : List Group) (h : Group) (more : List ℕ) → AllByRecursion IsGroup gs → IsChosenRow (gs ++ h ∷ [])
     → Settles (contents gs ++ (group_bytes h ++ more)) (texts gs) (group_bytes h ++ more)
 settles_front gs h more each row =
@@ -129,7 +128,7 @@ settles_front gs h more each row =
     ∙ whole_after (group_bytes h) (more ++ next) (group_words h) size
     ∙ ap (λ (l : List ℕ). l ++ whole_of (more ++ next)) (sym (append-nil (group_bytes h)))) long rows)
 
--- all, where the last group is settled
+-- All groups are settled, if the last one is.
 settles_all : (gs : List Group) (h : Group) (more : List ℕ) → IsFull h → IsChosenRow (gs ++ h ∷ [])
     → Settles (contents (gs ++ h ∷ []) ++ more) (texts (gs ++ h ∷ [])) more
 settles_all gs h more full row =
@@ -138,7 +137,7 @@ settles_all gs h more full row =
 
 -- ---- the last group of a text
 
--- the groups that were unpacked are all but the last
+-- The groups that were unpacked are all but the last one.
 pub record Last (text_of words_of : List ℕ) (count taken known : ℕ) : Type 0 where
   pub groups : List Group
   pub last : Group
@@ -150,7 +149,7 @@ pub record Last (text_of words_of : List ℕ) (count taken known : ℕ) : Type 0
   pub words_are : known + group_words last ≡ count
   pub content_is : words_of ≡ contents groups ++ group_bytes last
 
--- no second group is left
+-- After the groups that were unpacked, only one group is left.
 one_left : (next : Next) (left : ℕ) (h : Group) (more : List ℕ) → IsGroup h → group_words h ≤ left
     → StandsNext next left (group_text h ++ more) → ⊥
 one_left nexts.End left h more is fits none =
@@ -208,7 +207,7 @@ no_bytes : (bs : List ℕ) → length bs ≡ 0 → bs ≡ []
 no_bytes [] none = refl
 no_bytes (b ∷ bs) none = absurd (omega (arith, none))
 
--- of less than a word nothing is settled
+-- Nothing is settled of less than a word.
 pub settled_none : (t bs : List ℕ) → Chosen t bs → length bs < 8 → IsSettled t bs 0 0
 settled_none t bs c less = record {
   inside = omega arith;
@@ -229,7 +228,7 @@ module _ (t bs : List ℕ) (count taken known : ℕ) (l : Last t bs count taken 
       ∙ ap (λ (k : ℕ). drop k (contents l.groups ++ group_bytes l.last)) (sym front_size)
       ∙ drop-append_seam (contents l.groups) (group_bytes l.last)
 
-  -- its last group may go on
+  -- Case: the last group may go on.
   pub settled_front : length bs ≡ 8 * count → count - known < 256 → AreOpen (group_bytes l.last)
       → IsSettled t bs taken (8 * known)
   settled_front size less is_open = record {
@@ -245,7 +244,7 @@ module _ (t bs : List ℕ) (count taken known : ℕ) (l : Last t bs count taken 
     open_words = subst AreOpen (sym rest_of) is_open;
   }
 
-  -- its last group is settled, by its tag and its number of words
+  -- The last group is settled, by its tag and its number of words.
   full_last : (h : Group) → IsGroup h
       → (group_words h < 256 → (0 < get_or (group_text h) 0 0) × (get_or (group_text h) 0 0 < 255))
       → IsFull h
@@ -286,7 +285,7 @@ module _ (t bs : List ℕ) (count taken known : ℕ) (l : Last t bs count taken 
         open_words = open_none (drop (length bs) bs) (drop_all (length bs) bs (omega arith));
       }
 
--- the same, by the byte where the last group begins
+-- All of a text is settled, by the byte at which its last group begins.
 pub settled_tag : (t bs : List ℕ) (count taken known tag : ℕ) → Last t bs count taken known → Chosen t bs
     → get_or t taken 0 ≡ tag → (count - known < 256 → (0 < tag) × (tag < 255)) → IsSettled t bs (length t) (length bs)
 settled_tag t bs count taken known tag l c is closed =
@@ -295,7 +294,7 @@ settled_tag t bs count taken known tag l c is closed =
     settled_whole t bs count taken known l c
     (λ less. subst (λ (x : ℕ). (0 < x) × (x < 255)) (sym same) (closed less))
 
--- the last group of some words, where all groups before it were unpacked
+-- The last group of a text, if all groups before it were unpacked.
 pub last_of : (t bs : List ℕ) (taken known : ℕ) (old new : List ℕ) (next : Next) → Chosen t bs → 8 ≤ length bs
     → UnpacksSome t (length bs / 8 - 1) old new taken known next → Last t bs (length bs / 8) taken known
 last_of t bs taken known old new next c some u =
@@ -304,14 +303,14 @@ last_of t bs taken known old new next c some u =
 
 -- ---- what is held
 
--- behind the cut are dense words, and less than a word
+-- After the cut there are dense words, and less than a word.
 dense_behind : (held : List ℕ) (cut whole : ℕ) → cut ≤ whole → whole ≤ length held
     → drop cut held ≡ drop cut (take whole held) ++ drop whole held
 dense_behind held cut whole before inside =
     ap (drop cut) (sym (take-append-drop whole held))
     ∙ drop-append-le cut (take whole held) (drop whole held) (omega (arith, before, length-take-le whole held inside))
 
--- of bytes of which the first were packed, and those after them are few
+-- The first bytes were packed and those after them are few. The settled part of their text settles all bytes.
 pub settled_held : (held t first_of rest_of : List ℕ) (cut whole first at n : ℕ)
     → IsSettled t (take cut held) first at → length held < length (take cut held) + 2048 → first_of ≡ take first t
     → rest_of ≡ drop at held → cut ≤ whole → whole ≤ length held → length held < whole + 8

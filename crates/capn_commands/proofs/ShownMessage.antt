@@ -1,5 +1,5 @@
--- A message whose text is written while it is made, as a message that a service served. (For `add_line`, `add_shown`
--- and `serve`.)
+-- Lemmas that a message with a text written while it is made is a message that a service served. (For `add_line`,
+-- `add_shown` and `serve`.)
 use Rattle.std.proofs.Common.{◌≡◌, ◌≢◌, ◌⊎◌, inl, inr, ℕ, List, [], ◌∷◌, ◌++◌, false, codes, Option, Result}
 use Rattle.std.proofs.Common.{Ok, Err, refl, sym, subst, ◌∙◌, append-nil, take}
 use Rattle.std.specs.Io.KnownBytes.{Appends}
@@ -30,7 +30,7 @@ stopped fault = Err fault
 
 -- ---- one line
 
--- it is kept, and then what is long was written
+-- Case: the line is kept, and then the text was written if it was long.
 pub line_added : (line : List ℕ) (p q r : Outgoing) (end : Ending) → q.taken ≡ p.taken → q.failed ≡ p.failed
     → q.kept ≡ p.kept ++ line → p.failed ≡ false
     → served.Flushes (served.outgoing q.taken q.kept) (served.outgoing r.taken r.kept) r.failed end
@@ -72,7 +72,7 @@ module _ (m : List (List ℕ)) (limits : Bounds) where
   )
   shown_line p q r (Err (faults.Refused f)) shown line = absurd line
 
-  -- ---- it is refused, or its text breaks off
+  -- ---- a message that is refused, or whose text breaks off
 
   stops : (s : Stopped) (p q : Outgoing) (fault : ServeFault)
       → ((s.fault ≡ walk_faults.Memory) × (fault ≡ faults.Memory))
@@ -108,7 +108,7 @@ module _ (m : List (List ℕ)) (limits : Bounds) where
     broken-before p q broken.Memory (show_text begun.value) (codes "end" ++ 10 ∷ []) begun.text,
   )
 
-  -- ---- as a service does it
+  -- ---- the result as that of a service
 
   module _ (s : MessageTexts) (at : Position) (frame : List ℕ) (p q : Outgoing) where
     abbrev old : served.Outgoing

@@ -1,4 +1,4 @@
--- The progress of unpacking. (For `unpack_stream`, `write_groups` and `write_some`.)
+-- Lemmas on the progress of unpacking. (For `unpack_stream`, `write_groups` and `write_some`.)
 use Rattle.std.proofs.Common.{◌≡◌, ◌⊎◌, ◌↔◌, inl, inr, ℕ, zero, suc, ◌+◌, ◌^◌, ◌<◌, ◌≤◌, List, [], ◌∷◌, ◌++◌, length}
 use Rattle.std.proofs.Common.{take, drop, get_or, Bool, true, false, Option, Err, refl, ap, sym, subst, ◌∙◌, arith}
 use Rattle.std.proofs.Common.{append_assoc, length-append, length-drop, drop-drop, take-append-drop}
@@ -29,17 +29,17 @@ stopped fault = Err fault
 
 -- ---- groups that come first in some bytes
 
--- none
+-- No group was unpacked yet.
 pub row_none : (bytes : List ℕ) → TakesRow bytes 0 [] []
 row_none bytes = record { groups = []; each = tt; within = omega arith; text = refl; content = refl }
 
--- as many as one call unpacks
+-- The groups that one call unpacks.
 row_some : (bytes words : List ℕ) (max taken count : ℕ) (next : Next)
     → UnpacksSome bytes max [] words taken count next → TakesRow bytes taken [] words
 row_some bytes words max taken count next u =
     record { groups = u.groups; each = u.each; within = u.inside; text = u.text; content = u.content }
 
--- groups, and those that come next
+-- Groups, and those that follow them.
 row_then : (bytes words more : List ℕ) (at taken : ℕ) → TakesRow bytes at [] words
     → TakesRow (drop at bytes) taken [] more → TakesRow bytes (at + taken) [] (words ++ more)
 row_then bytes words more at taken s t = record {
@@ -57,9 +57,9 @@ pub row_more : (bytes words more : List ℕ) (at max taken count : ℕ) (next : 
 row_more bytes words more at max taken count next s u =
     row_then bytes words more at taken s (row_some (drop at bytes) more max taken count next u)
 
--- ---- what comes next
+-- ---- the bytes that follow
 
--- no whole group, unless there was no room for it
+-- No whole group follows, unless there was no room for it.
 none_next : (next : Next) (room : ℕ) (rest : List ℕ) → StandsNext next room rest → (next ≡ nexts.TooLong → ⊥)
     → NoGroupFirst rest × (length rest < most_group)
 none_next nexts.End room rest is other =
@@ -71,7 +71,7 @@ not_long : (next : Next) → (next ≡ nexts.End) ⊎ (next ≡ nexts.Cut) → n
 not_long next (inl a) e = let bad : nexts.End ≡ nexts.TooLong = sym a ∙ e in cc
 not_long next (inr a) e = let bad : nexts.Cut ≡ nexts.TooLong = sym a ∙ e in cc
 
--- so all whole groups were unpacked
+-- All whole groups were unpacked.
 pub row_last : (bytes words more : List ℕ) (at max taken count : ℕ) (next : Next) → TakesRow bytes at [] words
     → UnpacksSome (drop at bytes) max [] more taken count next → (next ≡ nexts.End) ⊎ (next ≡ nexts.Cut)
     → Splits bytes (drop (at + taken) bytes) [] (words ++ more) (at + taken)
@@ -92,7 +92,7 @@ no_words : (gs : List Group) → [] ≡ texts gs → word_count gs ≡ 0
 no_words [] e = refl
 no_words (g ∷ gs) e = absurd (omega (arith, text_some g, ap length e, length-append (group_text g) (texts gs)))
 
--- with room for a group one call unpacks some of them, where it says that there was no room for the next
+-- With room for a group, a call that reports no room for the next group has unpacked at least one.
 grows : (bytes words : List ℕ) (max taken count : ℕ) → ((k : ℕ) → get_or bytes k 0 < 2 ^ 8) → 256 ≤ max
     → UnpacksSome bytes max [] words taken count nexts.TooLong → 0 < taken
 grows bytes words max zero count fits room u =
@@ -107,7 +107,7 @@ row_grows bytes words max taken count next fits room is u =
 
 -- ---- a run that stops
 
--- memory was refused before anything was written
+-- Case: memory was refused before anything was written.
 pub some_refused : (bytes : List ℕ) (c : Option (List ℕ)) (failed : Bool) → failed ≡ false
     → Stops unpacking bytes c c failed faults.Memory
 some_refused bytes c failed fine = record {
@@ -116,7 +116,7 @@ some_refused bytes c failed fine = record {
   written = ([], 0, record { groups = []; rest = bytes; each = tt; text = refl; content = refl }, Appends-nil c);
 }
 
--- a beginning of the words of some groups was written, and the writer failed
+-- Case: a prefix of the words of some groups was written, and the writer failed.
 pub some_unwritten : (bytes old words : List ℕ) (max taken count : ℕ) (next : Next) (c d : Option (List ℕ))
     (failed : Bool) (fault : FlowFault) → old ≡ [] → UnpacksSome bytes max old words taken count next
     → HasBegun c d words → (stopped fault ≡ Err faults.Io) ↔ (failed ≡ true) → fault ≡ faults.Io
@@ -152,7 +152,7 @@ begins_row bytes words next at s b = record {
   content = (λ i. s.content i ++ b.content i) ∙ sym (flat_map-append group_bytes s.groups b.groups);
 }
 
--- words were written, and then the run stopped
+-- Case: words were written, and then the run stopped.
 stops_then : (bytes rest words : List ℕ) (c d e : Option (List ℕ)) (failed : Bool) (fault : FlowFault)
     → ((next : List ℕ) → packing.Begins rest [] next → packing.Begins bytes [] (words ++ next)) → Appends c d words
     → Stops unpacking rest d e failed fault → Stops unpacking bytes c e failed fault
@@ -178,11 +178,10 @@ row_stop bytes words at c d e failed fault s =
 
 -- ---- the whole stream
 
--- unpacking has come so far from the first byte on: the words of all whole groups are written, and this is left
+-- Unpacking has taken `bytes` from the first byte on. The words of all whole groups are `text`, and `rest` is left.
 abbrev pub FromStart : List ℕ → List ℕ → List ℕ → Type 0
 FromStart rest bytes text = (len : ℕ) × Splits bytes rest [] text len
 
--- nothing has come
 pub start_none : FromStart [] [] []
 start_none = (0, splits_open [] [] [] nothing_first refl)
 
@@ -194,7 +193,7 @@ start_begins rest bytes text told =
     let s = told.1 in
     record { groups = s.groups; rest = rest; each = s.each; text = s.text; content = s.content }
 
--- after words that were there
+-- A split that appends its words to words that were there before.
 shifted : (stream rest words old : List ℕ) (len : ℕ) → Splits stream rest [] words len
     → Splits stream rest old (old ++ words) len
 shifted stream rest words old len s = record {
@@ -207,7 +206,7 @@ shifted stream rest words old len s = record {
 }
 
 module _ (rest bytes text piece : List ℕ) (told : FromStart rest bytes text) where
-  -- one chunk more
+  -- Case: one more chunk was read.
   pub start_more : (after words : List ℕ) (at : ℕ) → Splits (rest ++ piece) after [] words at
       → FromStart after (bytes ++ piece) (text ++ words)
   start_more after words at more = (
@@ -216,32 +215,32 @@ module _ (rest bytes text piece : List ℕ) (told : FromStart rest bytes text) w
         (shifted (rest ++ piece) after words text at more),
   )
 
-  -- the run stopped in it
+  -- Case: the run stopped within the chunk.
   pub start_stop : (c d e : Option (List ℕ)) (failed : Bool) (fault : FlowFault) → Appends c d text
       → Stops unpacking (rest ++ piece) d e failed fault → Stops unpacking (bytes ++ piece) c e failed fault
   start_stop c d e failed fault =
       stops_then (bytes ++ piece) (rest ++ piece) text c d e failed fault
       (λ next. begins_then bytes rest piece text next told.0 told.1)
 
--- where what is left begins
+-- The offset of the bytes that are left.
 pub start_at : (rest bytes text : List ℕ) (told : FromStart rest bytes text) → told.0 + length rest ≡ length bytes
 start_at rest bytes text told =
     let s = told.1 in
     omega (arith, s.size, ap length s.text, length-append (texts s.groups) rest)
 
--- this ending is never Io: that is reported only where a reader or a writer failed
+-- The ending of unpacking is never Io, which is reported only if the reader or the writer failed.
 not_io : (is_longer : Bool) (rest : List ℕ) (offset : ℕ) → ending_of is_longer rest offset ≡ Err faults.Io → ⊥
 not_io true rest offset e = cc
 not_io false [] offset e = cc
 not_io false (b ∷ rest) offset e = cc
 
--- nor Memory: that is reported only for bytes that were read
+-- The ending of unpacking is never Memory, which is reported only if bytes were read.
 not_memory : (is_longer : Bool) (rest : List ℕ) (offset : ℕ) → ending_of is_longer rest offset ≡ Err faults.Memory → ⊥
 not_memory true rest offset e = cc
 not_memory false [] offset e = cc
 not_memory false (b ∷ rest) offset e = cc
 
--- all that is taken has come
+-- Case: all bytes that are taken were read.
 pub unpacking_ends : (rest bytes text : List ℕ) (is_longer : Bool) (c d : Option (List ℕ)) (wf : Bool) (offset : ℕ)
     (r : Ending) → wf ≡ false → FromStart rest bytes text → Appends c d text → offset + length rest ≡ length bytes
     → r ≡ ending_of is_longer rest offset → Ends unpacking bytes is_longer c d wf r

@@ -1,4 +1,4 @@
--- A packed input whose words are unpacked while it comes. (For `end_pending`, `read_words` and `take_chunk`.)
+-- Lemmas on a packed input that is unpacked while it is read. (For `end_pending`, `read_words` and `take_chunk`.)
 use Rattle.std.proofs.Common.{◌≡◌, ◌⊎◌, inl, inr, ℕ, ◌+◌, ◌*◌, ◌<◌, ◌≤◌, List, [], ◌∷◌, ◌++◌, length, take, drop}
 use Rattle.std.proofs.Common.{slice_index, refl, ap, sym, subst, ◌∙◌, arith, append_assoc, append-nil, length-append}
 use Rattle.std.proofs.Common.{take-append-drop, length-take, Bool, true, false, Ok, Err, Vec}
@@ -18,7 +18,6 @@ use Rattle.capn_commands.specs.WholeInput.{Gives}
 use Rattle.capn_commands.specs.declared.plan.Whole.TheVariants as wholes
 use Rattle.capn_commands.specs.declared.fault.ToolFault.TheVariants as faults
 
--- nothing has come
 pub begins_pending : (most : ℕ) → Holds most [] [] [] 0 most
 begins_pending most = record {
   groups = [];
@@ -30,7 +29,7 @@ begins_pending most = record {
   begun = inl refl;
 }
 
--- the words that a tag announces, by the bytes that give their number
+-- The number of words that a tag announces, by the byte after a tag of zeros or of raw words.
 abbrev announced : ℕ → ℕ → ℕ → ℕ
 announced tag zeros raw = if tag == 0 then 1 + zeros else (if tag == 255 then 1 + raw else 1)
 
@@ -40,7 +39,7 @@ same_words true f a b c d p q = ap (λ (n : ℕ). 1 + n) (p refl)
 same_words false true a b c d p q = ap (λ (n : ℕ). 1 + n) (q refl refl)
 same_words false false a b c d p q = refl
 
--- a head stays as more bytes come, and so do the words that it announces
+-- A head of a group stays the same if more bytes follow, and so does the number of words that it announces.
 head_stays : (rest more : List ℕ) → 0 < length rest → HasHead rest
     → HasHead (rest ++ more) × (words_at (rest ++ more) ≡ words_at rest)
 head_stays rest more some head =
@@ -54,7 +53,7 @@ head_stays rest more some head =
           (λ z f. at 9 (omega (arith, rw (z, f) at head))),
     )
 
--- so does a group that has more words than there is room for
+-- A group that has more words than there is room for stays so if more bytes follow.
 long_stays : (room : ℕ) (rest more : List ℕ) → IsTooLong room rest → IsTooLong room (rest ++ more)
 long_stays room rest more long =
     let stays = head_stays rest more long.0 long.1 in
@@ -75,7 +74,7 @@ refused_stays most seen more at s = record {
 
 module _ (most : ℕ) (seen words held piece : List ℕ) (at left : ℕ) (h : Holds most seen words held at left)
     (new : List ℕ) (taken count : ℕ) where
-  -- what follows the groups that a piece made whole
+  -- The bytes that follow the groups which a chunk completes.
   split : (groups : List Group) → take taken (held ++ piece) ≡ texts groups
       → seen ++ piece ≡ texts (h.groups ++ groups) ++ drop taken (held ++ piece)
   split groups e =
@@ -86,7 +85,7 @@ module _ (most : ℕ) (seen words held piece : List ℕ) (at left : ℕ) (h : Ho
       ∙ sym (append_assoc (texts h.groups) (texts groups) (drop taken (held ++ piece)))
       ∙ ap (λ (xs : List ℕ). xs ++ drop taken (held ++ piece)) (sym (flat_map-append group_text h.groups groups))
 
-  -- the piece ends there, or a group is cut
+  -- Case: the chunk ends after these groups, or within the next one.
   pub goes_on : (next : Next) (rest : List ℕ) (to room : ℕ)
       → UnpacksSome (held ++ piece) left words new taken count next
       → rest ≡ drop taken (held ++ piece) → to ≡ at + taken → room + count ≡ left
@@ -113,7 +112,7 @@ module _ (most : ℕ) (seen words held piece : List ℕ) (at left : ℕ) (h : Ho
     begun = begun;
   }
 
-  -- or one has more words than are left
+  -- Case: the next group has more words than are left.
   pub stops_long : (to : ℕ) → UnpacksSome (held ++ piece) left words new taken count nexts.TooLong → to ≡ at + taken
       → Stands IsTooLong (seen ++ piece) most to
   stops_long to u further = record {
@@ -136,7 +135,7 @@ module _ (most : ℕ) (seen words held piece : List ℕ) (at left : ℕ) (h : Ho
     fault = u.stops;
   }
 
--- the input ends after whole groups
+-- Case: the input ends after whole groups.
 pub all_unpacked : (most : ℕ) (seen words held : List ℕ) (at left : ℕ) → Holds most seen words held at left
     → length held ≡ 0 → Packs seen words × (length words ≤ 8 * most)
 all_unpacked most seen words held at left h none = (
@@ -153,7 +152,7 @@ all_unpacked most seen words held at left h none = (
     nothing [] e = refl
     nothing (x ∷ xs) e = absurd (omega (arith, e))
 
--- or within a group
+-- Case: the input ends within a group.
 pub cut_pending : (most : ℕ) (seen words held : List ℕ) (at left : ℕ) → Holds most seen words held at left
     → 0 < length held → Stands IsCut seen most at
 cut_pending most seen words held at left h some = record {
@@ -167,7 +166,7 @@ cut_pending most seen words held at left h some = record {
   fault = elim h.begun [ inl none ↦ absurd (omega (arith, some, ap length none)) | inr cut ↦ cut ];
 }
 
--- the offset is within the bytes that came
+-- The offset is within the bytes that were read.
 pub offset_within : (most : ℕ) (seen words held : List ℕ) (at left : ℕ) (long : Bool)
     → IsPending most seen words held at left long → at ≤ length seen
 offset_within most seen words held at left false h =
@@ -175,13 +174,13 @@ offset_within most seen words held at left false h =
 offset_within most seen words held at left true s =
     omega (arith, s.offset, ap length s.text, length-append (texts s.groups) s.rest)
 
--- a piece that comes where the input is refused already
+-- Case: a chunk is read after a group that is too long.
 pub stays_long : (most : ℕ) (seen words held more : List ℕ) (at left : ℕ) (long : Bool) → long ≡ true
     → IsPending most seen words held at left long → IsPending most (seen ++ more) words held at left long
 stays_long most seen words held more at left false e p = absurd (let bad : false ≡ true = e in cc)
 stays_long most seen words held more at left true e p = refused_stays most seen more at p
 
--- the answers where the input ends
+-- The results at the end of the input.
 pub ends_long : (A : Type 0) (most : ℕ) (seen words held : List ℕ) (at left : ℕ) (long : Bool) → long ≡ true
     → IsPending most seen words held at left long
     → Gives {A = A} (wholes.Unpacked most) seen (Err (faults.Refused (refusals.Packed (unpack_faults.TooLong at))))
@@ -202,7 +201,7 @@ pub ends_whole : {A : Type 0} (most : ℕ) (seen held : List ℕ) (words : Vec �
 ends_whole most seen held words at left true e none p = absurd (let bad : true ≡ false = e in cc)
 ends_whole most seen held words at left false e none p = all_unpacked most seen words.items held at left p none
 
--- a piece that was taken: the end of it, or a group that is cut
+-- Case: a chunk was taken, and it ends after a group or within one.
 pub taken_piece : (most : ℕ) (seen words held piece : List ℕ) (at left : ℕ) (long : Bool) (new : List ℕ)
     (taken count : ℕ) (next is : Next) (rest : List ℕ) (to room : ℕ) → long ≡ false
     → UnpacksSome (held ++ piece) left words new taken count next → next ≡ is
@@ -231,7 +230,7 @@ taken_piece most seen words held piece at left false new taken count next is res
           (subst (λ (n : ℕ). IsCut n (drop taken (held ++ piece))) same_room s.0)))
     ]
 
--- the end of it
+-- Case: a chunk was taken, and it ends after a group.
 pub taken_end : (most : ℕ) (seen words held piece : List ℕ) (at left : ℕ) (long : Bool) (new : List ℕ)
     (taken count : ℕ) (next : Next) (to room : ℕ) → long ≡ false
     → UnpacksSome (held ++ piece) left words new taken count next → next ≡ nexts.End
@@ -243,7 +242,7 @@ taken_end most seen words held piece at left long new taken count next to room o
     taken_piece most seen words held piece at left long new taken count next nexts.End [] to room off u e (inl refl)
     (sym s) further less p
 
--- or a group that has more words than are left
+-- Case: a chunk was taken, and a group in it has more words than are left.
 pub taken_long : (most : ℕ) (seen words held piece : List ℕ) (at left : ℕ) (long : Bool) (new : List ℕ)
     (taken count : ℕ) (next : Next) (rest : List ℕ) (to room : ℕ) → long ≡ false
     → UnpacksSome (held ++ piece) left words new taken count next → next ≡ nexts.TooLong → to ≡ at + taken
@@ -254,7 +253,7 @@ taken_long most seen words held piece at left false new taken count next rest to
     stops_long most seen words held piece at left p new taken count to
     (subst (λ (n : Next). UnpacksSome (held ++ piece) left words new taken count n) e u) further
 
--- what is held of a group that is cut
+-- The bytes of an unfinished group are fewer than those of the longest group.
 pub cut_short : (next : Next) (room : ℕ) (rest : List ℕ) → next ≡ nexts.Cut → StandsNext next room rest
     → length rest < most_group
 cut_short next room rest e s =

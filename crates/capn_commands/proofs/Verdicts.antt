@@ -1,4 +1,4 @@
--- The line of a bare message's price. (For `put_verdict`.)
+-- Lemmas on the line of a bare message's price. (For `put_verdict`.)
 use Rattle.std.proofs.Common.{◌≡◌, inl, inr, ℕ, List, [], ◌∷◌, ◌++◌, codes, true, false, Result, Ok, Err, ap, sym, ◌∙◌}
 use Rattle.std.proofs.Common.{◌⊎◌, IsErrAnd, refl}
 use Rattle.capn_walk.specs.Limits.{Bounds}
@@ -44,7 +44,6 @@ module _ (words : List ℕ) (limits : Bounds) (c : SurveyedBare) (told : IsBareS
   )
   verdict_no old new (Err fault) e put = (inl put.0, put.1)
 
--- the walk stopped
 pub verdict_stopped : (words : List ℕ) (limits : Bounds) (s : Stopped) (old : List ℕ) (r : Result (Unit {0}) ToolFault)
     → (s.fault ≡ walk_faults.Memory) ⊎ walks.IsWalkRefused (words ∷ []) limits s.fault s.place s.paid s.visits
     → IsErrAnd r (IsStopOf s) → PutsBareMessageText kinds.Price words limits old old r

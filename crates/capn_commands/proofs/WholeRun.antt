@@ -1,4 +1,4 @@
--- A run over an input that is taken whole. (For `write_made`.)
+-- Lemmas on a run over an input that is taken whole. (For `write_made`.)
 use Rattle.std.proofs.Common.{◌≡◌, ◌⊎◌, ◌↔◌, inl, inr, ℕ, ◌<◌, ◌≤◌, ◌^◌, List, [], length, Bool, true, false}
 use Rattle.std.proofs.Common.{Option, IfSome, Result, Ok, Err, IsOkUnless, OnOk, Vec, refl, ap, sym}
 use Rattle.std.proofs.Common.{subst, arith, take_all}
@@ -27,7 +27,7 @@ is_more bytes h = grind (arith, nat_tests)
 pub is_all : (bytes : List ℕ) → length bytes ≤ 2 ^ 32 → has_more bytes ≡ false
 is_all bytes h = grind (arith, nat_tests)
 
--- an input was not taken, or nothing is made of it
+-- An input was not read to its end, or nothing is made of it.
 abbrev Unmade : Whole → Option (List ℕ) → Option (List ℕ) → Bool → ToolFault → Type 0
 Unmade whole a b failed fault = IsUntaken a b failed fault
     ⊎ ((bytes : List ℕ) × HasGivenAll a b failed bytes × ((fault ≡ faults.Memory) ⊎ MakesNothing whole bytes fault))
@@ -35,7 +35,7 @@ Unmade whole a b failed fault = IsUntaken a b failed fault
 module _ (whole : Whole) (a b c : Option (List ℕ)) where
   -- ---- nothing was made
 
-  -- an input is longer than a run takes
+  -- Case: an input is longer than a run takes.
   ends_long : (failed : Bool) (bytes : List ℕ) → HasGiven a b failed bytes → 2 ^ 32 < length bytes
       → IfSome a (PlanEndsAs (plans.Whole whole) c c (Err faults.InputTooLong))
   ends_long failed bytes h long =
@@ -51,7 +51,7 @@ module _ (whole : Whole) (a b c : Option (List ℕ)) where
       )
       (inr (inr ([], (refl, refl), Appends-nil c)))
 
-  -- all of it was given
+  -- Case: all of the input was read.
   ends_all : (failed : Bool) (bytes : List ℕ) (d : Option (List ℕ)) (r : Ending) → HasGivenAll a b failed bytes
       → HasEnded (plans.Whole whole) bytes false c d r → IfSome a (PlanEndsAs (plans.Whole whole) c d r)
   ends_all failed bytes d r h ended =
@@ -67,7 +67,7 @@ module _ (whole : Whole) (a b c : Option (List ℕ)) where
       )
       ended
 
-  -- how the run ends then
+  -- The end of a run if nothing was made of its input.
   pub unmade_ends : (failed : Bool) (fault : ToolFault)
       → Unmade whole a b failed fault
       → IfSome a (PlanEndsAs (plans.Whole whole) c c (Err fault))
@@ -82,7 +82,7 @@ module _ (whole : Whole) (a b c : Option (List ℕ)) where
   unmade_ends failed fault (inr (bytes, all, inr why)) =
       ends_all failed bytes c (Err fault) all (inr (inr ([], (refl, why), Appends-nil c)))
 
-  -- nothing was written
+  -- Nothing was written, if nothing was made.
   pub unmade_begins : (failed : Bool) (fault : ToolFault)
       → Unmade whole a b failed fault
       → PlanBegins (plans.Whole whole) a b c c
@@ -93,7 +93,7 @@ module _ (whole : Whole) (a b c : Option (List ℕ)) where
   unmade_begins failed fault (inr (bytes, all, why)) =
       begins_none (plans.Whole whole) a b c (bytes, all.given.read, all.given.bounded)
 
-  -- memory was refused for bytes that came, or once all had come
+  -- Memory was refused for bytes that were read, or after all were.
   pub unmade_memory : (failed : Bool) (fault : ToolFault) → Unmade whole a b failed fault → fault ≡ faults.Memory
       → TakesBytes a b ⊎ IsAtEnd b
   unmade_memory failed fault (inl (bytes, inl (h, inl (memory, some)))) is = inl (bytes, h.read, some)
@@ -131,7 +131,7 @@ module _ (whole : Whole) (a b c : Option (List ℕ)) where
       )
       (text.items, count, inr made, begun)
 
--- the reader has not failed
+-- If a text was made, the reader has not failed.
 pub made_fine : {A : Type 0} (whole : Whole) (a b : Option (List ℕ)) (failed : Bool) (text : Vec ℕ A)
     → TakesAll {T = Vec ℕ A} (Gives whole) a b failed (Ok text) → failed ≡ false
 made_fine whole a b failed text (bytes, all, made) = all.given.fine

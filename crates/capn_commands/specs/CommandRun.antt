@@ -1,4 +1,4 @@
--- A run over all of its input: it has kept up with its reader, and ended as it must. (Own.)
+-- A run over all of its input: it has written all output for what its reader gave, and ended as it must. (Own.)
 use Rattle.std.specs.Prelude.{◌≡◌, ◌⊎◌, ◌↔◌, ℕ, List, [], Bool, true, Option, IfSome, Result, Err, ⊤}
 use Rattle.std.specs.Io.KnownBytes.{Consumes, Appends, IsAtEnd}
 use Rattle.capn_pack.specs.PackedPieces.{Splits}
@@ -24,60 +24,64 @@ unplaced run_faults.Io = faults.Io
 unplaced run_faults.InputTooLong = faults.InputTooLong
 unplaced (run_faults.Refused at refusal) = faults.Refused refusal
 
--- all of the output for the bytes that a reader gave was written
+-- All output for the bytes that a reader gave was written.
 abbrev pub HasKeptUp : Plan → Option (List ℕ) → Option (List ℕ) → Option (List ℕ) → Option (List ℕ) → Type 0
 HasKeptUp plan a b c d =
     (bytes : List ℕ) × (text : List ℕ) × (due : Result (Unit {0}) ToolFault) × Consumes a b bytes
     × IsDue plan (taken_of bytes) (has_more bytes) text due
     × Appends c d text
 
--- all of the output for the bytes that a reader gave was written, if they are taken message by message, and nothing if
--- they are taken whole
+-- All output for the bytes that a reader gave was written if they are taken message by message, and nothing if they are
+-- taken whole.
 abbrev pub PlanKeepsUp : Plan → Option (List ℕ) → Option (List ℕ) → Option (List ℕ) → Option (List ℕ) → Type 0
 PlanKeepsUp (plans.Whole whole) a b c d = Appends c d []
 PlanKeepsUp (plans.Each piece limits) a b c d = HasKeptUp (plans.Each piece limits) a b c d
 PlanKeepsUp (plans.Packed piece limits) a b c d = HasKeptUp (plans.Packed piece limits) a b c d
 
--- a run of a command has kept up with its reader as its plan does
+-- All output for the bytes that a reader gave was written, as the plan of `command` requires.
 abbrev pub KeepsUp : Command → Option (List ℕ) → Option (List ℕ) → Option (List ℕ) → Option (List ℕ) → Type 0
 KeepsUp command a b c d = PlanKeepsUp (plan_of command) a b c d
 
--- the texts of all whole messages in these bytes were written, and what is left is no whole frame
+-- The texts of all whole messages in `bytes` were written, and no whole frame is left after them.
 abbrev pub HasWrittenAll : MessageText → Bounds → List ℕ → Option (List ℕ) → Option (List ℕ) → Type 0
 HasWrittenAll piece limits bytes c d = (parts : List Part) × (rest : List ℕ)
     × AreParts piece limits bytes parts rest × IsUnfinished rest limits.message_words × Appends c d (texts_of parts)
 
--- so it is with what the whole groups of these bytes unpack to
+-- The texts of all whole messages in what the whole groups of `bytes` unpack to were written, and no whole frame is
+-- left after them.
 abbrev pub HasWrittenAllPacked : MessageText → Bounds → List ℕ → Option (List ℕ) → Option (List ℕ) → Type 0
 HasWrittenAllPacked piece limits bytes c d = (words group : List ℕ) × (at : ℕ) × Splits bytes group [] words at
     × HasWrittenAll piece limits words c d
 
--- a reader gave these bytes, and before the last piece of them was read this was written of those before it
+-- A reader gave some bytes. Before the last chunk of them was read, all that `Written` says of the bytes before it was
+-- written.
 abbrev pub StaysAhead : (List ℕ → Option (List ℕ) → Option (List ℕ) → Type 0) → Option (List ℕ) → Option (List ℕ)
     → Option (List ℕ) → Option (List ℕ) → Type 0
 StaysAhead Written a b c d = (bytes : List ℕ) × Consumes a b bytes × IsAhead Written bytes c d
 
--- if messages are taken one by one, all that the bytes before the last piece decided was written before that was read
+-- Before the last chunk was read, all output that the bytes before it decide was written, if messages are taken one by
+-- one.
 abbrev pub PlanIsAhead : Plan → Option (List ℕ) → Option (List ℕ) → Option (List ℕ) → Option (List ℕ) → Type 0
 PlanIsAhead (plans.Whole whole) a b c d = ⊤
 PlanIsAhead (plans.Each piece limits) a b c d = StaysAhead (HasWrittenAll piece limits) a b c d
 PlanIsAhead (plans.Packed piece limits) a b c d = StaysAhead (HasWrittenAllPacked piece limits) a b c d
 
--- a run of a command is ahead as its plan is
+-- Before the last chunk was read, all output that the bytes before it decide was written, as the plan of `command`
+-- requires.
 abbrev pub StaysAheadAs : Command → Option (List ℕ) → Option (List ℕ) → Option (List ℕ) → Option (List ℕ) → Type 0
 StaysAheadAs command a b c d = PlanIsAhead (plan_of command) a b c d
 
--- where memory may be refused: some bytes were read, or all of an input that is taken whole, which may have none
+-- A run may end with `Memory`: some bytes were read, or all of an input that is taken whole, which may be empty.
 abbrev pub PlanMayNeedMemory : Plan → Option (List ℕ) → Option (List ℕ) → Type 0
 PlanMayNeedMemory (plans.Whole whole) a b = TakesBytes a b ⊎ IsAtEnd b
 PlanMayNeedMemory (plans.Each piece limits) a b = TakesBytes a b
 PlanMayNeedMemory (plans.Packed piece limits) a b = TakesBytes a b
 
--- where memory may be refused in a run of a command, by its plan
+-- A run of `command` may end with `Memory`, by its plan.
 abbrev pub MayNeedMemory : Command → Option (List ℕ) → Option (List ℕ) → Type 0
 MayNeedMemory command a b = PlanMayNeedMemory (plan_of command) a b
 
--- what a run by a plan did, over a reader (from a to b) and a writer (from c to d)
+-- The effect of a run by `plan` on a reader (from `a` to `b`) and a writer (from `c` to `d`), and its result.
 pub record Runs (plan : Plan) (a b c d : Option (List ℕ)) (reader_failed writer_failed : Bool)
     (r : Result (Unit {0}) ToolFault) : Type 0 where
   pub exact : IfSome a (PlanEndsAs plan c d r)

@@ -6,7 +6,7 @@ use Rattle.capn_canon.specs.Display.{refusal_text}
 use Rattle.capn_commands.specs.declared.fault.ToolFault.{ToolFault}
 use Rattle.capn_commands.specs.declared.fault.ToolFault.TheVariants as faults
 
--- why a run stopped
+-- The text of the reason why a run stopped.
 abbrev pub fault_text : ToolFault → List ℕ
 fault_text faults.Memory = out_of_memory
 fault_text faults.Io = codes "input or output failed"
@@ -14,10 +14,10 @@ fault_text faults.InputTooLong = codes "input too long"
 fault_text (faults.NotWhole n) = codes "NotWhole(" ++ decimal n ++ codes ")"
 fault_text (faults.Refused refusal) = refusal_text refusal
 
--- the line that says why a run stopped
+-- The error line with the reason why a run stopped.
 abbrev pub fault_line : ToolFault → List ℕ
 fault_line fault = fault_text_line (fault_text fault)
 
--- why a run ended has been reported: nothing if it is done, and else the line of its fault
+-- The end of a run was reported: nothing was written if it is done, or else the line of its fault.
 abbrev pub ReportsEnding : Result (Unit {0}) ToolFault → Option (List ℕ) → Option (List ℕ) → Bool → Type 0
 ReportsEnding = WritesEnding fault_text

@@ -1,4 +1,4 @@
--- A stream of bytes that comes in through a reader and goes out through a writer: its text, and its end. (Own.)
+-- A stream of bytes that is read, transformed and written while it is read: its output, and its end. (Own.)
 use Rattle.std.specs.Prelude.{◌≡◌, ◌⊎◌, ◌↔◌, ℕ, ◌+◌, ◌-◌, ◌^◌, ◌<◌, ◌≤◌, nat_lt, List, ◌++◌, length, take}
 use Rattle.std.specs.Prelude.{Bool, true, false, Option, IfSome, Result, Err}
 use Rattle.std.specs.Io.KnownBytes.{Consumes, Appends, IsAtEnd}
@@ -9,7 +9,7 @@ use Rattle.capn_commands.specs.declared.flow_fault.FlowFault.TheVariants as faul
 abbrev pub Ending : Type 0
 Ending = Result (Unit {0}) FlowFault
 
--- the most bytes of a stream that a run takes, so that each offset has 64 bits
+-- The greatest number of bytes of a stream that a run takes, so that each offset has 64 bits.
 abbrev pub most : ℕ
 most = 2 ^ 64 - 1
 
@@ -25,39 +25,39 @@ has_more input = nat_lt most (length input)
 abbrev pub TakesBytes : Option (List ℕ) → Option (List ℕ) → Type 0
 TakesBytes old new = (bytes : List ℕ) × Consumes old new bytes × (0 < length bytes)
 
--- The text of bytes that flow: `gives`, of all that are taken, and whether there are more, the text and the end;
--- `settles`, of the first ones, the text that is written before more are read; `begins`, a text of which a beginning
--- may have been written when a run ends early.
+-- A transformation of a stream. `gives` relates all bytes that are taken, and whether there are more, to the output and
+-- the end. `settles` relates the first bytes to the output that is written before more are read. `begins` relates bytes
+-- to an output of which a prefix may have been written when a run ends early.
 pub record Flow : Type 1 where
   pub gives : List ℕ → Bool → List ℕ → Ending → Type 0
   pub settles : List ℕ → List ℕ → Type 0
   pub begins : List ℕ → List ℕ → Type 0
 
 module _ (f : Flow) where
-  -- a run has ended over these bytes: memory was refused, the reader or the writer failed, or it has written their text
-  -- and ended as they do
+  -- A run has ended with `r` over `bytes`: memory was refused, the reader or the writer failed, or it has written their
+  -- output and ended as they do.
   abbrev pub HasEnded : List ℕ → Bool → Option (List ℕ) → Option (List ℕ) → Ending → Type 0
   HasEnded bytes is_longer c d r =
       (r ≡ Err faults.Memory)
       ⊎ ((r ≡ Err faults.Io)
       ⊎ ((text : List ℕ) × f.gives bytes is_longer text r × Appends c d text))
 
-  -- a run has ended so over the bytes that it takes of a whole input
+  -- A run has ended with `r` over the bytes that it takes of `input`.
   abbrev pub EndsAs : Option (List ℕ) → Option (List ℕ) → Ending → List ℕ → Type 0
   EndsAs c d r input = HasEnded (taken_of input) (has_more input) c d r
 
-  -- a beginning of a text of these bytes was written
+  -- A prefix of an output of `bytes` was written.
   abbrev pub HasWritten : List ℕ → Option (List ℕ) → Option (List ℕ) → Type 0
   HasWritten bytes c d = (text : List ℕ) × (count : ℕ) × f.begins bytes text × Appends c d (take count text)
 
-  -- the last piece of these bytes has at most 65,536, and what is settled of the bytes before it was written before it
-  -- was read
+  -- The last chunk of `bytes` has at most 65,536 bytes. The output that is settled by the bytes before it was written
+  -- before that chunk was read.
   abbrev pub IsAhead : List ℕ → Option (List ℕ) → Option (List ℕ) → Type 0
   IsAhead bytes c d = (before piece text more : List ℕ) × (mid : Option (List ℕ)) × (bytes ≡ before ++ piece)
       × (length piece ≤ 65536) × f.settles before text × Appends c mid text × Appends mid d more
 
-  -- a reader gave some bytes, at most one more than are taken, and no more than a piece beyond those of which all that
-  -- is settled was written; and a beginning of their text was written
+  -- A reader gave at most one byte more than is taken, and a prefix of their output was written. Before the last chunk
+  -- was read, the settled output of the bytes before it had been written.
   pub record Begins (a b c d : Option (List ℕ)) : Type 0 where
     pub bytes : List ℕ
     pub read : Consumes a b bytes
@@ -65,11 +65,11 @@ module _ (f : Flow) where
     pub lazy : IsAhead bytes c d
     pub written : HasWritten (taken_of bytes) c d
 
-  -- all that can be written of the bytes that a reader gave was written
+  -- All output that is settled by the bytes that a reader gave was written.
   abbrev pub KeepsUp : Option (List ℕ) → Option (List ℕ) → Option (List ℕ) → Option (List ℕ) → Type 0
   KeepsUp a b c d = (bytes : List ℕ) × (text : List ℕ) × Consumes a b bytes × f.settles bytes text × Appends c d text
 
-  -- A run, over a reader (from a to b) and a writer (from c to d), and its end.
+  -- The effect of a run on a reader (from `a` to `b`) and a writer (from `c` to `d`), and its end.
   pub record Runs (a b c d : Option (List ℕ)) (reader_failed writer_failed : Bool) (r : Ending) : Type 0 where
     pub exact : IfSome a (EndsAs c d r)
     pub io : (r ≡ Err faults.Io) ↔ ((reader_failed ≡ true) ⊎ (writer_failed ≡ true))
@@ -79,7 +79,7 @@ module _ (f : Flow) where
 
   -- ---- the progress of a run
 
-  -- all bytes that are taken have come, and the run ended: with a fault, or with their text
+  -- All bytes that are taken were read, and the run ended with a fault, or with their output.
   pub record Ends (bytes : List ℕ) (is_longer : Bool) (c d : Option (List ℕ)) (failed : Bool) (r : Ending) : Type 0
     where
       pub exact : HasEnded bytes is_longer c d r
@@ -87,14 +87,14 @@ module _ (f : Flow) where
       pub written : HasWritten bytes c d
       pub memory : r ≡ Err faults.Memory → 0 < length bytes
 
-  -- the run stopped among these bytes: memory was refused, or the writer failed
+  -- The run stopped within `bytes`: memory was refused, or the writer failed.
   pub record Stops (bytes : List ℕ) (c d : Option (List ℕ)) (failed : Bool) (fault : FlowFault) : Type 0 where
     pub kind : (fault ≡ faults.Memory) ⊎ (fault ≡ faults.Io)
     pub io : (fault ≡ faults.Io) ↔ (failed ≡ true)
     pub written : HasWritten bytes c d
 
--- a reader gave these bytes, all that it had or one more than are taken; the first of them were taken; and whether
--- there are more
+-- A reader gave `bytes`, which are all that it had, or one more than are taken. `kept` are those that were taken, and
+-- `is_longer` says whether there are more.
 pub record Kept (old new : Option (List ℕ)) (kept : List ℕ) (is_longer : Bool) (bytes : List ℕ) : Type 0 where
   pub read : Consumes old new bytes
   pub bounded : length bytes ≤ most + 1
@@ -102,7 +102,7 @@ pub record Kept (old new : Option (List ℕ)) (kept : List ℕ) (is_longer : Boo
   pub more : has_more bytes ≡ is_longer
   pub ended : is_longer ≡ false → IsAtEnd new
 
--- a reader gave bytes, in this number, a text was written, and this holds of both
+-- A reader gave `taken` bytes, a text was written, and `P` holds of both.
 pub record Consumed (P : List ℕ → List ℕ → Type 0) (a b c d : Option (List ℕ)) (taken : ℕ) : Type 0 where
   pub bytes : List ℕ
   pub text : List ℕ

@@ -13,7 +13,7 @@ fault_text faults.InputTooLong = codes "input too long"
 fault_text (faults.Cut at) = codes "packed: Cut at " ++ decimal at
 fault_text (faults.NotWhole n) = codes "NotWhole(" ++ decimal n ++ codes ")"
 
--- the input is refused, or it was not read to its end
+-- The exit status of a fault: 1 if the input is refused, 3 if it was not read to its end.
 abbrev pub status_of : FlowFault → ℕ
 status_of faults.Memory = 3
 status_of faults.Io = 3

@@ -18,17 +18,18 @@ marks_of s at message = record {
   table = table_words s.form message;
 }
 
--- the byte after a message whose table and words are this many
+-- The offset of the byte after a message of `words` words, with the table that `marks` has.
 abbrev pub byte_after : Marks → ℕ → ℕ
 byte_after marks words = marks.offset + 8 * (marks.table + words)
 
--- the line `end` with marks, of a message of this many words: the byte after it, and no path
+-- The line `end` with marks, for a message of `words` words. Its offset is that of the byte after the message, and its
+-- path is empty.
 abbrev pub marked_end : Marks → ℕ → List ℕ
 marked_end marks words =
     (if marks.offsets then decimal (byte_after marks words) ++ 9 ∷ [] else [])
     ++ ((if marks.ways then 9 ∷ [] else []) ++ (codes "end" ++ 10 ∷ []))
 
--- ---- examples: what ends a message of 3 words, whose table of 1 word begins at byte 24
+-- ---- examples: the line after a message of 3 words, whose table of 1 word begins at byte 24
 
 after_both : marked_end (record { offsets = true; ways = true; quoted = false; offset = 24; table = 1 }) 3
     ≡ codes "56\t\tend\n"

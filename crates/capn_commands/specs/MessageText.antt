@@ -1,4 +1,4 @@
--- What is written of one message, and why nothing is. (Own.)
+-- The text that is written for one message, and the reason why none is. (Own.)
 use Rattle.std.specs.Prelude.{◌≡◌, ◌≢◌, ◌⊎◌, ℕ, List, [], ◌∷◌, ◌++◌, codes, None, Result, Ok, Err}
 use Rattle.std.specs.Fmt.{decimal}
 use Rattle.sha2.specs.Sha256.{sha256}
@@ -22,7 +22,7 @@ use Rattle.capn_commands.specs.declared.plan.MessageText.TheVariants as kinds
 use Rattle.capn_commands.specs.declared.fault.ToolFault.{ToolFault}
 use Rattle.capn_commands.specs.declared.fault.ToolFault.TheVariants as faults
 
--- a price and a number of visits, and what ends their line
+-- The text of a price and a number of visits, followed by `behind`.
 abbrev pub priced : ℕ → ℕ → List ℕ → List ℕ
 priced price visits behind = codes "ok paid " ++ decimal price ++ codes " visits " ++ decimal visits ++ behind
 
@@ -34,8 +34,8 @@ price_line price visits = priced price visits (10 ∷ [])
 abbrev pub digest_line : List ℕ → List ℕ
 digest_line text = encode_lower (sha256 text) ++ 10 ∷ []
 
--- What is written of a message that is accepted within the limits: the text of its value, and a line `end`; the line of
--- its price; or the line of the digest of its canonical bytes.
+-- `text` is written for a message that is accepted within the limits: the text of its value and a line `end`, the line
+-- of its price, or the line of the digest of its canonical bytes.
 abbrev pub IsMessageText : MessageText → List (List ℕ) → Bounds → List ℕ → Type 0
 IsMessageText kinds.Text message limits text =
     (v : Tree) × IsValueOf message limits v × (text ≡ show_text v ++ (codes "end" ++ 10 ∷ []))
@@ -45,19 +45,20 @@ IsMessageText kinds.Price message limits text =
 IsMessageText kinds.Digest message limits text =
     (answer : List ℕ) × (price : ℕ) × AnswersMessage message limits answer price × (text ≡ digest_line answer)
 
--- the walk of the message is refused so
+-- `fault` is the refusal of the message's walk.
 abbrev pub IsStopped : List (List ℕ) → Bounds → ToolFault → Type 0
 IsStopped message limits fault =
     (s : Stopped) × (fault ≡ faults.Refused (refusals.Walk s))
     × walks.IsWalkRefused message limits s.fault s.place s.paid s.visits
 
--- why a run stops if its walk has stopped like this: memory ran out if and only if it did for the walk
+-- `fault` is the reason why a run stops if its walk has stopped with `s`. It is `Memory` if and only if the walk ran
+-- out of memory.
 abbrev pub IsStopOf : Stopped → ToolFault → Type 0
 IsStopOf s fault =
     ((s.fault ≡ walk_faults.Memory) × (fault ≡ faults.Memory))
     ⊎ ((s.fault ≢ walk_faults.Memory) × (fault ≡ faults.Refused (refusals.Walk s)))
 
--- why a message has no piece: its walk is refused; for the digest also that its value has a capability
+-- `fault` is the reason why a message has no text: its walk is refused, or for the digest its value has a capability.
 abbrev pub IsNoMessageText : MessageText → List (List ℕ) → Bounds → ToolFault → Type 0
 IsNoMessageText kinds.Text message limits fault = IsStopped message limits fault
 IsNoMessageText kinds.Price message limits fault = IsStopped message limits fault
@@ -68,8 +69,8 @@ IsNoMessageText kinds.Digest message limits fault =
 abbrev pub AreCanonical : Tree → List ℕ → Type 0
 AreCanonical v words = (first_cap v ≡ None) × (canon v ≡ bytes words)
 
--- What is written of the one bare message of these words: as of any message, but the line of its price has one word
--- more, which says whether the words are canonical.
+-- `text` is written for the one bare message with these `words`. It is that of any message, but the line of its price
+-- also says whether the words are canonical.
 abbrev pub IsBareMessageText : MessageText → List ℕ → Bounds → List ℕ → Type 0
 IsBareMessageText kinds.Text words limits text = IsMessageText kinds.Text (words ∷ []) limits text
 IsBareMessageText kinds.Price words limits text =
@@ -82,8 +83,8 @@ IsBareMessageText kinds.Price words limits text =
     (codes " not-canonical" ++ 10 ∷ []))))
 IsBareMessageText kinds.Digest words limits text = IsMessageText kinds.Digest (words ∷ []) limits text
 
--- a call appended the piece to a text; or it reported why there is none, unless memory ran out, and left the text as it
--- was
+-- A call appended the text of the message. Or it reported why there is none or that memory ran out, and left the text
+-- as it was.
 abbrev pub PutsMessageText : MessageText → List (List ℕ) → Bounds → List ℕ → List ℕ → Result (Unit {0}) ToolFault
     → Type 0
 PutsMessageText piece message limits old new (Ok u) = (text : List ℕ) × IsMessageText piece message limits text
@@ -91,15 +92,15 @@ PutsMessageText piece message limits old new (Ok u) = (text : List ℕ) × IsMes
 PutsMessageText piece message limits old new (Err fault) =
     ((fault ≡ faults.Memory) ⊎ IsNoMessageText piece message limits fault) × (new ≡ old)
 
--- a call appended the piece of the one bare message to a text; or it reported why there is none, unless memory ran out,
--- and left the text as it was
+-- A call appended the text of the one bare message. Or it reported why there is none or that memory ran out, and left
+-- the text as it was.
 abbrev pub PutsBareMessageText : MessageText → List ℕ → Bounds → List ℕ → List ℕ → Result (Unit {0}) ToolFault → Type 0
 PutsBareMessageText piece words limits old new (Ok u) = (text : List ℕ) × IsBareMessageText piece words limits text
     × (new ≡ old ++ text)
 PutsBareMessageText piece words limits old new (Err fault) =
     ((fault ≡ faults.Memory) ⊎ IsNoMessageText piece (words ∷ []) limits fault) × (new ≡ old)
 
--- a line was appended to a text, or nothing if memory ran out
+-- `line` was appended to a text, or nothing if memory ran out.
 abbrev pub PutsLine : List ℕ → List ℕ → List ℕ → Result (Unit {0}) ToolFault → Type 0
 PutsLine line old new (Ok u) = new ≡ old ++ line
 PutsLine line old new (Err fault) = (fault ≡ faults.Memory) × (new ≡ old)

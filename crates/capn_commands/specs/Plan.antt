@@ -1,4 +1,4 @@
--- What each command does with its input. (Own.)
+-- The plan of each command: how it reads its input, and what it makes of it. (Own.)
 use Rattle.capn_walk.specs.Limits.{Bounds}
 use Rattle.capn_canon.specs.declared.form.Form.{Form}
 use Rattle.capn_canon.specs.declared.form.Form.TheVariants as forms
@@ -12,24 +12,25 @@ use Rattle.capn_commands.specs.declared.plan.Whole.TheVariants as wholes
 use Rattle.capn_commands.specs.declared.plan.Plan.{Plan}
 use Rattle.capn_commands.specs.declared.plan.Plan.TheVariants as plans
 
--- a piece of each message: the one bare message that the input is, or the messages of a stream, packed or not
+-- The plan to write a text for each message: the one bare message that the input is, or the messages of a stream,
+-- packed or not.
 abbrev pub pieces_of : MessageText → Form → Bounds → Plan
 pieces_of piece forms.Bare limits = plans.Whole (wholes.Bare piece limits)
 pieces_of piece forms.Stream limits = plans.Each piece limits
 pieces_of piece forms.Packed limits = plans.Packed piece limits
 
--- the form that holds frames so
+-- The form of an input with the encoding of a stream.
 abbrev pub form_of : StreamForm → Form
 form_of streams.Stream = forms.Stream
 form_of streams.Packed = forms.Packed
 
--- a piece of the one message that the input is: of a bare one as always
+-- The plan to write a text for the one message that the input is. If the form is bare, it is the plan for each message.
 abbrev pub one_piece_of : MessageText → Form → Bounds → Plan
 one_piece_of piece forms.Bare limits = plans.Whole (wholes.Bare piece limits)
 one_piece_of piece forms.Stream limits = plans.Whole (wholes.One piece streams.Stream limits)
 one_piece_of piece forms.Packed limits = plans.Whole (wholes.One piece streams.Packed limits)
 
--- what a command does with its input
+-- The plan of a command.
 abbrev pub plan_of : Command → Plan
 plan_of (commands.Show form limits) = pieces_of kinds.Text form limits
 plan_of (commands.Check form limits) = pieces_of kinds.Price form limits

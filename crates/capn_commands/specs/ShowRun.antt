@@ -1,4 +1,4 @@
--- What a run that shows messages did: of each, in a style or with marks, what is at a path from its root. (Own.)
+-- The effect of a run that shows messages or parts of them, in a style or with marks. (Own.)
 use Rattle.std.specs.Prelude.{ℕ, List, Bool, Option, Result}
 use Rattle.capn_serve.specs.Fold.{Fold, fold_of}
 use Rattle.capn_serve.specs.FormRun.{ServesMessages}
@@ -8,11 +8,12 @@ use Rattle.capn_serve.specs.declared.fault.RunFault.{RunFault}
 use Rattle.capn_commands.specs.PartTexts.{refuses, serves}
 use Rattle.capn_commands.specs.declared.part_texts.PartTexts.{PartTexts}
 
--- the fold over the messages of an input, none of which has more words than this
+-- The fold of `show` over the messages of an input, each of at most `most` words.
 abbrev pub part_fold : ℕ → Fold (Run PartTexts)
 part_fold most = fold_of serves refuses most
 
--- the messages were served from the first on, over a reader (from a to b) and a writer (from c to d)
+-- The messages were served from the first on. The effect is on a reader (from `a` to `b`) and a writer (from `c` to
+-- `d`).
 abbrev pub Shown : PartTexts → Option (List ℕ) → Option (List ℕ) → Option (List ℕ) → Option (List ℕ) → Bool → Bool
     → Result (Unit {0}) RunFault → Type 0
 Shown texts a b c d reader_failed writer_failed r = (last : Run PartTexts)

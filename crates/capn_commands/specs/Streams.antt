@@ -1,5 +1,5 @@
--- A stream of messages: the whole messages that come first in it, each with its piece, and what is left. (Page:
--- serialization over a stream; the order of the faults is own.)
+-- A stream of messages: the whole messages at its start, each with its text, and what is left. (Page: serialization
+-- over a stream; the order of the faults is own.)
 use Rattle.std.specs.Prelude.{◌≡◌, ◌≢◌, ◌⊎◌, ℕ, ◌≤◌, List, [], ◌∷◌, ◌++◌, Bool, true, false, Option, Some, None, Result}
 use Rattle.std.specs.Prelude.{Ok, Err}
 use Rattle.std.specs.List.{flat_map, AllByRecursion}
@@ -17,43 +17,44 @@ use Rattle.capn_commands.specs.declared.plan.MessageText.{MessageText}
 use Rattle.capn_commands.specs.declared.fault.ToolFault.{ToolFault}
 use Rattle.capn_commands.specs.declared.fault.ToolFault.TheVariants as faults
 
--- the bytes of one frame, its message, and what is written of it
+-- The bytes of one frame, its message, and the text that is written for it.
 pub record Part : Type 0 where
   pub frame : List ℕ
   pub message : List (List ℕ)
   pub text : List ℕ
 
--- its bytes
+-- The bytes of a part.
 abbrev pub frame_of : Part → List ℕ
 frame_of part = part.frame
 
--- what is written of it
+-- The text of a part.
 abbrev pub text_of : Part → List ℕ
 text_of part = part.text
 
--- the frames joined, and the texts joined
+-- The frames of parts, joined.
 abbrev pub frames_of : List Part → List ℕ
 frames_of parts = flat_map frame_of parts
 
--- the texts, one after the other
+-- The texts of parts, joined.
 abbrev pub texts_of : List Part → List ℕ
 texts_of parts = flat_map text_of parts
 
--- the frame is that of the message, which has no more words than allowed, and the text is its piece
+-- The frame of `part` is that of its message, which has no more words than allowed, and its text is that of the
+-- message.
 pub record IsPart (piece : MessageText) (limits : Bounds) (part : Part) : Type 0 where
   pub frame : Frames part.frame part.message
   pub room : total part.message ≤ limits.message_words
   pub text : IsMessageText piece part.message limits part.text
 
--- the bytes are a row of frames, each of a message that has a piece, and what is left after these
+-- `bytes` are the frames of `parts`, each of a message that has a text, followed by `rest`.
 pub record AreParts (piece : MessageText) (limits : Bounds) (bytes : List ℕ) (parts : List Part)
     (rest : List ℕ) : Type 0
   where
     pub each : AllByRecursion (IsPart piece limits) parts
     pub is : bytes ≡ frames_of parts ++ rest
 
--- How a run ends where what is left begins with no whole frame, by the reason: a count that is too great comes
--- first, then why no more bytes can come, if that is a fault, then a frame that is cut.
+-- The end of a run if no whole frame follows, by the reason. A count that is too great is reported first. Then comes
+-- the fault that keeps more bytes from being read, if there is one, and then a frame that is cut.
 abbrev pub end_of : FrameFault → Option ToolFault → Result (Unit {0}) ToolFault
 end_of frame_faults.Empty (Some fault) = Err fault
 end_of frame_faults.Empty None = Ok tt
@@ -64,31 +65,32 @@ end_of (frame_faults.TooManySegments n) behind = Err (faults.Refused (refusals.F
 end_of (frame_faults.TooManyWords n) behind = Err (faults.Refused (refusals.Frame (frame_faults.TooManyWords n)))
 end_of frame_faults.Failed behind = Err (faults.Refused (refusals.Frame frame_faults.Failed))
 
--- why no more bytes of a stream can come: there are more, and none of them is taken
+-- The reason why no more bytes of a stream follow, if it is a fault: the stream is longer than is taken.
 abbrev pub behind_stream : Bool → Option ToolFault
 behind_stream true = Some faults.InputTooLong
 behind_stream false = None
 
--- why no more words of a packed stream can come: so, or else since a group is cut
+-- The reason why no more words of a packed stream follow, if it is a fault: the stream is longer than is taken, or a
+-- group is cut.
 abbrev pub behind_packed : Bool → List ℕ → ℕ → Option ToolFault
 behind_packed true rest at = Some faults.InputTooLong
 behind_packed false [] at = None
 behind_packed false (b ∷ rest) at = Some (faults.Refused (refusals.Packed (cuts.Cut at)))
 
--- no whole frame comes first in what is left, and the run ends so
+-- `rest` begins with no whole frame, and the run ends with `ending`.
 abbrev pub EndsUnframed : Bounds → List ℕ → Option ToolFault → Result (Unit {0}) ToolFault → Type 0
 EndsUnframed limits rest behind ending =
     (e : FrameFault) × (e ≢ frame_faults.Memory) × frames.IsFrameRefused rest limits.message_words e
     × (ending ≡ end_of e behind)
 
--- a message comes first in what is left that has no piece, and the run ends with that reason
+-- `rest` begins with a message that has no text, and the run ends with the reason.
 abbrev pub EndsRefused : MessageText → Bounds → List ℕ → Result (Unit {0}) ToolFault → Type 0
 EndsRefused piece limits rest ending =
     (message : List (List ℕ)) × (taken : ℕ) × (fault : ToolFault) × StandsFirst rest limits.message_words message taken
     × IsNoMessageText piece message limits fault × (ending ≡ Err fault)
 
--- the text and the ending of a stream of which these bytes are taken: the pieces of its messages, up to the first
--- that has none
+-- The text and the ending of a stream that begins with `bytes`: the texts of its messages, up to the first that has
+-- none.
 pub record IsDueEach (piece : MessageText) (limits : Bounds) (bytes : List ℕ) (behind : Option ToolFault)
     (text : List ℕ)
     (ending : Result (Unit {0}) ToolFault) : Type 0 where
@@ -98,7 +100,7 @@ pub record IsDueEach (piece : MessageText) (limits : Bounds) (bytes : List ℕ) 
   pub joined : text ≡ texts_of parts
   pub ends : EndsUnframed limits rest behind ending ⊎ EndsRefused piece limits rest ending
 
--- the text and the ending of a packed stream of which these bytes are taken: those of the words of its whole groups
+-- The text and the ending of a packed stream that begins with `bytes`: those of the words of its whole groups.
 pub record IsDuePacked (piece : MessageText) (limits : Bounds) (bytes : List ℕ) (is_longer : Bool) (text : List ℕ)
     (ending : Result (Unit {0}) ToolFault) : Type 0 where
   pub words : List ℕ

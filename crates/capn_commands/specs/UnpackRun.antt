@@ -12,29 +12,29 @@ use Rattle.capn_commands.specs.declared.flow_fault.FlowFault.{FlowFault}
 use Rattle.capn_commands.specs.declared.flow_fault.FlowFault.TheVariants as faults
 use Rattle.capn_commands.specs.Flow.{Ending, Flow, Stops}
 
--- the end of unpacking: with more bytes than are taken, within a group that is cut, or after whole groups
+-- The end of unpacking: `InputTooLong` if there are more bytes than are taken, `Cut` within a group, or done after
+-- whole groups.
 abbrev pub ending_of : Bool → List ℕ → ℕ → Ending
 ending_of true group offset = Err faults.InputTooLong
 ending_of false [] offset = Ok tt
 ending_of false (b ∷ group) offset = Err (faults.Cut offset)
 
--- these bytes are whole groups, which unpack to these words, and maybe a group that is cut, and end so
+-- `bytes` are whole groups, which unpack to `words`, and perhaps an unfinished group. `ending` is the end of unpacking.
 pub record IsUnpacked (bytes : List ℕ) (is_longer : Bool) (words : List ℕ) (ending : Ending) : Type 0 where
   pub group : List ℕ
   pub offset : ℕ
   pub split : Splits bytes group [] words offset
   pub ends : ending ≡ ending_of is_longer group offset
 
--- all whole groups that come first in these bytes unpack to these words
+-- The whole groups at the start of `bytes` unpack to `words`.
 abbrev pub UnpacksTo : List ℕ → List ℕ → Type 0
 UnpacksTo bytes words = (group : List ℕ) × (offset : ℕ) × Splits bytes group [] words offset
 
--- of packed bytes the words of their whole groups are written, before more are read too
+-- Unpacking as a flow: the words of all whole groups are written before more bytes are read, and at the end.
 abbrev pub unpacking : Flow
 unpacking = record { gives = IsUnpacked; settles = UnpacksTo; begins = λ bytes words. packing.Begins bytes [] words }
 
--- a named word and two words of zeros, and then a group that is cut: the words of the first two groups, and the offset
--- of the third
+-- A group of one word and a group of two zero words, with their words, and then a group that is cut, with its offset.
 abbrev two_groups : List Group
 two_groups = Named 81 (8 ∷ 0 ∷ 0 ∷ 0 ∷ 3 ∷ 0 ∷ 2 ∷ 0 ∷ []) ∷ Zeros 1 ∷ []
 
@@ -56,16 +56,16 @@ nothing_behind_them = refl
 abbrev pub most_words : ℕ
 most_words = 16384
 
--- The words of the first whole groups were written, of as many as are held at once, and this comes next; or the run
--- stopped among these bytes.
+-- The words of the first whole groups in `bytes` were written, as many as are held at once, and `p.next` says what
+-- follows; or the run stopped within `bytes`.
 abbrev pub WritesSome : List ℕ → Option (List ℕ) → Option (List ℕ) → Bool → Result Progress FlowFault → Type 0
 WritesSome bytes c d failed (Ok p) =
     (words : List ℕ) × UnpacksSome bytes most_words [] words p.bytes p.words p.next × Appends c d words
     × (failed ≡ false)
 WritesSome bytes c d failed (Err fault) = Stops unpacking bytes c d failed fault
 
--- The words of all whole groups that come first were written, which take this many bytes; or the run stopped among
--- these bytes.
+-- The words of all whole groups at the start of `bytes` were written, which are the first `at` bytes; or the run
+-- stopped within `bytes`.
 abbrev pub WritesGroups : List ℕ → Option (List ℕ) → Option (List ℕ) → Bool → Result ℕ FlowFault → Type 0
 WritesGroups bytes c d failed (Ok at) =
     (words : List ℕ) × Splits bytes (drop at bytes) [] words at × (length bytes < at + most_group) × Appends c d words

@@ -1,4 +1,4 @@
--- What is made of an input that is taken whole, and why nothing is. (Own.)
+-- The output that is made of an input that is taken whole, and the reason why none is. (Own.)
 use Rattle.std.specs.Prelude.{◌≡◌, ◌≢◌, ◌⊎◌, ℕ, ◌*◌, ◌%◌, ◌≤◌, List, [], ◌∷◌, length, Result, Ok, Err, Vec}
 use Rattle.capn_words.specs.Message.{IsBare, ReadsBare}
 use Rattle.capn_words.specs.declared.bare.BareFault.{BareFault}
@@ -23,21 +23,21 @@ use Rattle.capn_commands.specs.declared.plan.Whole.TheVariants as wholes
 use Rattle.capn_commands.specs.declared.fault.ToolFault.{ToolFault}
 use Rattle.capn_commands.specs.declared.fault.ToolFault.TheVariants as faults
 
--- the fault of a run if an input is refused so: memory was refused if and only if it was for the answer
+-- `fault` is the fault of a run if its input is refused with `r`. It is `Memory` if and only if memory was refused.
 abbrev pub IsFaultOf : Refusal → ToolFault → Type 0
 IsFaultOf r fault =
     ((r ≡ refusals.Memory) × (fault ≡ faults.Memory)) ⊎ ((r ≢ refusals.Memory) × (fault ≡ faults.Refused r))
 
--- why bytes have no piece as one message in a form: why they have no canonical bytes, but that a capability is no
--- refusal of a text and of a price
+-- `r` is the reason why bytes have no text as one message in a form. That is the reason why they have no canonical
+-- bytes, but a capability refuses neither a text nor a price.
 abbrev pub IsOneRefused : MessageText → Form → List ℕ → Bounds → Refusal → Type 0
 IsOneRefused kinds.Text form bytes limits r = IsUnacceptedIn form bytes limits r
 IsOneRefused kinds.Price form bytes limits r = IsUnacceptedIn form bytes limits r
 IsOneRefused kinds.Digest form bytes limits r = IsRefused form bytes limits r
 
--- What is made of the bytes: the packer's text of them; the words that they pack, at most `most`; the canonical bytes
--- of the message that they are in a form; a piece of the bare message that they are; or a piece of the one message that
--- they are in a frame.
+-- `text` is made of `bytes`: their packed text; the words that they unpack to, at most `most`; the canonical bytes of
+-- the message that they are in a form; the text of the bare message that they are; or that of the one message that they
+-- are in a frame.
 abbrev pub Makes : Whole → List ℕ → List ℕ → Type 0
 Makes wholes.Packed bytes text = Chosen text bytes
 Makes (wholes.Unpacked most) bytes text = Packs bytes text × (length text ≤ 8 * most)
@@ -47,8 +47,9 @@ Makes (wholes.Bare piece limits) bytes text = (words : List ℕ) × IsBare bytes
 Makes (wholes.One piece form limits) bytes text = (message : List (List ℕ))
     × Reads (form_of form) bytes limits.message_words message × IsMessageText piece message limits text
 
--- Why nothing is: the bytes are no whole words; they pack no words, or more; they have no canonical bytes in the form;
--- they are no bare message, or one that has no piece; or they are no one message in a frame, or one that has no piece.
+-- `fault` is the reason why nothing is made of `bytes`. They are no whole words; or they unpack to no words, or to too
+-- many; or they have no canonical bytes in the form; or they are no bare message, or one without a text; or they are
+-- not one message in a frame, or one without a text.
 abbrev pub MakesNothing : Whole → List ℕ → ToolFault → Type 0
 MakesNothing wholes.Packed bytes fault = (length bytes % 8 ≢ 0) × (fault ≡ faults.NotWhole (length bytes))
 MakesNothing (wholes.Unpacked most) bytes fault =
@@ -63,7 +64,7 @@ MakesNothing (wholes.One piece form limits) bytes fault =
     (r : Refusal) × (fault ≡ faults.Refused r) × (r ≢ refusals.Memory)
     × IsOneRefused piece (form_of form) bytes limits r
 
--- a call gave what is made of the bytes, or reported why nothing is, unless memory ran out
+-- A call returned what is made of `bytes`, or the reason why nothing is, unless memory ran out.
 abbrev pub Gives : {A : Type 0} → Whole → List ℕ → Result (Vec ℕ A) ToolFault → Type 0
 Gives whole bytes (Ok text) = Makes whole bytes text.items
 Gives whole bytes (Err fault) = (fault ≡ faults.Memory) ⊎ MakesNothing whole bytes fault

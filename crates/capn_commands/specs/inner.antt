@@ -1,4 +1,4 @@
--- What no public clause cites.
+-- Definitions that no public clause cites.
 pub mod MessageTexts
 pub mod OneServing
 pub mod Pending

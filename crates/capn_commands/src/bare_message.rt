@@ -1,4 +1,4 @@
-//! A run over the one message of a bare input.
+//! The run of `show` or `hash` over a bare input, which is one message.
 
 ghost use Rattle.std.specs.Prelude.{◌≡◌, ◌≢◌, false};
 ghost use Rattle.capn_words.specs.Watched.{inner_of, has_failed};
@@ -16,8 +16,9 @@ use capn_words::Watched;
 use std::alloc::Allocator;
 use std::io::{Read, Write};
 
-/// Writes the text or the digest of a bare input, which is one message. The price isn't written here, since its line
-/// also says whether the bytes are canonical. It holds no more than the input and what the service holds.
+/// Writes the text or the digest of a bare input, which is one message. `piece` must not be the price: for a bare
+/// message its line also says whether the bytes are canonical, which another call finds out. The run holds no more than
+/// the input and what the service holds.
 pub fn run_one<R: Read, W: Write, A: Allocator + Copy>(
     alloc: A,
     piece: MessageText,

@@ -9,16 +9,16 @@ use capn_walk::Limits;
 pub enum Command {
     /// Writes the text of each message, and a line `end` after each.
     Show(Form, Limits),
-    /// Writes for each message a line with what its walk paid and how many visits it made.
+    /// Writes for each message a line with the price of its walk and its number of visits.
     Check(Form, Limits),
-    /// Writes the packed text of the input, which is whole words.
+    /// Writes the packed text of the input, which has to be whole words.
     Pack,
-    /// Writes the words that the input packs, at most this many.
+    /// Writes the words that the input unpacks to, at most this number.
     Unpack(u32),
     /// Writes the canonical bytes of the one message that the whole input is.
     Canonical(Form, Limits),
     /// Writes for each message a line with the SHA-256 of its canonical bytes.
     Hash(Form, Limits),
-    /// Writes what `show`, `check` or `hash` writes of the one message that the whole input is.
+    /// Writes the output of `show`, `check` or `hash` for the one message that the whole input is.
     One(MessageText, Form, Limits),
 }

@@ -25,7 +25,7 @@ use capn_words::Watched;
 use std::alloc::Allocator;
 use std::io::{Read, Write};
 
-/// Writes what was made of an input, if anything was.
+/// Writes `made`, the output for an input, if it is not a fault.
 fn write_made<W: Write, A: Allocator>(
     made: Result<Vec<u8, A>, ToolFault>,
     writer: &mut Watched<W>,
@@ -66,7 +66,7 @@ fn run_bare_piece<R: Read, W: Write, A: Allocator + Copy>(
     }
 }
 
-/// Carries a plan out.
+/// Carries out `plan`.
 fn perform<R: Read, W: Write, A: Allocator + Copy>(
     alloc: A,
     plan: Plan,
@@ -96,22 +96,22 @@ fn perform<R: Read, W: Write, A: Allocator + Copy>(
     }
 }
 
-/// Carries a command out: reads from the reader to its end, then writes the text of the input to the writer.
+/// Carries out `command`: reads the input to its end, and writes the output for it.
 ///
-/// `pack`, `unpack`, `canonical`, a run over exactly one message and the form bare take the input whole, and write
-/// nothing where it is refused. `show`, `check` and `hash` of a stream, packed or not, take it message by message:
-/// before the reader is asked again, the text of all messages that are whole by then has been written, mostly by one
-/// call. Where a message is refused, the text of those before it has been written.
+/// `pack`, `unpack`, `canonical`, [`Command::One`] and the form bare read the input whole, and write nothing if it is
+/// refused. `show`, `check` and `hash` of a stream, packed or not, take it message by message. Before each read, the
+/// text of all messages that are complete by then has been written, mostly by one call. If a message is refused, the
+/// text of those before it has been written.
 ///
-/// Refusals: `Memory` where a growth was refused; `Io` exactly where the reader or the writer has failed;
-/// `InputTooLong` for a byte past 2^32; else the command's own. After `Memory` and `Io` a beginning of the text was
-/// written, or nothing. At most 2^32 + 1 bytes are read, at most 65,536 by one call. Over a stream the memory does not
-/// grow with the input: 128 KiB, the texts of what one call read, at most 1 MiB for unpacked words, and what the
-/// longest message takes.
+/// `Memory` is returned if a growth was refused, and `Io` if and only if the reader or the writer has failed.
+/// `InputTooLong` is returned for a byte past 2^32. Other refusals are those of the command. After `Memory` and `Io` a
+/// prefix of the output was written, or nothing. At most 2^32 + 1 bytes are read, and at most 65,536 by one call. Over
+/// a stream the memory does not grow with the input. It is 128 KiB, the texts of what one call read, at most 1 MiB for
+/// unpacked words, and what the longest message takes.
 ///
-/// Of an input that is taken whole, `canonical` and a run over exactly one message hold the first 8 * (message words +
-/// 2,049) bytes and one more, or as many words of a packed one, and `unpack` its answer; what follows is read and
-/// dropped. The form bare holds at most 2^28 + 1 words, and `pack` all of its input.
+/// If the input is read whole, `canonical` and [`Command::One`] hold its first 8 * (message words + 2,049) bytes and
+/// one more, or as many words of a packed input. `unpack` holds its output. What follows is read and dropped. The form
+/// bare holds at most 2^28 + 1 words, and `pack` all of its input.
 pub fn run<R: Read, W: Write, A: Allocator + Copy>(
     alloc: A,
     command: Command,
@@ -120,27 +120,30 @@ pub fn run<R: Read, W: Write, A: Allocator + Copy>(
 ) -> Result<(), ToolFault>
     requires reader_fine { has_failed reader.old ≡ false }
     requires writer_fine { has_failed writer.old ≡ false }
-    // It has written the text of all that the reader had to give, and ends as that says.
+    // If the bytes of the input are known, their text was written and `result` is their ending, unless `result` is
+    // `Memory` or `Io`.
     ensures exact { IfSome (R.remaining (inner_of reader.old))
         (EndsAs command (W.contents (inner_of writer.old)) (W.contents (inner_of writer.new)) result) }
-    // There is one text and one ending for an input: these come, and nothing else.
+    // If `text` and `due` are the text and the ending of the input, `text` was written and `result` is `due`, unless
+    // `result` is `Memory` or `Io`.
     ensures only { IfSome (R.remaining (inner_of reader.old)) (λ input.
         (text : List ℕ) (due : Result (Unit {0}) ToolFault) → IsText command input text due →
         EndsBy text due (W.contents (inner_of writer.old)) (W.contents (inner_of writer.new)) result) }
-    // It answers Io exactly where one of the two has failed.
+    // `result` is `Io` if and only if the reader or the writer has failed.
     ensures io { IsErrOf result ToolFault.Io ↔ ((has_failed reader.new ≡ true) ⊎ (has_failed writer.new ≡ true)) }
-    // Whatever it answers, a beginning of the text of what it read was written, or nothing.
+    // Whatever `result` is, a prefix of the text of the bytes that were read was written, or nothing.
     ensures begun { Begins command (R.remaining (inner_of reader.old)) (R.remaining (inner_of reader.new))
         (W.contents (inner_of writer.old)) (W.contents (inner_of writer.new)) }
-    // If the reader failed, all of the output for what it gave was written, if it is taken message by message; if it is
-    // taken whole, nothing was.
+    // If the reader failed and the input is taken message by message, all output for the bytes that it gave was
+    // written. If it failed and the input is taken whole, nothing was written.
     ensures heard { has_failed reader.new ≡ true
         → KeepsUp command (R.remaining (inner_of reader.old)) (R.remaining (inner_of reader.new))
         (W.contents (inner_of writer.old)) (W.contents (inner_of writer.new)) }
-    // Before a piece was read, all that the bytes before it decided was written, if they are taken message by message.
+    // If the input is taken message by message, all output that the bytes before a read decide was written before that
+    // read.
     ensures ahead { StaysAheadAs command (R.remaining (inner_of reader.old)) (R.remaining (inner_of reader.new))
         (W.contents (inner_of writer.old)) (W.contents (inner_of writer.new)) }
-    // It answers Memory only where some bytes were read, or all of an input that is taken whole.
+    // `result` is `Memory` only if some bytes were read, or all bytes of an input that is taken whole.
     ensures memory { IsErrOf result ToolFault.Memory
         → MayNeedMemory command (R.remaining (inner_of reader.old)) (R.remaining (inner_of reader.new)) }
 {

@@ -1,4 +1,4 @@
-//! The end of a run: exit status and error line.
+//! The end of a run of a command: its exit status and its error line.
 
 ghost use Rattle.std.specs.Prelude.{◌≡◌, IfOk, string_bytes, false};
 ghost use Rattle.capn_words.specs.Watched.{inner_of, has_failed};
@@ -48,7 +48,7 @@ pub fn status(outcome: &Result<(), ToolFault>) -> u8
     capn_serve::status(outcome)
 }
 
-/// A fault of which the text is shown. A `ToolFault` itself shows the name of its variant.
+/// A wrapper that shows the text of a fault. A `ToolFault` itself shows the name of its variant.
 #[derive(Drop)]
 struct Text(ToolFault);
 
@@ -68,7 +68,8 @@ impl fmt::Display for Text {
     }
 }
 
-/// Returns the text of a fault, as the program prints it after `capn: `. `Memory` if there is none for the text.
+/// Returns the text of `fault`, as the program prints it after `capn: `. `Memory` is returned if there is no memory for
+/// the text.
 pub fn fault_text<A: Allocator>(alloc: A, fault: &ToolFault) -> Result<String<A>, Memory>
     ensures { IfOk result (λ text. string_bytes text ≡ spec.fault_text fault.now) }
 {
@@ -76,8 +77,8 @@ pub fn fault_text<A: Allocator>(alloc: A, fault: &ToolFault) -> Result<String<A>
     Ok(format!(in alloc; "{text}")?)
 }
 
-/// Writes the line that says why a run ended, if it is not done, and answers its exit status. The line is written
-/// whole, or a beginning of it where the errors fail; the allocator is asked for nothing.
+/// Returns the exit status of a run with this `outcome`. If it is an `Err`, a line that says why is written to
+/// `errors`. If `errors` fails, a prefix of the line was written. The allocator is not used.
 pub fn end<E: Write, A: Allocator + Copy>(
     _alloc: A,
     outcome: &Result<(), ToolFault>,

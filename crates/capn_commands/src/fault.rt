@@ -1,4 +1,4 @@
-//! Faults of a run of the tool.
+//! The faults with which the run of a command ends.
 
 ghost use Rattle.std.specs.Prelude.{◌≡◌};
 ghost use Rattle.capn_commands.specs.declared.fault.ToolFault.TheVariants as fault;
@@ -10,8 +10,8 @@ use std::alloc::AllocError;
 use std::io;
 use thiserror::Error;
 
-/// Why a run stops. `{}` shows the name of the variant alone; [`fault_text`](crate::fault_text) is the text for the
-/// user.
+/// The reason why a run stops. `{}` shows the name of the variant alone. [`fault_text`](crate::fault_text) returns the
+/// text for the user.
 #[derive(Clone, Copy, Debug, PartialEq, Eq, Error)]
 pub enum ToolFault {
     /// Memory was refused.
@@ -20,13 +20,13 @@ pub enum ToolFault {
     /// The reader or the writer failed.
     #[error("Io")]
     Io,
-    /// The input has a byte past the 2^32 that one run takes.
+    /// The input has more than the 2^32 bytes that one run takes.
     #[error("InputTooLong")]
     InputTooLong,
-    /// The input, of this many bytes, is not whole words.
+    /// The input has this number of bytes, which is not whole words.
     #[error("NotWhole")]
     NotWhole(u64),
-    /// The input has no answer.
+    /// The input is refused.
     #[error("Refused")]
     Refused(Refusal),
 }

@@ -1,4 +1,4 @@
-//! Text on its way to the writer.
+//! Writes the output of packing or unpacking a stream.
 
 ghost use Rattle.std.specs.Prelude.{◌≡◌, ◌↔◌, true, false, OnOk, IsErrOf, IsOkUnless};
 ghost use Rattle.std.specs.Io.KnownBytes.{Appends};
@@ -8,7 +8,7 @@ use crate::flow_fault::FlowFault;
 use capn_words::Watched;
 use std::io::Write;
 
-/// Writes all of `text`, or a beginning of it if the writer fails, which is `Io`.
+/// Writes all of `text`. If the writer fails, a prefix of `text` was written, and `Io` is returned.
 pub(crate) fn write_all<W: Write>(writer: &mut Watched<W>, text: &[u8]) -> Result<(), FlowFault>
     requires { has_failed writer.old ≡ false }
     ensures ok { OnOk result (Appends (W.contents (inner_of writer.old)) (W.contents (inner_of writer.new)) text.now) }

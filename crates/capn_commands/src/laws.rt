@@ -1,8 +1,8 @@
-//! The laws of flowing bytes, as empty functions.
+//! Laws of packing and unpacking streams, stated by the clauses of a function with an empty body.
 
 ghost use Rattle.capn_commands.specs.Laws.{PackingGivesOne, UnpackingGivesOne};
 
-/// States: bytes are packed to one text, and unpacked to one, and each ends in one way.
+/// States that the bytes of an input determine its packed text, its unpacked words, and how each run ends.
 pub fn one_text()
     ensures packing { PackingGivesOne }
     ensures unpacking { UnpackingGivesOne }

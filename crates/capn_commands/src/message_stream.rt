@@ -14,7 +14,7 @@ use capn_words::Watched;
 use std::alloc::Allocator;
 use std::io::{Read, Write};
 
-/// Writes a piece of each message of a stream: of all that are whole, before it reads again.
+/// Writes `piece` of each message of a stream. Before each read, all messages that are complete have been served.
 pub fn run_each<R: Read, W: Write, A: Allocator + Copy>(
     alloc: A,
     piece: MessageText,
@@ -34,7 +34,8 @@ pub fn run_each<R: Read, W: Write, A: Allocator + Copy>(
     Ok(())
 }
 
-/// Writes a piece of each message of a packed stream: of all that are whole, before it reads again.
+/// Writes `piece` of each message of a packed stream. Before each read, all messages that are complete have been
+/// served.
 pub fn run_each_packed<R: Read, W: Write, A: Allocator + Copy>(
     alloc: A,
     piece: MessageText,
@@ -50,7 +51,7 @@ pub fn run_each_packed<R: Read, W: Write, A: Allocator + Copy>(
 {
     let mut run = first_run(piece, limits);
     let most = limits.message_words();
-    // All that this many packed bytes unpack to is taken.
+    // All that 2^32 packed bytes unpack to is taken.
     run_packed(
         alloc,
         most,

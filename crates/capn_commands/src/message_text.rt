@@ -14,7 +14,7 @@ use capn_words::{Bare, Space};
 use sha2::{Digest, Sha256};
 use std::alloc::Allocator;
 
-/// Appends the line of a price and a number of visits, which ends with `end`, or nothing if memory is refused.
+/// Appends the line of a price and a number of visits, which ends with `end`. Nothing is appended if memory is refused.
 #[inline(always)]
 fn put_priced<A: Allocator>(
     text: &mut Vec<u8, A>,
@@ -31,7 +31,7 @@ fn put_priced<A: Allocator>(
     }
 }
 
-/// Appends the line of a price and a number of visits, or nothing where memory is refused.
+/// Appends the line of a price and a number of visits. Nothing is appended if memory is refused.
 #[inline(always)]
 fn put_price_line<A: Allocator>(
     text: &mut Vec<u8, A>,
@@ -81,7 +81,7 @@ pub fn put_verdict<A: Allocator + Copy>(
     put_priced(text, checked.paid, checked.visits, b" not-canonical\n")
 }
 
-/// Returns the 64 hexadecimal digits of the SHA-256 of some bytes, and the end of a line.
+/// Returns the 64 hexadecimal digits of the SHA-256 of `bytes`, and the end of a line.
 fn digest_line(bytes: &[u8]) -> [u8; 65]
     ensures { result ≡ encode_lower (sha256 bytes.now) ++ 10 ∷ [] }
 {
@@ -91,7 +91,7 @@ fn digest_line(bytes: &[u8]) -> [u8; 65]
     line
 }
 
-/// Appends the line of the digest of some bytes, or nothing where memory is refused.
+/// Appends the line of the digest of `bytes`. Nothing is appended if memory is refused.
 fn put_digest_line<A: Allocator>(bytes: &[u8], text: &mut Vec<u8, A>) -> Result<(), ToolFault>
     ensures { PutsLine (encode_lower (sha256 bytes.now) ++ 10 ∷ []) text.old.items text.new.items result }
 {
@@ -102,8 +102,8 @@ fn put_digest_line<A: Allocator>(bytes: &[u8], text: &mut Vec<u8, A>) -> Result<
     }
 }
 
-/// Appends the line of the digest of a message's canonical bytes. If the message is canonical, its own bytes are hashed
-/// where they lie: one pass finds them, and no others are made. After a fault the text is as it was.
+/// Appends the line of the digest of a message's canonical bytes. If the message is canonical, one pass finds that out,
+/// its own bytes are hashed where they lie, and no copy is made. After a fault the text is as it was.
 pub fn put_digest<S: Space, A: Allocator + Copy>(
     alloc: A,
     space: &S,

@@ -20,7 +20,7 @@ use capn_words::{Space, Watched};
 use std::alloc::Allocator;
 use std::io::Write;
 
-/// The service that writes a text of each message, within limits. It keeps nothing of the messages before.
+/// The service that writes a text of each message, within limits. It keeps nothing of earlier messages.
 #[derive(Clone, Copy)]
 pub struct MessageTexts {
     /// The text that is written of a message.
@@ -29,14 +29,14 @@ pub struct MessageTexts {
     pub limits: Limits,
 }
 
-/// Returns the run over an input before its first message.
+/// Returns the state of a run before its first message, which writes `piece` of each message.
 pub(crate) fn first_run(piece: MessageText, limits: Limits) -> Run<MessageTexts>
     ensures { result ≡ spec.first_run piece limits }
 {
     Run::new(MessageTexts { piece, limits })
 }
 
-/// Adds a line to the text, or nothing if memory is refused, and writes what is long.
+/// Appends `line` to `text`, or nothing if memory is refused, and writes `text` once it is long.
 fn add_line<W: Write, A: Allocator>(
     line: &[u8],
     text: &mut Vec<u8, A>,
@@ -52,7 +52,7 @@ fn add_line<W: Write, A: Allocator>(
     }
 }
 
-/// Adds the text of a message's value, and the line `end`. Long texts are written while they are made.
+/// Adds the text of the value of `message`, and the line `end`. A long text is written while it is made.
 fn add_shown<S: Space, W: Write, A: Allocator + Copy>(
     alloc: A,
     message: &S,
@@ -84,7 +84,7 @@ fn served_fault(fault: ToolFault) -> ServeFault
     }
 }
 
-/// Maps the outcome of one message's text to that of its service.
+/// Maps the outcome of one message's text to the outcome of its service.
 #[inline(always)]
 fn served(put: Result<(), ToolFault>) -> Result<(), ServeFault>
     ensures { (s : MessageTexts) (at : Position) (frame : List ℕ) (message : List (List ℕ)) (old new : List ℕ)
@@ -97,7 +97,7 @@ fn served(put: Result<(), ToolFault>) -> Result<(), ServeFault>
     }
 }
 
-/// Turns `put`, the outcome of a message's text, into the outcome of its service, and writes the text once it is long.
+/// Maps `put`, the outcome of a message's text, to the outcome of its service, and writes `text` once it is long.
 #[inline(always)]
 fn end_piece<W: Write, A: Allocator>(
     put: Result<(), ToolFault>,

@@ -1,4 +1,4 @@
-//! Exactly one message: all of an input, in a frame.
+//! Runs over exactly one message: the whole input is its frame.
 
 ghost use Rattle.std.specs.Prelude.{◌≡◌, ◌≤◌, false};
 ghost use Rattle.capn_words.specs.Message.{most_message_words};
@@ -23,7 +23,7 @@ use capn_words::{Space, Watched};
 use std::alloc::Allocator;
 use std::io::{Read, Write};
 
-/// Has a message served, with its frame, and writes all of its text.
+/// Serves `message`, whose bytes are `frame`, and writes all of its text.
 fn serve_message<M: Space, S: Service + Drop, W: Write, A: Allocator + Copy>(
     alloc: A,
     service: S,
@@ -49,7 +49,7 @@ fn serve_message<M: Space, S: Service + Drop, W: Write, A: Allocator + Copy>(
     }
 }
 
-/// Has the message of the frame `frame` served, and writes all of its text. Bytes after the frame are refused.
+/// Serves the message in `frame`, and writes all of its text. Bytes after the message are refused.
 fn serve_frame<S: Service + Drop, W: Write, A: Allocator + Copy>(
     alloc: A,
     service: S,
@@ -74,14 +74,14 @@ fn serve_frame<S: Service + Drop, W: Write, A: Allocator + Copy>(
     }
 }
 
-/// Has the one message of an input served, and writes all of its text. The input is its frame, packed or not, and the
+/// Serves the one message that an input is, and writes all of its text. The input is its frame, packed or not, and the
 /// message has at most `most` words.
 ///
 /// All of the input is read first. If it is no message, or more than one, it is refused as
-/// [`canonicalise`](capn_canon::canonicalise) refuses its bytes; otherwise the service may refuse the message. In both
-/// cases nothing is written. `InputTooLong` for a byte past 2^32; `Io` exactly where the reader or the writer failed;
-/// `Memory` where a growth was refused. Of a stream it holds at most the longest frame and one byte. Of a packed input
-/// it holds what that packs, which is at most as long.
+/// [`canonicalise`](capn_canon::canonicalise) refuses its bytes. Otherwise the service may refuse the message. In both
+/// cases nothing is written. `InputTooLong` is returned for a byte past 2^32, `Io` if and only if the reader or the
+/// writer failed, and `Memory` if a growth was refused. For a stream the run holds at most the longest frame and one
+/// byte. For a packed input it holds at most the words of the longest frame.
 pub fn serve_one<S: Service + Drop, R: Read, W: Write, A: Allocator + Copy>(
     alloc: A,
     service: S,

@@ -24,17 +24,17 @@ use capn_words::Watched;
 use std::alloc::{AllocError, Allocator};
 use std::io::{Read, Write};
 
-/// The most bytes that one call of a reader is asked for.
+/// The most bytes that one call of a reader may return.
 const CHUNK: u64 = 65_536;
 
 /// The most words of a group.
 const RUN: u32 = 256;
 
-/// The bytes of 255 words: a run of this length may go on.
+/// The number of bytes of 255 words, the longest run that may go on with a further word.
 const OPEN: usize = 2040;
 
-/// The part of a packed text that is settled, whatever follows: its number of bytes, and the number of bytes of the
-/// words that it packs.
+/// The part of a packed text that is settled: no later word changes it. `text` is its number of bytes, and `words` the
+/// number of bytes of the words that it packs.
 #[derive(Clone, Copy)]
 struct Settled {
     text: usize,
@@ -63,8 +63,8 @@ fn zeros_of(bytes: &[u8]) -> usize
     zeros
 }
 
-/// Returns the end of what can be packed of `words` now: the start of the last run of dense words, which may go on in
-/// the next bytes; or the end of all words, if that run is as long as one may be.
+/// Returns the end of the part of `words` that can be packed now. It is the start of the last run of dense words, which
+/// may go on in the next bytes. If that run is as long as a run may be, it is the end of `words`.
 fn before_dense(words: &[u8]) -> usize
     requires { length words.now % 8 ≡ 0 }
     ensures whole { result % 8 ≡ 0 }
@@ -85,8 +85,8 @@ fn before_dense(words: &[u8]) -> usize
     words.len()
 }
 
-/// Returns what is settled of the `text` of `words`, of which the last is zero: the last group is zero words, and its
-/// last byte says how many.
+/// Returns the settled part of the `text` of `words`, if the last word is zero. Then the last group is a run of zero
+/// words, and its last byte is their number less one.
 fn zeros_part(words: &[u8], text: &[u8]) -> Settled
     requires some { 8 ≤ length words.now }
     requires chosen { Chosen text.now words.now }
@@ -106,7 +106,7 @@ fn zeros_part(words: &[u8], text: &[u8]) -> Settled
     }
 }
 
-/// Returns what is settled of the `text` of `words`. Its last group is found by unpacking those before it.
+/// Returns the settled part of the `text` of `words`. The groups before the last are unpacked, to find where it begins.
 fn unpacked_part<A: Allocator + Copy>(
     alloc: A,
     words: &[u8],
@@ -132,9 +132,9 @@ fn unpacked_part<A: Allocator + Copy>(
     })
 }
 
-/// Returns what is settled of the `text` of `words`: all of it, or all but its last group, if that is a run that may go
-/// on. Most often the last word says which: a dense one may be in a run of raw words, a zero one is in a run, and
-/// others are alone.
+/// Returns the settled part of the `text` of `words`: all of it, or all but its last group, if that is a run that may
+/// go on. Mostly the last word decides: a dense one may be in a run of raw words, a zero one is in a run, and any other
+/// is a group of its own.
 fn settled_part<A: Allocator + Copy>(
     alloc: A,
     words: &[u8],
@@ -160,15 +160,15 @@ fn settled_part<A: Allocator + Copy>(
     })
 }
 
-/// The text of some bytes that is settled, whatever follows, and the bytes whose text isn't.
+/// The settled text of some bytes, and the bytes after the words that it packs.
 #[derive(Drop)]
 struct Settlement<A: Allocator + Copy> {
     text: Vec<u8, A>,
     rest: Vec<u8, A>,
 }
 
-/// Packs the whole words of `held`, as far as their text is settled. Dense words that come last are held back with the
-/// rest, if they may be in a run that goes on: so the groups before it need not be unpacked to find its beginning.
+/// Packs the whole words of `held`, as far as their text is settled. Dense words at the end are held back with the rest
+/// if they may be in a run that goes on. So the groups before that run need not be unpacked to find its start.
 fn settle<A: Allocator + Copy>(alloc: A, held: &[u8]) -> Result<Settlement<A>, AllocError>
     requires short { length held.now ≤ 131072 }
     ensures settled { IfOk result (λ s. Settles held.now s.text.items s.rest.items) }
@@ -188,7 +188,7 @@ fn settle<A: Allocator + Copy>(alloc: A, held: &[u8]) -> Result<Settlement<A>, A
     Ok(Settlement { text, rest })
 }
 
-/// Writes what is settled of the text of `held` followed by `bytes`, and leaves the rest in `held`.
+/// Appends `bytes` to `held`, writes the settled part of the text of `held`, and leaves the rest in `held`.
 fn pack_chunk<W: Write, A: Allocator + Copy>(
     alloc: A,
     held: &mut Vec<u8, A>,
@@ -222,8 +222,8 @@ fn end_after(count: u64, is_longer: bool) -> Result<(), FlowFault>
     Ok(())
 }
 
-/// Writes the text of the whole words of `held` to `writer`: the last ones. Returns the end of the run, which took
-/// `count` bytes in all.
+/// Writes the text of the whole words of `held`, the last ones, to `writer`. Returns the end of the run, which took
+/// `count` bytes in all. It is an error if the stream `is_longer`.
 fn pack_last<W: Write, A: Allocator + Copy>(
     alloc: A,
     held: &[u8],
@@ -245,18 +245,20 @@ fn pack_last<W: Write, A: Allocator + Copy>(
     }
 }
 
-/// Packs a stream: writes the packer's text of the whole words of `reader` to `writer`, which is what
-/// [`pack`](capn_pack::pack) answers of them. It reads chunks of at most 65,536 bytes, and writes what is settled of
-/// the text of each chunk before it reads again. (Page: packing; the rest is own.)
+/// Packs a stream: writes the text that [`pack`](capn_pack::pack) returns for the whole words of `reader` to `writer`.
+/// It reads chunks of at most 65,536 bytes. Before each read, the settled part of the text has been written. (Page:
+/// packing; the rest is own.)
 ///
-/// Settled is what no later word can change: all but the last group, and that too, unless it is a run of zero words or
-/// of raw words that may go on. With up to 255 dense words that come last, fewer than 4,096 bytes are held back.
+/// Text is settled if no later word can change it. That is all text but the last group, if that group is a run of zero
+/// words or of raw words that may go on, and else all text. With up to 255 dense words at the end, fewer than 4,096
+/// bytes are held back.
 ///
-/// Of the stream at most 2^64 - 1 bytes are taken, and one more is read, to know whether there are more. The run ends
-/// as done, or with the first fault: `Io` if and only if the reader or the writer failed; `Memory` if a growth was
-/// refused, which takes a byte; `InputTooLong` if there are more bytes; `NotWhole`, with their number, if it is no
-/// multiple of eight. Before the two last the text of all whole words was written, after `Memory` and `Io` a beginning
-/// of it. It holds a chunk, its text and its words, each at most twice: less than 2 MiB.
+/// At most 2^64 - 1 bytes of the stream are taken. One more byte may be read, to find out whether the stream is longer.
+/// The run ends as done, or with the first fault: `Io` if and only if the reader or the writer failed; `Memory` if a
+/// growth was refused, which takes at least one byte of input; `InputTooLong` if there are more bytes; `NotWhole`, with
+/// their number, if that is no multiple of eight. Before `InputTooLong` and `NotWhole` the text of all whole words was
+/// written. Before `Memory` and `Io` a prefix of it was written. The run holds a chunk, its text and its words, each at
+/// most twice: less than 2 MiB.
 pub fn pack_stream<R: Read, W: Write, A: Allocator + Copy>(
     alloc: A,
     reader: &mut Watched<R>,

@@ -1,4 +1,4 @@
-//! The service of `show`: parts of messages in a style, or with marks.
+//! The service of `show`: the text of messages or of parts of them, in a style or with marks.
 
 ghost use Rattle.std.specs.Prelude.{◌≡◌, ◌||◌, false};
 ghost use Rattle.capn_words.specs.Message.{total};
@@ -21,7 +21,8 @@ use capn_words::{Space, Watched, total_words};
 use std::alloc::Allocator;
 use std::io::Write;
 
-/// The service that writes of each message of a stream, within limits, the text of the value at a path and its end.
+/// The service that writes, for each message of a stream, the text of the value at a path and a line that ends it.
+/// Messages have to be within limits.
 #[derive(Drop)]
 pub struct PartTexts<'w> {
     /// The numbers of the path.
@@ -32,9 +33,9 @@ pub struct PartTexts<'w> {
     pub limits: Limits,
     /// The style of the text.
     pub style: Style,
-    /// True if each line begins with the offset of the byte that it is about. Not with JSON.
+    /// True if each line begins with the offset of the byte that it is about. JSON has no offsets.
     pub offsets: bool,
-    /// True if each line begins, after that offset, with the path to the slot that it is about. Not with JSON.
+    /// True if each line begins, after any offset, with the path to the slot that it is about. JSON has no paths.
     pub ways: bool,
 }
 
@@ -49,7 +50,7 @@ fn fault_of(fault: ShowFault) -> ServeFault
     }
 }
 
-/// Adds an end to the text, or nothing if memory is refused, and writes what is long.
+/// Appends `end` to `text`, or nothing if memory is refused, and writes `text` once it is long.
 pub(crate) fn add_end<W: Write, A: Allocator>(
     end: &[u8],
     text: &mut Vec<u8, A>,
@@ -65,8 +66,8 @@ pub(crate) fn add_end<W: Write, A: Allocator>(
     }
 }
 
-/// Adds the text of what is at a path from a message's root, in a style, and what ends it. Long texts are written
-/// while they are made.
+/// Adds the text of the value at `path` from a message's root, in `style`, and the end of that text. A long text is
+/// written while it is made.
 fn add_part<S: Space, W: Write, A: Allocator + Copy>(
     alloc: A,
     message: &S,
@@ -86,7 +87,7 @@ fn add_part<S: Space, W: Write, A: Allocator + Copy>(
     }
 }
 
-/// Adds the text of the value at a path from a message's root, with marks, and its line `end`.
+/// Adds the text of the value at `path` from a message's root, with `marks`, and its line `end`.
 fn add_marked<S: Space, W: Write, A: Allocator + Copy>(
     alloc: A,
     message: &S,
@@ -107,15 +108,15 @@ fn add_marked<S: Space, W: Write, A: Allocator + Copy>(
     }
 }
 
-/// Tells if `texts` asks for offsets or paths.
+/// Tests whether `texts` asks for offsets or paths.
 fn has_marks(texts: &PartTexts) -> bool
     ensures { result ≡ (texts.now.offsets || texts.now.ways) }
 {
     texts.offsets || texts.ways
 }
 
-/// Adds the text of the value at a path from a message's root, and its end: with marks if `texts` asks for any,
-/// otherwise in its style.
+/// Adds the text of the value at a path from a message's root, and its end. The text has marks if `texts` asks for any,
+/// and otherwise its style.
 fn add_text<S: Space, W: Write, A: Allocator + Copy>(
     alloc: A,
     texts: &PartTexts,

@@ -1,4 +1,4 @@
-//! A packed input, unpacked on arrival.
+//! Reads a packed input to its end, and unpacks it while it is read.
 
 ghost use Rattle.std.specs.Prelude.{◌≡◌, ℕ, ◌+◌, ◌-◌, ◌<◌, ◌≤◌, ◌^◌, ◌++◌, List, length, take, drop, false, OnOk};
 ghost use Rattle.capn_words.specs.Watched.{inner_of, has_failed};
@@ -16,24 +16,24 @@ use capn_words::Watched;
 use std::alloc::{AllocError, Allocator};
 use std::io::Read;
 
-/// Room for the beginning of a group and for a piece.
+/// The room for an unfinished group and one chunk, in bytes.
 const ROOM: usize = 2050 + CHUNK as usize;
 
-/// The state of a packed input that is unpacked as it comes.
+/// The state of a packed input that is unpacked while it is read.
 #[derive(Drop)]
 pub(crate) struct Pending {
-    /// Of these, the first `len` are held: the beginning of a group.
+    /// A buffer whose first `len` bytes are held: an unfinished group.
     pub text: [u8; ROOM],
     pub len: usize,
     /// The offset in the input at which that group begins.
     pub at: u64,
-    /// The number of words that may still come.
+    /// The number of words that may still be unpacked.
     pub left: u32,
-    /// True if that group has more words than that. Then nothing is held any more.
+    /// True if the unfinished group has more than `left` words. Nothing is held after that.
     pub is_long: bool,
 }
 
-/// Copies the piece after the bytes that are held.
+/// Copies `piece` into `text`, after the first `len` bytes.
 fn fill(text: &mut [u8], len: usize, piece: &[u8])
     requires { len + length piece.now ≤ length text.old }
     ensures { take (len + length piece.now) text.new ≡ take len text.old ++ piece.now }
@@ -42,7 +42,7 @@ fn fill(text: &mut [u8], len: usize, piece: &[u8])
     text[len..end].copy_from_slice(piece);
 }
 
-/// Moves the bytes from an offset to another to the front.
+/// Moves the bytes of `text` between the offsets `from` and `to` to the front.
 fn keep(text: &mut [u8], from: usize, to: usize)
     requires order { from ≤ to }
     requires within { to ≤ length text.old }
@@ -51,7 +51,8 @@ fn keep(text: &mut [u8], from: usize, to: usize)
     text.copy_within(from..to, 0);
 }
 
-/// Takes the next piece, and appends the words of the groups that are whole by now and within the maximum.
+/// Takes the next chunk `piece`, and appends the words of all groups that are complete and within the maximum to
+/// `words`.
 fn take_chunk<A: Allocator>(
     pending: &mut Pending,
     piece: &[u8],
@@ -89,7 +90,7 @@ fn take_chunk<A: Allocator>(
     Ok(())
 }
 
-/// Returns the words at the end of a packed input, or the fault of a group that is cut or too long.
+/// Returns `words` at the end of a packed input, or the fault of a group that is cut or too long.
 fn end_pending<A: Allocator>(pending: &Pending, words: Vec<u8, A>) -> Result<Vec<u8, A>, ToolFault>
     ensures { (most : ℕ) (seen : List ℕ)
         → IsPending most seen words.items (take pending.now.len pending.now.text) pending.now.at
@@ -106,10 +107,10 @@ fn end_pending<A: Allocator>(pending: &Pending, words: Vec<u8, A>) -> Result<Vec
     Ok(words)
 }
 
-/// Reads a packed input to its end, and answers the words that it packs, at most `most`.
+/// Reads a packed input to its end, and returns the words that it unpacks to, at most `most`.
 ///
-/// Nothing is held but those words and the beginning of a group. After a group that has more words, what follows is
-/// dropped as it comes.
+/// Only the words and an unfinished group are held. After a group with too many words, further input is dropped as it
+/// is read.
 pub fn read_words<R: Read, A: Allocator>(
     alloc: A,
     reader: &mut Watched<R>,

@@ -1,4 +1,4 @@
-//! The plan of each command for its input.
+//! The plan of a command: whether it reads its input whole or message by message, and the output that it makes.
 
 ghost use Rattle.std.specs.Prelude.{◌≡◌};
 ghost use Rattle.capn_commands.specs.Plan as spec;
@@ -8,40 +8,40 @@ use capn_canon::Form;
 use capn_serve::StreamForm;
 use capn_walk::Limits;
 
-/// The text that is written of a message.
+/// The kind of text that is written for a message.
 #[derive(Clone, Copy, Debug, PartialEq, Eq)]
 pub enum MessageText {
-    /// Its text, and a line `end`.
+    /// The text of its value, and a line `end`.
     Text,
-    /// The line of what its walk paid and how many visits it made.
+    /// The line with the price of its walk and its number of visits.
     Price,
-    /// The line of the digest of its canonical bytes.
+    /// The line with the digest of its canonical bytes.
     Digest,
 }
 
 /// The output that is made of an input that is read whole.
 #[derive(Clone, Copy)]
 pub enum Whole {
-    /// The packed text of its words.
+    /// The packed text of the input's words.
     Packed,
-    /// The words that it packs, at most this many.
+    /// The words that the input unpacks to, at most this number.
     Unpacked(u32),
-    /// The canonical bytes of the one message that it is.
+    /// The canonical bytes of the one message that the input is.
     Canonical(Form, Limits),
-    /// A piece of the one bare message that it is.
+    /// The text, price or digest of the one bare message that the input is.
     Bare(MessageText, Limits),
-    /// A piece of the one message that it is in a frame.
+    /// The text, price or digest of the one message that the input is, in a frame.
     One(MessageText, StreamForm, Limits),
 }
 
 /// The way in which a command reads its input.
 #[derive(Clone, Copy)]
 pub enum Plan {
-    /// As a whole.
+    /// Reads the whole input before anything is written.
     Whole(Whole),
-    /// Message by message, from a stream.
+    /// Reads a stream message by message.
     Each(MessageText, Limits),
-    /// Message by message, from a packed stream.
+    /// Reads a packed stream message by message.
     Packed(MessageText, Limits),
 }
 

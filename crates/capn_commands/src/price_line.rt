@@ -1,4 +1,4 @@
-//! A price's line, written from its end to its beginning.
+//! The line of a price, written from its end to its start.
 
 ghost use Rattle.std.specs.Prelude.{◌≡◌, ◌+◌, ◌<◌, ◌≤◌, [], ◌++◌, length, OnOk, OnErr};
 ghost use Rattle.std.specs.Fmt.{decimal};
@@ -11,7 +11,7 @@ use std::marker::Model;
 /// The most bytes of a line.
 const ROOM: usize = 72;
 
-/// A line that is written from its end to its beginning, as the digits of a number are. It takes no memory.
+/// A line that is written from its end to its start, like the digits of a number. It takes no memory.
 #[derive(Drop)]
 pub struct PriceLine {
     bytes: [u8; ROOM],
@@ -30,7 +30,8 @@ impl Model for PriceLine {
 }
 
 impl PriceLine {
-    /// Appends the line of a price and a number of visits, which ends in these bytes. Nothing where memory is refused.
+    /// Appends the line of a price and a number of visits, which ends with `end`, to `text`. Nothing is appended if
+    /// memory is refused.
     #[inline(always)]
     pub fn append<A: Allocator>(
         text: &mut Vec<u8, A>,
@@ -62,7 +63,7 @@ impl PriceLine {
         &self.bytes[self.start..]
     }
 
-    /// Writes bytes before it.
+    /// Writes `part` before the line.
     #[inline(always)]
     fn put(&mut self, part: &[u8])
         requires { length part.now + length self.old ≤ most_line }
@@ -73,7 +74,7 @@ impl PriceLine {
         self.start = start;
     }
 
-    /// Writes a number before it.
+    /// Writes the digits of `n` before the line.
     #[inline(always)]
     fn put_number(&mut self, n: u32)
         requires { 20 + length self.old ≤ most_line }
@@ -84,8 +85,8 @@ impl PriceLine {
     }
 }
 
-/// Returns the line of a price and a number of visits of one digit each, as a small message has them. No part of it has
-/// a length that has to be looked at.
+/// Returns the line of a price and a number of visits of one digit each, as a small message has them. Its length is
+/// constant, so no length is computed.
 #[inline(always)]
 pub fn short_line(paid: u32, visits: u32) -> [u8; 19]
     requires paid { paid < 10 }

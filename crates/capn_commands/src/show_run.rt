@@ -1,4 +1,4 @@
-//! A run of `show`, over messages or their parts.
+//! The run of `show`, over messages or parts of them.
 
 ghost use Rattle.std.specs.Prelude.{◌≡◌, false};
 ghost use Rattle.capn_words.specs.Watched.{inner_of, has_failed};
@@ -10,13 +10,14 @@ use capn_words::Watched;
 use std::alloc::Allocator;
 use std::io::{Read, Write};
 
-/// Writes of each message of an input, in a style or with marks, the text of what is at a path from its root, or of all
-/// of it.
+/// Writes, for each message of an input, the text of the value at a path from its root, in a style or with marks. With
+/// an empty path that is the whole message.
 ///
-/// Then comes the line `end`, but not after JSON. Where nothing is at the path, the text is the line `none`, or in
-/// JSON an empty line. A message is answered as soon as it is complete. The run ends as done, or with the first fault:
-/// a frame, a group or a message that is refused; `InputTooLong`; `Io` if and only if the reader or the writer failed;
-/// `Memory` if a growth was refused. A message is refused as its survey is, whatever is at the path.
+/// The line `end` follows each text, but not after JSON. If nothing is at the path, the text is the line `none`, or in
+/// JSON an empty line. The text of a message is written as soon as the message is complete. The run ends as done, or
+/// with the first fault: a frame, a group or a message that is refused; `InputTooLong`; `Io` if and only if the reader
+/// or the writer failed; `Memory` if a growth was refused. A message is refused if and only if its survey is, whatever
+/// is at the path.
 pub fn run_show<R: Read, W: Write, A: Allocator + Copy>(
     alloc: A,
     texts: &PartTexts,

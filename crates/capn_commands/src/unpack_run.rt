@@ -12,17 +12,17 @@ use capn_words::Watched;
 use std::alloc::Allocator;
 use std::io::{Read, Write};
 
-/// The most bytes that one call of a reader is asked for.
+/// The most bytes that one call of a reader may return.
 const CHUNK: usize = 65_536;
 
 /// The most bytes of an unfinished group.
 const UNFINISHED: usize = 2049;
 
-/// The most words that are held at once. No group has as many.
+/// The most words that are held at once. A group has fewer.
 const WORDS: u32 = 16_384;
 
-/// Writes the words of the whole groups that come first in `bytes`, as many as are held at once. `words` is
-/// overwritten.
+/// Writes the words of the whole groups at the start of `bytes`, as many as are held at once. `words` is a buffer, and
+/// is overwritten.
 fn write_some<W: Write, A: Allocator + Copy>(
     bytes: &[u8],
     words: &mut Vec<u8, A>,
@@ -38,8 +38,8 @@ fn write_some<W: Write, A: Allocator + Copy>(
     Ok(progress)
 }
 
-/// Writes the words of all whole groups that come first in `bytes`, and returns the number of bytes that those groups
-/// take. `words` is overwritten.
+/// Writes the words of all whole groups at the start of `bytes`, and returns the number of bytes of those groups.
+/// `words` is a buffer, and is overwritten.
 fn write_groups<W: Write, A: Allocator + Copy>(
     bytes: &[u8],
     words: &mut Vec<u8, A>,
@@ -60,8 +60,8 @@ fn write_groups<W: Write, A: Allocator + Copy>(
     }
 }
 
-/// Returns the end of a run at the end of the input, of which the bytes of `rest`, from `offset` on, are in no whole
-/// group.
+/// Returns the outcome of a run at the end of the input. `rest`, which begins at `offset`, holds the bytes after the
+/// last whole group.
 fn end_of_unpacking(rest: &[u8], offset: u64) -> Result<(), FlowFault>
     ensures { result ≡ ending_of false rest.now offset }
 {
@@ -71,15 +71,16 @@ fn end_of_unpacking(rest: &[u8], offset: u64) -> Result<(), FlowFault>
     Err(FlowFault::Cut(offset))
 }
 
-/// Unpacks a stream: reads chunks of at most 65,536 bytes of `reader`, and writes the words of the groups that each
-/// chunk makes whole to `writer` before it reads again. (Page: packing; the rest is own.)
+/// Unpacks a stream in chunks of at most 65,536 bytes of `reader`. Before each read, the words of all whole groups have
+/// been written to `writer`. (Page: packing; the rest is own.)
 ///
-/// Of the stream at most 2^64 - 1 bytes are taken, and one more is read, to know whether there are more. There is no
-/// maximum of words. The run ends as done, or with the first fault: `Io` if and only if the reader or the writer
-/// failed; `Memory` if a growth was refused, which takes a byte; `InputTooLong` if there are more bytes; `Cut`, with
-/// the offset of its tag, if the input ends within a group. The words of whole groups before it were written; after
-/// `Memory` and `Io` a beginning of them. It holds a chunk, an unfinished group of at most 2,049 bytes, and up to
-/// 16,384 words, which it writes at once, in room that grows by doubling: less than 512 KiB, whatever comes.
+/// At most 2^64 - 1 bytes of the stream are taken. One more byte may be read, to find out whether the stream is longer.
+/// The number of words has no maximum. The run ends as done, or with the first fault: `Io` if and only if the reader or
+/// the writer failed; `Memory` if a growth was refused, which takes at least one byte of input; `InputTooLong` if there
+/// are more bytes; `Cut`, with the offset of its tag, if the input ends within a group. Before `InputTooLong` and `Cut`
+/// the words of all whole groups were written. Before `Memory` and `Io` a prefix of them was written. The run holds a
+/// chunk, an unfinished group of at most 2,049 bytes, and up to 16,384 words, which it writes at once. Its room grows
+/// by doubling, to less than 512 KiB for any input.
 pub fn unpack_stream<R: Read, W: Write, A: Allocator + Copy>(
     alloc: A,
     reader: &mut Watched<R>,

@@ -1,4 +1,4 @@
-//! Outputs made of an input taken whole.
+//! The outputs of commands that read their input whole.
 
 ghost use Rattle.std.specs.Prelude.{◌≡◌, ◌≤◌, false};
 ghost use Rattle.capn_words.specs.Message.{most_message_words};
@@ -29,7 +29,7 @@ pub(crate) const START: Position = Position {
     offset: 0,
 };
 
-/// Returns the packed text of words.
+/// Returns the packed text of the words `bytes`.
 fn packed<A: Allocator + Copy>(alloc: A, bytes: &[u8]) -> Result<Vec<u8, A>, ToolFault>
     ensures { Gives wholes.Packed bytes.now result }
 {
@@ -58,9 +58,9 @@ fn verdict<A: Allocator + Copy>(
     }
 }
 
-/// Reads all of an input that should be one frame, and returns what can be needed of it. Of a stream that is at most
-/// the longest frame of a message of `most` words, and one byte more. Of a packed input it is no more than the words
-/// that it packs.
+/// Reads all of an input that should be one frame, and returns the bytes that the command may need. Of a stream these
+/// are at most the longest frame of a message of `most` words and one byte more. Of a packed input they are at most the
+/// words that it unpacks to.
 pub(crate) fn read_frame<R: Read, A: Allocator>(
     alloc: A,
     reader: &mut Watched<R>,
@@ -82,7 +82,7 @@ pub(crate) fn read_frame<R: Read, A: Allocator>(
     }
 }
 
-/// Returns the canonical bytes of an input that is one message in a frame.
+/// Reads an input in a frame, and returns the canonical bytes of the one message that it is.
 fn make_framed<R: Read, A: Allocator + Copy>(
     alloc: A,
     reader: &mut Watched<R>,
@@ -98,7 +98,7 @@ fn make_framed<R: Read, A: Allocator + Copy>(
     Ok(canonical.bytes)
 }
 
-/// Returns the packed text of an input's words, which are held whole.
+/// Reads an input, which is held whole, and returns the packed text of its words.
 pub fn make_text<R: Read, A: Allocator + Copy>(
     alloc: A,
     reader: &mut Watched<R>,
@@ -111,7 +111,7 @@ pub fn make_text<R: Read, A: Allocator + Copy>(
     packed(alloc, &input.bytes)
 }
 
-/// Returns the canonical bytes of a bare input, which is one message.
+/// Reads a bare input, and returns the canonical bytes of the one message that it is.
 fn make_trimmed<R: Read, A: Allocator + Copy>(
     alloc: A,
     reader: &mut Watched<R>,
@@ -126,7 +126,7 @@ fn make_trimmed<R: Read, A: Allocator + Copy>(
     Ok(canonical.bytes)
 }
 
-/// Returns the line of the price of a bare input, which is one message.
+/// Reads a bare input, and returns the line of the price of the one message that it is.
 pub fn make_verdict<R: Read, A: Allocator + Copy>(
     alloc: A,
     reader: &mut Watched<R>,
@@ -140,7 +140,7 @@ pub fn make_verdict<R: Read, A: Allocator + Copy>(
     verdict(alloc, &bytes, limits)
 }
 
-/// Returns the canonical bytes of an input that is one message in this `form`.
+/// Reads an input in `form`, and returns the canonical bytes of the one message that it is.
 pub fn make_canonical<R: Read, A: Allocator + Copy>(
     alloc: A,
     reader: &mut Watched<R>,

@@ -1,5 +1,5 @@
--- An input that is one message has one text and one ending, if a service does one thing with a message. (For
--- capn_tool.)
+-- Lemmas that the text and the ending of an input that is one message are unique, if its service does one thing with a
+-- message. (For capn_tool.)
 use Rattle.std.proofs.Common.{◌≡◌, inl, inr, ℕ, List, Bool, true, false, Result, Ok, Err, refl, ap, sym, subst, ◌∙◌}
 use Rattle.capn_pack.proofs.shared.GroupLaws.{one_reading}
 use Rattle.capn_walk.specs.Limits.{Bounds}
@@ -20,7 +20,7 @@ use Rattle.capn_commands.specs.declared.fault.ToolFault.{ToolFault}
 use Rattle.capn_commands.specs.declared.fault.ToolFault.TheVariants as faults
 use Rattle.capn_commands.proofs.OnePiece.{misread_known, reads_of}
 
--- in a state a service does one thing with the first message of an input
+-- In the state `s` a service does one thing with the first message of an input.
 pub record DoesOneThing {S : Type 0} (serves : S → Position → List ℕ → List (List ℕ) → List ℕ → S → Type 0)
     (refuses : S → Position → List ℕ → List (List ℕ) → Refusal → Type 0) (s : S) : Type 0 where
   pub texts : (frame : List ℕ) (m : List (List ℕ)) (t u : List ℕ) (x y : S) → serves s start frame m t x
@@ -30,7 +30,7 @@ pub record DoesOneThing {S : Type 0} (serves : S → Position → List ℕ → L
   pub never_both : (frame : List ℕ) (m : List (List ℕ)) (t : List ℕ) (x : S) (r : Refusal)
       → serves s start frame m t x → refuses s start frame m r → ⊥
 
--- an input has one frame
+-- An input has at most one frame.
 one_frame_of : (form : StreamForm) (most : ℕ) (bytes f g : List ℕ) → IsFrameOf form most bytes f
     → IsFrameOf form most bytes g → f ≡ g
 one_frame_of streams.Stream most bytes f g a b = sym a ∙ b

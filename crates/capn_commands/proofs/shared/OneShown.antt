@@ -1,4 +1,4 @@
--- What is shown of an input, in one way. (For capn_tool.)
+-- Lemmas that the text which is shown of an input is unique. (For capn_tool.)
 use Rattle.std.proofs.Common.{◌≡◌, ◌⊎◌, inl, inr, ℕ, Bool, List, [], ◌∷◌, ◌++◌, Option, Ok, Err, refl, ap, sym}
 use Rattle.std.proofs.Common.{subst, ◌∙◌}
 use Rattle.std.specs.Prelude.{◌||◌, if◌then◌else◌}
@@ -29,7 +29,7 @@ use Rattle.capn_commands.specs.PartTexts.{part_end, part_of, refuses, serves}
 use Rattle.capn_commands.specs.ShowRun.{part_fold}
 use Rattle.capn_commands.specs.declared.part_texts.PartTexts.{PartTexts}
 
--- ---- with each message one thing is done
+-- ---- the service does one thing with each message
 
 module _ (s : PartTexts) (at : Position) (frame : List ℕ) (m : List (List ℕ)) where
   pub one_part : (t u : List ℕ) (p q : PartTexts) → serves s at frame m t p → serves s at frame m u q
@@ -62,7 +62,7 @@ part_one_way most = record {
   never_both = λ x frame m t y r h k. not_both x.service x.at frame m t y.service r h.0 k;
 }
 
--- ---- orders of the same do the same
+-- ---- services with the same options do the same
 
 pub record IsLike (p q : PartTexts) : Type 0 where
   pub numbers : p.path.now ≡ q.path.now
@@ -72,7 +72,7 @@ pub record IsLike (p q : PartTexts) : Type 0 where
   pub offsets : p.offsets ≡ q.offsets
   pub ways : p.ways ≡ q.ways
 
--- an order with all of another but where its path lies
+-- A service with the options of `p`, and the place where its path lies in memory.
 abbrev alike : PartTexts → Form → Bounds → Style → Bool → Bool → PartTexts
 alike p form limits style offsets ways = record p {
   form = form;
@@ -82,11 +82,11 @@ alike p form limits style offsets ways = record p {
   ways = ways;
 }
 
--- what is written of a value, and what ends it
+-- The text of a value, and what ends it.
 abbrev text_of : PartTexts → Position → List (List ℕ) → Tree → List ℕ
 text_of s at m v = part_of s at m v ++ part_end s at m
 
--- the same, by the numbers of the path
+-- The text of a value and what ends it, by the numbers of the path.
 abbrev text_at : List ℕ → PartTexts → Position → List (List ℕ) → Tree → List ℕ
 text_at numbers s at m v =
     (if s.offsets || s.ways then marked_at m (marks_of s at m) numbers v else styled s.style numbers v)
@@ -106,7 +106,7 @@ module _ (most : ℕ) (q : PartTexts) where
   abbrev f : Fold (Run PartTexts)
   f = part_fold most
 
-  -- the same run, of this service
+  -- The run `x` with the service `q`.
   abbrev pub by : Run PartTexts → Run PartTexts
   by x = record { service = q; at = x.at }
 
@@ -190,7 +190,7 @@ module _ (most : ℕ) (q : PartTexts) where
   messages_by forms.Bare x y input text (Err g) like (ends, none, is) =
       (bare_by x input g like ends, none, ap by is)
 
--- ---- one message alone, by two orders that are alike
+-- ---- one message alone, by two services with the same options
 
 module _ (p q : PartTexts) (like : IsLike p q) (at : Position) (frame : List ℕ) (m : List (List ℕ)) where
   pub serves_like : (t : List ℕ) (x : PartTexts) → serves p at frame m t x → serves q at frame m t q
@@ -204,7 +204,7 @@ module _ (p q : PartTexts) (like : IsLike p q) (at : Position) (frame : List ℕ
     subst (λ (l : Bounds). IsWalkRefused m l stop.fault stop.place stop.paid stop.visits) like.limits h,
   )
 
--- ---- by two orders that are alike one text is shown, and both runs end in one way
+-- ---- two services with the same options show one text, and both runs end in one way
 
 pub one_shown : (most : ℕ) (form : Form) (p q : PartTexts) → IsLike p q → (input t u : List ℕ) (r s : Ending)
     (y z : Run PartTexts) → AreMessages (part_fold most) (first_run p) form input t r y

@@ -1,4 +1,4 @@
--- How the text of a part of a message is added to a text on its way to a writer.
+-- The effect of adding the text of a message's part to the output of a run.
 use Rattle.std.specs.Prelude.{◌≡◌, ◌≢◌, ◌⊎◌, ℕ, ◌<◌, ◌++◌, List, [], length, Result, Ok, Err}
 use Rattle.capn_value.specs.Tree.{Tree}
 use Rattle.capn_walk.specs.Accepted.{IsValueOf, IsWalkRefused}
@@ -13,15 +13,15 @@ use Rattle.capn_show.specs.declared.fault.ShowFault.TheVariants as ends
 use Rattle.capn_serve.specs.declared.fault.ServeFault.{ServeFault}
 use Rattle.capn_serve.specs.declared.fault.ServeFault.TheVariants as serve_faults
 
--- an end was added, and little is kept; or it broke off
+-- `end` was added, and less than 65,536 bytes are kept; or the output broke off within it.
 abbrev pub AddsEnd : List ℕ → Outgoing → Outgoing → Result (Unit {0}) ServeFault → Type 0
 AddsEnd end old new (Ok u) = Adds old new end × (length new.kept < 65536)
 AddsEnd end old new (Err serve_faults.Memory) = BreaksOff old new broken.Memory end
 AddsEnd end old new (Err serve_faults.Io) = BreaksOff old new broken.Io end
 AddsEnd end old new (Err (serve_faults.Refused r)) = ⊥
 
--- a text of the value of a message, and what ends it, were added, and little is kept; or they broke off; or the
--- message is refused, or memory was, and nothing was added
+-- The text `of` of a message's value and `end` were added, and less than 65,536 bytes are kept; or the output broke off
+-- within them; or the message or memory was refused, and nothing was added.
 abbrev pub AddsPart : List (List ℕ) → Bounds → (Tree → List ℕ) → List ℕ → Outgoing → Outgoing
     → Result (Unit {0}) ServeFault → Type 0
 AddsPart message limits of end old new (Ok u) =
@@ -35,7 +35,7 @@ AddsPart message limits of end old new (Err (serve_faults.Refused r)) =
     ((s : Stopped) × (r ≡ refusals.Walk s) × IsWalkRefused message limits s.fault s.place s.paid s.visits)
     × Adds old new []
 
--- how a message ends that is refused, or whose text breaks off
+-- `fault` is the result of serving a message that is refused, or whose text breaks off.
 abbrev pub IsFaultOf : ShowFault → ServeFault → Type 0
 IsFaultOf (ends.Stopped s) fault =
     ((s.fault ≡ walk_faults.Memory) × (fault ≡ serve_faults.Memory))

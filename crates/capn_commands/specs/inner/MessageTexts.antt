@@ -1,4 +1,4 @@
--- The service that writes something of each message of a stream, or of the one of a bare input.
+-- The service that writes a text for each message of a stream, or for the one message of a bare input.
 use Rattle.std.specs.Prelude.{◌≡◌, ◌⊎◌, ℕ, ◌<◌, List, [], ◌∷◌, ◌++◌, codes, length, Result, Ok, Err}
 use Rattle.capn_value.specs.Tree.{Tree}
 use Rattle.capn_value.specs.Text.{show_text}
@@ -18,20 +18,19 @@ use Rattle.capn_commands.specs.declared.plan.MessageText.{MessageText}
 use Rattle.capn_commands.specs.declared.fault.ToolFault.{ToolFault}
 use Rattle.capn_commands.specs.declared.fault.ToolFault.TheVariants as faults
 
--- the service of a piece within limits
+-- The service that writes `piece` of each message, within `limits`.
 abbrev pub message_texts : MessageText → Bounds → MessageTexts
 message_texts piece limits = record { piece = piece; limits = limits }
 
--- a message writes its piece, and changes nothing
+-- A message writes its text, and the service stays the same.
 abbrev pub serves : MessageTexts → Position → List ℕ → List (List ℕ) → List ℕ → MessageTexts → Type 0
 serves s at frame message text t = IsMessageText s.piece message s.limits text × (t ≡ s)
 
--- a message has no piece, for this reason
+-- A message has no text, and `r` is the reason.
 abbrev pub refuses : MessageTexts → Position → List ℕ → List (List ℕ) → Refusal → Type 0
 refuses s at frame message r = IsNoMessageText s.piece message s.limits (faults.Refused r)
 
--- how a message ends whose piece was not put for this reason: of its own faults it has a refusal, and else that memory
--- was refused
+-- The result of serving a message whose text was not appended. A refusal stays, and any other fault becomes `Memory`.
 abbrev pub served_fault : ToolFault → ServeFault
 served_fault (faults.Refused r) = serve_faults.Refused r
 served_fault faults.Memory = serve_faults.Memory
@@ -39,11 +38,11 @@ served_fault faults.Io = serve_faults.Memory
 served_fault faults.InputTooLong = serve_faults.Memory
 served_fault (faults.NotWhole n) = serve_faults.Memory
 
--- the run over an input, before its first message
+-- The state of a run before its first message.
 abbrev pub first_run : MessageText → Bounds → Run MessageTexts
 first_run piece limits = record { service = message_texts piece limits; at = start }
 
--- a line was added, and little is kept; or it broke off
+-- `line` was added, and less than 65,536 bytes are kept; or the output broke off within it.
 abbrev pub AddsLine : List ℕ → Outgoing → Outgoing → Result (Unit {0}) ServeFault → Type 0
 AddsLine line old new (Ok u) = Adds old new line × (length new.kept < 65536)
 AddsLine line old new (Err serve_faults.Memory) = BreaksOff old new broken.Memory line
@@ -54,8 +53,8 @@ AddsLine line old new (Err (serve_faults.Refused r)) = ⊥
 abbrev pub ended_text : Tree → List ℕ
 ended_text v = show_text v ++ (codes "end" ++ 10 ∷ [])
 
--- the text of the value of a message and the line `end` were added, and little is kept; or they broke off; or the
--- message is refused, or memory was, and nothing was added
+-- The text of a message's value and the line `end` were added, and less than 65,536 bytes are kept; or the output broke
+-- off within them; or the message or memory was refused, and nothing was added.
 abbrev pub AddsShown : List (List ℕ) → Bounds → Outgoing → Outgoing → Result (Unit {0}) ServeFault → Type 0
 AddsShown message limits old new (Ok u) =
     (v : Tree) × IsValueOf message limits v × Adds old new (ended_text v) × (length new.kept < 65536)

@@ -1,4 +1,4 @@
--- The frame of the one message of an input, and how that is served.
+-- The frame of the one message of an input, and the effect of serving it.
 use Rattle.std.specs.Prelude.{◌≡◌, ◌⊎◌, ℕ, ◌+◌, ◌*◌, List, [], take, Bool, true, false, Option, Result, Ok, Err, Vec}
 use Rattle.std.specs.Io.KnownBytes.{Appends}
 use Rattle.capn_stream.specs.Frames.{most_table_words}
@@ -12,14 +12,15 @@ use Rattle.capn_commands.specs.declared.plan.Whole.TheVariants as wholes
 use Rattle.capn_commands.specs.declared.fault.ToolFault.{ToolFault}
 use Rattle.capn_commands.specs.declared.fault.ToolFault.TheVariants as faults
 
--- of a stream its first bytes are held, one more than the longest frame has at most; of a packed one what it packs
+-- The bytes that are held of an input. Of a stream these are its first bytes, at most one more than the longest frame
+-- has. Of a packed input they are what it unpacks to.
 abbrev pub HoldsFrame : {A : Type 0} → StreamForm → ℕ → List ℕ → Result (Vec ℕ A) ToolFault → Type 0
 HoldsFrame forms.Stream most bytes (Ok held) = take (8 * (most + most_table_words) + 1) bytes ≡ held.items
 HoldsFrame forms.Stream most bytes (Err fault) = ⊥
 HoldsFrame forms.Packed most bytes held = Gives (wholes.Unpacked (most + most_table_words)) bytes held
 
--- one of these texts was written; or it is refused, and nothing was; or memory was refused before a text or within it,
--- or the writer failed within it
+-- A text that `writes` allows was written; or the message is refused, and nothing was written; or memory was refused
+-- before a text or within it; or the writer failed within it.
 abbrev pub ServesWhole : (List ℕ → Type 0) → (Refusal → Type 0) → Option (List ℕ) → Option (List ℕ) → Bool
     → Result (Unit {0}) ToolFault → Type 0
 ServesWhole writes refuses old new failed (Ok u) =
@@ -34,12 +35,12 @@ ServesWhole writes refuses old new failed (Err (faults.Refused r)) =
 ServesWhole writes refuses old new failed (Err faults.InputTooLong) = ⊥
 ServesWhole writes refuses old new failed (Err (faults.NotWhole n)) = ⊥
 
--- the bytes are one frame, of a message that writes this text
+-- `frame` is one frame, of a message that writes `text`.
 abbrev pub WritesFrame : (List ℕ → List (List ℕ) → List ℕ → Type 0) → ℕ → List ℕ → List ℕ → Type 0
 WritesFrame writes most frame text =
     (message : List (List ℕ)) × IsFramed frame most message × writes frame message text
 
--- the bytes are no frame, or more than one, or their message is refused
+-- `frame` is no frame, or more than one, or its message is refused with `r`.
 abbrev pub RefusesFrame : (List ℕ → List (List ℕ) → Refusal → Type 0) → ℕ → List ℕ → Refusal → Type 0
 RefusesFrame refuses most frame r = IsMisframed frame most r
     ⊎ ((message : List (List ℕ)) × IsFramed frame most message × refuses frame message r)

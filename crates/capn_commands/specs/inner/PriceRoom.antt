@@ -1,6 +1,6 @@
--- How long the line of a price gets.
+-- The length of the line of a price.
 use Rattle.std.specs.Prelude.{ℕ}
 
--- the most bytes of the line: two numbers of at most 20 digits, 16 bytes of words, and an end of at most 16
+-- The most bytes of the line: two numbers of at most 20 digits each, 16 bytes of words, and an end of at most 16 bytes.
 abbrev pub most_line : ℕ
 most_line = 72

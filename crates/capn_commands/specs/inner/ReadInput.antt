@@ -1,4 +1,4 @@
--- What a run has read and written.
+-- The bytes that a run has read.
 use Rattle.std.specs.Prelude.{◌≡◌, ◌⊎◌, ℕ, ◌+◌, ◌<◌, ◌≤◌, List, length, Bool, true, false, Option}
 use Rattle.std.specs.Prelude.{Result, Ok, Err}
 use Rattle.std.specs.Io.KnownBytes.{Consumes, IsAtEnd}
@@ -8,12 +8,12 @@ use Rattle.capn_commands.specs.Text.{taken_of, has_more}
 use Rattle.capn_commands.specs.declared.fault.ToolFault.{ToolFault}
 use Rattle.capn_commands.specs.declared.fault.ToolFault.TheVariants as faults
 
--- the bytes that a reader gave, in number as P says
+-- A reader gave some bytes, and `P` holds of their number.
 abbrev pub HasRead : Option (List ℕ) → Option (List ℕ) → (ℕ → Type 0) → Type 0
 HasRead old new P = (bytes : List ℕ) × Consumes old new bytes × P (length bytes)
 
--- a reader gave these bytes, all that it had or one more than 2^32; what a run takes of them, and whether there are
--- more
+-- A reader gave `bytes`, which are all that it had, or one more than 2^32. `kept` are those that a run takes, and
+-- `is_longer` says whether there are more.
 pub record Kept (old new : Option (List ℕ)) (kept : List ℕ) (is_longer : Bool) (bytes : List ℕ) : Type 0 where
   pub read : Consumes old new bytes
   pub bounded : length bytes ≤ most_input + 1
@@ -21,15 +21,15 @@ pub record Kept (old new : Option (List ℕ)) (kept : List ℕ) (is_longer : Boo
   pub more : has_more bytes ≡ is_longer
   pub ended : is_longer ≡ false → IsAtEnd new
 
--- an input was not taken: memory was refused for bytes that came; or the reader failed; or there are more bytes than a
--- run takes
+-- An input was not read to its end: memory was refused for bytes that were read, or the reader failed, or there are
+-- more bytes than a run takes.
 abbrev pub IsUntaken : Option (List ℕ) → Option (List ℕ) → Bool → ToolFault → Type 0
 IsUntaken old new failed fault = (bytes : List ℕ)
     × ((HasGiven old new failed bytes × (((fault ≡ faults.Memory) × (0 < length bytes))
     ⊎ ((fault ≡ faults.InputTooLong) × (most_input < length bytes))))
     ⊎ (Consumes old new bytes × (length bytes ≤ most_input + 1) × (failed ≡ true) × (fault ≡ faults.Io)))
 
--- an input was read to its end and this is what is answered of its bytes, or it was not taken
+-- An input was read to its end and `P` holds of its bytes and the result; or it was not read to its end.
 abbrev pub TakesAll : {T : Type 0} → (List ℕ → Result T ToolFault → Type 0) → Option (List ℕ) → Option (List ℕ) → Bool
     → Result T ToolFault → Type 0
 TakesAll P old new failed (Ok x) = (bytes : List ℕ) × HasGivenAll old new failed bytes × P bytes (Ok x)

@@ -16,7 +16,7 @@ abbrev stopped : ServeFault → Ending
 stopped fault = Err fault
 
 module _ (s : MessageTexts) (at : Position) (frame : List ℕ) (message : List (List ℕ)) (old new : List ℕ) where
-  -- a message whose piece was not put
+  -- Case: the text of the message was not appended.
   unput : (fault : ToolFault) → PutsMessageText s.piece message s.limits old new (Err fault)
       → PutsMessage serves refuses s at frame message old new (stopped (served_fault fault)) s
   unput (faults.Refused r) (inl memory, same) = absurd (cc)

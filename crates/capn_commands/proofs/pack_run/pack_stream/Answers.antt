@@ -12,7 +12,6 @@ use Rattle.capn_commands.proofs.Packed.{Holds, front_stop, holds_begins, holds_s
 use Rattle.capn_commands.proofs.Packed.{settles_more, settles_none}
 use Rattle.capn_commands.proofs.pack_run.pack_stream.Goals as goal
 
--- nothing has come
 heard_none : (held : List ℕ) (a c : Option (List ℕ)) → held ≡ [] → Consumed (Holds held) a a c c 0
 heard_none held a c is = record {
   bytes = [];

@@ -4,7 +4,7 @@ use Rattle.std.proofs.lemmas.List.{drop-take}
 use Rattle.std.proofs.lemmas.List.Edits.{take-paste}
 use Rattle.capn_commands.proofs.pending.keep.Goals as goal
 
--- the front once a part was pasted there
+-- The first bytes after a part was copied there.
 front : (old new : List ℕ) (from to : ℕ) → from ≤ to → to ≤ length old → new ≡ paste old 0 (drop from old) (to - from)
     → take (to - from) new ≡ drop from (take to old)
 front old new from to order within is =

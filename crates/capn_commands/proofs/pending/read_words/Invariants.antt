@@ -8,6 +8,6 @@ invariant-pieces g l = Unpacked (g.R.Read.remaining (inner_of l.fn.reader)) (g.R
     (has_failed l.reader) l.most l.taken l.words.items l.pending.len (take l.pending.len l.pending.text) l.pending.at
     l.pending.left l.pending.is_long
 
--- what there is room for
+-- The number of bytes that may still be read decreases.
 abbrev pub decreases-pieces : goal.decreases-pieces
 decreases-pieces g l = (2 ^ 32 + 1) - l.taken
