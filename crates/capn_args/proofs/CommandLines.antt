@@ -1,4 +1,4 @@
--- A program with one subcommand more, by its line. (For `with_commands`.)
+-- Lemmas for `with_commands`: the line of a program with one more subcommand.
 use Rattle.std.proofs.Common.{◌≡◌, Result, IfOk, ap, ap₂, ◌∙◌}
 use Rattle.std.proofs.lemmas.Result.{IfOk-weaker}
 use Rattle.clap.specs.Words.{AddsSubcommand, App, Shape, app_of, with_subcommand}
@@ -8,7 +8,7 @@ use Rattle.capn_args.specs.CommandLine.{HasLine}
 abbrev top_of : App → Shape
 top_of a = a.top
 
--- a call that answers a program of this line with one subcommand more
+-- A call that adds a subcommand returns a program whose line has one more subcommand.
 pub answers_command : {E : Type 0} (old sub : Command) (top line : App) (r : Result Command E) → app_of old ≡ top
     → HasLine sub line → IfOk r (AddsSubcommand old sub) → IfOk r (λ new. app_of new ≡ with_subcommand top line.top)
 answers_command old sub top line r same (is, free) adds =

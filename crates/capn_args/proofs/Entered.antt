@@ -1,4 +1,4 @@
--- The subcommand that a parse entered, by its name and by its rows. (For `invocation_of`.)
+-- Lemmas for `invocation_of`: the subcommand that a parse entered, by its name and its rows.
 use Rattle.std.proofs.Common.{◌≡◌, Option, Some, None, option_map, refl, sym, ap, ap₂, ◌∙◌}
 
 pub entered : {A B N R : Type 0} (f : A → N) (g : A → R) (h : B → N) (k : B → R) (r : Option A) (s : Option B) (a : A)

@@ -1,5 +1,5 @@
--- A subcommand with the values of its options means one invocation at most. (For `command_of`, `invocation_of`,
--- `meaning` and `show_of`.)
+-- Lemmas for `command_of`, `invocation_of`, `meaning` and `show_of`: a subcommand with the values of its options means
+-- at most one invocation.
 use Rattle.std.proofs.Common.{◌≡◌, ◌⊎◌, inl, inr, ℕ, List, [], ◌∷◌, Bool, true, false, Option, Some, None, refl, sym}
 use Rattle.std.proofs.Common.{◌∙◌, ap, Bor, codes, subst, unwrap_or}
 use Rattle.std.specs.Prelude.{⊤}
@@ -42,7 +42,7 @@ use Rattle.capn_args.specs.declared.invocation.Invocation.TheVariants as invocat
 
 -- ---- two invocations of one kind
 
--- by `--digest`, where a name has two tasks
+-- A name with two tasks has one of them by `--digest`.
 task_one : (rows : List Row) (s t : Task) → task_name s ≡ task_name t → TaskIs rows s → TaskIs rows t → s ≡ t
 task_one rows tasks.List tasks.List e is also = refl
 task_one rows tasks.Digests tasks.Digests e is also = refl
@@ -100,7 +100,7 @@ cmp_one rows u v (f, l) (g, m) =
     let limits : u.limits ≡ v.limits = limits_one rows u.limits v.limits l m in
     λ i. invocations.Cmp (record { form = form i; limits = limits i })
 
--- usual limits, but for the words of a message
+-- Default limits are the same if the limits on the words of a message are.
 words_one : (rows : List Row) (l k : Bounds) → NumberIs rows (codes "message-words") l.message_words
     → NumberIs rows (codes "message-words") k.message_words → l ≡ usual_with l.message_words
     → k ≡ usual_with k.message_words
@@ -118,7 +118,7 @@ pick_one rows p q (f, w, usual, a, b, none) (g, v, usually, c, d, also) =
     let to : p.to ≡ q.to = number_one rows (codes "to") p.to q.to b.0 d.0 in
     λ i. invocations.Pick (record { form = form i; limits = limits i; from = from i; to = to i })
 
--- two lists are picked alike
+-- Two runs of `pick --only` with the same options are the same.
 pub only_one : (rows : List Row) (p q : Only) → OnlyIs rows p → OnlyIs rows q
     → AreSame (invocations.Only p) (invocations.Only q)
 only_one rows p q (f, w, usual, list) (g, v, usually, other) = (
@@ -127,7 +127,7 @@ only_one rows p q (f, w, usual, list) (g, v, usually, other) = (
   ap (λ (o : Option Text). unwrap_or o (codes "")) (sym list.0 ∙ other.0),
 )
 
--- a style is known by its flags
+-- The flags decide the style.
 pub style_one : (rows : List Row) (s t : Style) → StyleIs rows s → StyleIs rows t → s ≡ t
 style_one rows s t (text, json, a, b, is) (other, too, c, d, also) =
     sym is
@@ -135,7 +135,7 @@ style_one rows s t (text, json, a, b, is) (other, too, c, d, also) =
     ∙ ap (λ (x : Bool). style_for other x) (flag_one rows (codes "json") json too b d)
     ∙ also
 
--- and a path by the value of `--at`
+-- The value of `--at` decides the path.
 path_one : (rows : List Row) (f g : Bool) (v w : Option (Bor Text)) → PathIs rows f v → PathIs rows g w → IsSamePath v w
 path_one rows f g None None is also = tt
 path_one rows f g None (Some w) is also = let bad : None ≡ Some w.now = sym is.0 ∙ also.0 in absurd cc
@@ -155,7 +155,7 @@ show_one rows s t (f, l, style, (offsets, ways, fit), path, one) (g, m, other, (
   flag_one rows (codes "one") s.one t.one one single,
 )
 
--- the value of `--number` is one number
+-- The value of `--number` decides the message number.
 number_given : (rows : List Row) (a b : Option ℕ) → IsNumbered rows a → IsNumbered rows b → a ≡ b
 number_given rows None None is also = refl
 number_given rows None (Some m) is (text, there, reads) = let bad : None ≡ Some text = sym is ∙ there in absurd cc
@@ -178,7 +178,7 @@ refused_one rows x y (f, l, none) (g, m, also) =
     let limits : x.limits ≡ y.limits = limits_one rows x.limits y.limits l m in
     λ i. record { form = form i; limits = limits i }
 
--- one message or every one that is refused is explained, by `--keep-going`
+-- `--keep-going` decides whether one message or every refused one is explained.
 pub explanation_one : (rows : List Row) (x y : Explanation) → ExplanationIs rows x → ExplanationIs rows y
     → invocations.Explain x ≡ invocations.Explain y
 explanation_one rows (explanations.One x) (explanations.One y) is also =
@@ -192,12 +192,12 @@ explanation_one rows (explanations.Refused x) (explanations.Refused y) is also =
 
 -- ---- the invocations of each name
 
--- invocations are the same if those are that they are equal to
+-- Invocations are the same if those that they are equal to are.
 pub same_as : {o p x y : Invocation} → o ≡ x → p ≡ y → AreSame x y → AreSame o p
 same_as {o} {p} {x} {y} is also same =
     subst (λ (a : Invocation). AreSame a p) (sym is) (subst (λ (b : Invocation). AreSame x b) (sym also) same)
 
--- those of some orders, whose options have their values
+-- `o` is an invocation made by `name` from an order with these values.
 abbrev OrderIs : {A : Type 0} → (A → Invocation) → List Row → Invocation → Type 0
 OrderIs {A} name rows o = (x : A) × HasOptions rows (name x) × (o ≡ name x)
 
@@ -208,7 +208,7 @@ orders name one = record {
   one = λ rows o p is also. same_as is.2 also.2 (one rows is.0 also.0 is.1 also.1);
 }
 
--- runs over an archive for the tasks of a name
+-- `o` is a run over an archive for a task of the subcommand `name`.
 abbrev ArchiveIs : Text → List Row → Invocation → Type 0
 ArchiveIs name rows o = (a : ArchiveOrder) × TaskIs rows a.task × AreOptions rows a × (task_name a.task ≡ name)
     × (o ≡ invocations.Archive a)
@@ -220,7 +220,7 @@ archives name = record {
       same_as is.4 also.4 (archive_one rows is.0 also.0 (is.3 ∙ sym also.3) is.1 is.2 also.1 also.2);
 }
 
--- commands of a kind, where no flag of another invocation is given
+-- `o` is a command of a kind, and no flag of another invocation is given.
 abbrev MessageIs : (List Row → Command → Type 0) → (List Row → Type 0) → List Row → Invocation → Type 0
 MessageIs Is IsBare rows o = (c : Command) × Is rows c × IsBare rows × (o ≡ invocations.Message c)
 
@@ -231,7 +231,7 @@ messages kind IsBare = record {
       same_as is.3 also.3 (ap (λ (c : Command). invocations.Message c) (kind.one rows is.0 also.0 is.1 also.1));
 }
 
--- those of two kinds that no options order both
+-- Options mean at most one invocation of two kinds, if they never mean one of each.
 pub one_of_two : (k l : Kind AreSame) → ((rows : List Row) (o p : Invocation) → k.Is rows o → l.Is rows p → ⊥)
     → (rows : List Row) (o p : Invocation) → k.Is rows o ⊎ l.Is rows o → k.Is rows p ⊎ l.Is rows p → AreSame o p
 one_of_two k l clash rows o p (inl is) (inl also) = k.one rows o p is also
@@ -246,7 +246,7 @@ either k l clash = record { Is = λ rows o. k.Is rows o ⊎ l.Is rows o; one = o
 abbrev IsAny : List Row → Type 0
 IsAny rows = ⊤
 
--- no flag of `show` is given but `--one`
+-- No flag of `show` is given but `--one`.
 abbrev IsPlain : List Row → Type 0
 IsPlain rows = (first_of (codes "at") rows ≡ None) × StyleIs rows styles.Lines × MarksAre rows styles.Lines false false
 
@@ -256,13 +256,13 @@ plain_shows = messages (writes pieces.Text) IsPlain
 abbrev shows : Kind AreSame
 shows = orders (λ (s : Show). invocations.Show s) show_one
 
--- words without `--at` and any flag order no part, no other style and no marks
+-- Options without `--at`, another style and marks do not mean a `show` of a part.
 no_show : (rows : List Row) (plain : Bool) (path : Option (Bor Text)) → first_of (codes "at") rows ≡ None
     → plain ≡ true → PathIs rows plain path → ⊥
 no_show rows plain None none is other = let bad : true ≡ false = sym is ∙ other.1 in absurd cc
 no_show rows plain (Some path) none is other = let bad : None ≡ Some path.now = sym none ∙ other.0 in absurd cc
 
--- the style and the marks are those of a plain `show`
+-- The style and the marks are those of a plain `show`.
 plainly : (rows : List Row) (s : Show) → StyleIs rows styles.Lines → MarksAre rows styles.Lines false false
     → ShowIs rows s → is_plain s.style s.offsets s.ways ≡ true
 plainly rows s lines (bare, still, fit) (f, l, style, (offsets, ways, fits), path, one) =
@@ -315,7 +315,7 @@ pub not_unpacking : (rows : List Row) (o p : Invocation) → MessageIs unpacks.I
 not_unpacking rows o p (c, are, whole, is) (x, (streaming, usual), also) =
     not_both rows (codes "streaming") whole streaming
 
--- the invocations of each name
+-- The kinds of invocations, by name.
 abbrev pub kinds : List (Text × Kind AreSame)
 kinds = (codes "show", either plain_shows shows not_plain)
     ∷ (codes "check", messages (writes pieces.Price) IsAny)
@@ -333,7 +333,7 @@ kinds = (codes "show", either plain_shows shows not_plain)
     ∷ (codes "make", orders (λ (m : Make). invocations.Make m) make_one)
     ∷ []
 
--- each invocation is one of its name
+-- A run over an archive is of the kind of its subcommand's name.
 sorted_archive : (rows : List Row) (a : ArchiveOrder) (t : Task) → a.task ≡ t → TaskIs rows a.task → AreOptions rows a
     → Named kinds (task_name t) rows (invocations.Archive a)
 sorted_archive rows a tasks.Canonical e is are = inr (a, is, are, ap task_name e, refl)
@@ -368,7 +368,7 @@ sorted rows (invocations.Flow flows.Pack) is = inr (tt, is, refl)
 sorted rows (invocations.Flow flows.Unpack) is = inr (tt, is, refl)
 sorted rows (invocations.Make m) is = (m, is, refl)
 
--- what a subcommand with these options orders, by its name
+-- An invocation that a subcommand means is of the kind of its name.
 pub by_name : (name : Text) (rows : List Row) (o : Invocation) → MeansInvocation (Some (name, rows)) o
     → Named kinds name rows o
 by_name name rows o m = subst (λ (n : Text). Named kinds n rows o) (sym m.0) (sorted rows o m.1)
@@ -377,7 +377,7 @@ pub means_one_invocation : MeansOneInvocation
 means_one_invocation None o p m n = absurd m
 means_one_invocation (Some s) o p m n = named_one kinds s.0 s.1 o p (by_name s.0 s.1 o m) (by_name s.0 s.1 p n)
 
--- the invocation that is the same as a command's is that one
+-- An invocation that is the same as that of a command is equal to it.
 pub same_command : (o : Invocation) (command : Command) → AreSame o (invocations.Message command)
     → o ≡ invocations.Message command
 same_command (invocations.Show show) command is = is

@@ -1,4 +1,4 @@
--- A subcommand with the values of its options means one command at most. (For `command` and `unpack_of`.)
+-- Lemmas for `command` and `unpack_of`: a subcommand with the values of its options means at most one command.
 use Rattle.std.proofs.Common.{◌≡◌, ℕ, ◌+◌, List, [], ◌∷◌, Option, Some, None, refl, sym, ap, subst, ◌∙◌, codes}
 use Rattle.std.proofs.Common.{unwrap_or, Bool, true, false, bytes_eq}
 use Rattle.std.specs.Str.Parse.{digits_value, without_leading_plus}
@@ -56,17 +56,17 @@ text_one true true e = refl
 text_one false false e = refl
 text_one a b e = absurd (differ (ap text_in e) refl)
 
--- a flag is given or not
+-- A flag is given or not.
 pub flag_one : (rows : List Row) (option : Text) (a b : Bool) → FlagIs rows option a → FlagIs rows option b → a ≡ b
 flag_one rows option a b x y = text_one a b (sym x ∙ y)
 
--- a flag is not both
+-- A flag is not both.
 pub not_both : (rows : List Row) (option : Text) → FlagIs rows option false → FlagIs rows option true → ⊥
 not_both rows option x y = let bad : false ≡ true = flag_one rows option false true x y in absurd (cc)
 
 -- ---- the commands of each name
 
--- the command that writes this of each message, or of exactly one
+-- The command that writes `piece` for each message, or for exactly one.
 abbrev pub command_for : MessageText → Bool → Form → Bounds → Command
 command_for piece true form limits = commands.One piece form limits
 command_for pieces.Text false form limits = commands.Show form limits
@@ -76,7 +76,7 @@ command_for pieces.Digest false form limits = commands.Hash form limits
 abbrev pub Equal : Command → Command → Type 0
 Equal c d = c ≡ d
 
--- those that write this of messages
+-- `c` is a command that writes `piece` for messages.
 abbrev WritesIs : MessageText → List Row → Command → Type 0
 WritesIs piece rows c =
     (form : Form) × (limits : Bounds) × (one : Bool) × InputIs rows form limits one
@@ -130,7 +130,7 @@ kinds = (codes "show", writes pieces.Text)
     ∷ (codes "canonical", canonicals)
     ∷ []
 
--- each command is one of its name
+-- A command is of the kind of its subcommand's name.
 sorted : (rows : List Row) (c : Command) → CommandIs rows c → Named kinds (command_name c) rows c
 sorted rows (commands.Show f l) is = (f, l, false, is, refl)
 sorted rows (commands.Check f l) is = (f, l, false, is, refl)

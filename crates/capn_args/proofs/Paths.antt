@@ -1,6 +1,6 @@
--- The numbers of a text that were read, and those that are still to come. (For `numbers_in`.)
+-- Lemmas for `numbers_in`: the numbers of a text that were read, and those still to be read.
 use Rattle.std.proofs.Common.{ℕ, List, ◌++◌, Option, option_map}
 
--- the numbers that were read, before those that are still to come
+-- The numbers that were read, followed by those still to be read.
 abbrev pub after : List ℕ → Option (List ℕ) → Option (List ℕ)
 after numbers path = option_map (λ more. numbers ++ more) path

@@ -1,4 +1,4 @@
--- Where the value of an option comes from, by the rows. (For `origin_of`.)
+-- Lemmas for `origin_of`: the source of the value of an option, by the rows.
 use Rattle.std.proofs.Common.{◌≡◌, Option, Some, None, refl, sym, ap, ◌∙◌, find, option_map, option_and_then}
 use Rattle.std.specs.Str.{bytes_eq}
 use Rattle.clap.proofs.WalkLemmas.{find_row}

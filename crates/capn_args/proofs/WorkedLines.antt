@@ -1,4 +1,4 @@
--- Worked examples: words that are taken, and what they mean.
+-- Worked examples: command lines that the parser takes, and what they mean.
 use Rattle.std.proofs.Common.{◌≡◌, List, ℕ, refl, true, codes, [], ◌∷◌}
 use Rattle.clap.specs.Words.{subcommand_of, takes}
 use Rattle.clap.specs.Takes.{walk_passes}

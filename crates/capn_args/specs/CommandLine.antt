@@ -1,4 +1,4 @@
--- The command line: each subcommand with its options, their ranges and their usual values. (Own.)
+-- The command line: each subcommand with its options, their ranges and their defaults. (Own.)
 use Rattle.std.specs.Prelude.{ℕ, ◌≡◌, ◌-◌, ◌^◌, ℤ, pos, List, [], ◌∷◌, Some, codes, cond, true, false}
 use Rattle.std.specs.List.{list_any}
 use Rattle.std.specs.Str.{bytes_eq}
@@ -10,65 +10,66 @@ use Rattle.clap.specs.declared.builder.command.Command.{Command}
 use Rattle.clap.specs.declared.builder.command.Command.TheViews.{out-Command}
 use Rattle.clap.specs.declared.builder.value_parser.ValueParser.TheVariants as parsers
 
--- an option of this name that takes a value, and has the usual one where it is not given
+-- The option `name` that takes a value, with the default `usual`.
 abbrev pub usual_rule : Text → Text → Rule
 usual_rule name usual = record (new_rule name) { long = Some name; value_names = 1; defaults = usual ∷ [] }
 
--- such an option that takes a number from the least to the most
+-- The option `name` that takes a number from `least` to `most`, with the default `usual`.
 abbrev pub number_rule : Text → Text → ℤ → ℤ → Rule
 number_rule name usual least most = record (usual_rule name usual) { parser = Some (parsers.Signed least most) }
 
--- the words of a message
+-- The option for the limit on the words of a message.
 abbrev pub words_rule : Rule
 words_rule = number_rule (codes "message-words") (codes "8388608") (pos 1) (pos most_message_words)
 
--- the words of the budget
+-- The option for the budget in words.
 abbrev pub budget_rule : Rule
 budget_rule = number_rule (codes "budget") (codes "8388608") (pos 0) (pos most_cost)
 
--- the depth
+-- The option for the limit on depth.
 abbrev pub depth_rule : Rule
 depth_rule = number_rule (codes "depth") (codes "64") (pos 1) (pos most_height)
 
--- the form of the input, a stream where none is given
+-- The option for the form of the input, with the default `stream`.
 abbrev pub form_rule : Rule
 form_rule = usual_rule (codes "form") (codes "stream")
 
--- the tariff of the prices, the strict one where none is given
+-- The option for the tariff, with the default `strict`.
 abbrev pub tariff_rule : Rule
 tariff_rule = usual_rule (codes "tariff") (codes "strict")
 
--- an option of this name that takes a value, and has none where it is not given
+-- The option `name` that takes a value, without a default.
 abbrev pub asked_rule : Text → Rule
 asked_rule name = record (new_rule name) { long = Some name; value_names = 1 }
 
--- an option of this name that takes no value
+-- The option `name` that takes no value.
 abbrev pub flag_rule : Text → Rule
 flag_rule name = record (new_rule name) { long = Some name; action = Some actions.SetTrue }
 
--- the greatest number of a message
+-- The greatest number of a message.
 abbrev pub most_number : ℕ
 most_number = 2 ^ 64 - 1
 
--- an option of this name that takes the number of a message, with its usual value
+-- The option `name` that takes a message number, with the default `usual`.
 abbrev pub place_rule : Text → Text → Rule
 place_rule name usual = record (usual_rule name usual) { parser = Some (parsers.Unsigned 1 most_number) }
 
--- a command has this line, and hands no option down to its subcommands
+-- `command` has the line `line`, and hands no option down to its subcommands.
 abbrev pub HasLine : Command → App → Type 0
 HasLine command line = (app_of command ≡ line) × ((out-Command command).has_globals ≡ false)
 
--- the commands over messages that take limits
+-- The commands over messages that take limits.
 abbrev pub limited : List Text
 limited = codes "show" ∷ codes "check" ∷ codes "explain" ∷ codes "list" ∷ codes "limits" ∷ codes "canonical"
     ∷ codes "hash" ∷ codes "uniq" ∷ codes "filter" ∷ codes "cmp" ∷ []
 
--- those of them whose message may be bare
+-- The commands over messages that take limits and the form `bare`.
 abbrev pub unframed : List Text
 unframed = codes "show" ∷ codes "check" ∷ codes "explain" ∷ codes "list" ∷ codes "limits" ∷ codes "canonical"
     ∷ codes "hash" ∷ codes "uniq" ∷ codes "filter" ∷ []
 
--- each option, and the commands that take it: where an option is there twice, help says two things of it
+-- The options, each with the commands that take it. An option that is listed several times has several texts in the
+-- help.
 abbrev pub options : List (Rule × List Text)
 options = (
   form_rule,
@@ -106,33 +107,33 @@ options = (
     ∷ (flag_rule (codes "streaming"), codes "unpack" ∷ [])
     ∷ []
 
--- the commands
+-- The commands.
 abbrev pub commands : List Text
 commands = codes "show" ∷ codes "check" ∷ codes "explain" ∷ codes "list" ∷ codes "limits" ∷ codes "canonical"
     ∷ codes "hash" ∷ codes "uniq" ∷ codes "filter" ∷ codes "cmp" ∷ codes "pick" ∷ codes "pack" ∷ codes "unpack"
     ∷ codes "make" ∷ []
 
--- a line with those of some options more that the command of this name takes
+-- `line` with those of the given options that the command `name` takes.
 abbrev pub with_options : Text → App → List (Rule × List Text) → App
 with_options name line [] = line
 with_options name line (option ∷ rest) =
     with_options name (cond (list_any (λ command. bytes_eq command name) option.1) (with_rule line option.0) line) rest
 
--- the line of the command of this name
+-- The line of the command `name`.
 abbrev pub line_of : Text → App
 line_of name = with_options name (new_app name) options
 
--- the program, which needs a subcommand and has a version
+-- The program, which needs a subcommand and has a version.
 abbrev pub top_line : App
 top_line =
     let a = new_app (codes "capn") in
     record a { top = record a.top { subcommand_required = true; has_version = true } }
 
--- a program with some commands more
+-- The program `top` with further commands.
 abbrev pub with_commands : App → List Text → App
 with_commands top [] = top
 with_commands top (name ∷ rest) = with_commands (with_subcommand top (line_of name).top) rest
 
--- the whole command line
+-- The whole command line.
 abbrev pub program_line : App
 program_line = with_commands top_line commands

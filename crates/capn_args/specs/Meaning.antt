@@ -1,4 +1,4 @@
--- What a subcommand and the values of its options order. (Own.)
+-- The meaning of a command line: the invocation that a subcommand and the values of its options order. (Own.)
 use Rattle.std.specs.Prelude.{ℕ, ◌≡◌, ◌&&◌, ◌||◌, not, List, Bool, true, false, Option, Some, None, codes, ⊤, IsSome}
 use Rattle.std.specs.Borrow.{Bor}
 use Rattle.clap.specs.Words.{Row, Text, first_of}
@@ -38,31 +38,31 @@ use Rattle.capn_args.specs.declared.invocation.Show.{Show}
 use Rattle.capn_args.specs.declared.invocation.Invocation.{Invocation}
 use Rattle.capn_args.specs.declared.invocation.Invocation.TheVariants as invocations
 
--- the options over an archive have these values
+-- The options of a run over an archive have the values in `archive`.
 abbrev pub AreOptions : List Row → ArchiveOrder → Type 0
 AreOptions rows archive = FormIs rows archive.form × LimitsAre rows archive.limits
     × FlagIs rows (codes "keep-going") archive.keep_going
 
--- the options of `uniq` have these values
+-- The options of `uniq` have the values in `uniq`.
 abbrev pub UniqIs : List Row → UniqOrder → Type 0
 UniqIs rows uniq = FormIs rows uniq.form × LimitsAre rows uniq.limits
     × FlagIs rows (codes "keep-going") uniq.keep_going × FlagIs rows (codes "count") uniq.count
 
--- the options of `filter` have these values
+-- The options of `filter` have the values in `filter`.
 abbrev pub FilterIs : List Row → FilterOrder → Type 0
 FilterIs rows filter = FormIs rows filter.form × LimitsAre rows filter.limits
     × FlagIs rows (codes "keep-going") filter.keep_going × FlagIs rows (codes "canonical") filter.canonical
 
--- the options of `cmp` have these values; it takes no bare input
+-- The options of `cmp`, which takes no bare input, have the values in `cmp`.
 abbrev pub CmpIs : List Row → CmpOrder → Type 0
 CmpIs rows cmp = FormIs rows (form_of cmp.form) × LimitsAre rows cmp.limits
 
--- the usual limits, with this number of words of a message
+-- The default limits, but with `words` as the limit on the words of a message.
 abbrev pub usual_with : ℕ → Bounds
 usual_with words = record { message_words = words; budget = 8388608; depth = 64; tariff = tariffs.Strict }
 
--- the options of `pick` have these values, `--only` is not given, and the other limits are the usual ones; it takes no
--- bare input
+-- The options of `pick`, which takes no bare input, have the values in `pick`. `--only` is not given, and the other
+-- limits are the defaults.
 abbrev pub PickIs : List Row → Pick → Type 0
 PickIs rows pick = FormIs rows (form_of pick.form)
     × NumberIn rows (codes "message-words") 1 most_message_words pick.limits.message_words
@@ -71,105 +71,108 @@ PickIs rows pick = FormIs rows (form_of pick.form)
     × NumberIn rows (codes "to") 1 most_number pick.to
     × (first_of (codes "only") rows ≡ None)
 
--- the name of the subcommand for this task
+-- The name of the subcommand for a task.
 abbrev pub task_name : Task → Text
 task_name tasks.List = codes "list"
 task_name tasks.Digests = codes "list"
 task_name tasks.Limits = codes "limits"
 task_name tasks.Canonical = codes "canonical"
 
--- the flags are those of this task: `list` with or without `--digest`, `canonical` where `--framed` is given
+-- The flags are those of the task: `list` with or without `--digest`, and `canonical` with `--framed`.
 abbrev pub TaskIs : List Row → Task → Type 0
 TaskIs rows tasks.List = FlagIs rows (codes "digest") false
 TaskIs rows tasks.Digests = FlagIs rows (codes "digest") true
 TaskIs rows tasks.Limits = ⊤
 TaskIs rows tasks.Canonical = FlagIs rows (codes "framed") true
 
--- `--only` is given, its value is a list of ascending numbers and ranges, and neither `--from` nor `--to` is given
+-- `--only` is given with the value `list`, which is a list of ascending numbers and ranges. Neither `--from` nor `--to`
+-- is given.
 abbrev pub ListIs : List Row → Text → Type 0
 ListIs rows list = (first_of (codes "only") rows ≡ Some list) × IsSome (ranges_in list)
     × IsUsual rows (codes "from") × IsUsual rows (codes "to")
 
--- the options of `pick` have these values, and `--only` is given
+-- The options of `pick` have the values in `only`, and `--only` is given.
 abbrev pub OnlyIs : List Row → Only → Type 0
 OnlyIs rows only = FormIs rows (form_of only.form)
     × NumberIn rows (codes "message-words") 1 most_message_words only.limits.message_words
     × (only.limits ≡ usual_with only.limits.message_words)
     × ListIs rows only.list.now
 
--- `--number` is given, and its value is this number of a message; or it isn't given
+-- `--number` is given with this message number as its value, or it is not given.
 abbrev pub IsNumbered : List Row → Option ℕ → Type 0
 IsNumbered rows None = first_of (codes "number") rows ≡ None
 IsNumbered rows (Some n) = (text : Text) × (first_of (codes "number") rows ≡ Some text) × (number_of text ≡ Some n)
 
--- the options of `explain` have these values
+-- The options of `explain` have the values in `explain`.
 abbrev pub ExplainIs : List Row → Explain → Type 0
 ExplainIs rows explain = FormIs rows explain.form × LimitsAre rows explain.limits × IsNumbered rows explain.number
 
--- the options of `explain` that explains every message that is refused have these values, and `--number` is not given
+-- The options of `explain` have the values in `refused`, by which every refused message is explained. `--number` is not
+-- given.
 abbrev pub RefusedIs : List Row → ExplainRefused → Type 0
 RefusedIs rows refused =
     FormIs rows refused.form × LimitsAre rows refused.limits × (first_of (codes "number") rows ≡ None)
 
--- with `--keep-going` every message that is refused is explained, and without it one
+-- With `--keep-going` every refused message is explained, and without it one message.
 abbrev pub ExplanationIs : List Row → Explanation → Type 0
 ExplanationIs rows (explanations.One explain) = ExplainIs rows explain × FlagIs rows (codes "keep-going") false
 ExplanationIs rows (explanations.Refused refused) = RefusedIs rows refused × FlagIs rows (codes "keep-going") true
 
--- the options of `make` have these values
+-- The options of `make` have the values in `make`.
 abbrev pub MakeIs : List Row → Make → Type 0
 MakeIs rows make = FormIs rows make.form × FlagIs rows (codes "text") make.quoted
 
--- the name of the subcommand that lets bytes flow this way
+-- The name of the subcommand for a flow.
 abbrev pub flow_name : Flow → Text
 flow_name flows.Pack = codes "pack"
 flow_name flows.Unpack = codes "unpack"
 
--- bytes flow this way: `--streaming` is given, and `--message-words` is not
+-- `--streaming` is given, and for `unpack` `--message-words` is not.
 abbrev pub FlowIs : List Row → Flow → Type 0
 FlowIs rows flows.Pack = FlagIs rows (codes "streaming") true
 FlowIs rows flows.Unpack = FlagIs rows (codes "streaming") true × IsUsual rows (codes "message-words")
 
--- the style of two flags: whether texts are asked for, and whether JSON is
+-- The style for the flags `--text` and `--json`.
 abbrev pub style_for : Bool → Bool → Style
 style_for false false = styles.Lines
 style_for true false = styles.Quoted
 style_for false true = styles.Json
 style_for true true = styles.JsonText
 
--- the style that `--text` and `--json` order
+-- `style` is the one that `--text` and `--json` mean.
 abbrev pub StyleIs : List Row → Style → Type 0
 StyleIs rows style = (text : Bool) × (json : Bool) × FlagIs rows (codes "text") text
     × FlagIs rows (codes "json") json × (style_for text json ≡ style)
 
--- each mark is asked for or isn't; JSON goes without them
+-- `offsets` and `ways` are the flags of these names. With JSON neither is given.
 abbrev pub MarksAre : List Row → Style → Bool → Bool → Type 0
 MarksAre rows style offsets ways = FlagIs rows (codes "offsets") offsets × FlagIs rows (codes "ways") ways
     × (has_lines style || not (offsets || ways) ≡ true)
 
--- lines without marks, as a plain `show` writes them
+-- The style is that of a plain `show`: lines without marks.
 abbrev pub is_plain : Style → Bool → Bool → Bool
 is_plain style offsets ways = has_lines style && (not (is_quoted style) && not (offsets || ways))
 
--- `--at` is given, and its value is a path; or it isn't, and the text is not that of a plain `show`
+-- `--at` is given, and its value is a path. Or it is not given, and the text is not that of a plain `show`.
 abbrev pub PathIs : List Row → Bool → Option (Bor Text) → Type 0
 PathIs rows plain None = (first_of (codes "at") rows ≡ None) × (plain ≡ false)
 PathIs rows plain (Some path) = (first_of (codes "at") rows ≡ Some path.now) × IsSome (path_of path.now)
 
--- the options of `show` have these values: one of `--at`, `--text`, `--json`, `--offsets` and `--ways` is given
+-- The options of `show` have the values in `show`: at least one of `--at`, `--text`, `--json`, `--offsets` and `--ways`
+-- is given.
 abbrev pub ShowIs : List Row → Show → Type 0
 ShowIs rows show = FormIs rows show.form × LimitsAre rows show.limits × StyleIs rows show.style
     × MarksAre rows show.style show.offsets show.ways
     × PathIs rows (is_plain show.style show.offsets show.ways) show.path
     × FlagIs rows (codes "one") show.one
 
--- the name of the subcommand that writes this of a message
+-- The name of the subcommand that writes this text for a message.
 abbrev pub text_name : MessageText → Text
 text_name pieces.Text = codes "show"
 text_name pieces.Price = codes "check"
 text_name pieces.Digest = codes "hash"
 
--- the name of the subcommand of this command over messages or bytes
+-- The name of the subcommand of a command over messages or bytes.
 abbrev pub command_name : Command → Text
 command_name (commands.Show form limits) = codes "show"
 command_name (commands.Check form limits) = codes "check"
@@ -179,11 +182,11 @@ command_name (commands.Canonical form limits) = codes "canonical"
 command_name (commands.Hash form limits) = codes "hash"
 command_name (commands.One piece form limits) = text_name piece
 
--- the input has this form and these limits, and is exactly one message or isn't
+-- The options of an input have these values: form, limits, and whether it must be exactly one message.
 abbrev pub InputIs : List Row → Form → Bounds → Bool → Type 0
 InputIs rows form limits one = FormIs rows form × LimitsAre rows limits × FlagIs rows (codes "one") one
 
--- the options that this command shares with others have these values
+-- The options that a command shares with others have the values in the command.
 abbrev pub CommandIs : List Row → Command → Type 0
 CommandIs rows (commands.Show form limits) = InputIs rows form limits false
 CommandIs rows (commands.Check form limits) = InputIs rows form limits false
@@ -193,13 +196,13 @@ CommandIs rows (commands.Canonical form limits) = FormIs rows form × LimitsAre 
 CommandIs rows (commands.Hash form limits) = InputIs rows form limits false
 CommandIs rows (commands.One piece form limits) = InputIs rows form limits true
 
--- the subcommand of this name is that of this command, and the options that it shares with others have these values
+-- The subcommand is that of `command`, and the options that it shares with others have its values.
 abbrev pub Means : Option (Text × List Row) → Command → Type 0
 Means None command = ⊥
 Means (Some s) command = (s.0 ≡ command_name command) × CommandIs s.1 command
 
--- `canonical`, `pack` and `unpack` are commands over one input where none of their flags is given, and `show` where
--- neither a flag but `--one` nor `--at` is; no other command over messages has such an option
+-- `canonical`, `pack` and `unpack` are commands over one input if none of their flags is given. `show` is one if `--at`
+-- is not given, nor any flag but `--one`. No other command over messages has such an option.
 abbrev pub HasNoFlag : List Row → Command → Type 0
 HasNoFlag rows (commands.Show form limits) = (first_of (codes "at") rows ≡ None) × StyleIs rows styles.Lines
     × MarksAre rows styles.Lines false false
@@ -214,7 +217,7 @@ HasNoFlag rows (commands.One pieces.Text form limits) = (first_of (codes "at") r
 HasNoFlag rows (commands.One pieces.Price form limits) = ⊤
 HasNoFlag rows (commands.One pieces.Digest form limits) = ⊤
 
--- the name of the subcommand that orders this
+-- The name of the subcommand of an invocation.
 abbrev pub name_of : Invocation → Text
 name_of (invocations.Message command) = command_name command
 name_of (invocations.Show show) = codes "show"
@@ -228,7 +231,7 @@ name_of (invocations.Only only) = codes "pick"
 name_of (invocations.Flow flow) = flow_name flow
 name_of (invocations.Make make) = codes "make"
 
--- its options have these values
+-- The options of the subcommand have the values in the invocation.
 abbrev pub HasOptions : List Row → Invocation → Type 0
 HasOptions rows (invocations.Message command) = CommandIs rows command × HasNoFlag rows command
 HasOptions rows (invocations.Show show) = ShowIs rows show
@@ -242,24 +245,23 @@ HasOptions rows (invocations.Only only) = OnlyIs rows only
 HasOptions rows (invocations.Flow flow) = FlowIs rows flow
 HasOptions rows (invocations.Make make) = MakeIs rows make
 
--- the subcommand of this name, with these values, orders this
+-- The subcommand and the values of its options mean `invocation`.
 abbrev pub MeansInvocation : Option (Text × List Row) → Invocation → Type 0
 MeansInvocation None invocation = ⊥
 MeansInvocation (Some s) invocation = (s.0 ≡ name_of invocation) × HasOptions s.1 invocation
 
--- a meaning is that of one command at most
+-- A subcommand with its values means at most one command.
 abbrev pub MeansOne : Type 0
 MeansOne = (said : Option (Text × List Row)) (c d : Command) → Means said c → Means said d → c ≡ d
 
--- no path, or two whose texts are equal, wherever these are
+-- Both have no path, or both have paths with equal texts, wherever these are in memory.
 abbrev pub IsSamePath : Option (Bor Text) → Option (Bor Text) → Type 0
 IsSamePath None None = ⊤
 IsSamePath None (Some path) = ⊥
 IsSamePath (Some path) None = ⊥
 IsSamePath (Some path) (Some other) = path.now ≡ other.now
 
--- two invocations are the same: where messages or parts of them are shown, so are the texts of the paths, and where
--- those of a list are picked, so are the texts of the lists
+-- Two invocations are the same. The paths of two `show` and the lists of two `pick --only` need only have equal texts.
 abbrev pub AreSame : Invocation → Invocation → Type 0
 AreSame (invocations.Show s) (invocations.Show t) =
     (s.form ≡ t.form) × (s.limits ≡ t.limits) × (s.style ≡ t.style) × (s.offsets ≡ t.offsets) × (s.ways ≡ t.ways)
@@ -268,7 +270,7 @@ AreSame (invocations.Only s) (invocations.Only t) =
     (s.form ≡ t.form) × (s.limits ≡ t.limits) × (s.list.now ≡ t.list.now)
 AreSame o p = o ≡ p
 
--- a meaning is that of one invocation at most
+-- A subcommand with its values means at most one invocation.
 abbrev pub MeansOneInvocation : Type 0
 MeansOneInvocation =
     (said : Option (Text × List Row)) (o p : Invocation) → MeansInvocation said o → MeansInvocation said p → AreSame o p

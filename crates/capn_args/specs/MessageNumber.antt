@@ -3,14 +3,13 @@ use Rattle.std.specs.Prelude.{◌≡◌, ℕ, ◌==◌, [], ◌∷◌, Option, S
 use Rattle.clap.specs.Words.{Text}
 use Rattle.capn_args.specs.Path.{with_digit}
 
--- the number of a text that goes on with the digits of one that has begun so; it begins with no zero, and stays below
--- 2^64
+-- The number of a text whose digits have begun with `begun`. It does not begin with a zero, and stays below 2^64.
 abbrev pub number_from : Option ℕ → Text → Option ℕ
 number_from begun [] = begun
 number_from begun (c ∷ rest) =
     option_and_then (λ n. cond (n == 0) None (number_from (Some n) rest)) (with_digit begun c)
 
--- the number of a text: from 1 to 2^64 - 1, in digits
+-- The number of a text, from 1 to 2^64 - 1, in digits.
 abbrev pub number_of : Text → Option ℕ
 number_of text = number_from None text
 

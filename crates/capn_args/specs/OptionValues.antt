@@ -1,4 +1,4 @@
--- What options say by their values, given or usual. (Own.)
+-- The values of options, given or default. (Own.)
 use Rattle.std.specs.Prelude.{ℕ, ◌≡◌, ◌+◌, ◌≤◌, List, Bool, true, false, Option, Some, codes, find, option_and_then}
 use Rattle.std.specs.Str.{bytes_eq}
 use Rattle.std.specs.Str.Parse.{IsNumeral, digits_value, without_leading_plus}
@@ -13,32 +13,32 @@ use Rattle.capn_stream.specs.Frames.{most_table_words}
 use Rattle.capn_canon.specs.declared.form.Form.{Form}
 use Rattle.capn_canon.specs.declared.form.Form.TheVariants as forms
 
--- the name of each form
+-- The name of each form.
 abbrev pub form_name : Form → Text
 form_name forms.Stream = codes "stream"
 form_name forms.Packed = codes "packed"
 form_name forms.Bare = codes "bare"
 
--- the value of --form, given or usual, is the form's name
+-- The value of `--form`, given or default, is the name of `form`.
 abbrev pub FormIs : List Row → Form → Type 0
 FormIs rows form = first_of (codes "form") rows ≡ Some (form_name form)
 
--- the name of each tariff
+-- The name of each tariff.
 abbrev pub tariff_name : Tariff → Text
 tariff_name tariffs.Strict = codes "strict"
 tariff_name tariffs.Plain = codes "plain"
 
--- the value of --tariff, given or usual, is the tariff's name
+-- The value of `--tariff`, given or default, is the name of `tariff`.
 abbrev pub TariffIs : List Row → Tariff → Type 0
 TariffIs rows tariff = first_of (codes "tariff") rows ≡ Some (tariff_name tariff)
 
--- the value of the option, given or usual, is n in decimal digits
+-- The value of `option`, given or default, is `n` in decimal digits.
 abbrev pub NumberIs : List Row → Text → ℕ → Type 0
 NumberIs rows option n = (text : Text) × (one_of option rows ≡ Some text)
     × IsNumeral 10 (without_leading_plus text) × (n ≡ digits_value 10 (without_leading_plus text))
 
--- the values of the three number options are the numbers of the limits, each in its range, and that of --tariff names
--- their tariff
+-- `--message-words`, `--budget` and `--depth` have the numbers of `limits`, each in its range, and `--tariff` names
+-- their tariff.
 abbrev pub LimitsAre : List Row → Bounds → Type 0
 LimitsAre rows limits =
     NumberIs rows (codes "message-words") limits.message_words
@@ -47,28 +47,28 @@ LimitsAre rows limits =
     × TariffIs rows limits.tariff
     × AreLimits limits.message_words limits.budget limits.depth
 
--- the words of a message, by their option and in its range, and those of the longest table
+-- `most` is the value of `--message-words`, which is in its range, and the words of the longest segment table.
 abbrev pub UnpackedIs : List Row → ℕ → Type 0
 UnpackedIs rows most = (n : ℕ) × NumberIs rows (codes "message-words") n × (n ≤ most_message_words)
     × (most ≡ n + most_table_words)
 
--- the option has this number, which is from the least to the most
+-- `option` has the number `n`, which is from `least` to `most`.
 abbrev pub NumberIn : List Row → Text → ℕ → ℕ → ℕ → Type 0
 NumberIn rows option least most n = NumberIs rows option n × (least ≤ n) × (n ≤ most)
 
--- the value of a flag that is given, and of one that isn't
+-- The text that stands for a flag: of one that is given, and of one that is not.
 abbrev pub flag_text : Bool → Text
 flag_text true = codes "true"
 flag_text false = codes "false"
 
--- the flag of this name is given, or isn't
+-- The flag `option` is given if and only if `given` is true.
 abbrev pub FlagIs : List Row → Text → Bool → Type 0
 FlagIs rows option given = one_of option rows ≡ Some (flag_text given)
 
--- where the value of the option comes from
+-- The source of the value of `option`: the command line or the default.
 abbrev pub source_of : List Row → Text → Option ValueSource
 source_of rows option = option_and_then (λ row. row.source) (find (λ row. bytes_eq row.id option) rows)
 
--- the option is not given, and has its usual value
+-- `option` is not given, so that it has its default.
 abbrev pub IsUsual : List Row → Text → Type 0
 IsUsual rows option = source_of rows option ≡ Some sources.DefaultValue

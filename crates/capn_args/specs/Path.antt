@@ -1,28 +1,27 @@
--- The text of a path: the numbers that lead from the root of a message to what is below it. (Own.)
+-- The text of a path, which is the numbers that lead from the root of a message to a slot below it. (Own.)
 use Rattle.std.specs.Prelude.{◌≡◌, ℕ, ◌+◌, ◌-◌, ◌*◌, ◌^◌, ◌==◌, ◌&&◌, nat_le, nat_lt, List, [], ◌∷◌, Option, Some, None}
 use Rattle.std.specs.Prelude.{codes, cond, option_and_then, option_map, unwrap_or, refl}
 use Rattle.std.specs.Borrow.{Bor}
 use Rattle.clap.specs.Words.{Text}
 
--- the number whose digits so far make this one, or that has none yet, with one digit more, if it is one and the number
--- stays below 2^64
+-- The number `begun`, or none yet, with the digit `c` appended, if `c` is a digit and the number stays below 2^64.
 abbrev pub with_digit : Option ℕ → ℕ → Option ℕ
 with_digit begun c = cond (nat_le 48 c && nat_le c 57)
     (cond (nat_lt (unwrap_or begun 0 * 10 + (c - 48)) (2 ^ 64)) (Some (unwrap_or begun 0 * 10 + (c - 48))) None) None
 
--- the numbers of a text that goes on with the digits of one that has begun so: a dot ends a number, and so does the end
--- of the text
+-- The numbers of a text whose first number has begun with `begun`. A dot ends a number, and so does the end of the
+-- text.
 abbrev pub path_from : Option ℕ → Text → Option (List ℕ)
 path_from begun [] = option_map (λ n. n ∷ []) begun
 path_from begun (c ∷ rest) = cond (c == 46)
     (option_and_then (λ n. option_map (λ path. n ∷ path) (path_from None rest)) begun)
     (option_and_then (λ n. path_from (Some n) rest) (with_digit begun c))
 
--- the numbers of a text, which are below 2^64, and parted by single dots
+-- The numbers of a text, which are below 2^64 and parted by single dots.
 abbrev pub path_of : Text → Option (List ℕ)
 path_of text = path_from None text
 
--- the numbers of a path that is given, if it is one, and none where no path is
+-- The numbers of the given path, if its text is one, and no numbers if there is no path.
 abbrev pub numbers_of : Option (Bor Text) → Option (List ℕ)
 numbers_of None = Some []
 numbers_of (Some text) = path_of text.now

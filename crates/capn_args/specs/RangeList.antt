@@ -1,4 +1,4 @@
--- The text of `--only`: numbers of messages, and ranges of them. (Own.)
+-- The text of `--only`: message numbers, and ranges of them. (Own.)
 use Rattle.std.specs.Prelude.{◌≡◌, ℕ, ◌==◌, ◌&&◌, nat_le, nat_lt, List, [], ◌∷◌, Option, Some, None, codes, cond}
 use Rattle.std.specs.Prelude.{option_and_then, option_map, unwrap_or, refl}
 use Rattle.clap.specs.Words.{Text}
@@ -6,42 +6,42 @@ use Rattle.capn_serve.specs.declared.pick.Range.{Range}
 use Rattle.capn_args.specs.Path.{with_digit}
 use Rattle.capn_args.specs.declared.range_list.Begun.{Begun}
 
--- no range has begun, and this is the last number before it
+-- The state before any character of a range is read, where `last` is the last number of the range before.
 abbrev pub fresh : ℕ → Begun
 fresh last = record { last = last; first = None; digits = None }
 
--- the range from one number to another, if the first is greater than the last number before it, and not greater than
--- the second
+-- The range from `from` to `to`, if `from` is above `last`, the last number before, and not above `to`.
 abbrev pub range_from : ℕ → ℕ → ℕ → Option Range
 range_from last from to = cond (nat_lt last from && nat_le from to) (Some (record { from = from; to = to })) None
 
--- the range that ends with the digits that have come: from the number before its hyphen, or a number by itself
+-- The range that ends with the digits that were read: from the number before its hyphen, or of one number.
 abbrev pub range_of : Begun → Option Range
 range_of b = option_and_then (λ to. range_from b.last (unwrap_or b.first to) to) b.digits
 
--- a hyphen comes after the first number of a range, once
+-- The state after a hyphen, which is allowed once, after the first number of a range.
 abbrev pub with_hyphen : ℕ → Option ℕ → Option ℕ → Option Begun
 with_hyphen last None digits = option_map (λ n. record { last = last; first = Some n; digits = None }) digits
 with_hyphen last (Some n) digits = None
 
--- a digit goes on with a number, which begins with no zero and stays below 2^64
+-- The state after a digit, with which the number becomes `n`. A number must not begin with a zero, and stays below
+-- 2^64.
 abbrev pub with_number : ℕ → Option ℕ → ℕ → Option Begun
 with_number last first n = cond (n == 0) None (Some (record { last = last; first = first; digits = Some n }))
 
--- a range goes on with this character
+-- The state after the character `c` of a range.
 abbrev pub longer : Begun → ℕ → Option Begun
 longer b c =
     cond (c == 45) (with_hyphen b.last b.first b.digits)
     (option_and_then (λ n. with_number b.last b.first n) (with_digit b.digits c))
 
--- the ranges of a text that goes on with one that has begun so: a comma ends a range, and so does the end of the text
+-- The ranges of a text whose first range has begun with `b`. A comma ends a range, and so does the end of the text.
 abbrev pub ranges_from : Begun → Text → Option (List Range)
 ranges_from b [] = option_map (λ r. r ∷ []) (range_of b)
 ranges_from b (c ∷ rest) =
     cond (c == 44) (option_and_then (λ r. option_map (λ rs. r ∷ rs) (ranges_from (fresh r.to) rest)) (range_of b))
     (option_and_then (λ next. ranges_from next rest) (longer b c))
 
--- the ranges of a text: numbers and ranges, from 1 to 2^64 - 1, in ascending order, parted by single commas
+-- The ranges of a text: numbers and ranges, from 1 to 2^64 - 1, in ascending order, parted by single commas.
 abbrev pub ranges_in : Text → Option (List Range)
 ranges_in text = ranges_from (fresh 0) text
 

@@ -1,2 +1,2 @@
--- What no public clause cites.
+-- Definitions that no public clause cites.
 pub mod Rows

@@ -3,7 +3,7 @@
 
 use crate::help::Page;
 
-/// `list`.
+/// The page for `list`.
 pub const LIST: Page = Page {
     first: "To see what an archive has in it, and what of it is refused:
   capn list < messages
@@ -35,7 +35,7 @@ With 1 and 3 one line on standard error says why, or with `--keep-going` two;
 the manual page explains them under DIAGNOSTICS.",
 };
 
-/// `limits`.
+/// The page for `limits`.
 pub const LIMITS: Page = Page {
     first: "To learn with which limits your own messages are to be read:
   capn limits --message-words 268435456 --budget 268435456 --depth 256 < A",
@@ -63,7 +63,7 @@ With 1 and 3 one line on standard error says why, or with `--keep-going` two;
 the manual page explains them under DIAGNOSTICS.",
 };
 
-/// `canonical`.
+/// The page for `canonical`.
 pub const CANONICAL: Page = Page {
     first: "To get the same bytes for the same value, whoever wrote the message:
   capn canonical < message > message.canonical
@@ -89,7 +89,7 @@ With 1 and 3 one line on standard error says why, or with `--keep-going` two;
 the manual page explains them under DIAGNOSTICS.",
 };
 
-/// `uniq`.
+/// The page for `uniq`.
 pub const UNIQ: Page = Page {
     first: "To keep one message of each value, or to count the values:
   capn uniq < messages > distinct
@@ -116,7 +116,7 @@ With 1 and 3 one line on standard error says why, or with `--keep-going` two;
 the manual page explains them under DIAGNOSTICS.",
 };
 
-/// `filter`.
+/// The page for `filter`.
 pub const FILTER: Page = Page {
     first: "To let through what is accepted, before a reader that sets itself no limits:
   capn filter --keep-going < messages | reader
@@ -145,7 +145,7 @@ With 1 and 3 one line on standard error says why, or with `--keep-going` two;
 the manual page explains them under DIAGNOSTICS.",
 };
 
-/// `cmp`.
+/// The page for `cmp`.
 pub const CMP: Page = Page {
     first: "To find out whether two messages have the same value, and where they differ:
   cat one two | capn cmp",
@@ -172,7 +172,7 @@ With 3, and with 1 if no message differs, one line on standard error says why;
 the manual page explains it under DIAGNOSTICS.",
 };
 
-/// `pick`.
+/// The page for `pick`.
 pub const PICK: Page = Page {
     first: "To take messages out of an archive by their numbers:
   capn pick --from 3 --to 3 < messages > message

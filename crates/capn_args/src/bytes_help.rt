@@ -3,7 +3,7 @@
 
 use crate::help::Page;
 
-/// `pack`.
+/// The page for `pack`.
 pub const PACK: Page = Page {
     first: "To make a message smaller, as Cap'n Proto packs it:
   capn pack < message > message.packed",
@@ -20,7 +20,7 @@ With 1 and 3 one line on standard error says why; the manual page explains it
 under DIAGNOSTICS.",
 };
 
-/// `unpack`.
+/// The page for `unpack`.
 pub const UNPACK: Page = Page {
     first: "To get back what was packed:
   capn unpack < message.packed > message",
@@ -37,7 +37,7 @@ With 1 and 3 one line on standard error says why; the manual page explains it
 under DIAGNOSTICS.",
 };
 
-/// `make`.
+/// The page for `make`.
 pub const MAKE: Page = Page {
     first: "To write a message by hand, or to change one that `show` wrote:
   printf 'struct 1 0\\n  word 0000000000000005\\nend\\n' | capn make > message",

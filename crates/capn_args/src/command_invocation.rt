@@ -1,4 +1,4 @@
-//! The words of a command line, where they order a command.
+//! `command_of`: the command over messages or bytes that a command line means, if it means one.
 
 ghost use Rattle.std.specs.Prelude.{◌≡◌, true, map, IfErr, IfOk};
 ghost use Rattle.clap.specs.Words.{kind_of, subcommand_of, takes};
@@ -16,18 +16,18 @@ use capn_commands::Command;
 use std::alloc::Global;
 use std::convert::AsStr;
 
-/// Returns the command over messages or bytes that the words order, as [`invocation_of`] reads them: the first word is
-/// the program's name. If that call answers a `Usage`, so does this one. Any other invocation is answered as a
-/// subcommand that is not known.
+/// Returns the command over messages or bytes that `words` mean, as [`invocation_of`] reads them. The first word is the
+/// program's name. If [`invocation_of`] returns a `Usage`, that is returned. Any other invocation is refused as an
+/// unknown subcommand.
 pub fn command_of<'a, S: AsStr>(alloc: Global, words: &'a [S]) -> Result<Command, Usage>
-    // A command that is given is what the words mean.
+    // If `result` is `Ok`, the words mean that command.
     ensures means { IfOk result (λ command.
         MeansInvocation (subcommand_of program_line (map S.text words.now)) (invocations.Message command)) }
-    // If the words are taken and mean a command, that very command is returned, unless memory is refused.
+    // If the parser takes the words and they mean a command, that command is returned, unless memory is refused.
     ensures only { takes program_line (map S.text words.now) ≡ true → (command : Command)
         → MeansInvocation (subcommand_of program_line (map S.text words.now)) (invocations.Message command)
         → Names command result }
-    // If none is returned, the kind of the error is a reason why the words name no command.
+    // If `result` is an `Err`, its kind is a reason why the words name no command.
     ensures reason { IfErr result (λ usage. IsNoCommand (map S.text words.now) (kind_of (error_of usage))) }
 {
     match invocation_of(alloc, words)? {

@@ -1,4 +1,4 @@
-//! The invocation given by the words of the command line.
+//! `invocation_of`: reads the words of the command line, and returns the invocation that they mean.
 
 ghost use Rattle.std.specs.Prelude.{◌≡◌, [], true, codes, map};
 ghost use Rattle.std.specs.Prelude.{IfErr, IfOk, IfSome, IsSome, Some};
@@ -29,7 +29,7 @@ use clap::ArgMatches;
 use std::alloc::Global;
 use std::convert::AsStr;
 
-/// Returns the order of a run over an archive for this `task` with these options, if they mean one.
+/// Returns the order of a run over an archive with `task` and the options in `matches`, if these mean one.
 fn archive_of(task: Task, matches: &ArgMatches) -> Option<ArchiveOrder>
     ensures task { IfSome result (λ archive. archive.task ≡ task) }
     ensures options { IfSome result (AreOptions (rows_of (found_of matches.now))) }
@@ -46,7 +46,8 @@ fn archive_of(task: Task, matches: &ArgMatches) -> Option<ArchiveOrder>
     })
 }
 
-/// Returns the invocation of `list` with these options, if they mean one: with `--digest` the lines have digests.
+/// Returns the invocation of `list` with the options in `matches`, if they mean one. With `--digest` each line has a
+/// digest.
 fn list_of<'a>(matches: &ArgMatches<'a>) -> Option<Invocation<'a>>
     ensures means { IfSome result (MeansInvocation (Some (codes "list", rows_of (found_of matches.now)))) }
     ensures served { (invocation : Invocation)
@@ -61,7 +62,6 @@ fn list_of<'a>(matches: &ArgMatches<'a>) -> Option<Invocation<'a>>
     Some(Invocation::Archive(archive_of(task, matches)?))
 }
 
-/// Returns the order of `uniq` with these options, if they mean one.
 fn uniq_of(matches: &ArgMatches) -> Option<UniqOrder>
     ensures are { IfSome result (UniqIs (rows_of (found_of matches.now))) }
     ensures served { (uniq : UniqOrder) → UniqIs (rows_of (found_of matches.now)) uniq → IsSome result }
@@ -74,7 +74,6 @@ fn uniq_of(matches: &ArgMatches) -> Option<UniqOrder>
     })
 }
 
-/// Returns the order of `filter` with these options, if they mean one.
 fn filter_of(matches: &ArgMatches) -> Option<FilterOrder>
     ensures are { IfSome result (FilterIs (rows_of (found_of matches.now))) }
     ensures served { (filter : FilterOrder) → FilterIs (rows_of (found_of matches.now)) filter → IsSome result }
@@ -87,7 +86,6 @@ fn filter_of(matches: &ArgMatches) -> Option<FilterOrder>
     })
 }
 
-/// Returns the order of `cmp` with these options, if they mean one.
 fn cmp_of(matches: &ArgMatches) -> Option<CmpOrder>
     ensures are { IfSome result (CmpIs (rows_of (found_of matches.now))) }
     ensures served { (cmp : CmpOrder) → CmpIs (rows_of (found_of matches.now)) cmp → IsSome result }
@@ -98,7 +96,6 @@ fn cmp_of(matches: &ArgMatches) -> Option<CmpOrder>
     })
 }
 
-/// Returns the order of `make` with these options, if they mean one.
 fn make_of(matches: &ArgMatches) -> Option<Make>
     ensures are { IfSome result (MakeIs (rows_of (found_of matches.now))) }
     ensures served { (make : Make) → MakeIs (rows_of (found_of matches.now)) make → IsSome result }
@@ -109,8 +106,8 @@ fn make_of(matches: &ArgMatches) -> Option<Make>
     })
 }
 
-/// Returns the invocation of `canonical` with these options, if they mean one: with `--framed` a run over an archive,
-/// and without it and `--keep-going` the command over one message.
+/// Returns the invocation of `canonical` that the options in `matches` mean, if they mean one. With `--framed` it is a
+/// run over an archive. Without it, it is the command over one message, and `--keep-going` must not be given.
 fn canonical_of<'a>(matches: &ArgMatches<'a>) -> Option<Invocation<'a>>
     ensures means { IfSome result (MeansInvocation (Some (codes "canonical", rows_of (found_of matches.now)))) }
     ensures served { (invocation : Invocation)
@@ -128,8 +125,8 @@ fn canonical_of<'a>(matches: &ArgMatches<'a>) -> Option<Invocation<'a>>
     Some(Invocation::Message(Command::Canonical(form, limits)))
 }
 
-/// Returns the invocation of `pack` with these options, if they mean one: with `--streaming` it packs while bytes come
-/// in.
+/// Returns the invocation of `pack` that the options in `matches` mean, if they mean one. With `--streaming` it writes
+/// while it reads.
 fn pack_of<'a>(matches: &ArgMatches<'a>) -> Option<Invocation<'a>>
     ensures means { IfSome result (MeansInvocation (Some (codes "pack", rows_of (found_of matches.now)))) }
     ensures served { (invocation : Invocation)
@@ -142,8 +139,8 @@ fn pack_of<'a>(matches: &ArgMatches<'a>) -> Option<Invocation<'a>>
     Some(Invocation::Message(Command::Pack))
 }
 
-/// Returns the invocation of `unpack` with these options, if they mean one: with `--streaming`, and without
-/// `--message-words`, it unpacks while bytes come in.
+/// Returns the invocation of `unpack` that the options in `matches` mean, if they mean one. With `--streaming` it
+/// writes while it reads, and `--message-words` must not be given.
 fn unpack_of<'a>(matches: &ArgMatches<'a>) -> Option<Invocation<'a>>
     ensures means { IfSome result (MeansInvocation (Some (codes "unpack", rows_of (found_of matches.now)))) }
     ensures served { (invocation : Invocation)
@@ -159,8 +156,8 @@ fn unpack_of<'a>(matches: &ArgMatches<'a>) -> Option<Invocation<'a>>
     None
 }
 
-/// Returns the invocation of `check` with these options, if they mean one: with `--one` the input is exactly one
-/// message.
+/// Returns the invocation of `check` that the options in `matches` mean, if they mean one. With `--one` the input must
+/// be exactly one message.
 fn check_of<'a>(matches: &ArgMatches<'a>) -> Option<Invocation<'a>>
     ensures means { IfSome result (MeansInvocation (Some (codes "check", rows_of (found_of matches.now)))) }
     ensures served { (invocation : Invocation)
@@ -175,8 +172,8 @@ fn check_of<'a>(matches: &ArgMatches<'a>) -> Option<Invocation<'a>>
     Some(Invocation::Message(Command::Check(form, limits)))
 }
 
-/// Returns the invocation of `hash` with these options, if they mean one: with `--one` the input is exactly one
-/// message.
+/// Returns the invocation of `hash` that the options in `matches` mean, if they mean one. With `--one` the input must
+/// be exactly one message.
 fn hash_of<'a>(matches: &ArgMatches<'a>) -> Option<Invocation<'a>>
     ensures means { IfSome result (MeansInvocation (Some (codes "hash", rows_of (found_of matches.now)))) }
     ensures served { (invocation : Invocation)
@@ -191,7 +188,7 @@ fn hash_of<'a>(matches: &ArgMatches<'a>) -> Option<Invocation<'a>>
     Some(Invocation::Message(Command::Hash(form, limits)))
 }
 
-/// Returns the invocation of the subcommand called `name` with these options, if they mean one.
+/// Returns the invocation of the subcommand `name` that the options in `matches` mean, if they mean one.
 fn named_invocation<'a>(name: &str, matches: &ArgMatches<'a>) -> Option<Invocation<'a>>
     ensures means { IfSome result (MeansInvocation (Some (name.now, rows_of (found_of matches.now)))) }
     ensures served { (invocation : Invocation)
@@ -217,23 +214,25 @@ fn named_invocation<'a>(name: &str, matches: &ArgMatches<'a>) -> Option<Invocati
     }
 }
 
-/// Parses the words of a command line, the first being the program's name: the subcommand with the form, the limits,
-/// the tariff and the flags that its options have, given or usual. A request for help or for the version, a word, an
-/// option or a value that is not known, a number out of its range, a form or a tariff that the command does not take,
-/// a value of `--at` that is no path, one of `--number` that is no number of a message, one of `--only` that is no
-/// list, `--json` with `--offsets` or `--ways`, `--only` with `--from` or `--to`, `--keep-going` of `canonical` without
-/// `--framed`, `--message-words` of `unpack` with `--streaming`, and refused memory are answered as `Usage`, with the
-/// text for the user.
+/// Parses `words`, the words of a command line, and returns the invocation that they mean. The first word is the
+/// program's name. Options that are not given have their default values.
+///
+/// Every other outcome is returned as a `Usage`, with the text for the user: a request for help or for the version, an
+/// unknown word, option or value, a number out of its range, a form or a tariff that the command does not take, and
+/// refused memory. So are a value of `--at` that is no path, one of `--number` that is no message number, and one of
+/// `--only` that is no list. These options are refused together: `--json` with `--offsets` or `--ways`, `--only` with
+/// `--from` or `--to`, `--keep-going` of `explain` with `--number`, and `--message-words` of `unpack` with
+/// `--streaming`. `--keep-going` of `canonical` is refused without `--framed`.
 pub fn invocation_of<'a, S: AsStr>(alloc: Global, words: &'a [S]) -> Result<Invocation<'a>, Usage>
-    // An invocation that is given is what the words mean.
+    // If `result` is `Ok`, the words mean that invocation.
     ensures means { IfOk result (MeansInvocation (subcommand_of program_line (map S.text words.now))) }
-    // If the words are taken and mean an invocation, that is returned, unless memory is refused.
+    // If the parser takes the words and they mean an invocation, that invocation is returned, unless memory is refused.
     ensures only { takes program_line (map S.text words.now) ≡ true → (invocation : Invocation)
         → MeansInvocation (subcommand_of program_line (map S.text words.now)) invocation
         → GivesInvocation invocation result }
-    // If one is returned no step of the parser fails.
+    // If `result` is `Ok`, no step of the parser fails.
     ensures passes { IfOk result (λ _. fault_of program_line (map S.text words.now) ≡ []) }
-    // If none is returned, the kind of the error is a reason why the words order nothing.
+    // If `result` is an `Err`, its kind is a reason why the words mean no invocation.
     ensures reason { IfErr result (λ usage. IsReason (map S.text words.now) (kind_of (error_of usage))) }
 {
     let tool = program_command(alloc)?;

@@ -1,4 +1,4 @@
-//! What the options of `explain` order.
+//! The order that the options of `explain` mean: to explain one message, or every refused one.
 
 ghost use Rattle.std.specs.Prelude.{Option, ℕ, IfSome, IsSome};
 ghost use Rattle.clap.specs.Words.{found_of, rows_of};
@@ -14,8 +14,8 @@ use crate::option_values::{flag_of, text_in};
 use capn_explain::{Explain, ExplainRefused};
 use clap::ArgMatches;
 
-/// Reads `--number`: returns the number of a message, or `Some(None)` if the option is not given. `None`: its value is
-/// no number of a message.
+/// Returns the value of `--number` as a message number, or `Some(None)` if the option is not given. `None` means that
+/// its value is no message number.
 fn numbered(matches: &ArgMatches) -> Option<Option<u64>>
     ensures read { IfSome result (IsNumbered (rows_of (found_of matches.now))) }
     ensures served { (number : Option ℕ) → IsNumbered (rows_of (found_of matches.now)) number → IsSome result }
@@ -29,7 +29,7 @@ fn numbered(matches: &ArgMatches) -> Option<Option<u64>>
     }
 }
 
-/// Returns the order to explain one message with these options, if they mean one.
+/// Returns the order to explain one message that the options in `matches` mean, if they mean one.
 fn one_of(matches: &ArgMatches) -> Option<Explain>
     ensures are { IfSome result (ExplainIs (rows_of (found_of matches.now))) }
     ensures served { (explain : Explain) → ExplainIs (rows_of (found_of matches.now)) explain → IsSome result }
@@ -44,8 +44,8 @@ fn one_of(matches: &ArgMatches) -> Option<Explain>
     })
 }
 
-/// Returns the order to explain every refused message with these options, if they mean one. `--number` must not be
-/// given.
+/// Returns the order to explain every refused message that the options in `matches` mean, if they mean one. `--number`
+/// must not be given.
 fn refused_of(matches: &ArgMatches) -> Option<ExplainRefused>
     ensures are { IfSome result (RefusedIs (rows_of (found_of matches.now))) }
     ensures served { (refused : ExplainRefused) → RefusedIs (rows_of (found_of matches.now)) refused → IsSome result }
@@ -58,8 +58,8 @@ fn refused_of(matches: &ArgMatches) -> Option<ExplainRefused>
     }
 }
 
-/// Returns the order of `explain` with these options, if they mean one: with `--keep-going`, to explain every refused
-/// message.
+/// Returns the order of `explain` that the options in `matches` mean, if they mean one. With `--keep-going` every
+/// refused message is explained.
 pub(crate) fn explain_of(matches: &ArgMatches) -> Option<Explanation>
     ensures are { IfSome result (ExplanationIs (rows_of (found_of matches.now))) }
     ensures served { (explanation : Explanation) → ExplanationIs (rows_of (found_of matches.now)) explanation

@@ -1,29 +1,29 @@
-//! The version, and the page of help for the program.
+//! The version, the type of a page of help, and the page for the program.
 
-/// The help of the program, or of one command.
+/// A page of help, for the program or for one command.
 #[derive(Clone, Copy)]
 pub struct Page {
-    /// Its use, and examples.
+    /// The purpose of the command, with examples.
     pub first: &'static str,
-    /// The command line that it takes.
+    /// The form of the command line.
     pub usage: &'static str,
-    /// Its work, in one line for a command.
+    /// A summary, which for a command is one line.
     pub about: &'static str,
-    /// Its input, its output, and its exit statuses.
+    /// The details: input, output and exit statuses.
     pub more: &'static str,
 }
 
-/// The version, which is that of the file VERSION.
+/// The version, as the file VERSION has it.
 pub const VERSION: &str = "1.0.0";
 
-/// The line of the version.
+/// The line that `--version` writes.
 pub const VERSION_LINE: &[u8] = b"capn 1.0.0\n";
 
-/// The first line of every help, which names the version, and an empty line.
+/// The title of every page of help, which names the version, with an empty line.
 pub const TITLE: &str =
     "capn 1.0.0: Cap'n Proto messages without a schema, standard input to output\n\n";
 
-/// The program.
+/// The page of help for the program.
 pub const PROGRAM: Page = Page {
     first: "To see what a message holds, and to refuse one before a reader gets it:
   capn show < message

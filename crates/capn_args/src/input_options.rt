@@ -1,4 +1,4 @@
-//! The form and the limits that options give.
+//! The form, the limits and the tariff that the options of an input name.
 
 ghost use Rattle.std.specs.Prelude.{ℕ, ◌<◌, ◌^◌, IfSome, IsSome};
 ghost use Rattle.clap.specs.Words.{found_of, rows_of};
@@ -37,7 +37,7 @@ fn tariff_of(matches: &ArgMatches) -> Option<Tariff>
     }
 }
 
-/// Returns the number that the option `id` has, given or usual.
+/// Returns the number of the option `id`, given or default, if it is below 2^32.
 fn number_of(matches: &ArgMatches, id: &str) -> Option<u32>
     ensures read { IfSome result (λ n. NumberIs (rows_of (found_of matches.now)) id.now n) }
     ensures served { (n : ℕ) → NumberIs (rows_of (found_of matches.now)) id.now n → n < 2 ^ 32 → IsSome result }
@@ -46,8 +46,8 @@ fn number_of(matches: &ArgMatches, id: &str) -> Option<u32>
     Some(number)
 }
 
-/// Returns the limits that the three number options and `--tariff` have, if the numbers are in range and the tariff is
-/// known.
+/// Returns the limits that `--message-words`, `--budget`, `--depth` and `--tariff` name, if the numbers are in range
+/// and the tariff is known.
 pub(crate) fn limits_of(matches: &ArgMatches) -> Option<Limits>
     ensures are { IfSome result (λ limits. LimitsAre (rows_of (found_of matches.now)) limits) }
     ensures served { (limits : Bounds) → LimitsAre (rows_of (found_of matches.now)) limits → IsSome result }
@@ -59,7 +59,8 @@ pub(crate) fn limits_of(matches: &ArgMatches) -> Option<Limits>
     Some(limits.with_tariff(tariff_of(matches)?))
 }
 
-/// Returns the most words that may be unpacked: those of a message, and of the longest segment table.
+/// Returns the greatest number of words that `unpack` takes: those of a message by `--message-words`, and those of the
+/// longest segment table.
 pub(crate) fn unpacked_words_of(matches: &ArgMatches) -> Option<u32>
     ensures are { IfSome result (λ most. UnpackedIs (rows_of (found_of matches.now)) most) }
     ensures served { (most : ℕ) → UnpackedIs (rows_of (found_of matches.now)) most → IsSome result }

@@ -1,4 +1,4 @@
-//! The invocations of the program.
+//! The invocations of the program: a command line, read into the run that it orders.
 
 use capn_archive::{ArchiveOrder, FilterOrder, UniqOrder};
 use capn_canon::Form;
@@ -12,13 +12,13 @@ use capn_walk::Limits;
 /// Pack or unpack. Output is written before more input is read.
 #[derive(Clone, Copy, Debug, PartialEq, Eq)]
 pub enum Flow {
-    /// Bytes are packed.
+    /// Packs the input.
     Pack,
-    /// Bytes are unpacked.
+    /// Unpacks the input.
     Unpack,
 }
 
-/// The invocation of `show`: all of each message, or the value at a path from its root, in a style.
+/// The invocation of `show`: writes all of each message, or the value at a path from its root, in a style.
 #[derive(Clone, Copy, Debug, PartialEq, Eq)]
 pub struct Show<'a> {
     /// The encoding of the input.
@@ -29,66 +29,67 @@ pub struct Show<'a> {
     pub style: Style,
     /// True if each line begins with the offset of the byte that it is about.
     pub offsets: bool,
-    /// True if each line begins, after that offset, with the path to the slot that it is about.
+    /// True if each line begins with the path to the slot that it is about. The offset, if there is one, comes before
+    /// it.
     pub ways: bool,
-    /// True if all of the input is exactly one message.
+    /// True if the input must be exactly one message.
     pub one: bool,
-    /// The path: numbers parted by dots. Without one, all of the message is shown.
+    /// The path, which is numbers parted by dots. If it is `None`, all of the message is shown.
     pub path: Option<&'a str>,
 }
 
-/// The messages that are explained.
+/// The messages that `explain` explains.
 #[derive(Clone, Copy, Debug, PartialEq, Eq)]
 pub enum Explanation {
-    /// One: the first that is refused, or one by its number.
+    /// One message: the first refused one, or one by its number.
     One(Explain),
-    /// Every one that is refused.
+    /// Every refused message.
     Refused(ExplainRefused),
 }
 
-/// The invocation that writes the messages of a list as they stand.
+/// The invocation of `pick --only`, which writes the messages of a list unchanged.
 #[derive(Clone, Copy, Debug, PartialEq, Eq)]
 pub struct Only<'a> {
     /// The encoding of the input.
     pub form: StreamForm,
-    /// The limits of a message. Only the limit on its words counts.
+    /// The limits of a message. Only the limit on its words is used.
     pub limits: Limits,
-    /// The list: numbers and ranges in ascending order, parted by commas.
+    /// The list, which is numbers and ranges in ascending order, parted by commas.
     pub list: &'a str,
 }
 
-/// The invocation that makes messages of the texts of an input.
+/// The invocation of `make`, which makes messages from the texts of their values.
 #[derive(Clone, Copy, Debug, PartialEq, Eq)]
 pub struct Make {
     /// The encoding of the messages.
     pub form: Form,
-    /// True if a list of bytes may stand between quotes.
+    /// True if a list of bytes may be written as a text between quotes.
     pub quoted: bool,
 }
 
-/// The invocation that a run of the program carries out.
+/// The run that a command line orders.
 #[derive(Clone, Copy, Debug, PartialEq, Eq)]
 pub enum Invocation<'a> {
-    /// A command over messages or bytes, whose input has a greatest length.
+    /// A command over messages or bytes, whose input has a limit on its length.
     Message(Command),
-    /// Shows each message of an input, which may have any length, in a style, or what is at a path from its root.
+    /// Shows each message of an input of any length in a style, or the value at a path from its root.
     Show(Show<'a>),
-    /// Explains one message of an input, which may have any length, or every one that is refused.
+    /// Explains one message of an input of any length, or every refused one.
     Explain(Explanation),
-    /// A run over an archive, which may have any length.
+    /// Runs `list`, `limits` or `canonical --framed` over an archive of any length.
     Archive(ArchiveOrder),
     /// Writes the messages of an archive without duplicates, or counts them.
     Uniq(UniqOrder),
-    /// Writes the messages of an archive that are accepted, or that are canonical, as they stand.
+    /// Writes the accepted messages of an archive, or only the canonical ones, unchanged.
     Filter(FilterOrder),
-    /// Finds whether all messages of a stream have the value of the first one.
+    /// Tests whether all messages of a stream have the value of the first one.
     Cmp(CmpOrder),
-    /// Writes the messages of a stream from one number to another, as they stand.
+    /// Writes the messages of a stream from one number to another, unchanged.
     Pick(Pick),
-    /// Writes the messages of a stream that are in a list, as they stand.
+    /// Writes the messages of a stream whose numbers are in a list, unchanged.
     Only(Only<'a>),
-    /// Packs or unpacks bytes while they come in, in bounded memory.
+    /// Packs or unpacks the input while it is read, in bounded memory.
     Flow(Flow),
-    /// Writes what is made of the texts of an input, in a form.
+    /// Makes messages from the texts of an input, and writes them in a form.
     Make(Make),
 }

@@ -1,10 +1,10 @@
-//! The command line of the program `capn`: its commands and options, and the invocation that words give.
+//! The command line of the program `capn`: its commands and options, and the invocation that words mean.
 //!
-//! [`invocation_of`] reads the words. They order a command of [`capn_commands`], or a run over an input that may have
-//! any length; [`command_of`] reads those that order a command of [`capn_commands`]. Words that order nothing are
-//! answered as [`Usage`]: help, the version, a mistake, or no memory.
+//! [`invocation_of`] reads the words. They mean a command of [`capn_commands`], or a run over an input of any length.
+//! [`command_of`] reads only words that mean a command of [`capn_commands`]. Words that mean no invocation are refused
+//! with a [`Usage`]: a request for help or the version, a mistake, or refused memory.
 //!
-//! A row of a table, in `rows.rt`, is an option with its help: the parser follows from these rows.
+//! A row of the table in `rows.rt` is an option with its help. The parser is built from the rows.
 //!
 //! ```text
 //! let invocation = invocation_of(alloc, &["capn", "list", "--keep-going"])?;

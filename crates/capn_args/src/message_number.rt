@@ -5,7 +5,8 @@ ghost use Rattle.capn_args.specs.MessageNumber as spec;
 
 use crate::path::with_digit;
 
-/// Reads `text` as a number from 1 to 2^64 - 1, in digits without a sign or leading zeros. `None`: it is none.
+/// Returns the number in `text`, which is from 1 to 2^64 - 1, in digits without a sign or leading zeros. Any other text
+/// gives `None`.
 pub(crate) fn message_number(text: &str) -> Option<u64>
     ensures { result ≡ spec.number_of text.now }
 {

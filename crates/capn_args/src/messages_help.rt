@@ -3,7 +3,7 @@
 
 use crate::help::Page;
 
-/// `show`.
+/// The page for `show`.
 pub const SHOW: Page = Page {
     first: "To see what a message holds, or what stands at one place in it:
   capn show < message
@@ -45,7 +45,7 @@ With 1 and 3 one line on standard error says why; the manual page explains it
 under DIAGNOSTICS.",
 };
 
-/// `check`.
+/// The page for `check`.
 pub const CHECK: Page = Page {
     first: "To refuse what is invalid or too costly before a reader gets it:
   capn check --budget 100000 --depth 20 < message",
@@ -69,7 +69,7 @@ With 1 and 3 one line on standard error says why; the manual page explains it
 under DIAGNOSTICS.",
 };
 
-/// `explain`.
+/// The page for `explain`.
 pub const EXPLAIN: Page = Page {
     first: "To learn why a message is refused, or why it isn't canonical:
   capn explain < messages
@@ -110,7 +110,7 @@ With 1 and 3 one line on standard error says why, or with `--keep-going` two;
 the manual page explains them under DIAGNOSTICS.",
 };
 
-/// `hash`.
+/// The page for `hash`.
 pub const HASH: Page = Page {
     first: "To sign messages, or to compare and find them by their values:
   capn hash < messages

@@ -1,4 +1,4 @@
-//! The choice of what is said of options that mean nothing, for each command.
+//! The message for options that mean no invocation together, chosen for each command.
 
 ghost use Rattle.std.specs.Prelude.{◌≡◌, ◌⊎◌};
 ghost use Rattle.clap.specs.Words.{kind_of};
@@ -17,8 +17,8 @@ use clap::ArgMatches;
 use clap::error::ErrorKind;
 use std::alloc::Global;
 
-/// Returns the message for options of `pick` that mean nothing: about `--form`, else about the value of `--only`, else
-/// about the options that don't go with it.
+/// Returns the message for options of `pick` that mean no invocation: about `--form`, else about the value of `--only`,
+/// else about `--from` and `--to` with `--only`.
 fn said_of_pick(matches: &ArgMatches) -> &'static str {
     if stream_form_of(matches).is_none() {
         return option_mistakes::NO_FRAMED_FORM;
@@ -35,7 +35,7 @@ fn said_of_pick(matches: &ArgMatches) -> &'static str {
     }
 }
 
-/// Returns the message for options of `cmp` that mean nothing: about `--form`, else about `--tariff`.
+/// Returns the message for options of `cmp` that mean no invocation: about `--form`, else about `--tariff`.
 fn said_of_cmp(matches: &ArgMatches) -> &'static str {
     match stream_form_of(matches) {
         Some(_) => option_mistakes::NO_SUCH_TARIFF,
@@ -43,8 +43,8 @@ fn said_of_cmp(matches: &ArgMatches) -> &'static str {
     }
 }
 
-/// Returns the message for options of `show` that mean nothing although its form and limits are fine: about the value
-/// of `--at`, else about an option that doesn't go with `--json`.
+/// Returns the message for options of `show` that mean no invocation, if its form and limits are fine. It is about the
+/// value of `--at`, else about an option that is refused with `--json`.
 fn said_of_show(matches: &ArgMatches) -> &'static str {
     match text_in(matches, "at") {
         Some(path) => {
@@ -60,8 +60,8 @@ fn said_of_show(matches: &ArgMatches) -> &'static str {
     }
 }
 
-/// Returns the message for options of `explain` that mean nothing although its form and limits are fine: about the
-/// value of `--number`, else about `--keep-going` beside it.
+/// Returns the message for options of `explain` that mean no invocation, if its form and limits are fine. It is about
+/// the value of `--number`, else about `--number` with `--keep-going`.
 fn said_of_explain(matches: &ArgMatches) -> &'static str {
     match text_in(matches, "number") {
         Some(text) => match message_number(text) {
@@ -72,9 +72,9 @@ fn said_of_explain(matches: &ArgMatches) -> &'static str {
     }
 }
 
-/// Returns the message for options of the command `name` that mean nothing. `pick`, `cmp` and `unpack` have messages of
-/// their own. For the others it is about `--form`, else about `--tariff`, else about the other options of `show`,
-/// `explain` or `canonical`.
+/// Returns the message for options of the command `name` that mean no invocation. `pick`, `cmp` and `unpack` have
+/// messages of their own. For the others it is about `--form`, else about `--tariff`, else about the other options of
+/// `show`, `explain` or `canonical`.
 fn said_of(name: &str, matches: &ArgMatches) -> &'static str {
     if name == "pick" {
         return said_of_pick(matches);
@@ -98,7 +98,7 @@ fn said_of(name: &str, matches: &ArgMatches) -> &'static str {
     }
 }
 
-/// Returns the command whose options mean nothing, and the message for them.
+/// Returns the command whose options mean no invocation, and the message for them.
 fn mistake_of<'a>(matches: &'a ArgMatches) -> (&'a str, &'static str) {
     match matches.subcommand() {
         Some((name, found)) => (name, said_of(name, found)),
@@ -106,7 +106,7 @@ fn mistake_of<'a>(matches: &'a ArgMatches) -> (&'a str, &'static str) {
     }
 }
 
-/// Returns the usage fault of options that mean nothing together.
+/// Returns the `Usage` for options that mean no invocation together.
 pub(crate) fn meaningless(alloc: Global, matches: &ArgMatches) -> Usage
     ensures { (kind_of (error_of result) ≡ kinds.OutOfMemory) ⊎ (kind_of (error_of result) ≡ kinds.InvalidValue) }
 {
@@ -117,7 +117,7 @@ pub(crate) fn meaningless(alloc: Global, matches: &ArgMatches) -> Usage
     }
 }
 
-/// Returns the usage fault of words that order something, but none of the six commands over messages and bytes.
+/// Returns the `Usage` for words that mean an invocation, but none of the six commands over messages and bytes.
 pub(crate) fn no_command(alloc: Global) -> Usage
     ensures { (kind_of (error_of result) ≡ kinds.OutOfMemory) ⊎ (kind_of (error_of result) ≡ kinds.InvalidSubcommand) }
 {

@@ -1,9 +1,9 @@
-//! The messages about options that mean nothing.
+//! The messages for options that are known but mean no invocation.
 
-/// The message of a value that `--tariff` does not take.
+/// The message for a value that `--tariff` does not take.
 pub const NO_SUCH_TARIFF: &str = "--tariff takes strict or plain";
 
-/// The message of a value that `--form` does not take.
+/// The message for a value that `--form` does not take.
 pub const NO_SUCH_FORM: &str = "--form takes stream, packed or bare";
 
 /// The message for a value that `--at` does not take.
@@ -33,8 +33,8 @@ pub const NO_FRAMED_FORM: &str = "--form takes stream or packed";
 /// The message for `--message-words` together with `--streaming`.
 pub const WITHOUT_MESSAGE_WORDS: &str = "--streaming goes without --message-words";
 
-/// The message for `--keep-going` if messages are not framed.
+/// The message for `--keep-going` of `canonical` without `--framed`.
 pub const ONLY_FRAMED: &str = "--keep-going needs --framed";
 
-/// The message for words that order what is none of the six commands over messages and bytes.
+/// The message for words that mean an invocation, but none of the six commands over messages and bytes.
 pub const NO_COMMAND: &str = "this orders no run of show, check, canonical, hash, pack or unpack";

@@ -1,38 +1,38 @@
-//! A row of the table of options.
+//! `OptionRow`: a row of the table of options, and the kinds of values that an option takes.
 
 use capn_words::MOST_MESSAGE_WORDS;
 
 /// The value that an option takes.
 #[derive(Clone, Copy)]
 pub enum Taken {
-    /// No value: it is given or not.
+    /// No value: the option is given or not.
     Flag,
-    /// A value of this name. Where it is not given it has none.
+    /// A text, named so in the help. If the option is not given, it has no value.
     Asked(&'static str),
-    /// A value of this name, and this usual one. The parser takes any text, and [`crate::input_options`] reads it: a
-    /// list of names has no place in the statement of the command line.
+    /// A text, named so in the help, and its default. The parser takes any text, and [`crate::input_options`] reads it,
+    /// because the statement of the command line cannot say that a value is one of a list of names.
     Usual(&'static str, &'static str),
-    /// A number from the least to the most, after its usual value.
+    /// A number, by its default, the least and the greatest.
     Number(&'static str, i64, i64),
-    /// The number of a message, and its usual value.
+    /// A message number, by its default.
     Place(&'static str),
 }
 
-/// An option of some commands.
+/// An option, and the commands that take it.
 #[derive(Clone, Copy)]
 pub struct OptionRow {
-    /// The name that stands after `--`.
+    /// The name, without the leading `--`.
     pub name: &'static str,
     /// The value that it takes.
     pub taken: Taken,
-    /// Its text in the help.
+    /// The text in the help.
     pub help: &'static str,
     /// The commands that take it.
     pub commands: &'static [&'static str],
 }
 
-/// The value of `--form`.
+/// The kind of value that `--form` takes.
 pub(crate) const FORM: Taken = Taken::Usual("FORM", "stream");
 
-/// The value of `--message-words`.
+/// The kind of value that `--message-words` takes.
 pub(crate) const WORDS: Taken = Taken::Number("8388608", 1, MOST_MESSAGE_WORDS as i64);

@@ -1,4 +1,4 @@
-//! Values of single options, given or usual.
+//! The value of a single option, given or default.
 
 ghost use Rattle.std.specs.Prelude.{◌≡◌, ◌≤◌, ◌↔◌, ◌<◌, ◌^◌, ℕ, Bool, None, Some, IfNone, IfSome, IsSome, IsTrue};
 ghost use Rattle.clap.specs.Words.{first_of, found_of, rows_of};
@@ -15,7 +15,7 @@ use capn_walk::Limits;
 use clap::ArgMatches;
 use clap::parser::ValueSource;
 
-/// Returns whether the flag `id` is given.
+/// Tests whether the flag `id` is given. `None` means that the command has no such flag.
 pub(crate) fn flag_of(matches: &ArgMatches, id: &str) -> Option<bool>
     ensures read { IfSome result (λ given. FlagIs (rows_of (found_of matches.now)) id.now given) }
     ensures served { (given : Bool) → FlagIs (rows_of (found_of matches.now)) id.now given → IsSome result }
@@ -24,7 +24,7 @@ pub(crate) fn flag_of(matches: &ArgMatches, id: &str) -> Option<bool>
     Some(given)
 }
 
-/// Returns the text that the option `id` has, if it is given.
+/// Returns the text of the option `id`, if it is given.
 pub(crate) fn text_in<'a>(matches: &ArgMatches<'a>, id: &str) -> Option<&'a str>
     ensures given { IfSome result (λ text. first_of id.now (rows_of (found_of matches.now)) ≡ Some text.now) }
     ensures none { IfNone result (first_of id.now (rows_of (found_of matches.now)) ≡ None) }
@@ -32,14 +32,14 @@ pub(crate) fn text_in<'a>(matches: &ArgMatches<'a>, id: &str) -> Option<&'a str>
     matches.get_str(id)
 }
 
-/// Returns the source of the value of the option `id`.
+/// Returns the source of the value of the option `id`: the command line or the default.
 fn origin_of(matches: &ArgMatches, id: &str) -> Option<ValueSource>
     ensures { result ≡ source_of (rows_of (found_of matches.now)) id.now }
 {
     matches.value_source(id)
 }
 
-/// Tells if the option `id` is not given, and has its usual value.
+/// Tests whether the option `id` is not given, so that it has its default.
 pub(crate) fn is_usual(matches: &ArgMatches, id: &str) -> bool
     ensures { IsTrue result ↔ IsUsual (rows_of (found_of matches.now)) id.now }
 {
@@ -52,7 +52,7 @@ pub(crate) fn is_usual(matches: &ArgMatches, id: &str) -> bool
     }
 }
 
-/// Returns the number that the option `id` has, given or usual.
+/// Returns the number of the option `id`, given or default.
 fn number_of(matches: &ArgMatches, id: &str) -> Option<u64>
     ensures read { IfSome result (λ n. NumberIs (rows_of (found_of matches.now)) id.now n) }
     ensures served { (n : ℕ) → NumberIs (rows_of (found_of matches.now)) id.now n → n < 2 ^ 64 → IsSome result }
@@ -61,7 +61,7 @@ fn number_of(matches: &ArgMatches, id: &str) -> Option<u64>
     Some(number)
 }
 
-/// Returns the number that the option `id` has, given or usual, if it is from `least` to `most`.
+/// Returns the number of the option `id`, given or default, if it is from `least` to `most`.
 pub(crate) fn number_in(matches: &ArgMatches, id: &str, least: u64, most: u64) -> Option<u64>
     ensures read { IfSome result (NumberIn (rows_of (found_of matches.now)) id.now least most) }
     ensures served { (n : ℕ) → NumberIn (rows_of (found_of matches.now)) id.now least most n → n < 2 ^ 64
@@ -87,7 +87,7 @@ pub(crate) fn stream_form_of(matches: &ArgMatches) -> Option<StreamForm>
     }
 }
 
-/// Returns the usual limits, with this number of `words` of a message.
+/// Returns the default limits, but with `words` as the limit on the words of a message.
 pub(crate) fn limits_with(words: u32) -> Limits
     requires some { 1 ≤ words }
     requires few { words ≤ most_message_words }

@@ -1,4 +1,4 @@
-//! The option that a row of the table says.
+//! The option of the parser for a row of the table.
 
 ghost use Rattle.std.specs.Prelude.{◌≡◌, false};
 ghost use Rattle.clap.specs.Words.{rule_of};
@@ -9,7 +9,7 @@ use clap::builder::ValueParser;
 use clap::{Arg, ArgAction};
 use std::alloc::Global;
 
-/// Returns the option that `row` describes.
+/// Returns the parser's option for `row`.
 pub(crate) fn option_of<'a>(alloc: Global, row: &OptionRow) -> Arg<'a>
     ensures rule { rule_of result ≡ rule_of_row row.now }
     ensures local { result.global ≡ false }

@@ -1,12 +1,12 @@
-//! The text of a path, read as its numbers.
-//! They lead from the root of a message to what is below it.
+//! The text of a path, read as its numbers, which lead from the root of a message to a slot below it.
 
 ghost use Rattle.std.specs.Prelude.{◌≡◌, List, ℕ, true, IfOk, OnErr, Some, is_some};
 ghost use Rattle.capn_args.specs.Path as spec;
 
 use std::alloc::{AllocError, Allocator};
 
-/// Appends the digit `c` to the number `begun`. `None`: `c` is no digit, or the number would pass 2^64 - 1.
+/// Returns the number `begun` with the digit `c` appended. `None` means that `c` is no digit, or that the number would
+/// exceed 2^64 - 1.
 pub(crate) fn with_digit(begun: Option<u64>, c: u8) -> Option<u64>
     ensures { result ≡ spec.with_digit begun c }
 {
@@ -17,7 +17,7 @@ pub(crate) fn with_digit(begun: Option<u64>, c: u8) -> Option<u64>
     tens.checked_add(u64::from(c - b'0'))
 }
 
-/// Tells if `text` is a path: numbers below 2^64 parted by single dots.
+/// Tests whether `text` is a path: numbers below 2^64 parted by single dots.
 pub(crate) fn is_path(text: &str) -> bool
     ensures { result ≡ is_some (spec.path_of text.now) }
 {
@@ -40,8 +40,8 @@ pub(crate) fn is_path(text: &str) -> bool
     begun.is_some()
 }
 
-/// Returns the numbers of `path`, in order. Without a path there are none, and no memory is taken; otherwise each
-/// number takes 8 bytes. If the text is no path, it returns some numbers. (Own.)
+/// Returns the numbers of `path`, in order, which take 8 bytes each. If `path` is `None`, there are no numbers, and no
+/// memory is taken. If the text is not a path, it returns some numbers. (Own.)
 pub fn numbers_of<A: Allocator>(alloc: A, path: Option<&str>) -> Result<Vec<u64, A>, AllocError>
     ensures found { IfOk result (λ numbers. (are : List ℕ) → spec.numbers_of path.entry ≡ Some are
         → numbers.items ≡ are) }
@@ -53,7 +53,7 @@ pub fn numbers_of<A: Allocator>(alloc: A, path: Option<&str>) -> Result<Vec<u64,
     }
 }
 
-/// Returns the numbers of `text`, the text of a path.
+/// Returns the numbers of `text`, which is a path.
 fn numbers_in<A: Allocator>(alloc: A, text: &str) -> Result<Vec<u64, A>, AllocError>
     ensures { IfOk result (λ numbers. (path : List ℕ) → spec.path_of text.now ≡ Some path → numbers.items ≡ path) }
 {

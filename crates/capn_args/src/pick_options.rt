@@ -1,4 +1,4 @@
-//! The invocation given by the options of `pick`.
+//! The invocation that the options of `pick` mean.
 
 ghost use Rattle.std.specs.Prelude.{◌≡◌, codes, IfSome, IsSome, Some};
 ghost use Rattle.clap.specs.Words.{Text, found_of, rows_of};
@@ -14,7 +14,7 @@ use capn_serve::Pick;
 use capn_words::MOST_MESSAGE_WORDS;
 use clap::ArgMatches;
 
-/// Returns the order of `pick` with these options, without `--only`, if they mean one.
+/// Returns the order of `pick` without `--only` that the options in `matches` mean, if they mean one.
 fn pick_of(matches: &ArgMatches) -> Option<Pick>
     ensures are { IfSome result (PickIs (rows_of (found_of matches.now))) }
     ensures served { (pick : Pick) → PickIs (rows_of (found_of matches.now)) pick → IsSome result }
@@ -34,7 +34,7 @@ fn pick_of(matches: &ArgMatches) -> Option<Pick>
     }
 }
 
-/// Returns the list of `--only`, if its value is one and neither `--from` nor `--to` is given.
+/// Returns the value of `--only`, if it is a list, and neither `--from` nor `--to` is given.
 fn list_of_only<'a>(matches: &ArgMatches<'a>) -> Option<&'a str>
     ensures are { IfSome result (λ list. ListIs (rows_of (found_of matches.now)) list.now) }
     ensures served { (list : Text) → ListIs (rows_of (found_of matches.now)) list → IsSome result }
@@ -46,7 +46,7 @@ fn list_of_only<'a>(matches: &ArgMatches<'a>) -> Option<&'a str>
     None
 }
 
-/// Returns the order of `pick` with these options, with `--only`, if they mean one.
+/// Returns the order of `pick` with `--only` that the options in `matches` mean, if they mean one.
 fn only_of<'a>(matches: &ArgMatches<'a>) -> Option<Only<'a>>
     ensures are { IfSome result (OnlyIs (rows_of (found_of matches.now))) }
     ensures served { (only : Only) → OnlyIs (rows_of (found_of matches.now)) only → IsSome result }
@@ -61,8 +61,8 @@ fn only_of<'a>(matches: &ArgMatches<'a>) -> Option<Only<'a>>
     })
 }
 
-/// Returns the invocation of `pick` with these options, if they mean one: with `--only` the messages of a list, and
-/// else those from one number to another.
+/// Returns the invocation of `pick` that the options in `matches` mean, if they mean one. With `--only` it picks the
+/// messages of a list, else those from one number to another.
 pub(crate) fn pick_invocation<'a>(matches: &ArgMatches<'a>) -> Option<Invocation<'a>>
     ensures means { IfSome result (MeansInvocation (Some (codes "pick", rows_of (found_of matches.now)))) }
     ensures served { (invocation : Invocation)

@@ -12,15 +12,15 @@ use std::alloc::{AllocError, Allocator};
 /// The part of a range that has been read.
 #[derive(Clone, Copy, Debug, PartialEq, Eq)]
 pub struct Begun {
-    /// The last number before it, or 0 if it is the first range.
+    /// The last number of the range before, or 0 if this is the first range.
     pub last: u64,
-    /// Its first number, if a hyphen has come after that.
+    /// The first number of the range, if a hyphen has been read after it.
     pub first: Option<u64>,
-    /// The number whose digits have come since.
+    /// The number whose digits are being read.
     pub digits: Option<u64>,
 }
 
-/// Returns the beginning of a range: nothing of it has been read, and `last` is the last number before it.
+/// Returns the state before any character of a range is read, where `last` is the last number of the range before.
 fn fresh(last: u64) -> Begun
     ensures { result ≡ spec.fresh last }
 {
@@ -31,8 +31,7 @@ fn fresh(last: u64) -> Begun
     }
 }
 
-/// Returns the range that has been read, if it is complete: it begins after all numbers before it, and doesn't end
-/// before it begins.
+/// Returns the range in `begun`, if it is complete, begins above `begun.last`, and does not end before it begins.
 fn range_of(begun: Begun) -> Option<Range>
     ensures is { result ≡ spec.range_of begun }
     ensures above { IfSome result (λ range. (begun.last < range.from) × (range.from ≤ range.to)) }
@@ -45,7 +44,7 @@ fn range_of(begun: Begun) -> Option<Range>
     None
 }
 
-/// Adds the hyphen to `begun`, if that comes after its first number.
+/// Returns `begun` with a hyphen read, if that follows the first number of the range.
 fn with_hyphen(begun: Begun) -> Option<Begun>
     ensures is { result ≡ spec.with_hyphen begun.last begun.first begun.digits }
     ensures same { IfSome result (λ next. next.last ≡ begun.last) }
@@ -63,7 +62,7 @@ fn with_hyphen(begun: Begun) -> Option<Begun>
     }
 }
 
-/// Adds the character `c` to `begun`, if that is its hyphen or a digit, and not a leading zero.
+/// Returns `begun` with the character `c` read, if `c` is a hyphen in its place, or a digit that is not a leading zero.
 fn longer(begun: Begun, c: u8) -> Option<Begun>
     ensures is { result ≡ spec.longer begun c }
     ensures same { IfSome result (λ next. next.last ≡ begun.last) }
@@ -82,7 +81,7 @@ fn longer(begun: Begun, c: u8) -> Option<Begun>
     })
 }
 
-/// Tells if `text` is a list: numbers and ranges, from 1 to 2^64 - 1, in ascending order, parted by single commas.
+/// Tests whether `text` is a list: numbers and ranges, from 1 to 2^64 - 1, in ascending order, parted by single commas.
 pub(crate) fn is_range_list(text: &str) -> bool
     ensures { result ≡ is_some (spec.ranges_in text.now) }
 {
@@ -105,8 +104,8 @@ pub(crate) fn is_range_list(text: &str) -> bool
     range_of(begun).is_some()
 }
 
-/// Returns the ranges of a list, in ascending order, or some ascending ranges if `text` is no list. Each takes 16 bytes
-/// of memory. (Own.)
+/// Returns the ranges of the list `text`, in ascending order. Each takes 16 bytes of memory. If `text` is not a list,
+/// it returns some ascending ranges. (Own.)
 #[tactic(auto, using(crate::proofs::RangeLists::one_more, crate::proofs::RangeLists::so_far_above))]
 pub fn ranges_in<A: Allocator>(alloc: A, text: &str) -> Result<Vec<Range, A>, AllocError>
     ensures found { IfOk result (λ ranges. (are : List Range) → spec.ranges_in text.now ≡ Some are

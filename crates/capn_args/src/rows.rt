@@ -1,4 +1,4 @@
-//! The commands and their options, a row for each.
+//! The table of the commands and their options.
 
 use crate::help::Page;
 use crate::option_row::{FORM, OptionRow, Taken, WORDS};
@@ -19,7 +19,7 @@ const LIMITED: &[&str] = &[
     "cmp",
 ];
 
-/// Those of them whose message may be bare.
+/// The commands over messages that take limits and the form `bare`.
 const UNFRAMED: &[&str] = &[
     "show",
     "check",
@@ -50,7 +50,7 @@ pub const COMMANDS: [&str; 14] = [
     "make",
 ];
 
-/// Returns the page of help of a command.
+/// Returns the page of help for the command `name`.
 pub(crate) fn page_of(name: &str) -> Page {
     match name {
         "show" => messages_help::SHOW,
@@ -70,7 +70,7 @@ pub(crate) fn page_of(name: &str) -> Page {
     }
 }
 
-/// The options. Help lists those of a command in this order.
+/// The options. The help of a command lists its options in this order.
 pub const OPTIONS: [OptionRow; 30] = [
     OptionRow {
         name: "form",

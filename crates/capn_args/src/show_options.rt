@@ -1,4 +1,4 @@
-//! The invocation given by the options of `show`.
+//! The invocation that the options of `show` mean.
 
 ghost use Rattle.std.specs.Prelude.{◌≡◌, Bool, List, codes, IfSome, IsSome, None, Some};
 ghost use Rattle.clap.specs.Words.{Row, first_of, found_of, rows_of};
@@ -18,7 +18,6 @@ use capn_show::Style;
 use capn_walk::Limits;
 use clap::ArgMatches;
 
-/// Returns the style of the flags `--text` and `--json`.
 fn style_for(text: bool, json: bool) -> Style
     ensures { result ≡ meaning.style_for text json }
 {
@@ -31,7 +30,7 @@ fn style_for(text: bool, json: bool) -> Style
     }
 }
 
-/// Returns the style that `--text` and `--json` order.
+/// Returns the style that `--text` and `--json` mean.
 fn style_of(matches: &ArgMatches) -> Option<Style>
     ensures read { IfSome result (StyleIs (rows_of (found_of matches.now))) }
     ensures served { (style : Style) → StyleIs (rows_of (found_of matches.now)) style → IsSome result }
@@ -41,7 +40,7 @@ fn style_of(matches: &ArgMatches) -> Option<Style>
     Some(style_for(text, json))
 }
 
-/// Returns whether `--offsets` and `--ways` are given, if `style` goes with them.
+/// Returns the flags `--offsets` and `--ways`, if `style` allows them.
 fn marks_of(matches: &ArgMatches, style: Style) -> Option<(bool, bool)>
     ensures read { IfSome result (λ marks. MarksAre (rows_of (found_of matches.now)) style marks.0 marks.1) }
     ensures served { (offsets ways : Bool) → MarksAre (rows_of (found_of matches.now)) style offsets ways
@@ -55,14 +54,14 @@ fn marks_of(matches: &ArgMatches, style: Style) -> Option<(bool, bool)>
     None
 }
 
-/// Tells if a style, `offsets` and `ways` are those of a plain `show`.
+/// Tests whether `style`, `offsets` and `ways` are those of a plain `show`, which writes lines without marks or quotes.
 fn is_plain(style: Style, offsets: bool, ways: bool) -> bool
     ensures { result ≡ meaning.is_plain style offsets ways }
 {
     style.has_lines() && !style.is_quoted() && !(offsets || ways)
 }
 
-/// Returns the invocation of `show` without `--at`, in `style`: all of each message, or of exactly one.
+/// Returns the invocation of `show` without `--at`: it shows all of each message in `style`, or all of exactly one.
 fn whole_invocation<'a>(
     form: Form,
     limits: Limits,
@@ -93,10 +92,10 @@ fn whole_invocation<'a>(
     }
 }
 
-/// Returns the invocation of `show` with these options, if they mean one: with `--at`, whose value is a path, that
-/// parts of messages are shown; with `--text`, `--json` or both that messages or parts are shown in another style; and
-/// with `--offsets` or `--ways`, but not in JSON, that marks stand before the lines. With `--one` the input is exactly
-/// one message.
+/// Returns the invocation of `show` that the options in `matches` mean, if they mean one. With `--at`, whose value must
+/// be a path, it shows a part of each message. `--text` and `--json` choose another style. With `--offsets` or
+/// `--ways`, which JSON does not allow, marks stand before the lines. With `--one` the input must be exactly one
+/// message.
 pub(crate) fn show_of<'a>(matches: &ArgMatches<'a>) -> Option<Invocation<'a>>
     ensures means { IfSome result (MeansInvocation (Some (codes "show", rows_of (found_of matches.now)))) }
     ensures served { (invocation : Invocation)

@@ -1,4 +1,4 @@
-//! The subcommands, with their options and their help.
+//! The parser's commands, with their options and their help.
 
 ghost use Rattle.std.specs.Prelude.{◌≡◌, IfOk, false};
 ghost use Rattle.clap.specs.Words.{App, app_of, kind_of, new_app};
@@ -15,7 +15,7 @@ use clap::Command;
 use clap::error::ErrorKind;
 use std::alloc::{AllocError, Global};
 
-/// Returns a command called `name` without options, with its page of help.
+/// Returns the command `name` without options, with its page of help.
 fn plain_command<'a>(alloc: Global, name: &'a str, page: Page) -> Command<'a>
     ensures app { app_of result ≡ new_app name.now }
     ensures local { (out-Command result).has_globals ≡ false }
@@ -27,8 +27,7 @@ fn plain_command<'a>(alloc: Global, name: &'a str, page: Page) -> Command<'a>
         .override_usage(page.usage)
 }
 
-/// Returns the parser's error of this `kind`, with `text` as its message and with the usage of the command called
-/// `name`.
+/// Returns the parser's error of this `kind`, with the message `text` and the usage of the command `name`.
 pub(crate) fn mistake(
     alloc: Global,
     kind: ErrorKind,
@@ -39,19 +38,19 @@ pub(crate) fn mistake(
 {
     let mut command = plain_command(alloc, name, page_of(name));
     let error = command.error(kind, text);
-    // One call is cheaper to check than fields that are dropped one by one.
+    // One call of `drop` is cheaper for the prover than fields that are dropped one by one.
     drop(command);
     error
 }
 
-/// Tells if the command called `name` takes the option of `row`.
+/// Tests whether the command `name` takes the option of `row`.
 fn is_taken(name: &str, row: &OptionRow) -> bool
     ensures { result ≡ is_taken name.now row.now }
 {
     row.commands.iter().any(|command| *command == name)
 }
 
-/// Adds to `command`, which is called `name`, those options of `rows` that it takes.
+/// Adds those options of `rows` that the command `name` takes to `command`.
 fn with_options<'a>(
     alloc: Global,
     name: &str,
@@ -70,7 +69,7 @@ fn with_options<'a>(
     Ok(command)
 }
 
-/// Returns the command called `name`.
+/// Returns the command `name` with its options.
 fn named_command<'a>(alloc: Global, name: &'a str) -> Result<Command<'a>, AllocError>
     ensures { IfOk result (λ c. HasLine c (line_of name.now)) }
 {
@@ -78,7 +77,7 @@ fn named_command<'a>(alloc: Global, name: &'a str) -> Result<Command<'a>, AllocE
     with_options(alloc, name, command, &OPTIONS)
 }
 
-/// Adds the commands called `names` to `program`.
+/// Adds the commands `names` to `program`.
 fn with_commands<'a>(
     alloc: Global,
     program: Command<'a>,
@@ -93,7 +92,7 @@ fn with_commands<'a>(
     Ok(program)
 }
 
-/// Returns the program without a command.
+/// Returns the parser of the program, without its commands.
 fn top_command<'a>(alloc: Global) -> Command<'a>
     ensures { app_of result ≡ top_line }
 {
@@ -102,7 +101,7 @@ fn top_command<'a>(alloc: Global) -> Command<'a>
         .version(help::VERSION)
 }
 
-/// Returns the whole command line. Refused memory is answered.
+/// Returns the parser of the whole command line. An `Err` means that memory was refused.
 pub fn program_command<'a>(alloc: Global) -> Result<Command<'a>, AllocError>
     ensures { IfOk result (λ c. app_of c ≡ program_line) }
 {

@@ -1,4 +1,4 @@
-//! Command lines that order nothing: help, mistakes, refused memory.
+//! `Usage`: the outcome of a command line that means no invocation.
 
 ghost use Rattle.std.specs.Prelude.{◌≡◌, ◌↔◌, IfOk, IsTrue, string_bytes};
 ghost use Rattle.clap.specs.Words.{kind_of};
@@ -8,7 +8,8 @@ use crate::help::TITLE;
 use clap::error::ErrorKind;
 use std::alloc::{AllocError, Allocator};
 
-/// The reason why a command line orders nothing: a request for help or for the version, a mistake, or refused memory.
+/// The reason why a command line means no invocation: a request for help or for the version, a mistake, or refused
+/// memory.
 #[derive(Drop)]
 pub struct Usage {
     /// The error of the parser of the command line.
@@ -18,8 +19,8 @@ pub struct Usage {
 impl Usage {
     ghost use Rattle.capn_args.specs.Usage.{IsHelp, NeedsMemory, WishesHelp, WishesVersion, error_of};
 
-    /// Returns the exit status: 3 if memory ran out, 0 for a request for help, 2 for any other. For the version the
-    /// program shows that instead, and ends with 0.
+    /// Returns the exit status: 3 if memory ran out, 0 for a request for help, 2 for any other. For a request for the
+    /// version the program does not use it: it writes the version, and ends with 0.
     pub fn status(&self) -> u8
         ensures { result ≡ usage_status_of (kind_of (error_of self.now)) }
     {
@@ -30,28 +31,28 @@ impl Usage {
         }
     }
 
-    /// Tells if nothing is wrong with the words, and memory was refused.
+    /// Tests whether memory was refused, which says nothing about the words.
     pub fn is_memory(&self) -> bool
         ensures { IsTrue result ↔ NeedsMemory self.now }
     {
         matches!(self.error.kind(), ErrorKind::OutOfMemory)
     }
 
-    /// Tells if help is asked for.
+    /// Tests whether the words ask for help.
     pub fn is_help(&self) -> bool
         ensures { IsTrue result ↔ WishesHelp self.now }
     {
         matches!(self.error.kind(), ErrorKind::DisplayHelp)
     }
 
-    /// Tells if the version is asked for.
+    /// Tests whether the words ask for the version.
     pub fn is_version(&self) -> bool
         ensures { IsTrue result ↔ WishesVersion self.now }
     {
         matches!(self.error.kind(), ErrorKind::DisplayVersion)
     }
 
-    /// Returns the text for the user: help below its title, or the message about a mistake.
+    /// Returns the text for the user: the page of help below its title, or the message about a mistake.
     pub fn text<A: Allocator + Copy>(&self, alloc: A) -> Result<String<A>, AllocError>
         ensures { WishesHelp self.now → IfOk result (λ text. IsHelp (string_bytes text)) }
     {
