@@ -1,4 +1,4 @@
--- What is shown of an input that is one message, in one way. (For `one_alone`.)
+-- Lemmas that the text which is shown of an input that is one message is unique. (For `one_alone`.)
 use Rattle.std.proofs.Common.{◌≡◌, inl, inr, ℕ, List, Bool, true, false, Result, Ok, Err}
 use Rattle.capn_walk.specs.Limits.{Bounds}
 use Rattle.capn_serve.specs.declared.pick.StreamForm.{StreamForm}
@@ -37,7 +37,7 @@ module _ (limits : Bounds) (p q : PartTexts) (like : IsLike p q) (frame : Stream
   due_like false t (Ok u) h = writes_like t h
   due_like false t (Err e) (none, why) = (none, fails_like e why)
 
--- by two orders that are alike one text is shown of one message, and both runs end in one way
+-- Two services with the same options show the same text of one message, and both runs end in the same way.
 pub shown_alone : (limits : Bounds) (p q : PartTexts) → IsLike p q → (frame : StreamForm) (input : List ℕ)
     (is_longer : Bool) (t u : List ℕ) (r s : Result (Unit {0}) ToolFault)
     → IsShownAlone p limits.message_words frame input is_longer t r

@@ -1,4 +1,4 @@
--- Words that order nothing, and how the program ends then. (For `end_unordered`.)
+-- Lemmas on words that start no run, and the end of the program then. (For `end_unordered`.)
 use Rattle.std.proofs.Common.{◌≡◌, ℕ, Bool, true, false, Result, Err, refl, sym, ◌∙◌}
 use Rattle.clap.specs.declared.error.ErrorKind.{ErrorKind}
 use Rattle.clap.specs.declared.error.ErrorKind.TheVariants as kinds
@@ -40,7 +40,7 @@ module _ (kind : ErrorKind) (output errors : Course) where
     mistake = λ _ _ no. absurd (no is);
   }
 
-  -- none of the three tests was met
+  -- Case: the words are a mistake, since none of the three other kinds of reason was found.
   pub ends_mistake : (memory help version : Bool) → (kind ≡ kinds.OutOfMemory → memory ≡ true) → memory ≡ false
       → (kind ≡ kinds.DisplayHelp → help ≡ true) → help ≡ false
       → (kind ≡ kinds.DisplayVersion → version ≡ true) → version ≡ false → IsUntouched output → WritesText errors

@@ -1,4 +1,4 @@
--- What a writer holds after a flush, and what a write added. (For `tell_said`.)
+-- Lemmas on the content of a writer after a flush or a write. (For `tell_said`.)
 use Rattle.std.proofs.Common.{◌≡◌, ◌∙◌, ℕ, List, length, Bool, true, false, Option, Some, None, Result, Ok, Err, OnOk}
 use Rattle.std.proofs.Common.{IsErrOf, is_err, ◌||◌, ◌↔◌, refl, sym, subst}
 use Rattle.std.proofs.Math.Seq.{take-length}
@@ -8,26 +8,26 @@ use Rattle.capn_serve.specs.Line.{WritesLine}
 use Rattle.capn_commands.specs.declared.fault.ToolFault.{ToolFault}
 use Rattle.capn_commands.specs.declared.fault.ToolFault.TheVariants as faults
 
--- bytes that stay as they were after what was appended
+-- The text that was appended before a flush is appended after it.
 pub kept : (c m d : Option (List ℕ)) (text : List ℕ) → Keeps m d → Appends c m text → Appends c d text
 kept None m d text k a = tt
 kept (Some x) None d text k a = absurd a
 kept (Some x) (Some y) None text k a = absurd k
 kept (Some x) (Some y) (Some z) text k a = k ∙ a
 
--- a text that was written whole was begun
+-- If a text was appended, a prefix of it was.
 pub begun_all : (c d : Option (List ℕ)) (text : List ℕ) → Appends c d text → HasBegun c d text
 begun_all c d text a = (length text, subst (λ (t : List ℕ). Appends c d t) (sym (take-length text)) a)
 
 abbrev done : Result (Unit {0}) ToolFault
 done = Ok tt
 
--- a writer that has written has not failed
+-- A writer that has written without error has not failed.
 pub sound : (failed : Bool) → (IsErrOf done faults.Io ↔ (failed ≡ true)) → failed ≡ false
 sound false io = refl
 sound true io = absurd (let bad = io.1 refl in cc)
 
--- a text was written, or a beginning of it if the writer has failed
+-- A text was written, or a prefix of it if the writer has failed.
 pub told : {T E : Type 0} (text : List ℕ) (c d : Option (List ℕ)) (old new : Bool) (r : Result T E) → old ≡ false
     → OnOk r (Appends c d text) → HasBegun c d text → new ≡ (old || is_err r) → WritesLine text c d new
 told text c d old new (Ok u) fine ok begun is = rw (is, fine) ok

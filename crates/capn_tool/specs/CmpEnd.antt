@@ -1,4 +1,4 @@
--- How the program ends after a comparison: what is found is the exit status. (Own.)
+-- The end of the program after a comparison, with an exit status that says what was found. (Own.)
 use Rattle.std.specs.Prelude.{◌≡◌, ℕ, List, Bool, Option, Result, Ok, Err}
 use Rattle.std.specs.Io.KnownBytes.{Keeps}
 use Rattle.capn_serve.specs.Ending.{WritesEnding}
@@ -13,23 +13,23 @@ use Rattle.capn_serve.specs.declared.fault.RunFault.TheVariants as run_faults
 use Rattle.capn_tool.specs.Course.{Course}
 use Rattle.capn_tool.specs.Flushed.{EndsFlushed, RunOver}
 
--- a run that has found this is done, or ended with a fault
+-- The outcome of a run by what it found: done after any answer, or the fault.
 abbrev pub done_of : Result Comparison CmpFault → Result (Unit {0}) CmpFault
 done_of (Ok comparison) = Ok tt
 done_of (Err fault) = Err fault
 
--- a run compared, found this, and ended so
+-- A run compared the messages, found `found`, and ended with `r`.
 abbrev pub Finds : CmpOrder → Result Comparison CmpFault → RunOver CmpFault
 Finds order found a b c d reader_failed writer_failed r =
     Compared order a b c d reader_failed writer_failed found × (r ≡ done_of found)
 
--- the exit status of what is found, where the output was flushed: 0 where all are the same, 1 where one differs
+-- The exit status by what was found, if the flush succeeded: 0 if all messages are the same, 1 if one differs.
 abbrev pub found_status : Result Comparison CmpFault → ℕ
 found_status (Ok comparisons.Same) = 0
 found_status (Ok comparisons.Different) = 1
 found_status (Err fault) = status_of fault
 
--- the exit status after a flush, by how the run ended then
+-- The exit status after the flush, by what was found and by how the run ended then.
 abbrev pub cmp_status : Result Comparison CmpFault → Result (Unit {0}) CmpFault → ℕ
 cmp_status found (Ok u) = found_status found
 cmp_status found (Err fault) = status_of fault
@@ -38,8 +38,8 @@ cmp_status found (Err fault) = status_of fault
 abbrev pub io : CmpFault
 io = faults.Run run_faults.Io
 
--- A run found this, and by then the output had failed or not. The output was flushed, which writes nothing; the line of
--- the fault was written to the errors, if there is one; and this is the status.
+-- The end of a run that found `found`. `failed` says whether the output had failed before the flush. The flush writes
+-- nothing. The line of the fault, if there is one, was written to the errors, and `status` is the exit status.
 pub record EndsFound (found : Result Comparison CmpFault) (failed : Bool) (flush errors : Course) (status : ℕ)
     : Type 0 where
   pub outcome : Result (Unit {0}) CmpFault

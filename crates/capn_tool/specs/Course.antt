@@ -1,7 +1,7 @@
--- A reader or a writer over a call. (Own.)
+-- A reader or a writer before and after a call. (Own.)
 use Rattle.std.specs.Prelude.{ℕ, ◌≡◌, List, Bool, false, Option}
 
--- its bytes before and after, where they are known, and whether it has failed by then
+-- The bytes before and after the call, if they are known, and whether the reader or writer has failed by then.
 pub record Course : Type 0 where
   pub before : Option (List ℕ)
   pub after : Option (List ℕ)
@@ -10,6 +10,6 @@ pub record Course : Type 0 where
 abbrev pub course : Option (List ℕ) → Option (List ℕ) → Bool → Course
 course before after failed = record { before = before; after = after; failed = failed }
 
--- it was left alone
+-- The reader or writer was not used, and has not failed.
 abbrev pub IsUntouched : Course → Type 0
 IsUntouched end = (end.after ≡ end.before) × (end.failed ≡ false)

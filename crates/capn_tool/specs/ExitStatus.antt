@@ -1,4 +1,4 @@
--- How the program ends. After a run it ends with 0 where that is done, and else with the status of its fault. (Own.)
+-- The exit status of the program after each kind of run: 0 if the run is done, or else the status of its fault. (Own.)
 use Rattle.std.specs.Prelude.{ℕ, Result}
 use Rattle.capn_serve.specs.Ending.{status_of_ending}
 use Rattle.capn_serve.specs.FaultText as served
@@ -12,22 +12,22 @@ use Rattle.capn_make.specs.declared.fault.MakeFault.{MakeFault}
 use Rattle.capn_commands.specs.FlowFaultText as flowing
 use Rattle.capn_commands.specs.declared.flow_fault.FlowFault.{FlowFault}
 
--- after a run over an archive
+-- The exit status after a run over an archive.
 abbrev pub archive_status : Result (Unit {0}) ArchiveFault → ℕ
 archive_status = status_of_ending archived.status_of
 
--- after one that picks messages
+-- The exit status after a run that picks messages.
 abbrev pub pick_status : Result (Unit {0}) RunFault → ℕ
 pick_status = status_of_ending served.status_of
 
--- after one that explains every message that is refused
+-- The exit status after a run that explains every refused message.
 abbrev pub report_status : Result (Unit {0}) ReportFault → ℕ
 report_status = status_of_ending reported.status_of
 
--- after one over texts
+-- The exit status after a run that makes messages from texts.
 abbrev pub make_status : Result (Unit {0}) MakeFault → ℕ
 make_status = status_of_ending made.status_of
 
--- and after one that lets bytes flow
+-- The exit status after a run that packs or unpacks a stream.
 abbrev pub flow_status : Result (Unit {0}) FlowFault → ℕ
 flow_status = status_of_ending flowing.status_of

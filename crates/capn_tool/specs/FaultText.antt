@@ -1,4 +1,4 @@
--- What is said of a run that was not done. (Own.)
+-- The line on standard error after each kind of run, if the run was not done. (Own.)
 use Rattle.std.specs.Prelude.{ℕ, ◌≡◌, List, codes, Bool, Option, Result, refl}
 use Rattle.std.specs.Fmt.{digits}
 use Rattle.capn_serve.specs.Ending.{WritesEnding, fault_text_line}
@@ -26,18 +26,18 @@ skipped = refl
 abbrev pub WritesArchiveEnding : Result (Unit {0}) ArchiveFault → Option (List ℕ) → Option (List ℕ) → Bool → Type 0
 WritesArchiveEnding = WritesEnding archive_text
 
--- that of a run that picks messages was written
+-- The ending of a run that picks messages was written.
 abbrev pub WritesPickEnding : Result (Unit {0}) RunFault → Option (List ℕ) → Option (List ℕ) → Bool → Type 0
 WritesPickEnding = WritesEnding served.fault_text
 
--- that of a run that explains every message that is refused was written
+-- The ending of a run that explains every refused message was written.
 abbrev pub WritesReportEnding : Result (Unit {0}) ReportFault → Option (List ℕ) → Option (List ℕ) → Bool → Type 0
 WritesReportEnding = WritesEnding reported.report_text
 
--- that of a run over texts was written
+-- The ending of a run that makes messages from texts was written.
 abbrev pub WritesMakeEnding : Result (Unit {0}) MakeFault → Option (List ℕ) → Option (List ℕ) → Bool → Type 0
 WritesMakeEnding = WritesEnding made.fault_text
 
--- and of one that lets bytes flow
+-- The ending of a run that packs or unpacks a stream was written.
 abbrev pub WritesFlowEnding : Result (Unit {0}) FlowFault → Option (List ℕ) → Option (List ℕ) → Bool → Type 0
 WritesFlowEnding = WritesEnding flowing.fault_text

@@ -19,20 +19,22 @@ use Rattle.capn_tool.specs.Course.{Course}
 use Rattle.capn_args.specs.declared.invocation.Flow.{Flow}
 use Rattle.capn_args.specs.declared.invocation.Flow.TheVariants as flows
 
--- After a flush a run that was done ends as it did, or with the fault of an output that failed, if the flush failed.
--- Any other run ends as it did.
+-- The result of a run after the flush of its output. A run that was done ends with `io`, the fault of an output that
+-- failed, if the flush failed. Any other run ends as it did. The two flags say whether the output had failed before the
+-- flush and after it.
 abbrev pub EndsFlushed : {F : Type 0} → F → Result (Unit {0}) F → Bool → Bool → Result (Unit {0}) F → Type 0
 EndsFlushed io (Ok u) old new result = ((result ≡ Ok u) × (new ≡ old)) ⊎ ((result ≡ Err io) × (new ≡ true))
 EndsFlushed io (Err fault) old new result = (result ≡ Err fault) × ((new ≡ old) ⊎ (new ≡ true))
 
--- an input has one text and one ending, and these have come, unless memory ran out or an input or output failed
+-- `input` has a unique text and ending, and the run wrote and returned these, unless memory ran out or the input or the
+-- output failed.
 abbrev pub EndsByText : Command → Option (List ℕ) → Option (List ℕ) → Result (Unit {0}) ToolFault → List ℕ → Type 0
 EndsByText command c d outcome input =
     (text : List ℕ) (due : Result (Unit {0}) ToolFault) → IsText command input text due → EndsBy text due c d outcome
 
--- A command was carried out, over the input and the output, and ended so. Its run ended first, and by then the output
--- had failed or not; then the output was flushed, which writes nothing. It ends with Io exactly where the input or the
--- output failed in the run, or the run was done and the flush failed.
+-- A command was carried out and its output was flushed. `run` is the result before the flush, which writes nothing, and
+-- `failed` says whether the output had failed by then. `outcome` is `Io` if and only if the input or the output failed
+-- in the run, or the run was done and the flush failed.
 pub record CarriesOut (command : Command) (input output : Course) (outcome : Result (Unit {0}) ToolFault) : Type 0 where
   pub run : Result (Unit {0}) ToolFault
   pub failed : Bool
@@ -48,13 +50,15 @@ pub record CarriesOut (command : Command) (input output : Course) (outcome : Res
   pub ahead : StaysAheadAs command input.before input.after output.before output.after
   pub memory : IsErrOf outcome faults.Memory → MayNeedMemory command input.before input.after
 
--- a statement about a run: its reader before and after it, its writer, whether each has failed, and how it ended
+-- The type of a statement about a run: its reader before and after it, its writer before and after it, whether each has
+-- failed, and its result.
 abbrev pub RunOver : Type 0 → Type 1
 RunOver F = Option (List ℕ) → Option (List ℕ) → Option (List ℕ) → Option (List ℕ) → Bool → Bool
     → Result (Unit {0}) F → Type 0
 
--- A run that meets this statement went from the input to the output. The run itself ended first, and by then the output
--- had these bytes, and had failed or not; then the output was flushed, which writes nothing.
+-- A run for which `Runs` holds went from the input to the output, and the output was flushed. `run` is the result
+-- before the flush, `written` is the output by then, and `failed` says whether the output had failed. The flush writes
+-- nothing.
 pub record RunsFlushed {F : Type 0} (io : F) (Runs : RunOver F) (input output : Course)
     (outcome : Result (Unit {0}) F) : Type 0 where
   pub run : Result (Unit {0}) F
@@ -64,8 +68,8 @@ pub record RunsFlushed {F : Type 0} (io : F) (Runs : RunOver F) (input output : 
   pub kept : Keeps written output.after
   pub flushed : EndsFlushed io run failed output.failed outcome
 
--- A run ended so, and by then the output had failed or not. The output was flushed, which writes nothing; the line of
--- the fault was written to the errors; and this is the status.
+-- The end of a run with the result `run`. `failed` says whether the output had failed before the flush. The flush
+-- writes nothing. The line of the fault was written to the errors, and `status` is the exit status.
 pub record EndsRun {F : Type 0} (text : F → List ℕ) (exit : F → ℕ) (io : F) (run : Result (Unit {0}) F) (failed : Bool)
     (flush errors : Course) (status : ℕ) : Type 0 where
   pub outcome : Result (Unit {0}) F
@@ -74,12 +78,12 @@ pub record EndsRun {F : Type 0} (text : F → List ℕ) (exit : F → ℕ) (io :
   pub told : WritesEnding text outcome errors.before errors.after errors.failed
   pub is : status ≡ status_of_ending exit outcome
 
--- messages were made from texts, where lists of bytes may stand between quotes, or may not
+-- Messages were made from texts. The first argument says whether lists of bytes may stand between quotes.
 abbrev pub MadeBy : Bool → Form → RunOver MakeFault
 MadeBy true form = MadeTexts form
 MadeBy false form = Made form
 
--- bytes flowed this way
+-- A stream was packed or unpacked.
 abbrev pub Flowed : Flow → RunOver FlowFault
 Flowed flows.Pack = Runs packing
 Flowed flows.Unpack = Runs unpacking

@@ -1,4 +1,4 @@
--- What a run did that picks the messages of a list. (Own.)
+-- The effect of a run that picks the messages of a list. (Own.)
 use Rattle.std.specs.Prelude.{◌≡◌, ◌⊎◌, List, ℕ, Bool, false, Option, Some, Result, Err}
 use Rattle.capn_serve.specs.PickRun.{PicksRanges}
 use Rattle.capn_serve.specs.declared.fault.RunFault.{RunFault}
@@ -13,8 +13,8 @@ abbrev pub NeedsMemory : Option (List ℕ) → Option (List ℕ) → Option (Lis
 NeedsMemory a b c d reader_failed writer_failed r = (r ≡ Err faults.Memory)
     × (b ≡ a) × (d ≡ c) × (reader_failed ≡ false) × (writer_failed ≡ false)
 
--- What a run did, over a reader (from a to b) and a writer (from c to d). The text of its order is a list, of which the
--- ranges were picked.
+-- The effect of a run on a reader (from `a` to `b`) and a writer (from `c` to `d`), and its result. The ranges of the
+-- list in `only` were picked, or memory was refused for the ranges.
 abbrev pub OnlyPicked : Only → Option (List ℕ) → Option (List ℕ) → Option (List ℕ) → Option (List ℕ) → Bool → Bool
     → Result (Unit {0}) RunFault → Type 0
 OnlyPicked only a b c d reader_failed writer_failed r = (ranges : List Range) → ranges_in only.list.now ≡ Some ranges

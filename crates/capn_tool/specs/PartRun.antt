@@ -1,4 +1,4 @@
--- What a run that shows messages did: of each, in a style or with marks, what is at a path from its root. (Own.)
+-- The effect of a run that shows messages or parts of them, in a style or with marks. (Own.)
 use Rattle.std.specs.Prelude.{◌≡◌, ◌⊎◌, ℕ, List, Bool, true, false, Option, Some, None, Result, Ok, Err, is_some}
 use Rattle.capn_canon.specs.declared.form.Form.{Form}
 use Rattle.capn_canon.specs.declared.form.Form.TheVariants as forms
@@ -16,12 +16,12 @@ use Rattle.capn_commands.specs.declared.fault.ToolFault.TheVariants as faults
 use Rattle.capn_args.specs.Path.{numbers_of}
 use Rattle.capn_args.specs.declared.invocation.Show.{Show}
 
--- how a run over messages ends, without the position of the message that is refused
+-- The result of a run over messages, without the position of a refused message.
 abbrev pub unplaced_end : Result (Unit {0}) RunFault → Result (Unit {0}) ToolFault
 unplaced_end (Ok u) = Ok u
 unplaced_end (Err fault) = Err (unplaced fault)
 
--- a service has the numbers of a path, and the rest of an order
+-- `service` has the numbers of `path`, and the other options of `show`.
 pub record Follows (show : Show) (path : List ℕ) (service : PartTexts) : Type 0 where
   pub numbers : service.path.now ≡ path
   pub form : service.form ≡ show.form
@@ -30,7 +30,7 @@ pub record Follows (show : Show) (path : List ℕ) (service : PartTexts) : Type 
   pub offsets : service.offsets ≡ show.offsets
   pub ways : service.ways ≡ show.ways
 
--- the messages were served from the first on, by such a service
+-- The messages were served from the first on, by a service with the options of `show`.
 pub record Served (show : Show) (path : List ℕ) (a b c d : Option (List ℕ)) (reader_failed writer_failed : Bool)
     (r : Result (Unit {0}) ToolFault) : Type 0 where
   pub service : PartTexts
@@ -39,7 +39,7 @@ pub record Served (show : Show) (path : List ℕ) (a b c d : Option (List ℕ)) 
   pub shown : Shown service a b c d reader_failed writer_failed ending
   pub is : r ≡ unplaced_end ending
 
--- the one message of a whole input was served, which holds it so in a frame, by such a service
+-- The one message that the whole input is in a frame was served, by a service with the options of `show`.
 pub record ServedOne (show : Show) (frame : StreamForm) (path : List ℕ) (a b c d : Option (List ℕ))
     (reader_failed writer_failed : Bool) (r : Result (Unit {0}) ToolFault) : Type 0 where
   pub service : PartTexts
@@ -47,14 +47,14 @@ pub record ServedOne (show : Show) (frame : StreamForm) (path : List ℕ) (a b c
   pub shown : RunsWhole (WritesOne serves refuses service show.limits.message_words frame)
       (RefusesOne serves refuses service show.limits.message_words frame) a b c d reader_failed writer_failed r
 
--- how an input holds the one message of an order for exactly one, if that is in a frame
+-- The encoding of the input if `show` selects exactly one message, in a frame.
 abbrev pub one_frame : Bool → Form → Option StreamForm
 one_frame false form = None
 one_frame true forms.Stream = Some streams.Stream
 one_frame true forms.Packed = Some streams.Packed
 one_frame true forms.Bare = None
 
--- its messages were served, or its one message in a frame was
+-- The messages of the input were served, or its one message in a frame was.
 abbrev pub ServedBy : Option StreamForm → Show → List ℕ → Option (List ℕ) → Option (List ℕ) → Option (List ℕ)
     → Option (List ℕ) → Bool → Bool → Result (Unit {0}) ToolFault → Type 0
 ServedBy None show path a b c d reader_failed writer_failed r = Served show path a b c d reader_failed writer_failed r
@@ -67,9 +67,9 @@ abbrev pub NeedsMemory : Show → Option (List ℕ) → Option (List ℕ) → Op
 NeedsMemory show a b c d reader_failed writer_failed r = (is_some show.path ≡ true) × (r ≡ Err faults.Memory)
     × (b ≡ a) × (d ≡ c) × (reader_failed ≡ false) × (writer_failed ≡ false)
 
--- What a run did, over a reader (from a to b) and a writer (from c to d). The text of its order, if it has one, is a
--- path; if it has none, all of each message is shown, which is at the path of no numbers. An order for exactly one
--- message is for the one that the whole input is.
+-- The effect of a run on a reader (from `a` to `b`) and a writer (from `c` to `d`), and its result. The path text of
+-- `show`, if it has one, gives the numbers of a path. Without one, all of each message is shown, at the empty path. If
+-- `show` selects exactly one message, that is the whole input.
 abbrev pub PartsShown : Show → Option (List ℕ) → Option (List ℕ) → Option (List ℕ) → Option (List ℕ) → Bool → Bool
     → Result (Unit {0}) ToolFault → Type 0
 PartsShown show a b c d reader_failed writer_failed r = (path : List ℕ) → numbers_of show.path ≡ Some path

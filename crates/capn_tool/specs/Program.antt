@@ -1,4 +1,4 @@
--- What the program does, from the words of its command line to its exit status. (Own.)
+-- The program, from the words of its command line to its exit status. (Own.)
 use Rattle.std.specs.Prelude.{ℕ, ◌≡◌, ◌⊎◌, List, Bool, Option, Result}
 use Rattle.clap.specs.Words.{Text, subcommand_of}
 use Rattle.capn_commands.specs.ExitStatus.{status_of}
@@ -35,8 +35,8 @@ use Rattle.capn_args.specs.declared.invocation.Explanation.TheVariants as explan
 use Rattle.capn_args.specs.declared.invocation.Invocation.{Invocation}
 use Rattle.capn_args.specs.declared.invocation.Invocation.TheVariants as invocations
 
--- The words order this. It was carried out, from the input to the output. The status, and what was written to the
--- errors, are those of how it ended.
+-- The words mean the invocation `name order`. It was carried out, from the input to the output. The exit status and the
+-- text on the errors are those of its outcome.
 pub record EndsOrder {O F : Type 0} (name : O → Invocation)
     (CarriesOut : O → Course → Course → Result (Unit {0}) F → Type 0)
     (WritesEnd : Result (Unit {0}) F → Option (List ℕ) → Option (List ℕ) → Bool → Type 0)
@@ -49,49 +49,50 @@ pub record EndsOrder {O F : Type 0} (name : O → Invocation)
   pub told : WritesEnd outcome errors.before errors.after errors.failed
   pub is : status ≡ status_of_end outcome
 
--- the same of an order whose run meets a statement, with the fault of an output that failed
+-- The words mean the invocation `name order`, for a run that `Runs` describes, with a flush after it. `io` is the fault
+-- of an output that failed.
 abbrev pub EndsRunOrder : {O F : Type 0} → (O → Invocation) → F → (O → RunOver F)
     → (Result (Unit {0}) F → Option (List ℕ) → Option (List ℕ) → Bool → Type 0) → (Result (Unit {0}) F → ℕ)
     → List Text → Course → Course → Course → ℕ → Type 0
 EndsRunOrder name io Runs = EndsOrder name (λ order. RunsFlushed io (Runs order))
 
--- the words order a command over messages or bytes
+-- The words mean a command over messages or bytes.
 abbrev pub EndsMessage : List Text → Course → Course → Course → ℕ → Type 0
 EndsMessage = EndsOrder (λ command. invocations.Message command) CarriesOut ReportsEnding status_of
 
--- the words order that parts of messages are shown
+-- The words mean that messages, or parts of them, are shown.
 abbrev pub EndsShow : List Text → Course → Course → Course → ℕ → Type 0
 EndsShow = EndsRunOrder (λ show. invocations.Show show) faults.Io PartsShown ReportsEnding status_of
 
--- the words order that a message is explained
+-- The words mean that one message is explained.
 abbrev pub EndsExplain : List Text → Course → Course → Course → ℕ → Type 0
 EndsExplain =
     EndsRunOrder (λ explain. invocations.Explain (explanations.One explain)) run_faults.Io Explained WritesPickEnding
     pick_status
 
--- the words order that every message that is refused is explained
+-- The words mean that every refused message is explained.
 abbrev pub EndsExplainRefused : List Text → Course → Course → Course → ℕ → Type 0
 EndsExplainRefused =
     EndsRunOrder (λ refused. invocations.Explain (explanations.Refused refused)) (report_faults.Ended run_faults.Io)
     ExplainedRefused WritesReportEnding report_status
 
--- the words order a run over an archive
+-- The words mean a run over an archive.
 abbrev pub EndsArchive : List Text → Course → Course → Course → ℕ → Type 0
 EndsArchive =
     EndsRunOrder (λ archive. invocations.Archive archive) archive_faults.Io Archived WritesArchiveEnding archive_status
 
--- the words order that duplicates are left out
+-- The words mean that duplicates are left out.
 abbrev pub EndsUniq : List Text → Course → Course → Course → ℕ → Type 0
 EndsUniq =
     EndsRunOrder (λ uniq. invocations.Uniq uniq) archive_faults.Io Deduplicated WritesArchiveEnding archive_status
 
--- the words order that accepted messages are let through
+-- The words mean that accepted messages are let through.
 abbrev pub EndsFilter : List Text → Course → Course → Course → ℕ → Type 0
 EndsFilter =
     EndsRunOrder (λ filter. invocations.Filter filter) archive_faults.Io Filtered WritesArchiveEnding archive_status
 
--- The words order that messages are compared. They were, from the input to the output, and something was found. What
--- was written to the errors is how the run ended, and the status says what was found, too.
+-- The words mean that messages are compared. The run over the input found `found`, and was flushed. The text on the
+-- errors is that of its outcome, and the exit status also says what was found.
 pub record EndsCmp (words : List Text) (input output errors : Course) (status : ℕ) : Type 0 where
   pub order : CmpOrder
   pub found : Result Comparison CmpFault
@@ -101,27 +102,27 @@ pub record EndsCmp (words : List Text) (input output errors : Course) (status : 
   pub told : WritesEnding cmp_text outcome errors.before errors.after errors.failed
   pub is : status ≡ cmp_status found outcome
 
--- the words order that messages are picked
+-- The words mean that messages are picked by a range of numbers.
 abbrev pub EndsPick : List Text → Course → Course → Course → ℕ → Type 0
 EndsPick =
     EndsRunOrder (λ pick. invocations.Pick pick) run_faults.Io (λ pick. Picks pick.limits.message_words pick pick.form)
     WritesPickEnding pick_status
 
--- the words order that the messages of a list are picked
+-- The words mean that the messages of a list are picked.
 abbrev pub EndsOnly : List Text → Course → Course → Course → ℕ → Type 0
 EndsOnly = EndsRunOrder (λ only. invocations.Only only) run_faults.Io OnlyPicked WritesPickEnding pick_status
 
--- the words order that bytes flow
+-- The words mean that a stream is packed or unpacked.
 abbrev pub EndsFlow : List Text → Course → Course → Course → ℕ → Type 0
 EndsFlow = EndsRunOrder (λ flow. invocations.Flow flow) flow_faults.Io Flowed WritesFlowEnding flow_status
 
--- the words order that messages are made from texts
+-- The words mean that messages are made from texts.
 abbrev pub EndsMake : List Text → Course → Course → Course → ℕ → Type 0
 EndsMake =
     EndsRunOrder (λ make. invocations.Make make) make_faults.Io (λ make. MadeBy make.quoted make.form) WritesMakeEnding
     make_status
 
--- what the program did that was started with these words, by its status
+-- The effect of the program started with `words`, and its exit status.
 abbrev pub Ends : List Text → Course → Course → Course → ℕ → Type 0
 Ends words input output errors status =
     EndsMessage words input output errors status

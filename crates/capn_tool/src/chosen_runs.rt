@@ -1,4 +1,4 @@
-//! Runs that a part of their order chooses.
+//! Runs that an option selects: pack or unpack, and messages made from texts with or without quotes.
 
 ghost use Rattle.std.specs.Prelude.{◌≡◌, false};
 ghost use Rattle.capn_words.specs.Watched.{inner_of, has_failed};
@@ -11,7 +11,7 @@ use capn_words::Watched;
 use std::alloc::Global;
 use std::io::{Read, Write};
 
-/// Packs or unpacks the input while it comes in.
+/// Packs or unpacks the input, as `flow` says. Output is written before more input is read.
 pub(crate) fn flow_through<R: Read, W: Write>(
     alloc: Global,
     flow: Flow,
@@ -30,7 +30,7 @@ pub(crate) fn flow_through<R: Read, W: Write>(
     }
 }
 
-/// Makes messages of the texts of the input, with lists of bytes between quotes or without.
+/// Makes messages from the texts of the input. `order` says whether lists of bytes may stand between quotes.
 pub(crate) fn make_by<R: Read, W: Write>(
     alloc: Global,
     order: Make,

@@ -1,4 +1,4 @@
-//! The end of a comparison: flush, line and status.
+//! The end of a run of `cmp`: the flush, the error line and the exit status.
 
 ghost use Rattle.std.specs.Prelude.{◌≡◌, false};
 ghost use Rattle.capn_words.specs.Watched.{inner_of, has_failed};
@@ -12,7 +12,7 @@ use capn_serve::{Ending, RunFault, end};
 use capn_words::Watched;
 use std::io::Write;
 
-/// Returns the end of a run that has `found` an answer or a fault.
+/// Returns the outcome of a run of `cmp` by what it `found`: `Ok` after any answer, or the fault.
 fn done_of(found: Result<Comparison, CmpFault>) -> Result<(), CmpFault>
     ensures { result ≡ spec.done_of found }
 {
@@ -22,7 +22,7 @@ fn done_of(found: Result<Comparison, CmpFault>) -> Result<(), CmpFault>
     }
 }
 
-/// Returns the exit status of a comparison by what it `found`, and by how it `ended` after the flush of its output.
+/// Returns the exit status of a comparison from what it `found`, and from how it `ended` after the flush of its output.
 fn status_after(found: Result<Comparison, CmpFault>, ended: &Result<(), CmpFault>) -> u8
     ensures { result ≡ spec.cmp_status found ended.now }
 {
@@ -36,9 +36,9 @@ fn status_after(found: Result<Comparison, CmpFault>, ended: &Result<(), CmpFault
     }
 }
 
-/// Flushes the output after a comparison, writes the line of its fault if it has one, and returns the exit status. If a
-/// message differs, the status is 1, and no line is written to `errors`. If there is an answer but the flush fails, the
-/// run ends as one with an output that failed.
+/// Flushes the output after a comparison, writes an error line if it ended with a fault, and returns the exit status.
+/// If a message differs, the status is 1, and no line is written to `errors`. If there is an answer but the flush
+/// fails, the run ends with the fault of an output that failed.
 pub(crate) fn finish_found<W: Write, E: Write>(
     found: Result<Comparison, CmpFault>,
     writer: &mut Watched<W>,

@@ -1,15 +1,16 @@
-//! Laws of command lines and of shown texts, as empty functions.
+//! Laws of command lines and of shown texts, stated by the clauses of functions with empty bodies.
 
 ghost use Rattle.capn_tool.specs.Laws.{OneShown, OneShownAlone};
 
 pub use capn_args::laws::{command, meaning};
 
-/// States that an order and a path decide the text that is shown of an input, and the ending of the run.
+/// States that the options of `show` and an input determine the text that is shown, and how the run ends.
 pub fn one_text()
     ensures { OneShown }
 {}
 
-/// States that an order for exactly one message, too, decides the text that is shown of an input, and the ending.
+/// States that the options of `show` for exactly one message and an input determine the text that is shown, and how the
+/// run ends.
 pub fn one_alone()
     ensures { OneShownAlone }
 {}

@@ -1,13 +1,17 @@
-//! The program `capn`: its command line, and its runs.
-//! Each run goes from all of the input to all of the output.
+//! The program `capn`, over any reader and writers: its command line, and its runs.
 //!
-//! [`program`] is all of it, from the words of the command line to the exit status, over any reader and writers.
-//! [`invocation_of`], of [`capn_args`], reads the words. They order a command of [`capn_commands`]; that messages, or
-//! parts of them, are shown in a style, by [`show_parts`]; that a message is explained, or each that is refused, by
-//! [`capn_explain`]; a run over an archive, which is a stream of messages of any length, by [`capn_archive`] or
-//! [`capn_serve`]; that messages are compared, by [`capn_cmp`]; that bytes are packed or unpacked while they come in,
-//! by [`capn_commands`]; or that messages are made from texts, by [`capn_make`]. [`end`] reports how such a run ended.
-//! [`command_of`] reads the words where they order a command of [`capn_commands`], and [`run`] carries it out.
+//! [`program`] is the whole program, from the words of the command line to the exit status. [`invocation_of`], of
+//! [`capn_args`], reads the words and returns the run that they ask for. It is one of:
+//! - a command of [`capn_commands`], such as `canonical` or `check`;
+//! - [`show_parts`], which shows messages or parts of them in a style;
+//! - a run of [`capn_explain`], which explains one message or each that is refused;
+//! - a run of [`capn_archive`] or [`capn_serve`] over an archive, a stream of messages of any length;
+//! - a comparison of messages by [`capn_cmp`];
+//! - packing or unpacking by [`capn_commands`] while the input is read;
+//! - messages made from texts by [`capn_make`].
+//!
+//! [`command_of`] reads the words of a command of [`capn_commands`], [`run`] carries the command out, and [`end`]
+//! reports how that run ended.
 //!
 //! ```text
 //! let invocation = invocation_of(alloc, &["capn", "list", "--keep-going"])?;
@@ -29,13 +33,13 @@ pub use only_run::pick_only;
 pub use part_run::show_parts;
 pub use program_run::program;
 
-// The command line: the words, and the invocation that they give.
+// The command line: its words, and the invocation that they mean.
 pub use capn_args::{
     Explanation, Flow, Invocation, Make, Only, Show, Usage, command_of, invocation_of,
     program_command,
 };
 
-// The commands over messages and bytes, their run and how it ends.
+// The commands over messages and bytes, their run, and how a run ends.
 pub use capn_commands::{Command, MessageText, ToolFault, end, fault_text, run, status};
 
 // Types of the signatures above.

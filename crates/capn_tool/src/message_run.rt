@@ -1,4 +1,4 @@
-//! The run of a command over messages or bytes, with its flush.
+//! The run of a command over messages or bytes, and the flush after it.
 
 ghost use Rattle.std.specs.Prelude.{◌≡◌, false};
 ghost use Rattle.capn_words.specs.Watched.{inner_of, has_failed};
@@ -11,7 +11,7 @@ use capn_words::Watched;
 use std::alloc::Global;
 use std::io::{Read, Write};
 
-/// Carries a command out, and flushes the output. It ends as the run does, or with `Io` if the run is done and the
+/// Carries `command` out, and flushes the output. Returns the outcome of the run, or `Io` if the run is done and the
 /// flush fails.
 pub(crate) fn carry_out<R: Read, W: Write>(
     alloc: Global,

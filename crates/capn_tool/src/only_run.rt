@@ -1,4 +1,4 @@
-//! A run of `pick --only`.
+//! The run of `pick --only`.
 
 ghost use Rattle.std.specs.Prelude.{◌≡◌, false};
 ghost use Rattle.capn_words.specs.Watched.{inner_of, has_failed};
@@ -11,9 +11,11 @@ use capn_words::Watched;
 use std::alloc::Allocator;
 use std::io::{Read, Write};
 
-/// Writes the frames of the messages that are in a list, as they stand, as [`run_only`] does with its ranges.
+/// Writes the frames of the messages that are in the list of `only` byte for byte, as [`run_only`] does with its
+/// ranges.
 ///
-/// Beside what that takes it holds the ranges, of 16 bytes each. If memory for these is refused nothing is read.
+/// In addition to what [`run_only`] holds, it holds the ranges, of 16 bytes each. If memory for the ranges is refused,
+/// nothing is read.
 pub fn pick_only<R: Read, W: Write, A: Allocator + Copy>(
     alloc: A,
     only: &Only,

@@ -1,4 +1,4 @@
-//! All of the output, and its flush.
+//! Writes output, and flushes it after a run.
 
 ghost use Rattle.std.specs.Prelude.{◌≡◌, ◌↔◌, true, false, OnOk, IsErrOf, IsOkUnless};
 ghost use Rattle.std.specs.Io.KnownBytes.{Appends, Keeps};
@@ -9,7 +9,7 @@ use capn_commands::ToolFault;
 use capn_words::Watched;
 use std::io::Write;
 
-/// Writes all of the text, or a beginning of it where the writer fails.
+/// Writes all of `text`. If the writer fails, a prefix of `text` was written, and `Io` is returned.
 pub(crate) fn write_all<W: Write>(writer: &mut Watched<W>, text: &[u8]) -> Result<(), ToolFault>
     requires { has_failed writer.old ≡ false }
     ensures ok { OnOk result (Appends (W.contents (inner_of writer.old)) (W.contents (inner_of writer.new)) text.now) }
@@ -23,8 +23,8 @@ pub(crate) fn write_all<W: Write>(writer: &mut Watched<W>, text: &[u8]) -> Resul
     }
 }
 
-/// Flushes `writer` after a run with this `outcome`. If the run was done and the flush fails, it ends with `io`, the
-/// fault of an output that failed. Any other run ends as it did.
+/// Flushes `writer` after a run with this `outcome`. Returns `io`, the fault of an output that failed, if the run was
+/// done and the flush fails. The outcome of any other run stays the same.
 pub(crate) fn flush_after<F: Copy, W: Write>(
     outcome: Result<(), F>,
     io: F,

@@ -27,9 +27,9 @@ fn one_frame(show: &Show) -> Option<StreamForm>
     }
 }
 
-/// Writes of each message of an input, in a style or with marks, the text of what is at a path from its root, or of all
-/// of it, as [`run_show`] does; or of exactly one message, as [`serve_one`] does. A path that is given takes memory for
-/// its numbers.
+/// Writes the text of messages, or of the value at a path from each root, in a style or with marks. [`run_show`] does
+/// it for each message of an input, and [`serve_one`] for exactly one message in a frame. A path takes memory for its
+/// numbers.
 pub fn show_parts<R: Read, W: Write, A: Allocator + Copy>(
     alloc: A,
     show: &Show,

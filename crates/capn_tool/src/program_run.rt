@@ -1,4 +1,4 @@
-//! The program, from command line to exit status.
+//! The whole program, from the command line to the exit status.
 
 ghost use Rattle.std.specs.Prelude.{◌≡◌, map, false};
 ghost use Rattle.capn_words.specs.Watched.{inner_of, has_failed};
@@ -26,18 +26,23 @@ use std::io::{Read, Write};
 
 /// Runs the whole program, from the words of the command line to the exit status. The first word is its name.
 ///
-/// It does what the words order, from the reader to the writer: a command as [`capn_commands::run`] promises, parts of
-/// messages as [`show_parts`] shows them, what explains a message, or each that is refused, as [`run_explain`] or
-/// [`run_explain_refused`] says it, a run over an archive as [`run_archive`], [`run_uniq`] or [`run_filter`] does, a
-/// comparison as [`run_cmp`] does, one that picks messages as [`run_pick`] or [`pick_only`] does, packing or unpacking
-/// as [`pack_stream`] and [`unpack_stream`] do, or the messages of texts as [`capn_make::make`] or
-/// [`capn_make::make_texts`] does; and it flushes the writer. If the run is done and the flush fails, it ends as a
-/// failed output does; after any other run a failed flush changes nothing. The status is 0 if all is done, 1 if the
-/// input, or a message of it, is refused or a message differs, and 3 if memory, the input or the output failed or the
-/// input is too long. With 1 and 3, but not if a message differs, one line on `errors` says why: `capn: ` and the text
-/// of the fault, which may have a second line where messages were skipped. A command line that orders nothing ends with
-/// 2, and `errors` says what is wrong with it, or `capn: out of memory` if there is no memory for that. Help and the
-/// version are written to the writer and end with 0, or with 3 if that fails.
+/// The words choose a run. It reads from `reader`, writes to `writer`, and ends with a flush. It is one of:
+/// - a command, as [`capn_commands::run`] promises;
+/// - the text of messages or of parts of them, as [`show_parts`] shows them;
+/// - the explanation of a message, or of each that is refused, by [`run_explain`] or [`run_explain_refused`];
+/// - a run over an archive, by [`run_archive`], [`run_uniq`] or [`run_filter`];
+/// - a comparison, by [`run_cmp`];
+/// - picked messages, by [`run_pick`] or [`pick_only`];
+/// - packing or unpacking, by [`pack_stream`] or [`unpack_stream`];
+/// - the messages of texts, by [`capn_make::make`] or [`capn_make::make_texts`].
+///
+/// If the run is done and the flush fails, the program ends as if the output had failed. After any other run a failed
+/// flush changes nothing. The status is 0 if all is done. It is 1 if the input or a message of it is refused, or if a
+/// message differs. It is 3 if memory, the input or the output failed, or if the input is too long. With 1 and 3 a line
+/// on `errors` says why, unless a message differs. The line is `capn: ` and the text of the fault, which may have a
+/// second line if messages were skipped. A mistake on the command line ends with 2, and `errors` says what is wrong, or
+/// `capn: out of memory` if there is no memory for that. Help and the version are written to `writer` and end with 0,
+/// or with 3 if that fails.
 #[tactic(auto, using(crate::proofs::EndedOrders::ended, crate::proofs::EndedOrders::ended_found))]
 pub fn program<'a, S: AsStr, R: Read, W: Write, E: Write>(
     alloc: Global,

@@ -1,4 +1,4 @@
-//! The end of a run: flush, line and status.
+//! The end of a run: the flush, the error line and the exit status.
 
 ghost use Rattle.std.specs.Prelude.{◌≡◌, false};
 ghost use Rattle.capn_words.specs.Watched.{inner_of, has_failed};
@@ -10,9 +10,9 @@ use capn_serve::{Ending, end};
 use capn_words::Watched;
 use std::io::Write;
 
-/// Flushes the output after a run with this `outcome`, writes the line of its fault if it has one, and returns the exit
-/// status. If the run was done and the flush fails, it ends with `io`, the fault of an output that failed. Any other
-/// run ends as it did.
+/// Flushes the output after a run with this `outcome`, writes an error line if it ended with a fault, and returns the
+/// exit status. If the run was done and the flush fails, it ends with `io`, the fault of an output that failed. Any
+/// other run ends as it did.
 pub(crate) fn finish<F: Ending + Copy, W: Write, E: Write>(
     outcome: Result<(), F>,
     io: F,

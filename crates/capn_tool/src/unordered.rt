@@ -1,4 +1,4 @@
-//! The end of a command line that orders nothing.
+//! The end of the program if its command line starts no run: help, version, or a mistake.
 
 ghost use Rattle.std.specs.Prelude.{◌≡◌, false, IfOk, IfErr, string_bytes};
 ghost use Rattle.clap.specs.Words.{kind_of};
@@ -20,7 +20,7 @@ use std::io::Write;
 /// The exit status of a mistake on the command line.
 const MISTAKE: u8 = 2;
 
-/// Writes the text of help to the output, and flushes that.
+/// Writes the help text to the output, and flushes the output.
 fn show_help<W: Write>(
     alloc: Global,
     usage: &Usage,
@@ -36,7 +36,7 @@ fn show_help<W: Write>(
     flush_after(Ok(()), ToolFault::Io, writer)
 }
 
-/// Writes the line of the version to the output, and flushes that.
+/// Writes the version line to the output, and flushes the output.
 fn show_version<W: Write>(writer: &mut Watched<W>) -> Result<(), ToolFault>
     requires { has_failed writer.old ≡ false }
     ensures { ShowsVersion
@@ -46,7 +46,7 @@ fn show_version<W: Write>(writer: &mut Watched<W>) -> Result<(), ToolFault>
     flush_after(Ok(()), ToolFault::Io, writer)
 }
 
-/// Writes what is said of a mistake, or the line of `Memory` if there was no memory for that.
+/// Writes the text about a mistake in `said`, or the line of `Memory` if there was no memory for the text.
 fn tell_said<E: Write>(alloc: Global, said: Result<String, AllocError>, errors: &mut Watched<E>)
     requires { has_failed errors.old ≡ false }
     ensures text { IfOk said (λ text. WritesLine (string_bytes text)
@@ -65,7 +65,7 @@ fn tell_said<E: Write>(alloc: Global, said: Result<String, AllocError>, errors: 
     }
 }
 
-/// Writes what is said of a mistake, or the line of `Memory` if there is no memory for that.
+/// Writes the text of the mistake `usage`, or the line of `Memory` if there is no memory for the text.
 fn tell_mistake<E: Write>(alloc: Global, usage: &Usage, errors: &mut Watched<E>)
     requires { has_failed errors.old ≡ false }
     ensures { WritesText
@@ -74,8 +74,8 @@ fn tell_mistake<E: Write>(alloc: Global, usage: &Usage, errors: &mut Watched<E>)
     tell_said(alloc, usage.text(alloc), errors);
 }
 
-/// Ends where the words of the command line order nothing, and answers the exit status. Help and the version are
-/// written to the writer, and what is said of a mistake, or the line of refused memory, to `errors`.
+/// Ends the program if its command line starts no run, and returns the exit status. Help and the version are written to
+/// `writer`. The text about a mistake, or the line of refused memory, is written to `errors`.
 pub(crate) fn end_unordered<W: Write, E: Write>(
     alloc: Global,
     usage: &Usage,
