@@ -14,8 +14,8 @@ use std::process::ExitCode;
 /// The exit status of a mistake on the command line.
 const MISTAKE: u8 = 2;
 
-/// Returns the words of the command line. `collect` would ask for room for all of them first, and go on with less if
-/// that is refused; here each refused growth is answered.
+/// Returns the words of the command line. Each refused growth is an error here. `collect` would request room for all
+/// words first, and continue with less if that is refused.
 fn words_of(rt: &HostRuntime) -> io::Result<Vec<String>> {
     let mut words = Vec::new(rt.alloc());
     for word in env::args(rt)? {
