@@ -1,4 +1,4 @@
--- The order of a caller by numbers, and the content of a buffer after a call. (Own.)
+-- The forms, tariffs and limits that a caller names by numbers, and the content of its buffer after a call. (Own.)
 use Rattle.std.specs.Prelude.{◌≡◌, ◌⊎◌, ℕ, suc, zero, ◌+◌, ◌*◌, ◌<◌, ◌≤◌, List, ◌++◌, length, drop}
 use Rattle.capn_value.specs.declared.tariff.Tariff.{Tariff}
 use Rattle.capn_value.specs.declared.tariff.Tariff.TheVariants as tariffs
@@ -18,7 +18,7 @@ form_named (suc (suc n)) = forms.Bare
 abbrev pub IsForm : ℕ → Type 0
 IsForm n = n ≤ 2
 
--- a number names a form whose bytes are those of the message itself
+-- a number names a form that is not packed
 abbrev pub IsFlat : ℕ → Type 0
 IsFlat n = (n ≡ 0) ⊎ (n ≡ 2)
 
@@ -31,12 +31,12 @@ tariff_named (suc n) = tariffs.Plain
 abbrev pub IsTariff : ℕ → Type 0
 IsTariff n = n ≤ 1
 
--- the limits that numbers give
+-- the limits that the numbers of a caller give
 abbrev pub bounds_of : CapnLimits → Bounds
 bounds_of c =
     record { message_words = c.message_words; budget = c.budget; depth = c.depth; tariff = tariff_named c.tariff }
 
--- numbers give limits, whatever the tariff
+-- the numbers of a caller give limits that are in range, whatever the tariff
 abbrev pub GiveLimits : CapnLimits → Type 0
 GiveLimits c = AreLimits c.message_words c.budget c.depth
 
@@ -48,13 +48,14 @@ IsWritten answer old new = new ≡ answer ++ drop (length answer) old
 abbrev pub HasNoRoom : List ℕ → List ℕ → List ℕ → Type 0
 HasNoRoom answer old new = (length old < length answer) × (new ≡ old)
 
--- the status of an answer: 0 if it was written, 1 if it has no room; the report has its length in both
+-- the status is 0 and the answer is written, or it is 1 and the answer has no room; the report has its length in both
+-- cases
 pub record Delivers (answer : List ℕ) (status told : ℕ) (old new : List ℕ) : Type 0 where
   pub length_is : told ≡ length answer
   pub either : ((status ≡ 0) × IsWritten answer old new) ⊎ ((status ≡ 1) × HasNoRoom answer old new)
 
--- into a buffer of no bytes nothing is written: the length reported is 8 for each word paid and 8 more, which is
--- enough; into any other the answer is delivered
+-- if the buffer is empty nothing is written, and the length reported is 8 for each word paid and 8 more, which is
+-- enough; otherwise the answer is delivered
 pub record Serves (answer : List ℕ) (status : ℕ) (report : CapnReport) (old new : List ℕ) : Type 0 where
   pub measured : length old ≡ 0
       → (status ≡ 1) × (report.length ≡ 8 * (report.paid + 1)) × (length answer ≤ report.length)

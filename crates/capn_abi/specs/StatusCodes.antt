@@ -12,11 +12,11 @@ use Rattle.capn_canon.specs.declared.refusal.Refusal.{Refusal}
 use Rattle.capn_canon.specs.declared.refusal.Refusal.TheVariants as refusals
 use Rattle.capn_abi.specs.declared.report.CapnReport.{CapnReport}
 
--- a report of one number
+-- a report of the number `n` alone
 abbrev pub at_number : ℕ → CapnReport
 at_number n = record { length = 0; at = n; segment = 0; word = 0; paid = 0; visits = 0 }
 
--- a report of an answer: its length, the words that its walk paid, and the number of visits that it made
+-- a report of an answer: its length, the words that the walk paid, and the number of visits
 abbrev pub answered : ℕ → ℕ → ℕ → CapnReport
 answered length paid visits = record { length = length; at = 0; segment = 0; word = 0; paid = paid; visits = visits }
 
@@ -25,26 +25,26 @@ abbrev pub bare_code : BareFault → ℕ
 bare_code (bare.NotWhole n) = 16
 bare_code (bare.TooLong n) = 17
 
--- its number
+-- the number in the report of a refusal of bare bytes
 abbrev pub bare_number : BareFault → ℕ
 bare_number (bare.NotWhole n) = n
 bare_number (bare.TooLong n) = n
 
--- the status of a refusal of packed bytes; `Failed` never comes
+-- the status of a refusal of packed bytes; `Failed` is never returned
 abbrev pub packed_code : UnpackFault → ℕ
 packed_code packed.Memory = 8
 packed_code (packed.Cut at) = 32
 packed_code (packed.TooLong at) = 33
 packed_code packed.Failed = 254
 
--- its number
+-- the number in the report of a refusal of packed bytes
 abbrev pub packed_number : UnpackFault → ℕ
 packed_number packed.Memory = 0
 packed_number (packed.Cut at) = at
 packed_number (packed.TooLong at) = at
 packed_number packed.Failed = 0
 
--- the status of a refusal of a frame; `Failed` never comes
+-- the status of a refusal of a frame; `Failed` is never returned
 abbrev pub frame_code : FrameFault → ℕ
 frame_code frame.Memory = 8
 frame_code frame.Empty = 48
@@ -53,7 +53,7 @@ frame_code (frame.TooManyWords n) = 50
 frame_code frame.Cut = 51
 frame_code frame.Failed = 255
 
--- its number
+-- the number in the report of a refusal of a frame
 abbrev pub frame_number : FrameFault → ℕ
 frame_number frame.Memory = 0
 frame_number frame.Empty = 0
@@ -87,7 +87,7 @@ code (refusals.Walk s) = walk_code s.fault
 code (refusals.Capability k) = 80
 code refusals.Memory = 8
 
--- the numbers of a refusal
+-- the report of a refusal
 abbrev pub report_of : Refusal → CapnReport
 report_of (refusals.Bare e) = at_number (bare_number e)
 report_of (refusals.Packed e) = at_number (packed_number e)
@@ -98,13 +98,13 @@ report_of (refusals.Walk s) =
 report_of (refusals.Capability k) = at_number k
 report_of refusals.Memory = at_number 0
 
--- the status and the report are those of this refusal, and of no other unless memory was refused
+-- `status` and `report` stand for the refusal `e`, and for no other unless memory was refused
 pub record Reports (status : ℕ) (report : CapnReport) (e : Refusal) : Type 0 where
   pub status_is : status ≡ code e
   pub report_is : report ≡ report_of e
   pub alone : status ≢ 8 → (f : Refusal) → status ≡ code f → report ≡ report_of f → f ≡ e
 
--- the status and the report are those of this refusal of packed bytes, and of no other unless memory was refused
+-- `status` and `report` stand for the refusal `e` of packed bytes, and for no other unless memory was refused
 pub record ReportsPacked (status : ℕ) (report : CapnReport) (e : UnpackFault) : Type 0 where
   pub status_is : status ≡ packed_code e
   pub report_is : report ≡ at_number (packed_number e)

@@ -1,9 +1,9 @@
-//! Orders and reports of the calls for C.
+//! The arguments and reports of the calls for C: forms, limits and styles by numbers, statuses, and what they report.
 //!
-//! - [`form_of`], [`flat_form_of`], [`limits_of`] and [`style_of`] read the numbers of a caller's order, and say which
-//!   of them is out of its range.
-//! - [`CapnReport`] is the report of a call beside its status. [`refuse`] and [`refuse_packed`] give the status and the
-//!   report of a refusal; no other refusal has both, unless memory was refused.
+//! - [`form_of`], [`flat_form_of`], [`limits_of`] and [`style_of`] read the numbers that a caller passes, and refuse
+//!   one that is out of its range.
+//! - [`CapnReport`] is the report that a call fills in, in addition to its status. [`refuse`] and [`refuse_packed`]
+//!   give the status and the report of a refusal. No other refusal has the same two, unless memory was refused.
 //! - [`deliver`] writes an answer into the caller's buffer, if that has room.
 //!
 //! ```text

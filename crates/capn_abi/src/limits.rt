@@ -1,4 +1,4 @@
-//! Limits and forms, as C passes them.
+//! The limits and the form of a call, as C passes them by numbers.
 
 ghost use Rattle.std.specs.Prelude.{◌≡◌, ◌↔◌, ◌⊎◌, IsSome, IfSome, IfOk, IfErr};
 ghost use Rattle.capn_abi.specs.Calls.{IsForm, form_named, IsTariff, tariff_named, GiveLimits, bounds_of};
@@ -9,7 +9,7 @@ use capn_canon::Form;
 use capn_value::Tariff;
 use capn_walk::Limits;
 
-/// The limits of a call. Any numbers may be passed: a call's status says if one is out of its range.
+/// The limits of a call. The caller may pass any numbers: the status of the call says if one is out of its range.
 #[derive(Clone, Copy)]
 #[repr(C)]
 pub struct CapnLimits {
@@ -19,7 +19,8 @@ pub struct CapnLimits {
     pub budget: u32,
     /// The depth of objects, from 1 to 256.
     pub depth: u32,
-    /// The tariff by which visits are priced: 0, each content costs 1 beside its size; 1, it costs nothing beside it.
+    /// The number of the tariff, by which visits are priced. In 0, each content costs 1 in addition to its size. In 1,
+    /// it costs its size alone.
     pub tariff: u32,
 }
 
@@ -35,7 +36,7 @@ fn tariff_of(number: u32) -> Option<Tariff>
     }
 }
 
-/// Returns the form that has this `number`; `None`, if none has.
+/// Returns the form that has this `number`, or `None` if no form has it.
 pub fn form_of(number: u32) -> Option<Form>
     ensures some { IsSome result ↔ IsForm number }
     ensures value { IfSome result (λ f. f ≡ form_named number) }
@@ -48,8 +49,7 @@ pub fn form_of(number: u32) -> Option<Form>
     }
 }
 
-/// Returns the form that has this `number`, if its bytes are those of the message itself: a stream, or bare words; else
-/// `None`.
+/// Returns the form that has this `number`, if it is not packed: a stream, or bare words. Returns `None` for any other.
 pub fn flat_form_of(number: u32) -> Option<Form>
     ensures some { IsSome result ↔ IsFlat number }
     ensures value { IfSome result (λ f. f ≡ form_named number) }
@@ -62,7 +62,7 @@ pub fn flat_form_of(number: u32) -> Option<Form>
     }
 }
 
-/// Reads `limits`: returns them, or the status that says which is out of its range.
+/// Reads `limits`. Returns the limits, or the status `BAD_LIMITS` or `BAD_TARIFF` if one is out of its range.
 pub fn limits_of(limits: &CapnLimits) -> Result<Limits, u32>
     ensures value { IfOk result (λ l. l ≡ bounds_of limits.now) }
     ensures ok { IfOk result (λ l. GiveLimits limits.now × IsTariff limits.now.tariff) }

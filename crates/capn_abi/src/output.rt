@@ -1,11 +1,11 @@
-//! Answers into a caller's buffer.
+//! The delivery of a call's result into the caller's buffer.
 
 ghost use Rattle.std.specs.Prelude.{◌≡◌, length};
 ghost use Rattle.capn_abi.specs.Calls.{Delivers};
 
 use crate::status_codes::{DONE, NO_ROOM};
 
-/// Writes `answer` at the start of `out`, if it has room for all of it; returns the status.
+/// Writes `answer` at the start of `out` and returns `DONE`. If `out` is shorter, returns `NO_ROOM` and writes nothing.
 pub fn deliver(answer: &[u8], out: &mut [u8]) -> u32
     ensures { Delivers answer.now result (length answer.now) out.old out.new }
 {

@@ -1,27 +1,28 @@
-//! The report of a call, beside its status.
+//! The report of a call: the numbers that it gives in addition to its status.
 
 ghost use Rattle.std.specs.Prelude.{◌≡◌};
 ghost use Rattle.capn_abi.specs.StatusCodes.{at_number, answered};
 
-/// The report of a call, beside its status. Each call sets every field; one that its status does not speak of is 0.
+/// The report of a call, in addition to its status. Each call sets every field. A field that the status has no number
+/// for is 0.
 #[derive(Clone, Copy)]
 #[repr(C)]
 pub struct CapnReport {
-    /// The number of bytes of the answer: those that were written, or if there is no room as many as are enough.
+    /// The number of bytes of the result, if they were written. If they have no room, a number of bytes that is enough.
     pub length: u64,
-    /// The number of a refusal: an offset, a count or an index.
+    /// The number that a refusal has: an offset, a count or an index.
     pub at: u64,
     /// The words that the walk paid.
     pub paid: u32,
-    /// The number of visits that it made.
+    /// The number of visits that the walk made.
     pub visits: u32,
-    /// The slot at which the walk stopped: its segment,
+    /// The segment of the slot at which the walk stopped.
     pub segment: u32,
-    /// and its word there.
+    /// The word of the slot at which the walk stopped, in its segment.
     pub word: u32,
 }
 
-/// Returns a report of the one number `at`.
+/// Returns a report with the number `at`, and 0 in all other fields.
 pub fn report_at(at: u64) -> CapnReport
     ensures { result ≡ at_number at }
 {
@@ -35,7 +36,7 @@ pub fn report_at(at: u64) -> CapnReport
     }
 }
 
-/// Returns a report of an answer of `length` bytes, with the words that its walk `paid` and its `visits`.
+/// Returns the report of a result of `length` bytes, whose walk `paid` this many words and made `visits` visits.
 pub fn answer_of(length: u64, paid: u32, visits: u32) -> CapnReport
     ensures { result ≡ answered length paid visits }
 {

@@ -1,4 +1,4 @@
-//! The status of each refusal.
+//! The statuses of the calls for C, and the status and the report of each refusal.
 
 ghost use Rattle.std.specs.Prelude.{◌≡◌};
 ghost use Rattle.capn_abi.specs.StatusCodes.{bare_code, bare_number, packed_code, packed_number, frame_code};
@@ -12,40 +12,40 @@ use capn_stream::FrameFault;
 use capn_walk::Fault;
 use capn_words::BareFault;
 
-/// The answer is there.
+/// The status of success: the result is written.
 pub const DONE: u32 = 0;
 
-/// The buffer has no room for the answer.
+/// The status if the buffer has no room for the result.
 pub const NO_ROOM: u32 = 1;
 
-/// No form has this number.
+/// The status if no form has the number passed.
 pub const BAD_FORM: u32 = 2;
 
-/// A limit is out of its range.
+/// The status if a limit is out of its range.
 pub const BAD_LIMITS: u32 = 3;
 
-/// No tariff has this number.
+/// The status if no tariff has the number passed.
 pub const BAD_TARIFF: u32 = 4;
 
-/// The bytes are not the canonical ones of their value.
+/// The status if bytes are not the canonical bytes of their value.
 pub const NOT_CANONICAL: u32 = 5;
 
-/// No style has this number.
+/// The status if no style has the number passed.
 pub const BAD_STYLE: u32 = 6;
 
-/// The canonical bytes of two messages differ.
+/// The status if the canonical bytes of two messages differ.
 pub const DIFFERENT: u32 = 7;
 
-/// A growth of memory was refused.
+/// The status if a growth of memory was refused.
 pub const MEMORY: u32 = 8;
 
-/// The number of bytes is no multiple of 8.
+/// The status if the number of bytes is not a multiple of 8.
 pub const NOT_WHOLE: u32 = 16;
 
-/// A group of a packed text is cut.
+/// The status if a packed text ends within a group.
 pub const PACKED_CUT: u32 = 32;
 
-/// A group of a packed text has more words than it may.
+/// The status if a packed text unpacks to more words than the maximum.
 pub const PACKED_TOO_LONG: u32 = 33;
 
 fn code_of_bare(fault: BareFault) -> u32
@@ -148,7 +148,7 @@ fn code_of(refusal: Refusal) -> u32
     }
 }
 
-/// Returns the numbers of `refusal`.
+/// Returns the report of `refusal`.
 fn report_of_refusal(refusal: Refusal) -> CapnReport
     ensures { result ≡ report_of refusal }
 {
@@ -178,7 +178,7 @@ pub fn refuse(refusal: Refusal, report: &mut CapnReport) -> u32
     code_of(refusal)
 }
 
-/// Reports a refusal of packed bytes, `fault`: writes its number to `report`, and returns its status.
+/// Reports the refusal `fault` of a packed text: writes its number to `report`, and returns its status.
 pub fn refuse_packed(fault: UnpackFault, report: &mut CapnReport) -> u32
     ensures { ReportsPacked result report.new fault }
 {

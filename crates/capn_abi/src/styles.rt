@@ -1,11 +1,11 @@
-//! Styles of text, as C passes them.
+//! The styles of the text of a message, as C passes them by numbers.
 
 ghost use Rattle.std.specs.Prelude.{◌≡◌, ◌↔◌, IsSome, IfSome};
 ghost use Rattle.capn_abi.specs.Styles.{IsStyle, style_named};
 
 use capn_show::Style;
 
-/// Returns the style that has this `number`; `None`, if none has.
+/// Returns the style that has this `number`, or `None` if no style has it.
 pub fn style_of(number: u32) -> Option<Style>
     ensures some { IsSome result ↔ IsStyle number }
     ensures value { IfSome result (λ s. s ≡ style_named number) }
