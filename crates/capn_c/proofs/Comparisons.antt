@@ -1,4 +1,4 @@
--- What is told of two messages is told of the bytes that are read as them. (For `compared.rt` and `compare`.)
+-- The result for two messages is that for the bytes that are read as them. (For `compared.rt` and `compare`.)
 use Rattle.std.proofs.Common.{rules, ◌≡◌, ◌↔◌, inl, inr, ℕ, List, Bool, IsTrue, subst}
 use Rattle.std.proofs.Common.{Result, Ok, Err, IfOk, IfErr, IsErrOf}
 use Rattle.capn_value.specs.Tree.{Tree}
@@ -34,7 +34,7 @@ module _ (bs stream : List ℕ) (limits : Bounds) (u : Unpacks bs limits.message
 -- ---- a first message, in each form
 
 module _ (form : Form) (bs ds : List ℕ) (limits : Bounds) where
-  -- how bytes are compared with others
+  -- a result for the comparison of the message that `bs` are read as with `ds`
   abbrev AreTold : Result (Result Bool Refusal) Refusal → Type 0
   AreTold r = IsAnswered form bs limits (λ m l x. IsComparedTo form ds m l x) r
 
@@ -93,7 +93,7 @@ module _ (form : Form) (bs ds : List ℕ) (limits : Bounds) where
         equal = ((λ t. e.1 (s.0 t)), (λ q. s.1 (e.0 q)));
       }
 
-  -- whatever tells of them
+  -- a result that is a comparison of the bytes compares the values
   pub told_in : DenotedHaveForms → EqualExactlySame → AreLimits limits.message_words limits.budget limits.depth
       → (r : Result Bool Refusal) (b told : Bool) → IsCompared form bs ds limits r → r ≡ Ok b → b ≡ told
       → ComparesIn form bs ds limits told
@@ -102,7 +102,7 @@ module _ (form : Form) (bs ds : List ℕ) (limits : Bounds) where
       (subst (λ (x : Bool). IsCompared form bs ds limits (Ok x)) test
       (subst (λ (x : Result Bool Refusal). IsCompared form bs ds limits x) is h))
 
-  -- whatever values they denote
+  -- the comparison is one of any values that the bytes denote
   pub same_only : (told : Bool) → ComparesIn form bs ds limits told → (v w : Tree) → DenoteBoth form bs ds limits v w
       → IsTrue told ↔ Same v w
   same_only told h v w b =

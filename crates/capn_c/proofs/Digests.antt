@@ -1,4 +1,4 @@
--- A report on a message's digest is true of the bytes that are read as it. (For `digest_in`.)
+-- The digest of a message is that of the bytes that are read as it. (For `digest_in`.)
 use Rattle.std.proofs.Common.{◌≡◌, ◌≤◌, inl, inr, ℕ, List, subst, Result, Ok, Err, IfOk, IfErr}
 use Rattle.std.proofs.Common.{IsErrOf, MatchResult}
 use Rattle.sha2.specs.Sha256.{sha256}
@@ -17,7 +17,7 @@ use Rattle.capn_c.specs.inner.Told.{IsDigestTold}
 use Rattle.capn_c.proofs.OutOfMemory.{unaccepted_refused}
 
 module _ (form : Form) (bs : List ℕ) (limits : Bounds) where
-  -- how bytes are answered
+  -- a result for the digest of the message that `bs` are read as
   abbrev AreTold : Result Digested Refusal → Type 0
   AreTold r = IsAnswered form bs limits (λ m l x. IsDigestTold m l x) r
 

@@ -7,7 +7,7 @@ use Rattle.std.proofs.lemmas.List.Sums.{sum_by-cons}
 use Rattle.capn_walk.specs.Index.{filled}
 use Rattle.capn_c.specs.Entries.{starts_from}
 
--- one more is written
+-- after one more is written, the list has one more of `xs` at its front
 pub one_more : {A : Type 0} (xs old : List A) (i : ℕ) (none : A) → i < length xs → length xs ≤ length old
     → set (take i xs ++ drop i old) i (get_or xs i none) ≡ take (suc i) xs ++ drop (suc i) old
 one_more [] old i none h room = absurd (omega (arith, h))
@@ -16,7 +16,7 @@ one_more (x ∷ xs) (o ∷ old) zero none h room = refl
 one_more (x ∷ xs) (o ∷ old) (suc i) none h room =
     ap (λ ys. x ∷ ys) (one_more xs old i none (omega (arith, h)) (omega (arith, room)))
 
--- the same by the next index
+-- the statement of `one_more`, with the next index written `i + 1`
 pub one_further : {A : Type 0} (xs old : List A) (i : ℕ) (none : A) → i < length xs → length xs ≤ length old
     → set (take i xs ++ drop i old) i (get_or xs i none) ≡ take (i + 1) xs ++ drop (i + 1) old
 one_further xs old i none h room =
@@ -37,12 +37,12 @@ pub starts_length : (n : ℕ) (m : List (List ℕ)) → length (starts_from n m)
 starts_length n [] = refl
 starts_length n (ws ∷ m) = ap suc (starts_length (n + length ws) m)
 
--- they stand at the front of a longer room
+-- the starts at the front of a longer buffer are all starts
 pub starts_first : (m : List (List ℕ)) (rest : List ℕ)
     → take (length m) (starts_from 0 m ++ rest) ≡ starts_from 0 m
 starts_first m rest = take_at (starts_from 0 m) rest (length m) (starts_length 0 m)
 
--- a room of as many entries, or more, has them all
+-- a buffer that has room for the entries has all of them
 pub filled_whole : {A B : Type 0} (f : A → B) (es : List A) (room : List B) → length es ≤ length room
     → filled (map f es) room ≡ map f es ++ drop (length es) room
 filled_whole f es room h =

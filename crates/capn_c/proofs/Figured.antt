@@ -1,4 +1,4 @@
--- The measure of a message gives its figures. (For `figures_of`.)
+-- The figures of a message follow from its measure. (For `figures_of`.)
 use Rattle.std.proofs.Common.{◌≡◌, ◌↔◌, ◌≤◌, ℕ, List, length, subst, sym, ◌∙◌}
 use Rattle.std.specs.Bool.{IsTrue}
 use Rattle.capn_words.specs.Message.{total}

@@ -1,4 +1,4 @@
--- What a call says that writes canonical bytes. (For `canonical_fill.rt`, `canonical_segments_call.rt` and
+-- The results of calls that write canonical bytes. (For `canonical_fill.rt`, `canonical_segments_call.rt` and
 -- `write_message`.)
 use Rattle.std.proofs.Common.{rules, ◌≡◌, ◌≤◌, ◌+◌, ◌*◌, ℕ, List, None, length, take, refl, ap, subst}
 use Rattle.capn_value.specs.FirstCap.{first_cap}
@@ -23,7 +23,7 @@ use Rattle.capn_c.specs.inner.Reported.{IsFilled, IsFilledIn}
 use Rattle.capn_c.proofs.OfMessage.{held_refused_message, value_of}
 use Rattle.capn_c.proofs.Reported.{reported_for}
 
--- an answer that is delivered
+-- the delivery of an answer is the result of a call
 pub filled : {value : Tree → Type 0} {answer : List ℕ → ℕ → Type 0} {reason : Refusal → Type 0} {needed : Type 0}
     (limits : Bounds) (old new text : List ℕ) (price status : ℕ) (report : CapnReport)
     → report ≡ answered (length text) price 0 → Delivers text status (length text) old new → answer text price
@@ -36,7 +36,7 @@ filled {value} limits old new text price status report told d a within short onl
     λ v h n. subst (λ (b : List ℕ). Delivers b status (length text) old new) (only v h n) d in
     search rules
 
--- what is said of one is said of another with the same values, whose answers and reasons follow
+-- the result of a call holds with other values, answers and reasons that follow
 pub filled_for : {V W : Tree → Type 0} {A B : List ℕ → ℕ → Type 0} {P Q : Refusal → Type 0} {M N : Type 0}
     {limits : Bounds} {old new : List ℕ} {status : ℕ} {report : CapnReport} → ((v : Tree) → W v → V v)
     → ((text : List ℕ) (price : ℕ) → A text price → B text price) → ((e : Refusal) → P e → Q e) → (M → N)
@@ -46,7 +46,7 @@ filled_for value answer reason needed h = let reported = reported_for reason nee
 -- ---- a message
 
 module _ (m : List (List ℕ)) (limits : Bounds) (old new : List ℕ) where
-  -- what is said of its canonical bytes
+  -- the result of writing the canonical bytes of the message
   abbrev IsOf : List (List ℕ) → ℕ → CapnReport → Type 0
   IsOf n status report =
       IsFilled (IsValueOf n limits) (AnswersMessage n limits) (IsRefusedMessage n limits) ⊥ limits old new status report
@@ -62,7 +62,7 @@ module _ (m : List (List ℕ)) (limits : Bounds) (old new : List ℕ) where
       (record { value = v; is = is; free = free; canonical = refl; priced = pays }) within short
       (λ w h n. ap canon (unique m v w root is.is h.is)) form
 
-  -- is said of the bytes that are read as it
+  -- the result for the message is that for the bytes that are read as it
   pub filled_in : (form : Form) (bs : List ℕ) {needed : Type 0} (status : ℕ) (report : CapnReport)
       → Reads form bs limits.message_words m → IsOf m status report
       → IsFilledIn form bs limits needed old new status report
@@ -71,7 +71,7 @@ module _ (m : List (List ℕ)) (limits : Bounds) (old new : List ℕ) where
       (λ text price a. record { message = m; reads = reads; answer = a })
       (λ e r. refused_message form bs limits m e reads r) (λ k. absurd k) h
 
-  -- and of the segments that hold it
+  -- the result for the message is that for the segments that hold it
   pub filled_held : (n : List (List ℕ)) (status : ℕ) (report : CapnReport) → n ≡ m → IsHeld m limits.message_words
       → IsOf n status report
       → IsFilled (DenotesHeld m limits) (AnswersHeld m limits) (IsRefusedHeld m limits) ⊥ limits old new status report

@@ -25,6 +25,6 @@ held_listed m l r h = search rules
 pub above : (r : Refusal) → code r ≢ 8 → 16 ≤ code r
 above r h = search rules
 
--- the numbers of the refusals that never come are no statuses
+-- the statuses of the refusals that are never returned are not in the list
 never : (is_status 254 ≡ false) × (is_status 255 ≡ false)
 never = (refl, refl)

@@ -1,4 +1,4 @@
--- An answer for a message is one for the bytes that are read as it. (For `canonical_fill.rt`,
+-- The result for a message is that for the bytes that are read as it. (For `canonical_fill.rt`,
 -- `canonical_segments_call.rt` and `message_index.rt`.)
 use Rattle.std.proofs.Common.{rules, ◌≡◌, ℕ, List, Err, sym, subst}
 use Rattle.capn_value.specs.Tree.{Tree}
@@ -22,7 +22,7 @@ value_of form bs limits m reads v d =
     let same = one_message form bs limits.message_words d.message m d.reads reads in
     subst (λ (x : List (List ℕ)). IsValueOf x limits v) same d.value
 
--- what bytes denote in a form within limits
+-- a value that bytes denote in one form within limits is denoted in an equal form within equal limits
 pub denoted : {f g : Form} {k l : Bounds} {bs : List ℕ} {v : Tree} → f ≡ g → k ≡ l → Denotes g bs l v
     → Denotes f bs k v
 denoted {f} {g} {k} {l} {bs} {v} e h d =
@@ -30,18 +30,18 @@ denoted {f} {g} {k} {l} {bs} {v} e h d =
 
 -- ---- segments
 
--- segments that hold no message have that refusal
+-- the reason why segments hold no message is a reason why they have no canonical bytes
 pub held_refused : (m : List (List ℕ)) (limits : Bounds) (r : Refusal) → IsHeldOr m limits (Err r)
     → IsRefusedHeld m limits r
 held_refused m limits r h = search rules
 
--- and not because memory was refused
+-- the refusal of segments that hold no message is not for memory
 pub held_asks : (m : List (List ℕ)) (limits : Bounds) (r : Refusal) → IsHeldOr m limits (Err r) → code r ≡ 8 → ⊥
 held_asks m limits r h e =
     let memory = held_memory m limits r (held_refused m limits r h) e in
     subst (λ (x : Refusal). IsHeldOr m limits (Err x)) memory h
 
--- why a message that is held is refused is why its segments are
+-- the reason why a message that is held is refused is a reason why its segments are
 pub held_refused_message : (m : List (List ℕ)) (limits : Bounds) (r : Refusal) → IsHeld m limits.message_words
     → IsRefusedMessage m limits r → IsRefusedHeld m limits r
 held_refused_message m limits r h e = search rules

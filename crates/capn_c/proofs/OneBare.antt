@@ -15,13 +15,13 @@ use Rattle.capn_canon.specs.Layout.{canon}
 use Rattle.capn_canon.specs.declared.surveyed_bare.SurveyedBare.{SurveyedBare}
 use Rattle.capn_c.specs.Figures.{IsCanonicalMessage}
 
--- the words of any segment, where there is one
+-- the number of words of a segment, which is 0 if there is no such segment
 pub words-at : (m : List (List ℕ)) (s : ℕ) (r : Option ℕ) (n : ℕ) → r ≡ words_of m s → n ≡ unwrap_or r 0
     → n ≡ length (segment_at m s)
 words-at m s None n e f = f ∙ sym (length_of_none m s (sym e))
 words-at m s (Some k) n e f = f ∙ sym (length_of_some m s k (sym e))
 
--- a message is canonical where its value says so, which is one
+-- a message is canonical if and only if its check says so, since it has only one value
 pub canonical-message : (m : List (List ℕ)) (limits : Bounds) (c : SurveyedBare) → IsChecked m limits c
     → IsTrue c.is_canonical ↔ IsCanonicalMessage m limits
 canonical-message m limits c k = (

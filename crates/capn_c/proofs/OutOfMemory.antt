@@ -1,5 +1,5 @@
--- The status 8 says only that memory ran out: no bytes, and no message, are refused with it. (For `canonical_call.rt`,
--- `canonical_fill.rt`, `canonical_segments_call.rt` and others.)
+-- The status 8 is returned only if memory ran out: no other refusal of bytes, or of a message, has it. (For
+-- `canonical_call.rt`, `canonical_fill.rt`, `canonical_segments_call.rt` and others.)
 use Rattle.std.proofs.Common.{rules, ◌≡◌, ◌⊎◌, inl, inr, ℕ, ◌+◌, ◌<◌, List, length, refl, arith}
 use Rattle.capn_words.specs.declared.bare.BareFault.{BareFault}
 use Rattle.capn_pack.specs.declared.fault.UnpackFault.{UnpackFault}
@@ -26,7 +26,7 @@ use Rattle.capn_canon.proofs.shared.MemoryNeeds.{starts_within}
 use Rattle.capn_c.specs.Held.{IsMisheld, IsRefusedHeld, IsUnacceptedHeld}
 use Rattle.capn_abi.specs.StatusCodes.{bare_code, packed_code, frame_code, walk_code, code}
 
--- of packed bytes
+-- a refusal of packed bytes with the status 8 is for memory
 pub packed_memory : (e : UnpackFault) → packed_code e ≡ 8 → e ≡ packed.Memory
 packed_memory e h = search rules
 
@@ -39,7 +39,7 @@ walk_memory e h = search rules
 never_bare : (e : BareFault) → bare_code e ≡ 8 → ⊥
 never_bare e h = search rules
 
--- of a refusal of bytes
+-- a refusal of bytes with the status 8 is `Memory`
 pub refused_memory : (form : Form) (bs : List ℕ) (l : Bounds) (r : Refusal) → IsRefused form bs l r → code r ≡ 8
     → r ≡ refusals.Memory
 refused_memory form bs l refusals.Memory h c = refl
@@ -55,7 +55,7 @@ refused_memory forms.Bare bs l (refusals.Frame e) h c = absurd h
 refused_memory forms.Stream bs l (refusals.Frame e) h c = absurd (h.0 (frame_memory e c))
 refused_memory forms.Packed bs l (refusals.Frame e) h c = absurd (h.2.0 (frame_memory e c))
 
--- and of bytes that are not accepted, which are refused
+-- the reason why bytes are not accepted is a refusal of them
 pub unaccepted_refused : (form : Form) (bs : List ℕ) (limits : Bounds) (e : Refusal) → IsUnacceptedIn form bs limits e
     → IsRefused form bs limits e
 unaccepted_refused form bs limits e h = search rules
@@ -67,7 +67,7 @@ unaccepted_memory form bs l r h c = refused_memory form bs l r (unaccepted_refus
 misheld_memory : (m : List (List ℕ)) (most : ℕ) (e : FrameFault) → IsMisheld m most e → frame_code e ≡ 8 → ⊥
 misheld_memory m most e h c = search rules
 
--- of a message that is held in segments
+-- a refusal of a message that is held in segments, with the status 8, is `Memory`
 pub held_memory : (m : List (List ℕ)) (l : Bounds) (r : Refusal) → IsRefusedHeld m l r → code r ≡ 8
     → r ≡ refusals.Memory
 held_memory m l refusals.Memory h c = refl
@@ -79,7 +79,7 @@ held_memory m l (refusals.Trailing at) h c = absurd h
 held_memory m l (refusals.Bare e) h c = absurd h
 held_memory m l (refusals.Packed e) h c = absurd h
 
--- and of one that is not accepted, which is refused
+-- the reason why a message that is held is not accepted is a refusal of it
 pub unaccepted_held_refused : (m : List (List ℕ)) (l : Bounds) (r : Refusal) → IsUnacceptedHeld m l r
     → IsRefusedHeld m l r
 unaccepted_held_refused m l r h = search rules
@@ -88,12 +88,12 @@ pub unaccepted_held_memory : (m : List (List ℕ)) (l : Bounds) (r : Refusal) �
     → r ≡ refusals.Memory
 unaccepted_held_memory m l r h c = held_memory m l r (unaccepted_held_refused m l r h) c
 
--- a walk of a message stops for another reason
+-- the stop of a walk never has the status 8
 pub stopped_memory : (m : List (List ℕ)) (l : Bounds) (s : Stopped)
     → IsWalkRefused m l s.fault s.place s.paid s.visits → code (refusals.Walk s) ≡ 8 → ⊥
 stopped_memory m l s h c = plain-refusal m l s.fault s.place s.paid s.visits h (walk_memory s.fault c)
 
--- so a message that is not accepted has the status 8 only if memory ran out
+-- a message that is not accepted has the status 8 only if memory ran out
 pub message_memory : (m : List (List ℕ)) (l : Bounds) (r : Refusal) → IsUnaccepted m l r → code r ≡ 8
     → r ≡ refusals.Memory
 message_memory m l refusals.Memory h c = refl
@@ -106,12 +106,12 @@ message_memory m l (refusals.Packed e) h c = absurd h
 
 -- ---- memory that may be needed
 
--- bare words and a stream are no packed text
+-- the form of bare words or of a stream is not packed
 pub flat_packed : (f : Form) → (f ≡ forms.Stream) ⊎ (f ≡ forms.Bare) → f ≡ forms.Packed → ⊥
 flat_packed f (inl a) b = cc
 flat_packed f (inr a) b = cc
 
--- a frame of more than 64 segments may need it
+-- reading a frame of more than 64 segments may need memory
 pub many_need : (bs : List ℕ) (limits : Bounds) (m : List (List ℕ)) → Reads forms.Stream bs limits.message_words m
     → most_few < length m → MayNeedMemory forms.Stream bs limits
 many_need bs limits m reads many =
@@ -119,7 +119,7 @@ many_need bs limits m reads many =
     let count = (announces bs limits.message_words m (length bs) first).count in
     (whole_of bs limits.message_words m (length bs) first, omega (arith, count, many))
 
--- and so does a packed text, if it may for its canonical bytes
+-- canonicalising a packed text may need memory only if reading it may
 pub packed_need : (f : Form) (bs : List ℕ) (limits : Bounds) → f ≡ forms.Packed → MayNeedBytesIn f bs limits
     → MayNeedMemory f bs limits
 packed_need forms.Packed bs limits is (inl h) = h

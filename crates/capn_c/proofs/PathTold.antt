@@ -1,4 +1,5 @@
--- The stop of a walk, and the report on it. (For `refusal_way` and `tell_path`.)
+-- The statuses of refusals, and the report of the stop of a walk with the length of a path. (For `refusal_way` and
+-- `tell_path`.)
 use Rattle.std.proofs.Common.{rules, ◌≡◌, ◌<◌, ◌≤◌, ℕ, List, refl, sym, subst, arith}
 use Rattle.capn_pack.specs.declared.fault.UnpackFault.{UnpackFault}
 use Rattle.capn_pack.specs.UnpackRefusal as packs
@@ -29,7 +30,7 @@ pub stop_status : (form : Form) (bs : List ℕ) (l : Bounds) (s : Stopped) (path
 stop_status form bs l s path h =
     fault_status s.fault (λ e. plain-refusal h.message l s.fault s.place s.paid s.visits h.at.refused e)
 
--- ---- and that of any other refusal is less
+-- ---- the status of any other refusal is below 64
 
 bare_status : (e : BareFault) → bare_code e < 64
 bare_status e = search rules
@@ -58,7 +59,7 @@ unread_status forms.Stream bs l (refusals.Frame e) h = frame_status bs l.message
 unread_status forms.Packed bs l (refusals.Frame e) h =
     let (text, u, is) = h (λ x. cc) in frame_status text l.message_words e is.1
 
--- ---- a report with another length reports the same but for that
+-- ---- the report of a stop, with another length, stands for the same stop
 pub but_length : (status n : ℕ) (r : CapnReport) (s : Stopped) → Reports status r (refusals.Walk s)
     → Reports status (with_length 0 (with_length n r)) (refusals.Walk s)
 but_length status n r s h =

@@ -96,7 +96,7 @@ frame_contents bs most m h =
       long = omega (arith, heads, a.words, a.length_is);
     }
 
--- bare words are the contents
+-- bare words are the contents, after no table
 bare_contents : (bs ws : List ℕ) (m : List (List ℕ)) → IsBare bs ws → m ≡ ws ∷ [] → HasContents 0 bs m
 bare_contents bs ws m h e = record {
   after = h.same ∙ (sym (append-nil (bytes ws)) ∙ ap (λ (x : List (List ℕ)). segment_bytes x) (sym e));
@@ -125,7 +125,7 @@ written f [] rest i x none h = absurd (omega (arith, h))
 written f (e ∷ es) rest zero x none h = refl
 written f (e ∷ es) rest (suc i) x none h = written f es rest i x none (omega (arith, h))
 
--- what an entry says of a kind is at an offset, if all words of its place do
+-- the target of an entry is at an offset in the bytes, if all words of the entry's place are
 stands : (bs : List ℕ) (offset : ℕ) (m : List (List ℕ)) (e : Entry) (k : Kind)
     → ((n : ℕ) → IsContent m (entry_place e) n → StandAt bs offset m (entry_place e) n)
     → IsInMessage m (by_kind k e) → StandsAt bs offset m (by_kind k e)

@@ -1,4 +1,5 @@
--- Of which bytes a text is, and that they have one text in a style. (For `show_in` and `text_in`.)
+-- The text of bytes is that of the message that they are read as, and they have only one text in a style. (For
+-- `show_in` and `text_in`.)
 use Rattle.std.proofs.Common.{◌≡◌, ◌∙◌, inl, inr, ℕ, List, ap, subst, Result, Ok, Err, IfOk, IfErr}
 use Rattle.std.proofs.Common.{IsErrOf, MatchResult}
 use Rattle.capn_value.specs.Tree.{Tree}
@@ -19,14 +20,14 @@ use Rattle.capn_c.specs.Shown.{MayNeedText, ShowsIn, message_text}
 use Rattle.capn_c.specs.declared.message_text.ShownText.{ShownText}
 use Rattle.capn_c.specs.inner.Told.{IsTextTold}
 
--- a text is that of whatever value the bytes denote
+-- the text of bytes is that of any value that they denote
 pub text_only : (form : Form) (bs : List ℕ) (limits : Bounds) (style : Style) (text : List ℕ)
     → ShowsIn form bs limits style text → (v : Tree) → Denotes form bs limits v → text ≡ message_text style v
 text_only form bs limits style text h v d =
     h.same ∙ ap (message_text style) (one_value form bs limits h.value v h.denotes d)
 
 module _ (form : Form) (bs : List ℕ) (limits : Bounds) (style : Style) where
-  -- how bytes are answered
+  -- a result for the text of the message that `bs` are read as
   abbrev AreTold : Result ShownText Refusal → Type 0
   AreTold r = IsAnswered form bs limits (λ m l x. IsTextTold m l style x) r
 

@@ -1,4 +1,5 @@
--- A message that is held in segments is answered as a frame of the same segments is. (Own.)
+-- Laws: a message that is held in segments has the result and the refusals that a frame of the same segments has.
+-- (Own.)
 use Rattle.std.specs.Prelude.{◌↔◌, ℕ, List}
 use Rattle.capn_stream.specs.Frames.{Frames}
 use Rattle.capn_walk.specs.Limits.{Bounds}
@@ -8,13 +9,13 @@ use Rattle.capn_canon.specs.declared.form.Form.TheVariants as forms
 use Rattle.capn_canon.specs.declared.refusal.Refusal.{Refusal}
 use Rattle.capn_c.specs.Held.{AnswersHeld, IsRefusedHeld}
 
--- segments have the answer of their frame, and no other
+-- segments have the canonical bytes and the price of their frame, and no other
 abbrev pub HeldAreAnsweredAsFramed : Type 0
 HeldAreAnsweredAsFramed = (bs : List ℕ) (message : List (List ℕ)) (limits : Bounds) → Frames bs message
     → (text : List ℕ) (price : ℕ)
     → AnswersHeld message limits text price ↔ Answers forms.Stream bs limits text price
 
--- and are refused as it is
+-- each refusal of segments is a refusal of their frame
 abbrev pub HeldAreRefusedAsFramed : Type 0
 HeldAreRefusedAsFramed = (bs : List ℕ) (message : List (List ℕ)) (limits : Bounds) → Frames bs message
     → (e : Refusal) → IsRefusedHeld message limits e → IsRefused forms.Stream bs limits e

@@ -8,14 +8,15 @@ use Rattle.capn_canon.specs.Denotes.{Denotes}
 use Rattle.capn_canon.specs.Layout.{canon}
 use Rattle.capn_canon.specs.declared.form.Form.{Form}
 
--- both denote a value without capabilities
+-- `first` and `second` denote the values `v` and `w`, which have no capabilities
 pub record DenoteBoth (form : Form) (first second : List ℕ) (limits : Bounds) (v w : Tree) : Type 0 where
   pub one : Denotes form first limits v
   pub one_free : first_cap v ≡ None
   pub other : Denotes form second limits w
   pub other_free : first_cap w ≡ None
 
--- both do, and it is told whether the values are the same, and so whether their canonical bytes are equal
+-- `first` and `second` denote values without capabilities, and `told` says whether these are the same, which is whether
+-- their canonical bytes are equal
 pub record ComparesIn (form : Form) (first second : List ℕ) (limits : Bounds) (told : Bool) : Type 0 where
   pub value : Tree
   pub other : Tree
@@ -23,7 +24,7 @@ pub record ComparesIn (form : Form) (first second : List ℕ) (limits : Bounds) 
   pub same : IsTrue told ↔ Same value other
   pub equal : IsTrue told ↔ (canon value ≡ canon other)
 
--- the bytes that a number names: the first by 0, else the second
+-- the bytes that the number `which` names: the first if it is 0, else the second
 abbrev pub named : ℕ → List ℕ → List ℕ → List ℕ
 named zero first second = first
 named (suc n) first second = second

@@ -16,13 +16,13 @@ use Rattle.capn_c.specs.declared.departed.CapnDeparted.{CapnDeparted}
 use Rattle.capn_abi.specs.declared.report.CapnReport.{CapnReport}
 
 module _ {A : Type 0} where
-  -- the number of the kind of an owner's word
+  -- the number that says what the word is to its owner: a pointer, the tag word or the last word of a list
   abbrev pub owner_number : Whose A → ℕ
   owner_number (Pointer path) = 1
   owner_number (Tag path) = 2
   owner_number (LastWord path) = 3
 
-  -- the numbers of an answer; those that its kind does not speak of are 0
+  -- a mismatch as C reads it; the fields that have no meaning for its kind are 0
   abbrev pub departed_of : Mismatch A → CapnDeparted
   departed_of Canonical =
       record { is = 0; canonical = 0; kind = 0; owner = 0; word = 0; count = 0; numbers = 0; zero = 0 }
@@ -51,8 +51,8 @@ module _ {A : Type 0} where
   departed_of (After w is) =
       record { is = is; canonical = 0; kind = 4; owner = 0; word = w; count = 0; numbers = 0; zero = 0 }
 
--- the bytes are read as a message, and its mismatch with its canonical bytes is reported; its path is placed in a room,
--- and reported beside the words that its walk pays, and its visits
+-- `bs` are read as a message, and its mismatch with its canonical bytes is in `departed`; the path is in the caller's
+-- buffer if it fits; the report has its length in bytes, the words that the walk pays, and its visits
 pub record TellsMismatch (form : Form) (bs : List ℕ) (limits : Bounds) (departed : CapnDeparted)
     (report : CapnReport) (old new : List ℕ) : Type 0 where
   pub mismatch : Mismatch Global

@@ -12,7 +12,7 @@ use Rattle.capn_canon.specs.declared.form.Form.{Form}
 use Rattle.capn_canon.specs.declared.form.Form.TheVariants as forms
 use Rattle.capn_c.specs.declared.entries.CapnEntry.{CapnEntry}
 
--- the number of a kind
+-- the number that C has for the kind of a target
 abbrev pub kind_number : Kind → ℕ
 kind_number kinds.Nil = 0
 kind_number kinds.Node = 1
@@ -26,12 +26,13 @@ kind_number kinds.Links = 8
 kind_number kinds.Rows = 9
 kind_number kinds.Cap = 10
 
--- the start of each segment, in words after the table
+-- the start of each segment, in words, if the first starts at word `n`
 abbrev pub starts_from : ℕ → List (List ℕ) → List ℕ
 starts_from n [] = []
 starts_from n (ws ∷ message) = n ∷ starts_from (n + length ws) message
 
--- an entry, with the offset of its content in the bytes in the place of a segment and a word
+-- an entry as C reads it: its place is an offset in bytes, after a table of `table` bytes, with segments that begin at
+-- `starts`
 abbrev pub c_entry : ℕ → List ℕ → Entry → CapnEntry
 c_entry table starts e = record {
   offset = table + 8 * (get_or starts e.segment 0 + e.start);
@@ -42,17 +43,18 @@ c_entry table starts e = record {
   kind = kind_number e.kind;
 }
 
--- the index of a message that comes after a table of `table` bytes
+-- the index of a message that comes after a table of `table` bytes, as C reads it
 abbrev pub c_index : ℕ → List (List ℕ) → Bounds → List CapnEntry
 c_index table message limits = map (c_entry table (starts_from 0 message)) (index_of message limits)
 
--- the number of bytes of a form before the words of a message
+-- the number of bytes that a form has before the words of a message
 abbrev pub table_length : Form → List (List ℕ) → ℕ
 table_length forms.Stream message = head_length (length message)
 table_length forms.Packed message = 0
 table_length forms.Bare message = 0
 
--- the bytes are read as an accepted message, whose index is at the start of the room; the rest of it is as it was
+-- `bs` are read as an accepted message, whose index is at the start of the caller's buffer; the rest of that is as it
+-- was
 pub record IndexedIn (form : Form) (bs : List ℕ) (limits : Bounds) (old new : List CapnEntry) : Type 0 where
   pub message : List (List ℕ)
   pub reads : Reads form bs limits.message_words message
@@ -60,7 +62,7 @@ pub record IndexedIn (form : Form) (bs : List ℕ) (limits : Bounds) (old new : 
   pub entries : new ≡ c_index (table_length form message) message limits
       ++ drop (length (index_of message limits)) old
 
--- the bytes are read as an accepted message, whose index has this many entries
+-- `bs` are read as an accepted message, whose index has `count` entries
 pub record HasEntries (form : Form) (bs : List ℕ) (limits : Bounds) (count : ℕ) : Type 0 where
   pub message : List (List ℕ)
   pub reads : Reads form bs limits.message_words message

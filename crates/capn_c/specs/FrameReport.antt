@@ -1,4 +1,4 @@
--- The report on the frame that begins some bytes. (Own.)
+-- The report of the refusal of a stream's first frame. (Own.)
 use Rattle.std.specs.Prelude.{◌≡◌, ◌≢◌, ℕ, List}
 use Rattle.capn_stream.specs.declared.fault.FrameFault.{FrameFault}
 use Rattle.capn_stream.specs.declared.fault.FrameFault.TheVariants as frame
@@ -6,7 +6,7 @@ use Rattle.capn_abi.specs.StatusCodes.{answered, at_number, frame_code}
 use Rattle.capn_c.specs.FrameNeed.{needed}
 use Rattle.capn_abi.specs.declared.report.CapnReport.{CapnReport}
 
--- the report of a refusal: of a frame that is not whole, how many bytes it needs; else its number
+-- the report of a refusal: the number of bytes that the frame needs if it is not whole, else the number of the fault
 abbrev pub frame_report : List ℕ → FrameFault → CapnReport
 frame_report bs frame.Empty = answered (needed bs) 0 0
 frame_report bs frame.Cut = answered (needed bs) 0 0
@@ -15,7 +15,7 @@ frame_report bs (frame.TooManyWords n) = at_number n
 frame_report bs frame.Memory = at_number 0
 frame_report bs frame.Failed = at_number 0
 
--- the status and the report are those of this refusal of bytes, and of no other unless memory was refused
+-- the status and the report stand for the refusal `e` of `bs`, and for no other unless memory was refused
 pub record ReportsFrame (bs : List ℕ) (status : ℕ) (report : CapnReport) (e : FrameFault) : Type 0 where
   pub status_is : status ≡ frame_code e
   pub report_is : report ≡ frame_report bs e

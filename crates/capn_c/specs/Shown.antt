@@ -1,4 +1,4 @@
--- The text of a message in a style, as it is ordered and answered. (Own.)
+-- The text of a message in one of the styles that C has numbers for. (Own.)
 use Rattle.std.specs.Prelude.{◌≡◌, ◌⊎◌, ℕ, List, [], ◌∷◌, ◌++◌, codes, refl}
 use Rattle.std.specs.Str.{chars, is_utf8}
 use Rattle.capn_value.specs.NumberWidth.{byte}
@@ -15,23 +15,23 @@ use Rattle.capn_canon.specs.Denotes.{Denotes}
 use Rattle.capn_canon.specs.MemoryNeed.{MayNeedMemory}
 use Rattle.capn_canon.specs.declared.form.Form.{Form}
 
--- the text of a message with this value: that of all of it, and its end
+-- the text of a message with the value `v` in a style: that of the whole value, and the end that the style has
 abbrev pub message_text : Style → Tree → List ℕ
 message_text style v = styled style [] v ++ end_of style
 
--- the message is accepted, and this is its text
+-- `message` is accepted, and `text` is its text
 pub record ShowsMessage (message : List (List ℕ)) (limits : Bounds) (style : Style) (text : List ℕ) : Type 0 where
   pub value : Tree
   pub is : IsValueOf message limits value
   pub same : text ≡ message_text style value
 
--- the bytes are read as an accepted message, and this is its text
+-- `bs` are read as an accepted message, and `text` is its text
 pub record ShowsIn (form : Form) (bs : List ℕ) (limits : Bounds) (style : Style) (text : List ℕ) : Type 0 where
   pub value : Tree
   pub denotes : Denotes form bs limits value
   pub same : text ≡ message_text style value
 
--- memory may be needed to show bytes: it may be needed to survey them, or they denote a value, which has a text
+-- the text of `bs` may need memory: to survey them, or since they denote a value, which has a text
 abbrev pub MayNeedText : Form → List ℕ → Bounds → Type 0
 MayNeedText form bs limits = MayNeedMemory form bs limits ⊎ ((v : Tree) × Denotes form bs limits v)
 

@@ -6,22 +6,22 @@ use Rattle.capn_pack.specs.declared.whole_groups.Next.TheVariants as nexts
 use Rattle.capn_abi.specs.Calls.{IsWritten}
 use Rattle.capn_abi.specs.declared.report.CapnReport.{CapnReport}
 
--- the number of whole words for which a buffer of `room` bytes has room, as far as 32 bits count them
+-- the number of whole words for which a buffer of `room` bytes has room, at most 2^32 - 1
 abbrev pub words_in : ℕ → ℕ
 words_in room = min (room / 8) (2 ^ 32 - 1)
 
--- the status of the bytes after the groups that were unpacked: nothing, a group that is cut, one that has no room
+-- the status that says what follows the unpacked groups: the end, a group that is cut, or one that has no room
 abbrev pub next_code : Next → ℕ
 next_code nexts.End = 0
 next_code nexts.Cut = 32
 next_code nexts.TooLong = 33
 
--- a report of how far it came: the bytes that were written, and those that were taken
+-- a report of progress: the numbers of bytes that were written and taken
 abbrev pub progressed : ℕ → ℕ → CapnReport
 progressed written taken = record { length = written; at = taken; segment = 0; word = 0; paid = 0; visits = 0 }
 
--- the words of the whole groups that come first and have room are in the buffer; the report says how many bytes were
--- written and taken, and the status what comes next
+-- the words of the whole groups that come first in `bytes` and have room are in the buffer; the report has the numbers
+-- of bytes written and taken, and the status says what follows
 pub record UnpacksInto (bytes : List ℕ) (status : ℕ) (report : CapnReport) (old new : List ℕ) : Type 0 where
   pub content : List ℕ
   pub words : ℕ

@@ -1,4 +1,4 @@
-//! Canonical bytes.
+//! The call `capn_canonical`: the canonical bytes of a message in any form.
 
 ghost use Rattle.std.specs.Prelude.{IsTrue, ◌≡◌, ◌≢◌, ◌⊎◌, ◌↔◌, ◌≤◌, ◌+◌, ◌*◌, ℕ, List, None, length, take};
 ghost use Rattle.capn_value.specs.Tree.{Tree as Value};
@@ -23,7 +23,8 @@ use capn_canon::{Form, Refusal, survey_bytes};
 use capn_walk::Limits;
 use std::alloc::Global;
 
-/// Returns a length that is enough for the canonical bytes of a message, which are not laid out.
+/// Surveys the message that `bytes` encode in this `form`, and reports a length that is enough for its canonical bytes,
+/// with the status `NO_ROOM`. Returns the status of the refusal if it has none.
 fn survey_length(
     alloc: Global,
     form: Form,
@@ -53,14 +54,17 @@ fn survey_length(
     }
 }
 
-/// Writes the canonical bytes of the message that `bytes` encode in a `form` to `out`.
+/// Writes the canonical bytes of the message that `bytes` encode in `form` to `out`, within `limits`.
 ///
-/// 0: the answer is at the start of the buffer. 1: the buffer has no room for it, and is as it was; `length` is what it
-/// needs, exactly; if the buffer has no bytes at all, the message is surveyed and nothing is written, and `length` is 8
-/// for each word paid and 8 more, which is enough. 2, 3 and 4: the form, a limit or the tariff is out of its range. 8:
-/// memory was refused. Others: the refusal.
+/// - 0: the answer is at the start of `out`.
+/// - 1: `out` has no room for the answer, and is as it was. `length` is exactly what it needs. If `out` is empty, the
+///   message is only surveyed, and `length` is 8 for each word paid and 8 more, which is enough.
+/// - 2, 3 and 4: the form, a limit or the tariff is out of its range.
+/// - 8: memory was refused.
+/// - Others: the refusal.
 ///
-/// Bare words, and a stream of at most 64 segments, take no memory: their canonical bytes are written into the buffer.
+/// Bare words, and a stream of at most 64 segments, take no memory, since their canonical bytes are written straight
+/// into `out`.
 #[unsafe(no_mangle)]
 pub extern "C" fn capn_canonical(
     alloc: Global,
@@ -70,34 +74,37 @@ pub extern "C" fn capn_canonical(
     out: &mut [u8],
     report: &mut CapnReport,
 ) -> u32
-    // The form and the limits are tested first.
+    // The form, then the limits, then the tariff are tested before the bytes are read.
     ensures form { (result ≡ 2) ↔ (IsForm form → ⊥) }
     ensures limits { (result ≡ 3) ↔ (IsForm form × (GiveLimits limits.now → ⊥)) }
     ensures tariff { (result ≡ 4) ↔ (IsForm form × GiveLimits limits.now × (IsTariff limits.now.tariff → ⊥)) }
-    // The answer: the canonical bytes of the one value that the bytes denote, and the words that the walk pays.
+    // If `result` is 0 or 1, the answer is the canonical bytes of the one value that the bytes denote, and the report
+    // has the words that the walk pays.
     ensures found { result ≤ 1 → (text : List ℕ)
         × Answers (form_named form) bytes.now (bounds_of limits.now) text report.new.paid
         × Serves text result report.new out.old out.new }
-    // A value without capabilities is answered, unless memory runs out.
+    // If the bytes denote a value without capabilities, the answer is its canonical bytes, unless memory runs out.
     ensures only { IsForm form → GiveLimits limits.now → IsTariff limits.now.tariff → (v : Value)
         → Denotes (form_named form) bytes.now (bounds_of limits.now) v → first_cap v ≡ None
         → (result ≡ 8) ⊎ Serves (canon v) result report.new out.old out.new }
-    // The report of an answer has its length and its price; what no status speaks of is 0.
+    // The report of an answer has its length and its price. All other fields are 0.
     ensures rest { result ≤ 1 → report.new ≡ answered report.new.length report.new.paid 0 }
     ensures blank { 2 ≤ result → result ≤ 4 → report.new ≡ at_number 0 }
     ensures listed { IsTrue (is_status result) }
-    // The meaning of each refusal; no other status stands for it.
+    // Any other status and its report stand for a refusal `e`, whose reason is true. They stand for no other refusal,
+    // unless memory was refused.
     ensures refused { 5 ≤ result → (e : Refusals) × Reports result report.new e
         × IsRefused (form_named form) bytes.now (bounds_of limits.now) e }
-    // Memory is needed only for the ends of more than 64 segments, and for what a text packs.
+    // Memory is refused only for the ends of more than 64 segments, or for the words that a packed text unpacks to.
     ensures memory { result ≡ 8 → MayNeedMemory (form_named form) bytes.now (bounds_of limits.now) }
-    // No walk reports more paid than its budget.
+    // The walk pays at most the budget, also if it is refused.
     ensures bounded { IsBounded limits.now.budget report.new.paid report.new.visits }
     ensures short { result ≤ 1 → report.new.length ≤ 8 * (report.new.paid + 1) }
-    // If nothing is answered, the buffer is as it was.
+    // If `result` is not 0, the buffer is as it was.
     ensures kept { result ≢ 0 → out.new ≡ out.old }
     // Read bare under the same limits, the answer denotes the trimmed value, which is the same value, and pays exactly
-    // its cost; its canonical bytes are the answer again; and a second value has these if and only if it is the same.
+    // its cost. The canonical bytes of the trimmed value are the answer again. A second value has equal canonical bytes
+    // if and only if it is the same value.
     ensures canonical { result ≡ 0 → (v : Value) → Denotes (form_named form) bytes.now (bounds_of limits.now) v
         → IsCanonicalForm (take report.new.length out.new) (bounds_of limits.now) v }
 {

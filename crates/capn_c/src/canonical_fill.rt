@@ -1,4 +1,4 @@
-//! Canonical bytes of input in any form, into a buffer.
+//! Writes a message's canonical bytes into the caller's buffer, in each of the three forms.
 
 ghost use Rattle.capn_canon.specs.MemoryNeed.{MayNeedBytesIn, MayNeedMemory};
 ghost use Rattle.capn_canon.specs.declared.form.Form.TheVariants as forms;
@@ -12,7 +12,7 @@ use capn_walk::Limits;
 use capn_words::Bare;
 use std::alloc::Global;
 
-/// Writes the canonical bytes of a message in any `form` to `out`; they are laid out in memory and copied.
+/// Makes the canonical bytes of a message in any `form` in memory, and copies them to `out`.
 #[inline(never)]
 fn fill_copied(
     alloc: Global,
@@ -34,7 +34,7 @@ fn fill_copied(
     }
 }
 
-/// Writes the canonical bytes of bare words to `out`, in place.
+/// Writes the canonical bytes of the bare words `bytes` straight to `out`.
 fn fill_bare(bytes: &[u8], limits: Limits, out: &mut [u8], report: &mut CapnReport) -> u32
     ensures { IsFilledIn forms.Bare bytes.now limits ⊥ out.old out.new result report.new }
 {
@@ -44,8 +44,8 @@ fn fill_bare(bytes: &[u8], limits: Limits, out: &mut [u8], report: &mut CapnRepo
     }
 }
 
-/// Writes the canonical bytes of a frame to `out`, in place. The ends of its segments lie on its stack, and not on that
-/// of the other forms.
+/// Writes the canonical bytes of the frame `bytes` straight to `out`. It is a function of its own so that the ends of
+/// the segments take stack for frames alone.
 #[inline(never)]
 fn fill_frame(
     alloc: Global,
@@ -63,8 +63,8 @@ fn fill_frame(
     }
 }
 
-/// Writes the canonical bytes of the message that `bytes` encode in this `form` to `out`, with the `report`; returns
-/// the status.
+/// Writes the canonical bytes of the message that `bytes` encode in this `form` to `out`. Fills in `report`, and
+/// returns the status.
 pub fn fill(
     alloc: Global,
     form: Form,

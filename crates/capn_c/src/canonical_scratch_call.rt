@@ -1,4 +1,4 @@
-//! Canonical bytes with the scratch that the caller lends.
+//! The call `capn_canonical_with_scratch`: canonical bytes with words that the caller lends, and without an allocator.
 
 ghost use Rattle.std.specs.Prelude.{IsTrue, ◌≡◌, ◌≢◌, ◌↔◌, ◌≤◌, ◌+◌, ◌*◌, ℕ, List, None, length, take};
 ghost use Rattle.capn_value.specs.Tree.{Tree as Value};
@@ -26,7 +26,7 @@ use capn_scratch::laws::{decision, enough};
 use capn_scratch::{FormRefusal, canonical_into_form};
 use capn_walk::Limits;
 
-/// The scratch has too few words.
+/// The status if the scratch has too few words.
 const NO_SCRATCH: u32 = 9;
 
 /// Reports `refusal`: writes its numbers to `report`, and returns its status.
@@ -51,7 +51,7 @@ fn tell_refusal(refusal: FormRefusal, report: &mut CapnReport) -> u32
     }
 }
 
-/// Reports the result `written`: writes its numbers to `report`, and returns its status.
+/// Reports the result `written`: writes its numbers to `report`, and returns the status.
 fn tell(written: Result<CanonicalLength, FormRefusal>, report: &mut CapnReport) -> u32
     ensures { IsResultTold written result report.new }
 {
@@ -64,7 +64,7 @@ fn tell(written: Result<CanonicalLength, FormRefusal>, report: &mut CapnReport) 
     }
 }
 
-/// Writes the canonical bytes of the message that `bytes` encode in this `form` to `out`, and reports it.
+/// Writes the canonical bytes of the message that `bytes` encode in this `form` to `out`, and reports the result.
 fn write_lent(
     form: Form,
     bytes: &[u8],
@@ -75,7 +75,7 @@ fn write_lent(
 ) -> u32
     ensures { IsLent form bytes.now limits (length scratch.old) out.old out.new result report.new }
 {
-    // The clauses need the laws of canonical bytes, and what is promised of limits.
+    // The proof of the clauses needs the laws of canonical bytes, and the ranges that limits promise.
     decision();
     enough();
     denotation();
@@ -86,16 +86,19 @@ fn write_lent(
     tell(written, report)
 }
 
-/// Writes the canonical bytes of the message that `bytes` encode in a `form` to `out`. It takes no memory: `scratch` is
-/// the room for what has to be kept on the way, and what it holds afterwards is not said.
+/// Writes the canonical bytes of the message that `bytes` encode in `form` to `out`, within `limits`. It takes no
+/// memory, and keeps in `scratch` what it needs on the way. The contents of `scratch` afterwards are not specified.
 ///
-/// 0: the answer is at the start of the buffer. 1: the buffer has no room for it, and is as it was; `length` is what it
-/// needs, exactly. 2, 3 and 4: the form, a limit or the tariff is out of its range. 9: the scratch has too few words;
-/// `at` is how many are needed. Others: the refusal, never that memory was refused.
+/// - 0: the answer is at the start of `out`.
+/// - 1: `out` has no room for the answer, and is as it was. `length` is exactly what it needs.
+/// - 2, 3 and 4: the form, a limit or the tariff is out of its range.
+/// - 9: the scratch has too few words. `at` is the number of words needed.
+/// - Others: the refusal, never that memory was refused.
 ///
-/// Bare words, and a stream of at most 64 segments, take no scratch. Other streams take a word for each segment but the
-/// last: 4,095 are always enough. A packed text takes the words that it unpacks to, and then those of the stream: the
-/// limit on message words and 6,144 more are always enough. They are asked for one after the other.
+/// Bare words, and a stream of at most 64 segments, take no scratch. Another stream takes a word for each segment but
+/// the last: 4,095 are always enough. A packed text takes the words that it unpacks to, and then those of the stream:
+/// the limit on message words and 6,144 more are always enough. The scratch for the unpacked words is tested first, and
+/// that for the stream once they are unpacked.
 #[unsafe(no_mangle)]
 pub extern "C" fn capn_canonical_with_scratch(
     form: u32,
@@ -105,44 +108,47 @@ pub extern "C" fn capn_canonical_with_scratch(
     out: &mut [u8],
     report: &mut CapnReport,
 ) -> u32
-    // The form and the limits are tested first.
+    // The form, then the limits, then the tariff are tested before the bytes are read.
     ensures form { (result ≡ 2) ↔ (IsForm form → ⊥) }
     ensures limits { (result ≡ 3) ↔ (IsForm form × (GiveLimits limits.now → ⊥)) }
     ensures tariff { (result ≡ 4) ↔ (IsForm form × GiveLimits limits.now × (IsTariff limits.now.tariff → ⊥)) }
-    // The answer: the canonical bytes of the one value that the bytes denote, and the words that the walk pays. The
-    // scratch has the words that the bytes take.
+    // If `result` is 0 or 1, the answer is the canonical bytes of the one value that the bytes denote, the report has
+    // the words that the walk pays, and `scratch` has the words that the bytes take.
     ensures found { result ≤ 1 → (text : List ℕ)
         × Answers (form_named form) bytes.now (bounds_of limits.now) text report.new.paid
         × HasScratch (form_named form) bytes.now (length scratch.old)
         × Delivers text result report.new.length out.old out.new }
-    // A value without capabilities is answered, if the scratch has them.
+    // If the bytes denote a value without capabilities, and `scratch` has the words that they take, the answer is its
+    // canonical bytes.
     ensures only { IsForm form → GiveLimits limits.now → IsTariff limits.now.tariff → (v : Value)
         → Denotes (form_named form) bytes.now (bounds_of limits.now) v → first_cap v ≡ None
         → HasScratch (form_named form) bytes.now (length scratch.old)
         → Delivers (canon v) result report.new.length out.old out.new }
-    // The report of an answer has its length and its price; what no status speaks of is 0.
+    // The report of an answer has its length and its price. All other fields are 0.
     ensures rest { result ≤ 1 → report.new ≡ answered report.new.length report.new.paid 0 }
     ensures blank { 2 ≤ result → result ≤ 4 → report.new ≡ at_number 0 }
     ensures listed { IsTrue (is_lent_status result) }
-    // Scratch is asked for exactly if it lacks words, and the report has the number of those that are needed.
+    // `result` is 9 if and only if `scratch` has too few words. The report then has the number of words needed.
     ensures lacking { result ≡ 9 → (report.new ≡ at_number report.new.at)
         × LacksScratch (form_named form) bytes.now limits.now.message_words (length scratch.old) report.new.at }
     ensures lacked { IsForm form → GiveLimits limits.now → IsTariff limits.now.tariff → (n : ℕ)
         → LacksScratch (form_named form) bytes.now limits.now.message_words (length scratch.old) n
         → (result ≡ 9) × (report.new ≡ at_number n) }
-    // So many are always enough.
+    // The number of words needed is at most what is enough for every input in the form.
     ensures enough { result ≡ 9 → report.new.at ≤ most_scratch (form_named form) limits.now.message_words }
-    // The meaning of each refusal; no other status stands for it. There is none of memory.
+    // Any other status and its report stand for a refusal `e`, whose reason is true, and for no other refusal. Memory
+    // is never refused.
     ensures refused { 10 ≤ result → (e : Refusals) × Reports result report.new e
         × IsRefused (form_named form) bytes.now (bounds_of limits.now) e }
     ensures no_memory { result ≢ 8 }
-    // No walk reports more paid than its budget.
+    // The walk pays at most the budget, also if it is refused.
     ensures bounded { IsBounded limits.now.budget report.new.paid report.new.visits }
     ensures short { result ≤ 1 → report.new.length ≤ 8 * (report.new.paid + 1) }
-    // If nothing is answered, the buffer is as it was.
+    // If `result` is not 0, the buffer is as it was.
     ensures kept { result ≢ 0 → out.new ≡ out.old }
     // Read bare under the same limits, the answer denotes the trimmed value, which is the same value, and pays exactly
-    // its cost; its canonical bytes are the answer again; and a second value has these if and only if it is the same.
+    // its cost. The canonical bytes of the trimmed value are the answer again. A second value has equal canonical bytes
+    // if and only if it is the same value.
     ensures canonical { result ≡ 0 → (v : Value) → Denotes (form_named form) bytes.now (bounds_of limits.now) v
         → IsCanonicalForm (take report.new.length out.new) (bounds_of limits.now) v }
 {

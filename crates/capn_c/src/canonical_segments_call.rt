@@ -1,4 +1,4 @@
-//! Canonical bytes of messages held in segments.
+//! The call `capn_canonical_segments`: the canonical bytes of a message that is held in segments.
 
 ghost use Rattle.std.specs.Prelude.{IsTrue, ◌≡◌, ◌≢◌, ◌⊎◌, ◌↔◌, ◌≤◌, ◌+◌, ◌*◌, ℕ, List, None, length, take};
 ghost use Rattle.capn_value.specs.Tree.{Tree as Value};
@@ -20,8 +20,8 @@ use capn_canon::Refusal;
 use capn_walk::Limits;
 use std::alloc::Global;
 
-/// Returns a length that is enough for the canonical bytes of a message that is held in `segments`; they are not laid
-/// out.
+/// Surveys the message that is held in `segments`, and reports a length that is enough for its canonical bytes, with
+/// the status `NO_ROOM`. Returns the status of the refusal if it has none.
 fn held_length(
     alloc: Global,
     segments: &[&[[u8; 8]]],
@@ -49,7 +49,7 @@ fn held_length(
     }
 }
 
-/// Writes the canonical bytes of a message that is held in `segments` to `out`.
+/// Writes the canonical bytes of the message that is held in `segments` to `out`, and reports the result.
 fn fill_held(
     segments: &[&[[u8; 8]]],
     limits: Limits,
@@ -65,12 +65,16 @@ fn fill_held(
     }
 }
 
-/// Writes the canonical bytes of a message that is held in `segments`, each given as words of 8 bytes, to `out`.
+/// Writes the canonical bytes of the message that is held in `segments` to `out`, within `limits`. Each segment is a
+/// list of words of 8 bytes.
 ///
-/// 0: the answer is at the start of the buffer. 1: the buffer has no room for it, and is as it was; `length` is what it
-/// needs, exactly; if the buffer has no bytes at all, the message is surveyed and nothing is written, and `length` is 8
-/// for each word paid and 8 more, which is enough. 3 and 4: a limit or the tariff is out of its range. Any other status
-/// is the refusal that the frame of these segments would get; with no segments it is 48. It takes no memory.
+/// - 0: the answer is at the start of `out`.
+/// - 1: `out` has no room for the answer, and is as it was. `length` is exactly what it needs. If `out` is empty, the
+///   message is only surveyed, and `length` is 8 for each word paid and 8 more, which is enough.
+/// - 3 and 4: a limit or the tariff is out of its range.
+/// - Others: the refusal that the frame of the same segments would get. It is 48 if there are no segments.
+///
+/// It takes no memory.
 #[unsafe(no_mangle)]
 pub extern "C" fn capn_canonical_segments(
     alloc: Global,
@@ -79,33 +83,36 @@ pub extern "C" fn capn_canonical_segments(
     out: &mut [u8],
     report: &mut CapnReport,
 ) -> u32
-    // The limits are tested first.
+    // The limits, then the tariff are tested before anything is read.
     ensures limits { (result ≡ 3) ↔ (GiveLimits limits.now → ⊥) }
     ensures tariff { (result ≡ 4) ↔ (GiveLimits limits.now × (IsTariff limits.now.tariff → ⊥)) }
-    // The answer: the canonical bytes of the one value that the message denotes, and the words that the walk pays.
+    // If `result` is 0 or 1, the answer is the canonical bytes of the one value that the message denotes, and the
+    // report has the words that the walk pays.
     ensures found { result ≤ 1 → (text : List ℕ)
         × AnswersHeld (message_of segments.now) (bounds_of limits.now) text report.new.paid
         × Serves text result report.new out.old out.new }
-    // A value without capabilities is answered.
+    // If the message denotes a value without capabilities, the answer is its canonical bytes.
     ensures only { GiveLimits limits.now → IsTariff limits.now.tariff → (v : Value)
         → DenotesHeld (message_of segments.now) (bounds_of limits.now) v → first_cap v ≡ None
         → Serves (canon v) result report.new out.old out.new }
-    // The report of an answer has its length and its price; what no status speaks of is 0.
+    // The report of an answer has its length and its price. All other fields are 0.
     ensures rest { result ≤ 1 → report.new ≡ answered report.new.length report.new.paid 0 }
     ensures blank { 2 ≤ result → result ≤ 4 → report.new ≡ at_number 0 }
     ensures listed { IsTrue (is_status result) }
-    // The meaning of each refusal; no other status stands for it.
+    // Any other status and its report stand for a refusal `e`, whose reason is true. They stand for no other refusal,
+    // unless memory was refused.
     ensures refused { 5 ≤ result → (e : Refusals) × Reports result report.new e
         × IsRefusedHeld (message_of segments.now) (bounds_of limits.now) e }
-    // No memory is needed.
+    // Memory is never refused, since none is needed.
     ensures no_memory { result ≢ 8 }
-    // No walk reports more paid than its budget.
+    // The walk pays at most the budget, also if it is refused.
     ensures bounded { IsBounded limits.now.budget report.new.paid report.new.visits }
     ensures short { result ≤ 1 → report.new.length ≤ 8 * (report.new.paid + 1) }
-    // If nothing is answered, the buffer is as it was.
+    // If `result` is not 0, the buffer is as it was.
     ensures kept { result ≢ 0 → out.new ≡ out.old }
     // Read bare under the same limits, the answer denotes the trimmed value, which is the same value, and pays exactly
-    // its cost; its canonical bytes are the answer again; and a second value has these if and only if it is the same.
+    // its cost. The canonical bytes of the trimmed value are the answer again. A second value has equal canonical bytes
+    // if and only if it is the same value.
     ensures canonical { result ≡ 0 → (v : Value) → DenotesHeld (message_of segments.now) (bounds_of limits.now) v
         → IsCanonicalForm (take report.new.length out.new) (bounds_of limits.now) v }
 {

@@ -1,4 +1,4 @@
-//! Checks of messages held in segments.
+//! The call `capn_check_segments`: tests whether a message that is held in segments is accepted within limits.
 
 ghost use Rattle.std.specs.Prelude.{IsTrue, ◌≡◌, ◌≢◌, ◌↔◌, ◌≤◌};
 ghost use Rattle.capn_value.specs.Tree.{Tree as Value};
@@ -16,7 +16,7 @@ use capn_abi::{CapnLimits, CapnReport, DONE, answer_of, limits_of, refuse, repor
 use capn_walk::Limits;
 use std::alloc::Global;
 
-/// Surveys a message that is held in `segments`.
+/// Surveys the message that is held in `segments`, and reports the result.
 fn check_held(
     alloc: Global,
     segments: &[&[[u8; 8]]],
@@ -36,11 +36,14 @@ fn check_held(
     }
 }
 
-/// Tests whether a message that is held in `segments` is accepted within `limits`, and reports the words that reading
-/// it pays.
+/// Tests whether the message that is held in `segments` is accepted within `limits`, and reports the words that its
+/// walk pays.
 ///
-/// 0: it is; `paid` and `visits` are those of its walk. 3 and 4: a limit or the tariff is out of its range. Any other
-/// status is the refusal that the frame of these segments would get; with no segments it is 48. It takes no memory.
+/// - 0: the message is accepted. `paid` and `visits` are those of its walk.
+/// - 3 and 4: a limit or the tariff is out of its range.
+/// - Others: the refusal that the frame of the same segments would get. It is 48 if there are no segments.
+///
+/// It takes no memory.
 #[unsafe(no_mangle)]
 pub extern "C" fn capn_check_segments(
     alloc: Global,
@@ -48,24 +51,25 @@ pub extern "C" fn capn_check_segments(
     limits: &CapnLimits,
     report: &mut CapnReport,
 ) -> u32
-    // The limits are tested first.
+    // The limits, then the tariff are tested before anything is read.
     ensures limits { (result ≡ 3) ↔ (GiveLimits limits.now → ⊥) }
     ensures tariff { (result ≡ 4) ↔ (GiveLimits limits.now × (IsTariff limits.now.tariff → ⊥)) }
-    // The segments are an accepted message; the report has the words that its walk pays, the number of its visits, and
-    // no more.
+    // If `result` is 0, the segments are an accepted message. The report has the words that its walk pays and the
+    // number of its visits, and all other fields are 0.
     ensures found { result ≡ 0 → (s : Survey) × SurveysHeld (message_of segments.now) (bounds_of limits.now) s
         × (report.new ≡ answered 0 s.paid s.visits) }
-    // This is the answer for a message that is accepted.
+    // If the segments are an accepted message, `result` is 0.
     ensures only { GiveLimits limits.now → IsTariff limits.now.tariff → (v : Value)
         → DenotesHeld (message_of segments.now) (bounds_of limits.now) v → result ≡ 0 }
     ensures blank { 1 ≤ result → result ≤ 4 → report.new ≡ at_number 0 }
     ensures listed { IsTrue (is_status result) }
-    // The meaning of each refusal; no other status stands for it.
+    // Any other status and its report stand for a refusal `e`, whose reason is true. They stand for no other refusal,
+    // unless memory was refused.
     ensures refused { 5 ≤ result → (e : Refusals) × Reports result report.new e
         × IsUnacceptedHeld (message_of segments.now) (bounds_of limits.now) e }
-    // No memory is needed.
+    // Memory is never refused, since none is needed.
     ensures no_memory { result ≢ 8 }
-    // No walk reports more paid than its budget.
+    // The walk pays at most the budget, also if it is refused.
     ensures bounded { IsBounded limits.now.budget report.new.paid report.new.visits }
 {
     *report = report_at(0);

@@ -1,4 +1,4 @@
-//! The comparison of two messages in each form.
+//! The comparison of two messages that are in the same form, without making canonical bytes.
 
 ghost use Rattle.std.specs.Prelude.{IfOk, IfErr, IsErrOf};
 ghost use Rattle.capn_canon.specs.CanonicalLength.{HasBytes};
@@ -17,7 +17,8 @@ use capn_walk::Limits;
 use capn_words::{Bare, Space};
 use std::alloc::Global;
 
-/// Surveys a message: returns nothing if it has canonical bytes, else the reason why it has none.
+/// Surveys `message` within `limits`. Returns the reason why it has no canonical bytes if it is not accepted or its
+/// value has a capability.
 fn survey_free<S: Space>(alloc: Global, message: &S, limits: Limits) -> Result<(), Refusal>
     ensures { IsToldOf (S.message message.now) limits (λ _. HasBytes (S.message message.now) limits) result }
 {
@@ -27,8 +28,8 @@ fn survey_free<S: Space>(alloc: Global, message: &S, limits: Limits) -> Result<(
     }
 }
 
-/// Tests whether the message `second` has the value of `first`, which has canonical bytes; or returns the reason why
-/// `second` has none.
+/// Tests whether the message `second` has the value of `first`, which has canonical bytes. Returns the reason why
+/// `second` has no canonical bytes if it has none.
 fn same_message<A: Space, B: Space>(
     alloc: Global,
     first: &A,
@@ -43,8 +44,8 @@ fn same_message<A: Space, B: Space>(
     Ok(same_surveyed(first, second, limits))
 }
 
-/// Compares as [`same_message`] does, with a second message in the frame `bytes`. Memory is asked for only by a frame
-/// of more than 64 segments.
+/// Does what [`same_message`] does with `first` and the message in the frame `bytes`. Only a frame of more than 64
+/// segments takes memory.
 fn same_frame<A: Space>(
     alloc: Global,
     first: &A,
@@ -58,7 +59,7 @@ fn same_frame<A: Space>(
     same_message(alloc, first, &second, limits)
 }
 
-/// Compares as [`same_message`] does, with a second message in the frame that `bytes` pack.
+/// Does what [`same_message`] does with `first` and the message in the frame that the packed text `bytes` unpacks to.
 fn same_packed<A: Space>(
     alloc: Global,
     first: &A,
@@ -72,7 +73,7 @@ fn same_packed<A: Space>(
     same_frame(alloc, first, stream.as_slice(), limits)
 }
 
-/// Compares as [`same_message`] does, with a second message that `bytes` encode in this `form`.
+/// Does what [`same_message`] does with `first` and the message that `bytes` encode in this `form`.
 fn same_in<A: Space>(
     alloc: Global,
     first: &A,
@@ -90,8 +91,8 @@ fn same_in<A: Space>(
     }
 }
 
-/// The task of the comparison of a message with the one that `second` encodes in this `form`, which isn't looked at if
-/// the first has no canonical bytes.
+/// The task of `compared_in`: compares a message with the one that `second` encodes in this `form`. `second` isn't read
+/// if the first message has no canonical bytes.
 #[derive(Clone, Copy)]
 struct Compare<'a> {
     form: Form,
@@ -99,7 +100,7 @@ struct Compare<'a> {
 }
 
 impl<'a> MessageTask<Global> for Compare<'a> {
-    /// True if the two are the same, false if they aren't; or the refusal of the second.
+    /// The comparison of the two values, or the refusal of the second message.
     type Answer = Result<bool, Refusal>;
 
     ghost answers = { λ task m limits r _. IsComparedTo task.form task.second.now m limits r };
@@ -115,11 +116,11 @@ impl<'a> MessageTask<Global> for Compare<'a> {
     }
 }
 
-/// Compares the messages that `first` and `second` encode in this `form`, within `limits`: returns whether they are the
-/// same, or the refusal of `second`; or the reason why `first` has no canonical bytes. `second` isn't looked at then.
+/// Compares the messages that `first` and `second` encode in this `form`, within `limits`. Returns whether they have
+/// the same value, or the refusal of `second`. Returns an outer `Err` with the refusal of `first` if that has no
+/// canonical bytes, and doesn't read `second` then.
 ///
-/// The bytes of each are read once. Memory is asked of `alloc` only by packed texts, and by frames of more than 64
-/// segments.
+/// The bytes of each are read once. Only packed texts, and frames of more than 64 segments, take memory from `alloc`.
 pub fn compared_in(
     alloc: Global,
     form: Form,

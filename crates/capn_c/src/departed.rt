@@ -1,4 +1,4 @@
-//! The mismatch of a message with its canonical bytes, as C reads it.
+//! `CapnDeparted`, the mismatch of a message with its canonical bytes as C reads it.
 
 ghost use Rattle.std.specs.Prelude.{◌≡◌, ◌≤◌, length};
 ghost use Rattle.capn_answers.specs.Mismatches as mismatches;
@@ -7,21 +7,22 @@ ghost use Rattle.capn_c.specs.Departed as told;
 use capn_answers::{Mismatch, Whose};
 use std::alloc::Global;
 
-/// The first reason why a message is not its canonical bytes. A field that the kind does not speak of is 0.
+/// The first reason why a message is not canonical. A field that has no meaning for the kind is 0.
 #[derive(Clone, Copy)]
 #[repr(C)]
 pub struct CapnDeparted {
-    /// The value of the word in the message,
+    /// The value in the message of the word that differs, or of the word after the canonical bytes.
     pub is: u64,
-    /// and in the canonical bytes.
+    /// The value in the canonical bytes of the word that differs.
     pub canonical: u64,
-    /// The number of the kind.
+    /// The number of the kind: 0, the message is canonical; 1, it has several segments; 2, a capability; 3, a word
+    /// differs; 4, words follow the canonical bytes.
     pub kind: u32,
-    /// The number of the kind of the word in its owner.
+    /// The number that says what the word is: 1, a pointer; 2, the tag word of a list; 3, the last word of a list.
     pub owner: u32,
-    /// The number of the word.
+    /// The index of the word in the segment.
     pub word: u32,
-    /// The number of segments; the index of a capability.
+    /// The number of segments, or the index of the capability.
     pub count: u32,
     /// The length of the path, in numbers.
     pub numbers: u32,
@@ -29,7 +30,7 @@ pub struct CapnDeparted {
     pub zero: u32,
 }
 
-/// Returns the number of the kind of the word in its owner.
+/// Returns the number that says what the word is: a pointer, a tag word, or the last word of a list.
 fn number_of_owner(whose: &Whose<Global>) -> u32
     ensures { result ≡ told.owner_number whose.now }
 {
@@ -40,7 +41,7 @@ fn number_of_owner(whose: &Whose<Global>) -> u32
     }
 }
 
-/// Returns the path to the slot of an owner.
+/// Returns the path to the slot of the pointer, or to the slot that points to the list.
 fn path_of_owner(whose: &Whose<Global>) -> &[u32]
     ensures { result.now ≡ mismatches.owner_path whose.now }
 {
@@ -51,7 +52,7 @@ fn path_of_owner(whose: &Whose<Global>) -> &[u32]
     }
 }
 
-/// Returns the path of `mismatch`, or no numbers.
+/// Returns the path of `mismatch`, which is empty if the kind has none.
 pub fn path_of(mismatch: &Mismatch<Global>) -> &[u32]
     ensures { result.now ≡ mismatches.path_of mismatch.now }
 {
@@ -64,7 +65,7 @@ pub fn path_of(mismatch: &Mismatch<Global>) -> &[u32]
     }
 }
 
-/// Returns a mismatch of this `kind` and no other number. Its path has this number of `numbers`.
+/// Returns a mismatch of this `kind` whose path has `numbers` numbers, with 0 in all other fields.
 fn of_kind(kind: u32, numbers: u32) -> CapnDeparted
     ensures { result ≡ record {
       is = 0;
@@ -89,7 +90,7 @@ fn of_kind(kind: u32, numbers: u32) -> CapnDeparted
     }
 }
 
-/// Returns `mismatch` as C reads it. Its path has this number of `numbers`.
+/// Returns `mismatch` as C reads it. Its path has `numbers` numbers.
 pub fn departed_of(mismatch: &Mismatch<Global>, numbers: u32) -> CapnDeparted
     requires numbers { numbers ≡ length (mismatches.path_of mismatch.now) }
     ensures { result ≡ told.departed_of mismatch.now }

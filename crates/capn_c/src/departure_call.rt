@@ -1,4 +1,4 @@
-//! The mismatches of messages with their canonical bytes.
+//! The call `capn_departure`: the first reason why a message is not canonical.
 
 ghost use Rattle.std.specs.Prelude.{IsTrue, ◌≡◌, ◌≢◌, ◌⊎◌, ◌↔◌, ◌≤◌, ◌*◌, ℕ, List, length};
 ghost use Rattle.capn_value.specs.Tree.{Tree as Value};
@@ -26,7 +26,8 @@ use capn_canon::Form;
 use capn_walk::{Limits, Surveyed};
 use std::alloc::Global;
 
-/// Reports the mismatch `found` of an accepted message, with the path in the room `way`.
+/// Reports the mismatch `found` of an accepted message in `departed` and `report`, and writes its path to `way` if it
+/// fits.
 fn tell_mismatch(
     found: &Mismatch<Global>,
     surveyed: Surveyed,
@@ -48,7 +49,8 @@ fn tell_mismatch(
     place_path(numbers, way);
 }
 
-/// Finds the mismatch of the message that `bytes` encode in this `form`, and reports it.
+/// Finds the mismatch of the message that `bytes` encode in this `form`, and reports it in `departed`, `way` and
+/// `report`.
 fn find_mismatch(
     alloc: Global,
     form: Form,
@@ -74,16 +76,17 @@ fn find_mismatch(
     }
 }
 
-/// Tests whether an accepted message is canonical, and if not, finds the first reason, `departed`, with the numbers of
-/// the path to a slot, in the room `way`.
+/// Tests whether the message that `bytes` encode in `form` is canonical, if it is accepted within `limits`. If it is
+/// not canonical, reports the first reason in `departed`, and writes the path to the slot that it concerns to `way`.
 ///
-/// 0: it is reported; `length` is 4 bytes for each number of the path, and `paid` and `visits` are those of the walk.
-/// The numbers are at the start of the room if it has room for all of them; else it is as it was. 2, 3 and 4: the form,
-/// a limit or the tariff is out of its range. 8: memory was refused: for the table of more than 64 segments, for what
-/// is unpacked, and, of a message of one segment that is not canonical, for its canonical bytes and for the path.
-/// Others: the refusal, which is never that of a capability.
+/// - 0: the mismatch is reported. `length` is 4 bytes for each number of the path, and `paid` and `visits` are those of
+///   the walk. The numbers are at the start of `way` if all of them fit; otherwise `way` is as it was.
+/// - 2, 3 and 4: the form, a limit or the tariff is out of its range.
+/// - 8: memory was refused, for the table of more than 64 segments or for the words that are unpacked. A message of one
+///   segment that is not canonical also takes it for its canonical bytes and for the path.
+/// - Others: the refusal, which is never that of a capability.
 ///
-/// Two numbers for each level of the depth limit are enough.
+/// A `way` of two numbers for each level of the depth limit always has room.
 #[unsafe(no_mangle)]
 pub extern "C" fn capn_departure(
     alloc: Global,
@@ -94,30 +97,31 @@ pub extern "C" fn capn_departure(
     way: &mut [u32],
     report: &mut CapnReport,
 ) -> u32
-    // The form and the limits are tested first.
+    // The form, then the limits, then the tariff are tested before the bytes are read.
     ensures form { (result ≡ 2) ↔ (IsForm form → ⊥) }
     ensures limits { (result ≡ 3) ↔ (IsForm form × (GiveLimits limits.now → ⊥)) }
     ensures tariff { (result ≡ 4) ↔ (IsForm form × GiveLimits limits.now × (IsTariff limits.now.tariff → ⊥)) }
-    // The bytes are an accepted message, and this is its mismatch with its canonical bytes; the path is in the room if
-    // that has room for it, and the report has its length, the words that the walk pays, and its visits.
+    // If `result` is 0, the bytes are an accepted message, and `departed` is its mismatch with its canonical bytes. The
+    // path is in `way` if it fits. The report has its length, the words that the walk pays, and its visits.
     ensures found { result ≡ 0 → TellsMismatch (form_named form) bytes.now (bounds_of limits.now)
         departed.new report.new way.old way.new }
-    // A message that is accepted is answered, unless memory runs out.
+    // If the bytes are an accepted message, `result` is 0, unless memory runs out.
     ensures only { IsForm form → GiveLimits limits.now → IsTariff limits.now.tariff → (v : Value)
         → Denotes (form_named form) bytes.now (bounds_of limits.now) v → (result ≡ 0) ⊎ (result ≡ 8) }
-    // Two numbers for each level of depth are enough.
+    // A path has at most two numbers for each level of the depth limit.
     ensures short { result ≡ 0 → report.new.length ≤ 8 * limits.now.depth }
     ensures blank { 1 ≤ result → result ≤ 4 → report.new ≡ at_number 0 }
     ensures listed { IsTrue (is_status result) }
-    // The meaning of each refusal; no other status stands for it.
+    // Any other status and its report stand for a refusal `e`, whose reason is true. They stand for no other refusal,
+    // unless memory was refused.
     ensures refused { 5 ≤ result → (e : Refusals) × Reports result report.new e
         × IsUnacceptedIn (form_named form) bytes.now (bounds_of limits.now) e }
-    // Memory is needed only for the ends of more than 64 segments, for what a text packs, and for a message of one
-    // segment that is not canonical.
+    // Memory is refused only for the ends of more than 64 segments, for the words that a packed text unpacks to, or for
+    // a message of one segment that is not canonical.
     ensures memory { result ≡ 8 → MayNeedMismatch (form_named form) bytes.now (bounds_of limits.now) }
-    // No walk reports more paid than its budget.
+    // The walk pays at most the budget, also if it is refused.
     ensures bounded { IsBounded limits.now.budget report.new.paid report.new.visits }
-    // If nothing is reported, the mismatch and the room are as they were.
+    // If `result` is not 0, `departed` and `way` are as they were.
     ensures kept { result ≢ 0 → (departed.new ≡ departed.old) × (way.new ≡ way.old) }
 {
     *report = report_at(0);

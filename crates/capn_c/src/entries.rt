@@ -1,4 +1,4 @@
-//! The entries of an index, as C reads them.
+//! The entries of an index as C reads them, and the rule that turns segments and words into offsets in bytes.
 
 ghost use Rattle.std.specs.Prelude.{◌≡◌, ◌≤◌, ◌++◌, length, drop, get_or};
 ghost use Rattle.capn_words.specs.Message.{segment_at};
@@ -7,26 +7,26 @@ ghost use Rattle.capn_c.specs.Entries.{c_entry, kind_number, starts_from};
 use capn_walk::{Entry, EntryForm, Kind};
 use capn_words::Space;
 
-/// An entry of an index for a slot: the target of its pointer, and the number of entries that it takes with all below
-/// it.
+/// An entry of an index for one slot: the target of its pointer, and the number of entries of the slot and everything
+/// below it.
 #[derive(Clone, Copy)]
 #[repr(C)]
 pub struct CapnEntry {
-    /// The offset in the bytes at which the content begins. Of a composite list that is the offset of its tag.
+    /// The offset in the bytes at which the target begins. For a composite list it is the offset of the tag word.
     pub offset: u64,
-    /// The number of elements or rows of a list; the index of a capability; else 0.
+    /// The number of elements or rows of a list, or the index of a capability, else 0.
     pub count: u32,
-    /// The number of entries that it takes, with those of all slots below it.
+    /// The number of entries of this slot and all slots below it.
     pub span: u32,
-    /// The data words of a struct, or of each row; else 0.
+    /// The number of data words of a struct, or of each row, else 0.
     pub words: u16,
-    /// The pointers of a struct, or of each row; else 0.
+    /// The number of pointers of a struct, or of each row, else 0.
     pub slots: u16,
-    /// The number of its kind.
+    /// The number of the kind of the target.
     pub kind: u32,
 }
 
-/// Returns the number of `kind`.
+/// Returns the number that C has for `kind`.
 #[inline(always)]
 fn number_of_kind(kind: Kind) -> u32
     ensures { result ≡ kind_number kind }
@@ -46,7 +46,7 @@ fn number_of_kind(kind: Kind) -> u32
     }
 }
 
-/// Returns the word at which `segment` starts.
+/// Returns the word at which `segment` starts, counted after the table, by `starts`.
 #[inline(always)]
 fn start_of(starts: &[u32], segment: u32) -> u32
     ensures { result ≡ get_or starts.now segment 0 }
@@ -59,7 +59,8 @@ fn start_of(starts: &[u32], segment: u32) -> u32
     }
 }
 
-/// Returns `entry` as C reads it.
+/// Returns `entry` as C reads it, with an offset in bytes. The segment table has `table` bytes, and the segments begin
+/// at `starts`.
 #[inline(always)]
 fn entry_of(entry: Entry, table: u32, starts: &[u32]) -> CapnEntry
     ensures { result ≡ c_entry table starts.now entry }
@@ -75,10 +76,10 @@ fn entry_of(entry: Entry, table: u32, starts: &[u32]) -> CapnEntry
     }
 }
 
-/// The form in which C reads entries: with offsets in bytes.
+/// The way in which entries are written for C, with offsets in bytes.
 #[derive(Drop)]
 pub struct Offsets<'a> {
-    /// The number of bytes before the words.
+    /// The number of bytes of the segment table, which is before the words.
     pub table: u32,
     /// The start of each segment, in words after the table.
     pub starts: &'a [u32],
@@ -113,7 +114,7 @@ fn words_at<S: Space>(space: &S, segment: u32) -> u32
     space.words(segment).unwrap_or(0)
 }
 
-/// Writes the start of each segment of the message `space`, in words after its table, at the start of `starts`.
+/// Writes the start of each segment of the message `space` to the front of `starts`, in words counted after the table.
 #[tactic(auto, using(std::proofs::lemmas::List::Sums::sum_by_more_le))]
 pub fn put_starts<S: Space>(space: &S, starts: &mut [u32])
     requires { length (S.message space.now) ≤ length starts.old }

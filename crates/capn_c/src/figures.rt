@@ -1,4 +1,4 @@
-//! The figures of a message, as C reads them.
+//! `CapnFigures`, the figures of a message that a survey finds, and the call that finds them in a message.
 
 ghost use Rattle.std.specs.Prelude.{IsTrue, ◌≡◌, ◌≢◌, ◌↔◌, ◌≤◌, length};
 ghost use Rattle.std.specs.Prelude.{IfOk, IfErr, IsOk, MatchResult};
@@ -26,17 +26,17 @@ pub struct CapnFigures {
     pub paid: u32,
     /// The number of visits that it makes.
     pub visits: u32,
-    /// The least depth under which the message is accepted; 0 for a null root.
+    /// The least limit on depth under which the message is accepted. It is 0 for a null root.
     pub depth: u32,
     /// 1 if the value has a capability, else 0.
     pub has_capability: u32,
-    /// The index of the first one in preorder, else 0.
+    /// The index of the first capability in preorder, else 0.
     pub capability: u32,
     /// 1 if the message has one segment whose bytes are canonical, else 0.
     pub canonical: u32,
 }
 
-/// Returns the figures of a message that was `measured`.
+/// Returns the figures of the message `space`, which was `measured`.
 fn figures_by<S: Space>(space: &S, measured: MeasuredBare) -> CapnFigures
     ensures words { result.words ≡ total (S.message space.now) }
     ensures segments { result.segments ≡ length (S.message space.now) }

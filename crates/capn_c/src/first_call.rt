@@ -1,4 +1,4 @@
-//! The first frame of a stream.
+//! The call `capn_first`: the length of the first frame of a stream.
 
 ghost use Rattle.std.specs.Prelude.{IsTrue, ◌≡◌, ◌⊎◌, ◌↔◌, ◌≤◌, ℕ, List, IfOk, IfErr, IsErrOf, MatchResult};
 ghost use Rattle.capn_words.specs.Message.{most_message_words};
@@ -18,7 +18,8 @@ use capn_abi::{
 use capn_stream::{FrameFault, first};
 use std::alloc::Global;
 
-/// Returns the report of a refusal.
+/// Returns the report of the refusal `fault` of the frame in `bytes`. If the frame is not whole, it has the number of
+/// bytes that the frame needs, else the number of the fault.
 fn report_of_frame(fault: FrameFault, bytes: &[u8], most: u32) -> CapnReport
     requires small { most ≤ most_message_words }
     requires refused { IsFrameRefused bytes.now most fault }
@@ -31,7 +32,7 @@ fn report_of_frame(fault: FrameFault, bytes: &[u8], most: u32) -> CapnReport
     }
 }
 
-/// Reports a refusal of `bytes`: writes its numbers to `report`, and returns its status.
+/// Reports the refusal `fault` of the frame in `bytes`: writes its numbers to `report`, and returns its status.
 fn refuse_frame(fault: FrameFault, bytes: &[u8], most: u32, report: &mut CapnReport) -> u32
     requires small { most ≤ most_message_words }
     requires refused { IsFrameRefused bytes.now most fault }
@@ -41,7 +42,7 @@ fn refuse_frame(fault: FrameFault, bytes: &[u8], most: u32, report: &mut CapnRep
     code_of_frame(fault)
 }
 
-/// Returns the length of the frame of at most `most` words that comes first.
+/// Returns the length of the frame of at most `most` words that comes first in `bytes`.
 fn length_of(alloc: Global, bytes: &[u8], most: u32) -> Result<usize, FrameFault>
     requires small { most ≤ most_message_words }
     ensures found { IfOk result (λ taken. (message : List (List ℕ)) × StandsFirst bytes.now most message taken) }
@@ -54,7 +55,8 @@ fn length_of(alloc: Global, bytes: &[u8], most: u32) -> Result<usize, FrameFault
     Ok(taken)
 }
 
-/// Reports the length of the frame of at most `most` words that comes first, or the number of bytes that it needs.
+/// Reports the length of the frame of at most `most` words that comes first in `bytes`, or the number of bytes that it
+/// needs.
 fn frame(alloc: Global, bytes: &[u8], most: u32, report: &mut CapnReport) -> u32
     requires small { most ≤ most_message_words }
     ensures possible { (result ≡ 0) ⊎ (8 ≤ result) }
@@ -77,13 +79,16 @@ fn frame(alloc: Global, bytes: &[u8], most: u32, report: &mut CapnReport) -> u32
     }
 }
 
-/// Reports the length of the first frame in the `bytes` of a stream, or the number of bytes that it needs.
+/// Reports the length of the first frame in the `bytes` of a stream, or the number of bytes that it needs, within
+/// `limits`.
 ///
-/// 0: `length` bytes are the frame. 3 and 4: a limit or the tariff is out of its range. 8: memory was refused. 48 and
-/// 51: there are no bytes, or the frame is cut; it has at least `length` bytes, counted from its start. 49 and 50: too
-/// many segments or words are announced, `at`.
+/// - 0: the first `length` bytes are the frame.
+/// - 3 and 4: a limit or the tariff is out of its range.
+/// - 8: memory was refused.
+/// - 48 and 51: there are no bytes, or the frame is cut. The frame has at least `length` bytes, counted from its start.
+/// - 49 and 50: the table announces too many segments or words. `at` is their number.
 ///
-/// It takes memory only for the ends of more than 64 segments, once their whole frame is there.
+/// It takes memory only for the ends of more than 64 segments, once their whole frame is in `bytes`.
 #[unsafe(no_mangle)]
 pub extern "C" fn capn_first(
     alloc: Global,
@@ -91,28 +96,29 @@ pub extern "C" fn capn_first(
     limits: &CapnLimits,
     report: &mut CapnReport,
 ) -> u32
-    // The limits are tested first.
+    // The limits, then the tariff are tested before anything is read.
     ensures limits { (result ≡ 3) ↔ (GiveLimits limits.now → ⊥) }
     ensures tariff { (result ≡ 4) ↔ (GiveLimits limits.now × (IsTariff limits.now.tariff → ⊥)) }
-    // The answer: a frame comes first, of a message within the limit, and takes this number of bytes.
+    // If `result` is 0, the first `length` bytes are the frame of a message within the limit.
     ensures found { result ≡ 0 → (message : List (List ℕ))
         × StandsFirst bytes.now limits.now.message_words message report.new.length }
-    // Such a frame is answered, unless memory runs out.
+    // If the frame of a message within the limit comes first, its length is reported, unless memory runs out.
     ensures only { GiveLimits limits.now → IsTariff limits.now.tariff → (message : List (List ℕ)) (taken : ℕ)
         → StandsFirst bytes.now limits.now.message_words message taken
         → (result ≡ 8) ⊎ ((result ≡ 0) × (report.new.length ≡ taken)) }
-    // The report of an answer has its length alone; what no status speaks of is 0.
+    // The report of an answer has its length. All other fields are 0.
     ensures rest { result ≡ 0 → report.new ≡ answered report.new.length 0 0 }
     ensures blank { 1 ≤ result → result ≤ 4 → report.new ≡ at_number 0 }
     ensures listed { IsTrue (is_status result) }
-    // The meaning of each refusal; no other status stands for it.
+    // Any other status and its report stand for a refusal `e`, whose reason is true. They stand for no other refusal,
+    // unless memory was refused.
     ensures refused { 5 ≤ result → (e : Faults) × ReportsFrame bytes.now result report.new e
         × IsFrameRefused bytes.now limits.now.message_words e }
-    // A frame that is not whole: none that begins like this is shorter than the length reported, which is more than
-    // there is, and within what a frame can have.
+    // If the frame is not whole, every whole frame that begins with these bytes has at least the length reported. That
+    // is more than the bytes have, and at most what a frame can have.
     ensures needed { (result ≡ 48) ⊎ (result ≡ 51)
         → IsNeeded bytes.now limits.now.message_words report.new.length }
-    // Memory is needed only if a whole frame of more than 64 segments comes first.
+    // Memory is refused only if a whole frame of more than 64 segments comes first.
     ensures memory { result ≡ 8 → HasTable bytes.now limits.now.message_words }
 {
     *report = report_at(0);

@@ -1,4 +1,4 @@
-//! Digests of canonical bytes.
+//! The call `capn_hash`: the SHA-256 of the canonical bytes of a message in any form.
 
 ghost use Rattle.std.specs.Prelude.{IsTrue, ◌≡◌, ◌≢◌, ◌⊎◌, ◌↔◌, ◌≤◌, ℕ, List, None};
 ghost use Rattle.sha2.specs.Sha256.{sha256};
@@ -22,7 +22,8 @@ use capn_canon::Form;
 use capn_walk::Limits;
 use std::alloc::Global;
 
-/// Reports the SHA-256 of the canonical bytes of the message that `bytes` encode in this `form`.
+/// Writes the SHA-256 of the canonical bytes of the message that `bytes` encode in this `form` to `digest`, and reports
+/// the result.
 fn hash(
     alloc: Global,
     form: Form,
@@ -52,10 +53,14 @@ fn hash(
     }
 }
 
-/// Writes the SHA-256 of the canonical bytes of the message that `bytes` encode in a `form` to `digest`.
+/// Writes the SHA-256 of the canonical bytes of the message that `bytes` encode in `form`, within `limits`, to
+/// `digest`.
 ///
-/// 0: the digest is written. 2, 3 and 4: the form, a limit or the tariff is out of its range. 8: memory was refused:
-/// where `capn_check` takes it, or for the canonical bytes of a message that is not canonical. Others: the refusal.
+/// - 0: the digest is written.
+/// - 2, 3 and 4: the form, a limit or the tariff is out of its range.
+/// - 8: memory was refused, for what `capn_check` takes it for, or for the canonical bytes of a message that is not
+///   canonical.
+/// - Others: the refusal.
 #[unsafe(no_mangle)]
 pub extern "C" fn capn_hash(
     alloc: Global,
@@ -65,31 +70,32 @@ pub extern "C" fn capn_hash(
     digest: &mut [u8; 32],
     report: &mut CapnReport,
 ) -> u32
-    // The form and the limits are tested first.
+    // The form, then the limits, then the tariff are tested before the bytes are read.
     ensures form { (result ≡ 2) ↔ (IsForm form → ⊥) }
     ensures limits { (result ≡ 3) ↔ (IsForm form × (GiveLimits limits.now → ⊥)) }
     ensures tariff { (result ≡ 4) ↔ (IsForm form × GiveLimits limits.now × (IsTariff limits.now.tariff → ⊥)) }
-    // The digest is that of the canonical bytes of the one value that the bytes denote.
+    // If `result` is 0, `digest` is the SHA-256 of the canonical bytes of the one value that the bytes denote.
     ensures found { result ≡ 0 → (text : List ℕ)
         × Answers (form_named form) bytes.now (bounds_of limits.now) text report.new.paid
         × (digest.new ≡ sha256 text) }
-    // A value without capabilities has its digest answered, unless memory runs out.
+    // If the message denotes a value without capabilities, its digest is written, unless memory runs out.
     ensures only { IsForm form → GiveLimits limits.now → IsTariff limits.now.tariff → (v : Value)
         → Denotes (form_named form) bytes.now (bounds_of limits.now) v → first_cap v ≡ None
         → (result ≡ 8) ⊎ ((result ≡ 0) × (digest.new ≡ sha256 (canon v))) }
-    // The report of a digest has the price alone; what no status speaks of is 0.
+    // The report of a digest has the price. All other fields are 0.
     ensures rest { result ≡ 0 → report.new ≡ answered 0 report.new.paid 0 }
     ensures blank { 1 ≤ result → result ≤ 4 → report.new ≡ at_number 0 }
     ensures listed { IsTrue (is_status result) }
-    // The meaning of each refusal; no other status stands for it.
+    // Any other status and its report stand for a refusal `e`, whose reason is true. They stand for no other refusal,
+    // unless memory was refused.
     ensures refused { 5 ≤ result → (e : Refusals) × Reports result report.new e
         × IsRefused (form_named form) bytes.now (bounds_of limits.now) e }
-    // Memory is needed only for the ends of more than 64 segments, for what a text packs, and for the canonical bytes
-    // of a message that is not canonical.
+    // Memory is refused only for the ends of more than 64 segments, for the words that a packed text unpacks to, or for
+    // the canonical bytes of a message that is not canonical.
     ensures memory { result ≡ 8 → MayNeedToMake (form_named form) bytes.now (bounds_of limits.now) }
-    // No walk reports more paid than its budget.
+    // The walk pays at most the budget, also if it is refused.
     ensures bounded { IsBounded limits.now.budget report.new.paid report.new.visits }
-    // If nothing is answered, the buffer is as it was.
+    // If `result` is not 0, the buffer is as it was.
     ensures kept { result ≢ 0 → digest.new ≡ digest.old }
 {
     *report = report_at(0);

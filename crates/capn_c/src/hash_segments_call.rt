@@ -1,4 +1,4 @@
-//! Digests of messages held in segments.
+//! The call `capn_hash_segments`: the SHA-256 of the canonical bytes of a message that is held in segments.
 
 ghost use Rattle.std.specs.Prelude.{IsTrue, ◌≡◌, ◌≢◌, ◌⊎◌, ◌↔◌, ◌≤◌, ℕ, List, None};
 ghost use Rattle.sha2.specs.Sha256.{sha256};
@@ -20,7 +20,8 @@ use capn_walk::Limits;
 use sha2::{Digest, Sha256};
 use std::alloc::Global;
 
-/// Reports the SHA-256 of the canonical bytes of a message that is held in `segments`.
+/// Writes the SHA-256 of the canonical bytes of the message that is held in `segments` to `digest`, and reports the
+/// result.
 fn hash_held(
     alloc: Global,
     segments: &[&[[u8; 8]]],
@@ -48,11 +49,13 @@ fn hash_held(
     }
 }
 
-/// Writes the SHA-256 of the canonical bytes of a message that is held in `segments`, each given as words of 8
-/// bytes, to `digest`.
+/// Writes the SHA-256 of the canonical bytes of the message that is held in `segments`, within `limits`, to `digest`.
+/// Each segment is a list of words of 8 bytes.
 ///
-/// 0: the digest is written. 3 and 4: a limit or the tariff is out of its range. 8: memory was refused, for canonical
-/// bytes. Any other status is the refusal that the frame of these segments would get; with no segments it is 48.
+/// - 0: the digest is written.
+/// - 3 and 4: a limit or the tariff is out of its range.
+/// - 8: memory was refused, for the canonical bytes.
+/// - Others: the refusal that the frame of the same segments would get. It is 48 if there are no segments.
 #[unsafe(no_mangle)]
 pub extern "C" fn capn_hash_segments(
     alloc: Global,
@@ -61,29 +64,30 @@ pub extern "C" fn capn_hash_segments(
     digest: &mut [u8; 32],
     report: &mut CapnReport,
 ) -> u32
-    // The limits are tested first.
+    // The limits, then the tariff are tested before anything is read.
     ensures limits { (result ≡ 3) ↔ (GiveLimits limits.now → ⊥) }
     ensures tariff { (result ≡ 4) ↔ (GiveLimits limits.now × (IsTariff limits.now.tariff → ⊥)) }
-    // The digest is that of the canonical bytes of the one value that the message denotes.
+    // If `result` is 0, `digest` is the SHA-256 of the canonical bytes of the one value that the message denotes.
     ensures found { result ≡ 0 → (text : List ℕ)
         × AnswersHeld (message_of segments.now) (bounds_of limits.now) text report.new.paid
         × (digest.new ≡ sha256 text) }
-    // A value without capabilities has its digest answered, unless memory runs out.
+    // If the message denotes a value without capabilities, its digest is written, unless memory runs out.
     ensures only { GiveLimits limits.now → IsTariff limits.now.tariff → (v : Value)
         → DenotesHeld (message_of segments.now) (bounds_of limits.now) v → first_cap v ≡ None
         → (result ≡ 8) ⊎ ((result ≡ 0) × (digest.new ≡ sha256 (canon v))) }
-    // The report of a digest has the price alone; what no status speaks of is 0.
+    // The report of a digest has the price. All other fields are 0.
     ensures rest { result ≡ 0 → report.new ≡ answered 0 report.new.paid 0 }
     ensures blank { 1 ≤ result → result ≤ 4 → report.new ≡ at_number 0 }
     ensures listed { IsTrue (is_status result) }
-    // The meaning of each refusal; no other status stands for it.
+    // Any other status and its report stand for a refusal `e`, whose reason is true. They stand for no other refusal,
+    // unless memory was refused.
     ensures refused { 5 ≤ result → (e : Refusals) × Reports result report.new e
         × IsRefusedHeld (message_of segments.now) (bounds_of limits.now) e }
-    // Memory is needed only for canonical bytes.
+    // Memory is refused only if the message has canonical bytes.
     ensures memory { result ≡ 8 → MayNeedBytes (message_of segments.now) (bounds_of limits.now) }
-    // No walk reports more paid than its budget.
+    // The walk pays at most the budget, also if it is refused.
     ensures bounded { IsBounded limits.now.budget report.new.paid report.new.visits }
-    // If nothing is answered, the buffer is as it was.
+    // If `result` is not 0, the buffer is as it was.
     ensures kept { result ≢ 0 → digest.new ≡ digest.old }
 {
     *report = report_at(0);

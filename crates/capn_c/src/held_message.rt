@@ -1,4 +1,4 @@
-//! Messages held in segments.
+//! Messages that are held in segments: their canonical bytes, their survey and their figures.
 
 ghost use Rattle.std.specs.Prelude.{◌≡◌, ◌≢◌, ◌≤◌, ◌+◌, ◌*◌, Ok, None, length};
 ghost use Rattle.std.specs.Prelude.{IfOk, IfErr, IsErrOf, IsOk, MatchResult};
@@ -21,8 +21,7 @@ use capn_walk::{Limits, Surveyed};
 use capn_words::Space;
 use std::alloc::Global;
 
-/// Reads `segments` as a message within `limits`: returns it, or the reason why they hold none, by the fault of a frame
-/// of the same segments.
+/// Reads `segments` as a message within `limits`. Refuses them with the fault that a frame of the same segments has.
 pub fn held<'a>(segments: &'a [&'a [[u8; 8]]], limits: Limits) -> Result<Segments<'a>, Refusal>
     ensures exact { IsHeldOr (message_of segments.now) limits result }
     ensures only { IsHeld (message_of segments.now) limits.message_words → result ≡ Ok (message_of segments.now) }
@@ -40,7 +39,7 @@ pub fn held<'a>(segments: &'a [&'a [[u8; 8]]], limits: Limits) -> Result<Segment
     }
 }
 
-/// Writes the canonical bytes of a message that is held in `segments`, within `limits`, to memory of `alloc`.
+/// Makes the canonical bytes of the message that is held in `segments`, within `limits`, in memory of `alloc`.
 pub fn canonical_held(
     alloc: Global,
     segments: &[&[[u8; 8]]],
@@ -60,7 +59,7 @@ pub fn canonical_held(
     canonical_of(alloc, &message, limits)
 }
 
-/// Surveys a message that is held in `segments`, within `limits`.
+/// Surveys the message that is held in `segments`, within `limits`.
 pub fn survey_held(
     alloc: Global,
     segments: &[&[[u8; 8]]],
@@ -77,15 +76,15 @@ pub fn survey_held(
         → length (canon v) ≤ 8 * (s.paid + 1)) }
 {
     let message = held(segments, limits)?;
-    // The clause on the length needs their promises.
+    // The proof of the clauses needs the bounds that these calls promise.
     let _segments = message.segments();
     let _budget = limits.budget();
     let _depth = limits.depth();
     survey(alloc, &message, limits)
 }
 
-/// Returns the figures of a message that is held in `segments`, within `limits`, or the reason why they hold none or it
-/// is not accepted.
+/// Returns the figures of the message that is held in `segments`, within `limits`, or the reason why they hold none or
+/// the message is not accepted.
 pub fn figures_held(
     alloc: Global,
     segments: &[&[[u8; 8]]],

@@ -1,4 +1,4 @@
-//! Indexes of messages.
+//! The call `capn_index`: the index of a message, with an entry for each slot that its walk visits.
 
 ghost use Rattle.std.specs.Prelude.{IsTrue, ◌≡◌, ◌≢◌, ◌⊎◌, ◌↔◌, ◌<◌, ◌≤◌, ◌*◌, length};
 ghost use Rattle.capn_value.specs.Tree.{Tree as Value};
@@ -24,7 +24,8 @@ use capn_walk::Limits;
 use capn_walk::laws::indexes;
 use std::alloc::Global;
 
-/// Writes the index of a message in this `form`, a stream or bare words, to `out`.
+/// Writes the index of the message that `bytes` encode in this `form`, a stream or bare words, to `out`, and reports
+/// the result.
 fn index_in(
     alloc: Global,
     form: Form,
@@ -46,15 +47,19 @@ fn index_in(
     }
 }
 
-/// Writes the index of the message that `bytes` encode in a `form`, a stream or bare words, to `out`: an entry for each
-/// slot that its walk visits, in preorder.
+/// Writes the index of the message that `bytes` encode in `form`, a stream or bare words, to `out`, within `limits`.
+/// The index has an entry for each slot that the walk visits, in preorder.
 ///
-/// 0: the entries are at the start of the room. 1: there is no room for them, and the room is as it was. In both
-/// `visits` is their number, and `length` is 24 bytes for each. 2, 3 and 4: the form is neither, a limit or the tariff
-/// is out of its range. 8: memory was refused. Others: the refusal, which is never that of a capability.
+/// - 0: the entries are at the start of `out`.
+/// - 1: `out` has no room for the entries, and is as it was.
+/// - 2, 3 and 4: the form is neither a stream nor bare words, or a limit or the tariff is out of its range.
+/// - 8: memory was refused.
+/// - Others: the refusal, which is never that of a capability.
 ///
-/// Bare words, and a stream of at most 64 segments, take no memory: their entries are written into the room. A stream
-/// of more segments takes it for its table.
+/// If the status is 0 or 1, `visits` is the number of entries, and `length` is 24 bytes for each.
+///
+/// Bare words, and a stream of at most 64 segments, take no memory, since their entries are written straight into
+/// `out`. A stream of more segments takes it for its table.
 #[unsafe(no_mangle)]
 pub extern "C" fn capn_index(
     alloc: Global,
@@ -64,34 +69,35 @@ pub extern "C" fn capn_index(
     out: &mut [CapnEntry],
     report: &mut CapnReport,
 ) -> u32
-    // The form and the limits are tested first.
+    // The form, then the limits, then the tariff are tested before the bytes are read.
     ensures form { (result ≡ 2) ↔ (IsFlat form → ⊥) }
     ensures limits { (result ≡ 3) ↔ (IsFlat form × (GiveLimits limits.now → ⊥)) }
     ensures tariff { (result ≡ 4) ↔ (IsFlat form × GiveLimits limits.now × (IsTariff limits.now.tariff → ⊥)) }
-    // The bytes are an accepted message; the report has the number of entries of its index, and the words that its walk
-    // pays.
+    // If `result` is 0 or 1, the bytes are an accepted message. The report has the number of entries of its index, and
+    // the words that its walk pays.
     ensures counted { result ≤ 1 → (s : Survey) × Surveys (form_named form) bytes.now (bounds_of limits.now) s
         × (report.new ≡ answered (24 * s.visits) s.paid s.visits) }
-    // That number is the one of all entries of the index, whether they have room or not.
+    // The number in `visits` counts all entries of the index, whether they have room or not.
     ensures entries { result ≤ 1
         → HasEntries (form_named form) bytes.now (bounds_of limits.now) report.new.visits }
-    // The index is in the room, or has no room.
+    // If `result` is 0, the index is in `out`. If it is 1, `out` has too few entries for it.
     ensures written { result ≡ 0 → (report.new.visits ≤ length out.old)
         × IndexedIn (form_named form) bytes.now (bounds_of limits.now) out.old out.new }
     ensures no_room { result ≡ 1 → length out.old < report.new.visits }
-    // A message that is accepted is answered so, unless memory runs out.
+    // If the bytes are an accepted message, `result` is 0 or 1, unless memory runs out.
     ensures only { IsFlat form → GiveLimits limits.now → IsTariff limits.now.tariff → (v : Value)
         → Denotes (form_named form) bytes.now (bounds_of limits.now) v → (result ≤ 1) ⊎ (result ≡ 8) }
     ensures blank { 2 ≤ result → result ≤ 4 → report.new ≡ at_number 0 }
     ensures listed { IsTrue (is_status result) }
-    // The meaning of each refusal; no other status stands for it.
+    // Any other status and its report stand for a refusal `e`, whose reason is true. They stand for no other refusal,
+    // unless memory was refused.
     ensures refused { 5 ≤ result → (e : Refusals) × Reports result report.new e
         × IsUnacceptedIn (form_named form) bytes.now (bounds_of limits.now) e }
-    // Memory is needed only if `capn_check` may need it.
+    // Memory is refused only if `capn_check` may need it.
     ensures memory { result ≡ 8 → MayNeedMemory (form_named form) bytes.now (bounds_of limits.now) }
-    // No walk reports more paid than its budget.
+    // The walk pays at most the budget, also if it is refused.
     ensures bounded { IsBounded limits.now.budget report.new.paid report.new.visits }
-    // If nothing is written, the room is as it was.
+    // If `result` is not 0, `out` is as it was.
     ensures kept { result ≢ 0 → out.new ≡ out.old }
 {
     *report = report_at(0);

@@ -1,4 +1,4 @@
-//! The test for canonical bytes.
+//! The call `capn_is_canonical`: tests whether bare bytes are canonical.
 
 ghost use Rattle.std.specs.Prelude.{IsTrue, ◌≡◌, ◌≢◌, ◌⊎◌, ◌↔◌, ◌≤◌, None, true, false};
 ghost use Rattle.capn_value.specs.Tree.{Tree as Value};
@@ -19,7 +19,7 @@ use capn_canon::is_canonical;
 use capn_walk::Limits;
 use std::alloc::Global;
 
-/// Tests whether `bytes` are the canonical bytes of their value, and reports it.
+/// Tests whether `bytes` are the canonical bytes of their value, and reports the result.
 fn test(alloc: Global, bytes: &[u8], limits: Limits, report: &mut CapnReport) -> u32
     ensures possible { (result ≡ 0) ⊎ (result ≡ 5) ⊎ (8 ≤ result) }
     ensures yes { result ≡ 0 → SaysCanonical bytes.now limits true }
@@ -39,8 +39,10 @@ fn test(alloc: Global, bytes: &[u8], limits: Limits, report: &mut CapnReport) ->
 
 /// Tests whether `bytes`, read bare within `limits`, are the canonical bytes of the value that they denote.
 ///
-/// 0: they are. 5: they are not. 3 and 4: a limit or the tariff is out of its range. Others: the refusal, never that
-/// memory was refused.
+/// - 0: they are.
+/// - 5: they are not.
+/// - 3 and 4: a limit or the tariff is out of its range.
+/// - Others: the refusal, never that memory was refused.
 #[unsafe(no_mangle)]
 pub extern "C" fn capn_is_canonical(
     alloc: Global,
@@ -48,25 +50,27 @@ pub extern "C" fn capn_is_canonical(
     limits: &CapnLimits,
     report: &mut CapnReport,
 ) -> u32
-    // The limits are tested first.
+    // The limits, then the tariff are tested before anything is read.
     ensures limits { (result ≡ 3) ↔ (GiveLimits limits.now → ⊥) }
     ensures tariff { (result ≡ 4) ↔ (GiveLimits limits.now × (IsTariff limits.now.tariff → ⊥)) }
-    // The answer is on the one value that the bytes denote, which has no capability.
+    // If `result` is 0 or 5, the bytes denote one value, which has no capability. `result` says whether the bytes are
+    // its canonical bytes.
     ensures yes { result ≡ 0 → SaysCanonical bytes.now (bounds_of limits.now) true }
     ensures no { result ≡ 5 → SaysCanonical bytes.now (bounds_of limits.now) false }
-    // Bytes that denote such a value are answered, unless memory runs out.
+    // If the bytes denote a value without capabilities, `result` is 0 or 5, unless memory runs out.
     ensures only { GiveLimits limits.now → IsTariff limits.now.tariff → (v : Value)
         → Denotes forms.Bare bytes.now (bounds_of limits.now) v → first_cap v ≡ None
         → (result ≡ 8) ⊎ ((result ≡ 0) × (canon v ≡ bytes.now)) ⊎ ((result ≡ 5) × (canon v ≢ bytes.now)) }
-    // The report of an answer is empty.
+    // If `result` is 0 or 5, all fields of the report are 0.
     ensures blank { result ≤ 5 → report.new ≡ at_number 0 }
     ensures listed { IsTrue (is_status result) }
-    // The meaning of each refusal; no other status stands for it.
+    // Any other status and its report stand for a refusal `e`, whose reason is true. They stand for no other refusal,
+    // unless memory was refused.
     ensures refused { 6 ≤ result → (e : Refusals) × Reports result report.new e
         × IsRefused forms.Bare bytes.now (bounds_of limits.now) e }
-    // No memory is needed, whatever the depth.
+    // Memory is never refused, since none is needed, whatever the depth.
     ensures no_memory { result ≢ 8 }
-    // No walk reports more paid than its budget.
+    // The walk pays at most the budget, also if it is refused.
     ensures bounded { IsBounded limits.now.budget report.new.paid report.new.visits }
 {
     *report = report_at(0);

@@ -1,11 +1,11 @@
-//! The laws of the answers, as empty functions.
+//! The laws of the calls for C, as empty functions.
 
 ghost use Rattle.capn_c.specs.AsFramed.{HeldAreAnsweredAsFramed, HeldAreRefusedAsFramed};
 ghost use Rattle.capn_c.specs.Offsets.{OffsetsAreOfContents, OffsetsAreOfPlaces};
 
 use capn_walk::laws::indexes;
 
-/// States: at the offset of an entry, and inside the bytes, are the words from the segment and word of the entry on; so
+/// States that the words of a message from an entry's segment and word on are in the bytes at the entry's offset. So
 /// the target of the slot is there, if it has content. This holds of streams and bare words.
 pub fn offsets()
     ensures places { OffsetsAreOfPlaces }
@@ -14,8 +14,8 @@ pub fn offsets()
     indexes();
 }
 
-/// States: a message that is held in segments has the answer that a frame of the same segments has, and is refused as
-/// it is, under the same limits.
+/// States that a message that is held in segments has the result that a frame of the same segments has under the same
+/// limits, and the same refusals.
 pub fn segments()
     ensures answered { HeldAreAnsweredAsFramed }
     ensures refused { HeldAreRefusedAsFramed }

@@ -1,11 +1,15 @@
-//! The libraries for C: one export for each call.
-//! The buffers belong to the caller.
+//! The library for C: one export for each call. The buffers belong to the caller.
 //!
-//! Each export answers a status and fills in a [`CapnReport`]. Statuses up to 7 speak of the call: 0, the answer is
-//! there; 1, its buffer has no room; 2, 3, 4 and 6, the form, a limit, the tariff or the style is out of its range; 5,
-//! bytes are not canonical; 7, two messages differ. 9 says that the scratch is too short. 8, and from 16 on, they stand
-//! for a refusal, with its numbers in the report; what a status does not speak of is 0.
-//! An export requires nothing but what its types say: memory that is there, and no overlap of what is written.
+//! Each export returns a status and fills in a [`CapnReport`]. The statuses up to 7 concern the call:
+//! - 0: the result is written.
+//! - 1: its buffer has no room.
+//! - 2, 3, 4 and 6: the form, a limit, the tariff or the style is out of its range.
+//! - 5: the bytes are not canonical.
+//! - 7: two messages differ.
+//!
+//! Status 9 says that the scratch is too short. Status 8, and those from 16 on, stand for a refusal. The report has the
+//! numbers of the status, and 0 in all other fields. An export requires nothing but what its types say: memory that is
+//! there, and no overlap of what is written.
 #![tactic(auto)]
 
 mod canonical_call;

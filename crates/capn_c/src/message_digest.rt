@@ -1,4 +1,4 @@
-//! Digests of messages in each form.
+//! The digest of the canonical bytes of a message in any form: hashed in place if the message is canonical.
 
 ghost use Rattle.std.specs.Prelude.{◌≡◌, ◌≤◌, ℕ, List, None, IfSome, IfOk, IfErr, IsErrOf, MatchResult};
 ghost use Rattle.sha2.specs.Sha256.{sha256};
@@ -17,16 +17,16 @@ use capn_words::Space;
 use sha2::{Digest, Sha256};
 use std::alloc::Global;
 
-/// The digest of canonical bytes, and the words that the walk of their message pays.
+/// The digest of a message's canonical bytes, and the words that its walk pays.
 #[derive(Drop)]
 pub struct Digested {
-    /// The digest.
+    /// The SHA-256 of the canonical bytes.
     pub digest: [u8; 32],
-    /// The words.
+    /// The words that the walk pays.
     pub paid: u32,
 }
 
-/// Returns the digest of a message that is canonical, which is hashed in place; `None` of any other.
+/// Returns the digest of the message `space`, hashed in place, if it is canonical. Returns `None` for any other.
 fn digest_in_place<S: Space>(space: &S, limits: Limits) -> Option<Digested>
     ensures found { IfSome result (λ d. (text : List ℕ) × AnswersMessage (S.message space.now) limits text d.paid
         × (d.digest ≡ sha256 text)) }
@@ -41,7 +41,8 @@ fn digest_in_place<S: Space>(space: &S, limits: Limits) -> Option<Digested>
     })
 }
 
-/// The task of the digest of the canonical bytes of a message, which are made if it is not canonical.
+/// The task of `digest_in`: finds the digest of the message that was read, and makes its canonical bytes only if it is
+/// not canonical.
 #[derive(Clone, Copy)]
 struct Hash;
 
@@ -69,10 +70,10 @@ impl MessageTask<Global> for Hash {
 }
 
 /// Returns the digest of the canonical bytes of the message that `bytes` encode in this `form`, within `limits`, or the
-/// reason why it has none.
+/// reason why it has no canonical bytes.
 ///
-/// The bytes are read once. Memory is asked of `alloc` only by a packed text, by a frame of more than 64 segments, and
-/// by a message that is not canonical, of which a copy is made.
+/// The bytes are read once. Memory is taken from `alloc` only by a packed text, by a frame of more than 64 segments,
+/// and by a message that is not canonical, for its canonical bytes.
 pub fn digest_in(
     alloc: Global,
     form: Form,

@@ -1,4 +1,4 @@
-//! The figures of a message in each form.
+//! The figures of a message in any of the three forms.
 
 ghost use Rattle.capn_canon.specs.Refusal.{IsUnacceptedIn};
 ghost use Rattle.capn_canon.specs.MemoryNeed.{MayNeedMemory};
@@ -15,7 +15,7 @@ use capn_walk::Limits;
 use capn_words::Bare;
 use std::alloc::Global;
 
-/// Returns the figures of a stream of one message. Memory is asked for only by a frame of more than 64 segments.
+/// Returns the figures of the message in the frame `bytes`. Only a frame of more than 64 segments takes memory.
 fn figures_of_frame(alloc: Global, bytes: &[u8], limits: Limits) -> Result<CapnFigures, Refusal>
     ensures { AreFiguresTold (FiguresIn forms.Stream bytes.now limits) (IsUnacceptedIn forms.Stream bytes.now limits)
         (MayNeedMemory forms.Stream bytes.now limits) limits.budget result }
@@ -24,7 +24,7 @@ fn figures_of_frame(alloc: Global, bytes: &[u8], limits: Limits) -> Result<CapnF
     figures_of(alloc, &message, limits)
 }
 
-/// Returns the figures of a packed stream of one message.
+/// Returns the figures of the message in the frame that the packed text `bytes` unpacks to.
 fn figures_of_packed(alloc: Global, bytes: &[u8], limits: Limits) -> Result<CapnFigures, Refusal>
     ensures { AreFiguresTold (FiguresIn forms.Packed bytes.now limits) (IsUnacceptedIn forms.Packed bytes.now limits)
         (MayNeedMemory forms.Packed bytes.now limits) limits.budget result }
@@ -33,11 +33,11 @@ fn figures_of_packed(alloc: Global, bytes: &[u8], limits: Limits) -> Result<Capn
     figures_of_frame(alloc, stream.as_slice(), limits)
 }
 
-/// Returns the figures of the message that `bytes` encode in this `form`, within `limits`, or the reason why there is
-/// none or it is not accepted.
+/// Returns the figures of the message that `bytes` encode in this `form`, within `limits`, or the reason why they hold
+/// none or the message is not accepted.
 ///
-/// The form is read once, and the message walked as by [`figures_of`]. Memory is asked of `alloc` only by a packed
-/// text, and by a frame of more than 64 segments.
+/// The bytes are read once, and the message is walked as by [`figures_of`]. Memory is taken from `alloc` only by a
+/// packed text, and by a frame of more than 64 segments.
 pub fn figures_in(
     alloc: Global,
     form: Form,

@@ -1,4 +1,4 @@
-//! Indexes of messages that are streams or bare.
+//! The index of a stream or of bare words, written into the caller's entries.
 
 ghost use Rattle.std.specs.Prelude.{◌≡◌, ◌<◌, ◌*◌, length, false};
 ghost use Rattle.capn_stream.specs.FrameRefusal.{head_length, most_few};
@@ -21,8 +21,8 @@ use capn_walk::{Limits, Surveyed, index_into_form};
 use capn_words::{Bare, Space};
 use std::alloc::Global;
 
-/// Writes the index of an accepted message to `out`, which has room for it. The message comes after a table of `table`
-/// bytes, and its segments begin at `starts`.
+/// Writes the index of the accepted message `space` to `out`, which has room for it. The offsets count from the start
+/// of a segment table of `table` bytes, after which the segments begin at `starts`.
 fn write_index<S: Space>(
     space: &S,
     limits: Limits,
@@ -40,7 +40,8 @@ fn write_index<S: Space>(
     }
 }
 
-/// Writes that index, once memory is found for the starts of the segments; returns `false` if it is refused.
+/// Writes the index of the accepted message `space` to `out`, with memory for the starts of its segments. Returns
+/// `false` if the memory is refused.
 fn write_many<S: Space>(
     alloc: Global,
     space: &S,
@@ -60,7 +61,8 @@ fn write_many<S: Space>(
     true
 }
 
-/// Writes that index; returns `false` if memory is refused, which is asked for only by more than 64 segments.
+/// Writes the index of the accepted message `space` to `out`. Only more than 64 segments take memory. Returns `false`
+/// if it is refused.
 fn write_entries<S: Space>(
     alloc: Global,
     space: &S,
@@ -89,8 +91,8 @@ fn report_of_index(surveyed: Surveyed) -> CapnReport
     answer_of(24 * surveyed.visits as u64, surveyed.paid, surveyed.visits)
 }
 
-/// Writes the index of a message that comes after a table of `table` bytes to `out`. Memory is asked for only by more
-/// than 64 segments.
+/// Writes the index of the message `space`, which follows a segment table of `table` bytes, to `out`, and reports the
+/// result. Only more than 64 segments take memory.
 fn index_message<S: Space>(
     alloc: Global,
     space: &S,
@@ -120,15 +122,15 @@ fn index_message<S: Space>(
     }
 }
 
-/// Returns the number of bytes that the table of a message takes in a stream.
+/// Returns the number of bytes that the segment table of the message `space` takes in a stream.
 fn table_of<S: Space>(space: &S) -> u32
     ensures { result ≡ head_length (length (S.message space.now)) }
 {
     head_of(space.segments() as usize) as u32
 }
 
-/// Writes the index of the message of which `bytes` are the frame to `out`, within `limits`, with the `report`; returns
-/// the status. Memory is asked of `alloc` only by a frame of more than 64 segments.
+/// Writes the index of the message in the frame `bytes` to `out`, within `limits`. Fills in `report`, and returns the
+/// status. Memory is taken from `alloc` only by a frame of more than 64 segments.
 pub fn index_frame(
     alloc: Global,
     bytes: &[u8],
@@ -145,7 +147,7 @@ pub fn index_frame(
     }
 }
 
-/// Writes the index of the bare words `bytes` to `out`, within `limits`, with the `report`; returns the status.
+/// Writes the index of the bare words `bytes` to `out`, within `limits`. Fills in `report`, and returns the status.
 pub fn index_bare(
     alloc: Global,
     bytes: &[u8],

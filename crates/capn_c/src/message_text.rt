@@ -1,4 +1,4 @@
-//! The text of a message, held as a whole.
+//! The text of a message in any form, made in memory.
 
 ghost use Rattle.std.specs.Prelude.{◌≡◌, ◌++◌, IfSome, IfOk, IfErr, IsErrOf, MatchResult};
 ghost use Rattle.capn_walk.specs.Accepted.{IsBounded};
@@ -14,7 +14,7 @@ use capn_walk::{Limits, Surveyed};
 use capn_words::{Space, Watched};
 use std::alloc::Global;
 
-/// Joins `second` to `first`, or returns `None` if memory was refused.
+/// Returns the bytes of `first` and then `second`, or `None` if memory was refused.
 fn joined(mut first: Vec<u8>, second: Vec<u8>) -> Option<Vec<u8>>
     ensures { IfSome result (λ all. all.items ≡ first.items ++ second.items) }
 {
@@ -27,7 +27,7 @@ fn joined(mut first: Vec<u8>, second: Vec<u8>) -> Option<Vec<u8>>
     }
 }
 
-/// Returns the text of a message in this `style`, or `None` if it is not accepted, or memory was refused.
+/// Returns the text of the message `space` in this `style`, or `None` if it is not accepted or memory was refused.
 fn text_of<S: Space>(alloc: Global, space: &S, limits: Limits, style: Style) -> Option<Vec<u8>>
     ensures { IfSome result (λ text. ShowsMessage (S.message space.now) limits style text.items) }
 {
@@ -51,7 +51,7 @@ pub struct ShownText {
     pub survey: Surveyed,
 }
 
-/// The task of the text of a message in a style.
+/// The task of `text_in`: makes the text of the message that was read, in a style.
 #[derive(Clone, Copy)]
 struct Show {
     style: Style,
@@ -76,8 +76,8 @@ impl MessageTask<Global> for Show {
     }
 }
 
-/// Returns the text of the message that `bytes` encode in this `form`, in this `style`, with its survey within
-/// `limits`; or the reason why there is none or it is not accepted. The bytes are read once.
+/// Returns the text of the message that `bytes` encode in this `form`, in this `style`, and its survey within `limits`.
+/// Returns the reason why they hold none or the message is not accepted otherwise. The bytes are read once.
 pub fn text_in(
     alloc: Global,
     form: Form,

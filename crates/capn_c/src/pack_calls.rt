@@ -1,4 +1,4 @@
-//! Packing.
+//! The calls `capn_pack` and `capn_unpack`.
 
 ghost use Rattle.std.specs.Prelude.{◌↔◌, IsTrue, ◌≡◌, ◌≢◌, ◌⊎◌, ◌≤◌, ◌<◌, ◌%◌, ◌*◌, ℕ, List, length};
 ghost use Rattle.capn_pack.specs.Packed.{Packs};
@@ -15,8 +15,10 @@ use std::alloc::Global;
 
 /// Writes the packed text of the whole words `bytes` to `out`.
 ///
-/// 0: the text is at the start of the buffer. 1: the buffer has no room for it, and is as it was; `length` is what it
-/// needs. 8: memory was refused. 16: the bytes are not whole words; `at` is their number.
+/// - 0: the text is at the start of `out`.
+/// - 1: `out` has no room for the text, and is as it was. `length` is what it needs.
+/// - 8: memory was refused.
+/// - 16: the bytes are not whole words. `at` is their number.
 #[unsafe(no_mangle)]
 pub extern "C" fn capn_pack(
     alloc: Global,
@@ -24,21 +26,21 @@ pub extern "C" fn capn_pack(
     out: &mut [u8],
     report: &mut CapnReport,
 ) -> u32
-    // The answer is the packer's text of these words, and so a packed text of them.
+    // If `result` is 0 or 1, the answer is the text that the packer chooses for the words. It is a packed text of them.
     ensures found { result ≤ 1 → (text : List ℕ) × Chosen text bytes.now × Packs text bytes.now
         × Delivers text result report.new.length out.old out.new }
-    // The packer has one text for these words: it is answered, unless memory runs out.
+    // The text that the packer chooses for the words is the answer, unless memory runs out.
     ensures only { (text : List ℕ) → Chosen text bytes.now
         → (result ≡ 8) ⊎ Delivers text result report.new.length out.old out.new }
-    // Two of the packer's texts are equal if and only if their words are.
+    // Two texts that the packer chooses are equal if and only if their words are equal.
     ensures unique { (a b vs ws : List ℕ) → Chosen a vs → Chosen b ws
         → ((a ≡ b) ↔ (vs ≡ ws)) }
-    // Each refusal.
+    // Bytes that are whole words are never refused but for memory. Others are refused by 16, with their number.
     ensures whole { length bytes.now % 8 ≡ 0 → (result ≤ 1) ⊎ (result ≡ 8) }
     ensures not_whole { length bytes.now % 8 ≢ 0 → (result ≡ 16) × (report.new ≡ at_number (length bytes.now)) }
-    // Memory is needed only if there are bytes.
+    // Memory is refused only if there are bytes.
     ensures memory { result ≡ 8 → 0 < length bytes.now }
-    // The report of an answer has its length alone; what no status speaks of is 0.
+    // The report of an answer has its length. All other fields are 0.
     ensures rest { result ≤ 1 → report.new ≡ answered report.new.length 0 0 }
     ensures blank { result ≡ 8 → report.new ≡ at_number 0 }
     ensures kept { result ≢ 0 → out.new ≡ out.old }
@@ -59,10 +61,13 @@ pub extern "C" fn capn_pack(
     }
 }
 
-/// Writes the words that the packed text `bytes` packs, at most `max_words`, to `out`.
+/// Unpacks the packed text `bytes` to `out`, if it has at most `max_words` words.
 ///
-/// 0: the words are at the start of the buffer. 1: the buffer has no room for them, and is as it was; `length` is what
-/// they need. 8: memory was refused. 32 and 33: the group whose tag is at `at` is cut, or goes over the maximum.
+/// - 0: the words are at the start of `out`.
+/// - 1: `out` has no room for the words, and is as it was. `length` is what they need.
+/// - 8: memory was refused.
+/// - 32: the text ends within the group whose tag is at `at`.
+/// - 33: the group whose tag is at `at` exceeds the maximum.
 #[unsafe(no_mangle)]
 pub extern "C" fn capn_unpack(
     alloc: Global,
@@ -71,20 +76,21 @@ pub extern "C" fn capn_unpack(
     out: &mut [u8],
     report: &mut CapnReport,
 ) -> u32
-    // The answer is what the bytes pack, within the maximum: the bytes of words.
+    // If `result` is 0 or 1, the answer is the words that the packed text unpacks to, at most `max_words`.
     ensures found { result ≤ 1 → (words : List ℕ)
         × Packs bytes.now words × (length words ≤ 8 * max_words) × HasWords words
         × Delivers words result report.new.length out.old out.new }
-    // What they pack within the maximum is answered, unless memory runs out.
+    // If the packed text unpacks to at most `max_words` words, the answer is those words, unless memory runs out.
     ensures only { (words : List ℕ) → Packs bytes.now words → length words ≤ 8 * max_words
         → (result ≡ 8) ⊎ Delivers words result report.new.length out.old out.new }
     ensures listed { IsTrue (is_status result) }
-    // The meaning of each refusal, and its place.
+    // Any other status and its report stand for a refusal `e` of the packed text, whose reason is true. The report has
+    // the offset of the group.
     ensures refused { 2 ≤ result → (e : Faults) × ReportsPacked result report.new e
         × IsUnpackRefused bytes.now max_words e }
-    // Memory is needed only if a whole group within the maximum comes first.
+    // Memory is refused only if a whole group within the maximum comes first.
     ensures memory { result ≡ 8 → StartsWithin bytes.now max_words }
-    // The report of an answer has its length alone.
+    // The report of an answer has its length. All other fields are 0.
     ensures rest { result ≤ 1 → report.new ≡ answered report.new.length 0 0 }
     ensures kept { result ≢ 0 → out.new ≡ out.old }
 {

@@ -1,4 +1,4 @@
-//! The paths to refusals.
+//! The call `capn_refusal_way`: the path to the slot at which the walk of a message is refused.
 
 ghost use Rattle.std.specs.Prelude.{IsTrue, ◌≡◌, ◌⊎◌, ◌↔◌, ◌<◌, ◌≤◌, ◌*◌, ℕ, List};
 ghost use Rattle.capn_value.specs.Tree.{Tree as Value};
@@ -24,7 +24,8 @@ use capn_canon::Form;
 use capn_walk::Limits;
 use std::alloc::Global;
 
-/// Finds the path to the slot at which the walk of the message that `bytes` encode in this `form` stopped.
+/// Walks the message that `bytes` encode in this `form`, and reports its survey, or the path to the slot at which the
+/// walk stopped.
 fn refusal_way(
     alloc: Global,
     form: Form,
@@ -62,15 +63,18 @@ fn refusal_way(
     }
 }
 
-/// Tests whether the message that `bytes` encode in a `form` is accepted within `limits`, and if its walk is refused,
-/// finds the path to the slot at which that stopped: the numbers that lead to it from the root, in the room `way`.
+/// Tests whether the message that `bytes` encode in `form` is accepted within `limits`. If its walk is refused, writes
+/// the path to the slot at which it stopped to `way`: the numbers that lead there from the root.
 ///
-/// 0: it is accepted; `paid` and `visits` are those of its walk. 2, 3 and 4: the form, a limit or the tariff is out of
-/// its range. 8: memory was refused: where `capn_check` takes it, or, if the walk is refused, for the path. From 64 on:
-/// the walk is refused; `length` is 4 bytes for each number of the path. The numbers are at the start of the room if it
-/// has room for all of them; else it is as it was. Others: the refusal, which is never that of a capability.
+/// - 0: the message is accepted. `paid` and `visits` are those of its walk.
+/// - 2, 3 and 4: the form, a limit or the tariff is out of its range.
+/// - 8: memory was refused, for what `capn_check` takes it for, or for the path if the walk is refused.
+/// - From 64 to 74: the walk is refused. `length` is 4 bytes for each number of the path. The numbers are at the start
+///   of `way` if all of them fit; otherwise `way` is as it was.
+/// - Others: the refusal, which is never that of a capability.
 ///
-/// Two numbers for each level of the depth limit are enough. A message that is refused is walked twice at most.
+/// A `way` of two numbers for each level of the depth limit always has room. A message that is refused is walked at
+/// most twice.
 #[unsafe(no_mangle)]
 pub extern "C" fn capn_refusal_way(
     alloc: Global,
@@ -80,33 +84,35 @@ pub extern "C" fn capn_refusal_way(
     way: &mut [u32],
     report: &mut CapnReport,
 ) -> u32
-    // The form and the limits are tested first.
+    // The form, then the limits, then the tariff are tested before the bytes are read.
     ensures form { (result ≡ 2) ↔ (IsForm form → ⊥) }
     ensures limits { (result ≡ 3) ↔ (IsForm form × (GiveLimits limits.now → ⊥)) }
     ensures tariff { (result ≡ 4) ↔ (IsForm form × GiveLimits limits.now × (IsTariff limits.now.tariff → ⊥)) }
-    // The bytes are an accepted message; the report has the words that its walk pays, the number of its visits, and no
-    // more.
+    // If `result` is 0, the bytes are an accepted message. The report has the words that its walk pays and the number
+    // of its visits, and all other fields are 0.
     ensures found { result ≡ 0 → (s : Survey) × Surveys (form_named form) bytes.now (bounds_of limits.now) s
         × (report.new ≡ answered 0 s.paid s.visits) }
-    // This is the answer for a message that is accepted, unless memory runs out.
+    // If the bytes are an accepted message, `result` is 0, unless memory runs out.
     ensures only { IsForm form → GiveLimits limits.now → IsTariff limits.now.tariff → (v : Value)
         → Denotes (form_named form) bytes.now (bounds_of limits.now) v → (result ≡ 0) ⊎ (result ≡ 8) }
     ensures blank { 1 ≤ result → result ≤ 4 → report.new ≡ at_number 0 }
     ensures listed { IsTrue (is_status result) }
-    // The meaning of each refusal that is none of the walk; no other status stands for it.
+    // A status from 5 to 63 and its report stand for a refusal `e` that is not one of the walk, and whose reason is
+    // true. They stand for no other refusal, unless memory was refused.
     ensures refused { 5 ≤ result → result < 64 → (e : Refusals) × Reports result report.new e
         × IsUnacceptedIn (form_named form) bytes.now (bounds_of limits.now) e }
-    // A refusal of the walk: its place, and the path there, in the room if that has room for it.
+    // A status from 64 on is a refusal of the walk. The report has its place and the length of the path to it, and the
+    // path is in `way` if it fits.
     ensures told { 64 ≤ result → (s : Stop) × (numbers : List ℕ)
         × IsStoppedIn (form_named form) bytes.now (bounds_of limits.now) s numbers
         × TellsPath result report.new s numbers way.old way.new }
-    // Two numbers for each level of depth are enough.
+    // A path has at most two numbers for each level of the depth limit.
     ensures short { 64 ≤ result → report.new.length ≤ 8 * limits.now.depth }
-    // Memory is needed only if a check may need it, and for a message that is refused by its walk.
+    // Memory is refused only if `capn_check` may need it, or if the walk of the message is refused.
     ensures memory { result ≡ 8 → MayNeedItsPath (form_named form) bytes.now (bounds_of limits.now) }
-    // No walk reports more paid than its budget.
+    // The walk pays at most the budget, also if it is refused.
     ensures bounded { IsBounded limits.now.budget report.new.paid report.new.visits }
-    // At any other status the room is as it was.
+    // If the walk is not refused, `way` is as it was.
     ensures kept { result < 64 → way.new ≡ way.old }
 {
     *report = report_at(0);

@@ -1,4 +1,4 @@
-//! Comparisons of messages.
+//! The call `capn_same`: compares the values of two messages in the same form.
 
 ghost use Rattle.std.specs.Prelude.{IsTrue, ◌≡◌, ◌≢◌, ◌⊎◌, ◌↔◌, ◌≤◌, None, true, false};
 ghost use Rattle.capn_value.specs.Tree.{Tree as Value};
@@ -22,7 +22,8 @@ use capn_canon::laws::{canonicity, denotation};
 use capn_walk::Limits;
 use std::alloc::Global;
 
-/// Compares the messages that `first` and `second` encode in this `form`, or reports which is refused, and why.
+/// Compares the messages that `first` and `second` encode in this `form`, and reports the result, or the refusal and
+/// which message it is of.
 fn compare(
     alloc: Global,
     form: Form,
@@ -47,7 +48,7 @@ fn compare(
     ensures memory { result ≡ 8 → MayNeedMemory form (named which.new first.now second.now) limits }
     ensures bounded { IsBounded limits.budget report.new.paid report.new.visits }
 {
-    // The clauses need the laws of canonical bytes, and what is promised of limits.
+    // The proof of the clauses needs the laws of canonical bytes, and the ranges that limits promise.
     canonicity();
     denotation();
     let _words = limits.message_words();
@@ -66,13 +67,16 @@ fn compare(
     }
 }
 
-/// Tests whether the messages that `first` and `second` encode in a `form` have the same canonical bytes within
-/// `limits`. None are made.
+/// Tests whether the messages that `first` and `second` encode in `form` have the same canonical bytes within `limits`.
+/// No canonical bytes are made.
 ///
-/// 0: they have. 7: both have canonical bytes, which differ. 2, 3 and 4: the form, a limit or the tariff is out of its
-/// range. 8: memory was refused: for the ends of more than 64 segments, or for what is unpacked. Others: the refusal of
-/// `first`, or else of `second`, which isn't looked at if `first` is refused. `which` is 1 if `second` is refused, or
-/// memory was for it; else 0.
+/// - 0: their canonical bytes are equal.
+/// - 7: both have canonical bytes, which differ.
+/// - 2, 3 and 4: the form, a limit or the tariff is out of its range.
+/// - 8: memory was refused, for the ends of more than 64 segments or for the words that are unpacked.
+/// - Others: the refusal of `first`, or else of `second`. If `first` is refused, `second` isn't read.
+///
+/// `which` is 1 if `second` is refused, or if memory was refused for it, and else 0.
 #[unsafe(no_mangle)]
 pub extern "C" fn capn_same(
     alloc: Global,
@@ -83,31 +87,33 @@ pub extern "C" fn capn_same(
     which: &mut u32,
     report: &mut CapnReport,
 ) -> u32
-    // The form and the limits are tested first.
+    // The form, then the limits, then the tariff are tested before the bytes are read.
     ensures form { (result ≡ 2) ↔ (IsForm form → ⊥) }
     ensures limits { (result ≡ 3) ↔ (IsForm form × (GiveLimits limits.now → ⊥)) }
     ensures tariff { (result ≡ 4) ↔ (IsForm form × GiveLimits limits.now × (IsTariff limits.now.tariff → ⊥)) }
-    // The answer is on the two values that the bytes denote, which have no capability: they are the same up to trailing
-    // zero words and trailing null pointers of structs, and have equal canonical bytes; or neither holds.
+    // If `result` is 0 or 7, `first` and `second` denote values without capabilities. If it is 0, the values are the
+    // same up to trailing zero words and trailing null pointers of structs, and their canonical bytes are equal. If it
+    // is 7, neither holds.
     ensures same { result ≡ 0 → ComparesIn (form_named form) first.now second.now (bounds_of limits.now) true }
     ensures different { result ≡ 7 → ComparesIn (form_named form) first.now second.now (bounds_of limits.now) false }
-    // Two such values are compared, unless memory runs out.
+    // If both denote values without capabilities, `result` is 0 or 7, unless memory runs out.
     ensures only { IsForm form → GiveLimits limits.now → IsTariff limits.now.tariff → (v w : Value)
         → DenoteBoth (form_named form) first.now second.now (bounds_of limits.now) v w
         → (result ≡ 8) ⊎ ((result ≡ 0) × Same v w) ⊎ ((result ≡ 7) × (Same v w → ⊥)) }
-    // No refusal, and nothing to report.
+    // If `result` is at most 7, `which` and all fields of the report are 0.
     ensures blank { result ≤ 7 → (which.new ≡ 0) × (report.new ≡ at_number 0) }
     ensures listed { IsTrue (is_status result) }
-    // The meaning of each refusal, of the first or the second message; no other status stands for it.
+    // Any other status and its report stand for a refusal `e` of the message that `which` names, whose reason is true.
+    // They stand for no other refusal, unless memory was refused.
     ensures refused { (result ≡ 1) ⊎ (5 ≤ result) → result ≢ 7 → (e : Refusals) × Reports result report.new e
         × IsRefused (form_named form) (named which.new first.now second.now) (bounds_of limits.now) e }
-    // The second one is refused only if the first has canonical bytes.
+    // `second` is refused only if `first` has canonical bytes.
     ensures second { which.new ≢ 0 → (which.new ≡ 1)
         × ((v : Value) × Denotes (form_named form) first.now (bounds_of limits.now) v × (first_cap v ≡ None)) }
-    // Memory is needed only for the ends of more than 64 segments, and for what a text packs.
+    // Memory is refused only for the ends of more than 64 segments, or for the words that a packed text unpacks to.
     ensures memory { result ≡ 8
         → MayNeedMemory (form_named form) (named which.new first.now second.now) (bounds_of limits.now) }
-    // No walk reports more paid than its budget.
+    // The walk pays at most the budget, also if it is refused.
     ensures bounded { IsBounded limits.now.budget report.new.paid report.new.visits }
 {
     *which = 0;

@@ -1,4 +1,4 @@
-//! Two messages that were surveyed, walked in step.
+//! The comparison of two surveyed messages, whose values are walked in step.
 
 ghost use Rattle.std.specs.Prelude.{IsTrue, ◌≡◌, ◌↔◌, ◌<◌};
 ghost use Rattle.capn_value.specs.Tree.{Tree as Value};
@@ -24,7 +24,7 @@ pub fn same_surveyed<A: Space, B: Space>(first: &A, second: &B, limits: Limits) 
     ensures { (v w : Value) → IsValueOf (A.message first.now) limits v → IsValueOf (B.message second.now) limits w
         → IsTrue result ↔ Same v w }
 {
-    // The comparison needs the promises of messages and of limits.
+    // The comparison requires the bounds that these calls promise.
     let _segments = first.segments();
     let _others = second.segments();
     let _budget = limits.budget();
@@ -37,7 +37,8 @@ pub fn same_surveyed<A: Space, B: Space>(first: &A, second: &B, limits: Limits) 
     )
 }
 
-/// Does the same, with counts in the new ledgers `one` and `other`. Both values are at most `depth` objects deep.
+/// Does what [`same_surveyed`] does, with counts in the new ledgers `one` and `other`. Both values are at most `depth`
+/// objects deep.
 fn same_with_ledgers<A: Space, B: Space, L: Ledger, M: Ledger>(
     first: &A,
     second: &B,
@@ -64,7 +65,8 @@ fn same_with_ledgers<A: Space, B: Space, L: Ledger, M: Ledger>(
     }
 }
 
-/// Does the same by calls that count. If `second` has one segment, it is read as its words alone, which is faster.
+/// Does what [`same_surveyed`] does, and counts the reads in `reads` and `others`. If `second` has one segment, it is
+/// read as that segment's words alone, which is faster.
 fn same_beside<A: Space, B: Space, L: Ledger, M: Ledger>(
     first: &CountedSpace<'_, A, L>,
     second: &CountedSpace<'_, B, M>,

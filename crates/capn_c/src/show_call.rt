@@ -1,4 +1,4 @@
-//! Texts of messages.
+//! The call `capn_show`: the text of a message in any form, in one of four styles.
 
 ghost use Rattle.std.specs.Prelude.{IsTrue, ◌≡◌, ◌≢◌, ◌⊎◌, ◌↔◌, ◌≤◌, ℕ, List};
 ghost use Rattle.capn_value.specs.Tree.{Tree as Value};
@@ -23,7 +23,8 @@ use capn_canon::Form;
 use capn_walk::Limits;
 use std::alloc::Global;
 
-/// Writes the text of the message that `bytes` encode in this `form` to `out`, in the style whose number is `style`.
+/// Writes the text of the message that `bytes` encode in this `form` to `out`, in the style with the number `style`,
+/// and reports the result.
 fn show_in(
     alloc: Global,
     form: Form,
@@ -60,13 +61,16 @@ fn show_in(
     }
 }
 
-/// Writes the text of the message that `bytes` encode in a `form`, in a `style`, to `out`: lines, lines with texts
-/// between quotes, a line of JSON, or such a line with texts as texts.
+/// Writes the text of the message that `bytes` encode in `form` to `out`, within `limits`. The `style` is lines, lines
+/// with texts between quotes, a line of JSON, or a line of JSON with texts as strings.
 ///
-/// 0: the text is at the start of the buffer. 1: the buffer has no room for it, and is as it was; `length` is what it
-/// needs, exactly. In both, `paid` and `visits` are those of the walk. 2, 3, 4 and 6: the form, a limit, the tariff or
-/// the style is out of its range. 8: memory was refused: for the ends of more than 64 segments, for what is unpacked,
-/// or for the text. Others: the refusal, which is never that of a capability.
+/// - 0: the text is at the start of `out`.
+/// - 1: `out` has no room for the text, and is as it was. `length` is exactly what it needs.
+/// - 2, 3, 4 and 6: the form, a limit, the tariff or the style is out of its range.
+/// - 8: memory was refused, for the ends of more than 64 segments, for the words that are unpacked, or for the text.
+/// - Others: the refusal, which is never that of a capability.
+///
+/// If the status is 0 or 1, `paid` and `visits` are those of the walk.
 #[unsafe(no_mangle)]
 pub extern "C" fn capn_show(
     alloc: Global,
@@ -77,35 +81,35 @@ pub extern "C" fn capn_show(
     out: &mut [u8],
     report: &mut CapnReport,
 ) -> u32
-    // The form, the limits and the style are tested first.
+    // The form, the limits, the tariff and the style are tested in this order, before the bytes are read.
     ensures form { (result ≡ 2) ↔ (IsForm form → ⊥) }
     ensures limits { (result ≡ 3) ↔ (IsForm form × (GiveLimits limits.now → ⊥)) }
     ensures tariff { (result ≡ 4) ↔ (IsForm form × GiveLimits limits.now × (IsTariff limits.now.tariff → ⊥)) }
     ensures style { (result ≡ 6)
         ↔ (IsForm form × GiveLimits limits.now × IsTariff limits.now.tariff × (IsStyle style → ⊥)) }
-    // The answer: the bytes are an accepted message, and this is its text.
+    // If `result` is 0 or 1, the bytes are an accepted message, and the answer is its text.
     ensures found { result ≤ 1 → (text : List ℕ)
         × ShowsIn (form_named form) bytes.now (bounds_of limits.now) (style_named style) text
         × Delivers text result report.new.length out.old out.new }
-    // A message that is accepted is shown, unless memory runs out.
+    // If the bytes are an accepted message, the answer is its text, unless memory runs out.
     ensures only { IsForm form → GiveLimits limits.now → IsTariff limits.now.tariff → IsStyle style → (v : Value)
         → Denotes (form_named form) bytes.now (bounds_of limits.now) v
         → (result ≡ 8) ⊎ Delivers (message_text (style_named style) v) result report.new.length out.old out.new }
-    // The report of an answer has its length, the words that the walk pays, and its visits; what no status speaks of is
-    // 0.
+    // The report of an answer has its length, the words that the walk pays, and its visits. All other fields are 0.
     ensures rest { result ≤ 1 → (s : Survey) × Surveys (form_named form) bytes.now (bounds_of limits.now) s
         × (report.new ≡ answered report.new.length s.paid s.visits) }
     ensures blank { 2 ≤ result → result ≤ 6 → report.new ≡ at_number 0 }
     ensures listed { IsTrue (is_status result) }
-    // The meaning of each refusal; no other status stands for it.
+    // Any other status and its report stand for a refusal `e`, whose reason is true. They stand for no other refusal,
+    // unless memory was refused.
     ensures refused { 5 ≤ result → result ≢ 6 → (e : Refusals) × Reports result report.new e
         × IsUnacceptedIn (form_named form) bytes.now (bounds_of limits.now) e }
-    // Memory is needed only for the ends of more than 64 segments, for what a text packs, and for the text of a message
-    // that is accepted.
+    // Memory is refused only for the ends of more than 64 segments, for the words that a packed text unpacks to, or for
+    // the text of an accepted message.
     ensures memory { result ≡ 8 → MayNeedText (form_named form) bytes.now (bounds_of limits.now) }
-    // No walk reports more paid than its budget.
+    // The walk pays at most the budget, also if it is refused.
     ensures bounded { IsBounded limits.now.budget report.new.paid report.new.visits }
-    // If nothing is answered, the buffer is as it was.
+    // If `result` is not 0, the buffer is as it was.
     ensures kept { result ≢ 0 → out.new ≡ out.old }
 {
     *report = report_at(0);

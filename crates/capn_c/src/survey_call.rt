@@ -1,4 +1,4 @@
-//! The figures of messages.
+//! The call `capn_survey`: the figures of a message in any form.
 
 ghost use Rattle.std.specs.Prelude.{IsTrue, ◌≡◌, ◌≢◌, ◌⊎◌, ◌↔◌, ◌≤◌};
 ghost use Rattle.capn_value.specs.Tree.{Tree as Value};
@@ -21,7 +21,7 @@ use capn_canon::Form;
 use capn_walk::Limits;
 use std::alloc::Global;
 
-/// Reports the figures of the message that `bytes` encode in this `form`.
+/// Writes the figures of the message that `bytes` encode in this `form` to `figures`, and reports the result.
 fn survey_in(
     alloc: Global,
     form: Form,
@@ -45,15 +45,17 @@ fn survey_in(
     }
 }
 
-/// Writes the figures of the message that `bytes` encode in a `form` to `figures`: its words and segments, the words
-/// that its walk pays, its visits, the least depth under which it is accepted, its first capability, and whether its
-/// bytes are canonical.
+/// Writes the figures of the message that `bytes` encode in `form`, within `limits`, to `figures`: its words and
+/// segments, the words that its walk pays, its visits, its depth, its first capability, and whether its bytes are
+/// canonical.
 ///
-/// 0: they are there. 2, 3 and 4: the form, a limit or the tariff is out of its range. 8: memory was refused, as of
-/// `capn_check`. Others: the refusal, which is never that of a capability.
+/// - 0: the figures are written.
+/// - 2, 3 and 4: the form, a limit or the tariff is out of its range.
+/// - 8: memory was refused, for what `capn_check` takes it for.
+/// - Others: the refusal, which is never that of a capability.
 ///
-/// It reads the form once, and walks a message of one segment once if its bytes are canonical, else twice at most, and
-/// others once.
+/// It reads the bytes once. A message of one segment is walked once if its bytes are canonical, else at most twice. Any
+/// other message is walked once.
 #[unsafe(no_mangle)]
 pub extern "C" fn capn_survey(
     alloc: Global,
@@ -63,27 +65,28 @@ pub extern "C" fn capn_survey(
     figures: &mut CapnFigures,
     report: &mut CapnReport,
 ) -> u32
-    // The form and the limits are tested first.
+    // The form, then the limits, then the tariff are tested before the bytes are read.
     ensures form { (result ≡ 2) ↔ (IsForm form → ⊥) }
     ensures limits { (result ≡ 3) ↔ (IsForm form × (GiveLimits limits.now → ⊥)) }
     ensures tariff { (result ≡ 4) ↔ (IsForm form × GiveLimits limits.now × (IsTariff limits.now.tariff → ⊥)) }
-    // The bytes are an accepted message, and these are its figures; the report has the words that its walk pays, and
-    // its visits.
+    // If `result` is 0, the bytes are an accepted message, and `figures` has its figures. The report has the words that
+    // its walk pays, and its visits.
     ensures found { result ≡ 0 → FiguresIn (form_named form) bytes.now (bounds_of limits.now) figures.new
         × (report.new ≡ answered 0 figures.new.paid figures.new.visits) }
-    // A message that is accepted has them, unless memory runs out.
+    // If the bytes are an accepted message, `result` is 0, unless memory runs out.
     ensures only { IsForm form → GiveLimits limits.now → IsTariff limits.now.tariff → (v : Value)
         → Denotes (form_named form) bytes.now (bounds_of limits.now) v → (result ≡ 0) ⊎ (result ≡ 8) }
     ensures blank { 1 ≤ result → result ≤ 4 → report.new ≡ at_number 0 }
     ensures listed { IsTrue (is_status result) }
-    // The meaning of each refusal; no other status stands for it.
+    // Any other status and its report stand for a refusal `e`, whose reason is true. They stand for no other refusal,
+    // unless memory was refused.
     ensures refused { 5 ≤ result → (e : Refusals) × Reports result report.new e
         × IsUnacceptedIn (form_named form) bytes.now (bounds_of limits.now) e }
-    // Memory is needed only for the ends of more than 64 segments, and for what a text packs.
+    // Memory is refused only for the ends of more than 64 segments, or for the words that a packed text unpacks to.
     ensures memory { result ≡ 8 → MayNeedMemory (form_named form) bytes.now (bounds_of limits.now) }
-    // No walk pays beyond its budget.
+    // The walk pays at most the budget, also if it is refused.
     ensures bounded { IsBounded limits.now.budget report.new.paid report.new.visits }
-    // If the call has no answer, the figures are as they were.
+    // If `result` is not 0, `figures` is as it was.
     ensures kept { result ≢ 0 → figures.new ≡ figures.old }
 {
     *report = report_at(0);

@@ -1,4 +1,4 @@
-//! The figures of messages held in segments.
+//! The call `capn_survey_segments`: the figures of a message that is held in segments.
 
 ghost use Rattle.std.specs.Prelude.{IsTrue, ◌≡◌, ◌≢◌, ◌↔◌, ◌≤◌};
 ghost use Rattle.capn_value.specs.Tree.{Tree as Value};
@@ -16,7 +16,7 @@ use capn_abi::{CapnLimits, CapnReport, DONE, answer_of, limits_of, refuse, repor
 use capn_walk::Limits;
 use std::alloc::Global;
 
-/// Reports the figures of a message that is held in `segments`.
+/// Writes the figures of the message that is held in `segments` to `figures`, and reports the result.
 fn tell_figures(
     alloc: Global,
     segments: &[&[[u8; 8]]],
@@ -38,14 +38,17 @@ fn tell_figures(
     }
 }
 
-/// Writes the figures of a message that is held in `segments` to `figures`: its words and segments, the words that its
-/// walk pays, its visits, the least depth under which it is accepted, its first capability, and whether its bytes are
-/// canonical.
+/// Writes the figures of the message that is held in `segments`, within `limits`, to `figures`: its words and segments,
+/// the words that its walk pays, its visits, its depth, its first capability, and whether its bytes are canonical.
 ///
-/// 0: they are there. 3 and 4: a limit or the tariff is out of its range. Others: the refusal, as of the frame of the
-/// same segments: 48, if there are none. It takes no memory.
+/// - 0: the figures are written.
+/// - 3 and 4: a limit or the tariff is out of its range.
+/// - Others: the refusal that the frame of the same segments would get. It is 48 if there are no segments.
 ///
-/// It walks a message of one segment once if its bytes are canonical, else twice at most, and others once.
+/// It takes no memory.
+///
+/// A message of one segment is walked once if its bytes are canonical, else at most twice. Any other message is walked
+/// once.
 #[unsafe(no_mangle)]
 pub extern "C" fn capn_survey_segments(
     alloc: Global,
@@ -54,26 +57,27 @@ pub extern "C" fn capn_survey_segments(
     figures: &mut CapnFigures,
     report: &mut CapnReport,
 ) -> u32
-    // The limits are tested first.
+    // The limits, then the tariff are tested before anything is read.
     ensures limits { (result ≡ 3) ↔ (GiveLimits limits.now → ⊥) }
     ensures tariff { (result ≡ 4) ↔ (GiveLimits limits.now × (IsTariff limits.now.tariff → ⊥)) }
-    // The segments are an accepted message, and these are its figures; the report has the words that its walk pays, and
-    // its visits.
+    // If `result` is 0, the segments are an accepted message, and `figures` has its figures. The report has the words
+    // that its walk pays, and its visits.
     ensures found { result ≡ 0 → FiguresHeld (message_of segments.now) (bounds_of limits.now) figures.new
         × (report.new ≡ answered 0 figures.new.paid figures.new.visits) }
-    // A message that is accepted has them.
+    // If the segments are an accepted message, `result` is 0.
     ensures only { GiveLimits limits.now → IsTariff limits.now.tariff → (v : Value)
         → DenotesHeld (message_of segments.now) (bounds_of limits.now) v → result ≡ 0 }
     ensures blank { 1 ≤ result → result ≤ 4 → report.new ≡ at_number 0 }
     ensures listed { IsTrue (is_status result) }
-    // The meaning of each refusal; no other status stands for it.
+    // Any other status and its report stand for a refusal `e`, whose reason is true. They stand for no other refusal,
+    // unless memory was refused.
     ensures refused { 5 ≤ result → (e : Refusals) × Reports result report.new e
         × IsUnacceptedHeld (message_of segments.now) (bounds_of limits.now) e }
-    // No memory is needed.
+    // Memory is never refused, since none is needed.
     ensures no_memory { result ≢ 8 }
-    // No walk reports more paid than its budget.
+    // The walk pays at most the budget, also if it is refused.
     ensures bounded { IsBounded limits.now.budget report.new.paid report.new.visits }
-    // If the call has no answer, the figures are as they were.
+    // If `result` is not 0, `figures` is as it was.
     ensures kept { result ≢ 0 → figures.new ≡ figures.old }
 {
     *report = report_at(0);

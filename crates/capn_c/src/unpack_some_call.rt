@@ -1,4 +1,4 @@
-//! Unpacking in pieces.
+//! The call `capn_unpack_some`, which unpacks a packed text in pieces.
 
 ghost use Rattle.std.specs.Prelude.{IsTrue, ◌≡◌, ◌≢◌, ◌≤◌, ◌*◌, length};
 ghost use Rattle.capn_pack.specs.UnpackRefusal.{StartsWithin};
@@ -10,7 +10,8 @@ use capn_abi::{CapnReport, DONE, MEMORY, PACKED_CUT, PACKED_TOO_LONG, report_at}
 use capn_pack::{Next, Progress, unpack_some};
 use std::alloc::Global;
 
-/// Returns the status of what comes `next`.
+/// Returns the status that says what is `next` in the packed text: its end, a group that is cut, or one that has no
+/// room.
 fn code_of_next(next: Next) -> u32
     ensures { result ≡ next_code next }
 {
@@ -21,7 +22,7 @@ fn code_of_next(next: Next) -> u32
     }
 }
 
-/// Returns `progress` as a report.
+/// Returns `progress` as a report, with the bytes written in `length` and the bytes taken in `at`.
 fn report_of_progress(progress: Progress) -> CapnReport
     ensures { result ≡ progressed (8 * progress.words) progress.bytes }
 {
@@ -46,10 +47,14 @@ fn put(bytes: &[u8], out: &mut [u8])
     out[..bytes.len()].copy_from_slice(bytes);
 }
 
-/// Writes the words of the whole groups that come first in the packed text `bytes`, as many as have room, to `out`.
+/// Unpacks the whole groups that come first in the packed text `bytes` to `out`, as many as have room.
 ///
-/// 0: the bytes are whole groups, and all of them were taken. 32: a group is cut, 33: one has no room; `at` is the
-/// offset of its tag. In these three `length` bytes were written and `at` were taken. 8: memory was refused.
+/// - 0: the bytes are whole groups, and all of them were taken.
+/// - 8: memory was refused.
+/// - 32: a group is cut. `at` is the offset of its tag.
+/// - 33: a group has no room. `at` is the offset of its tag.
+///
+/// If the status is 0, 32 or 33, `length` bytes were written and `at` bytes were taken.
 ///
 /// It takes memory for the words that it writes.
 #[unsafe(no_mangle)]
@@ -59,12 +64,12 @@ pub extern "C" fn capn_unpack_some(
     out: &mut [u8],
     report: &mut CapnReport,
 ) -> u32
-    // The words in the buffer, and the progress.
+    // If memory is not refused, the buffer has the words, and the report has the progress.
     ensures some { result ≢ 8 → UnpacksInto bytes.now result report.new out.old out.new }
-    // Memory is needed only if a whole group that has room comes first.
+    // Memory is refused only if a whole group that has room comes first.
     ensures memory { result ≡ 8 → StartsWithin bytes.now (words_in (length out.old)) }
     ensures listed { IsTrue (is_status result) }
-    // Without memory nothing is reported, and the buffer is as it was.
+    // If memory is refused, all fields of the report are 0, and the buffer is as it was.
     ensures blank { result ≡ 8 → report.new ≡ at_number 0 }
     ensures kept { result ≡ 8 → out.new ≡ out.old }
 {

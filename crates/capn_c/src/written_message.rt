@@ -1,4 +1,4 @@
-//! Canonical bytes of a message, written into the caller's buffer.
+//! The canonical bytes of a message, written straight into the caller's buffer and reported.
 
 ghost use Rattle.capn_walk.specs.Accepted.{IsValueOf};
 ghost use Rattle.capn_canon.specs.Denotes.{AnswersMessage};
@@ -10,8 +10,8 @@ use capn_canon::{IntoRefusal, Refusal, canonical_into};
 use capn_walk::Limits;
 use capn_words::Space;
 
-/// Writes the canonical bytes of the message `space` at the start of `out`, if it has room for them, with the `report`;
-/// returns the status. It takes no memory.
+/// Writes the canonical bytes of the message `space` at the start of `out`, if it has room for them. Fills in `report`,
+/// and returns the status. It takes no memory.
 pub fn write_message<S: Space>(
     space: &S,
     limits: Limits,
@@ -21,7 +21,7 @@ pub fn write_message<S: Space>(
     ensures { IsFilled (IsValueOf (S.message space.now) limits) (AnswersMessage (S.message space.now) limits)
         (IsRefusedMessage (S.message space.now) limits) ⊥ limits out.old out.new result report.new }
 {
-    // The clause on the length needs their promises.
+    // The proof of the clauses needs the bounds that these calls promise.
     let _segments = space.segments();
     let _budget = limits.budget();
     let _depth = limits.depth();

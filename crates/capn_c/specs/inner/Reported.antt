@@ -1,4 +1,4 @@
--- The answers of functions behind the calls for C: a status, a report, and what is written.
+-- The results of functions behind the calls for C: a status, a report, and what is written.
 use Rattle.std.specs.Prelude.{IsTrue, ◌≡◌, ◌≢◌, ◌⊎◌, ℕ, ◌+◌, ◌*◌, ◌<◌, ◌≤◌, Bool, false, List, None, ◌++◌, length, take}
 use Rattle.std.specs.Prelude.{drop}
 use Rattle.capn_value.specs.FirstCap.{first_cap}
@@ -21,8 +21,8 @@ use Rattle.capn_c.specs.Entries.{IndexedIn, c_index}
 use Rattle.capn_c.specs.Held.{DenotesHeld, IsUnacceptedHeld}
 use Rattle.capn_c.specs.declared.entries.CapnEntry.{CapnEntry}
 
--- the status is one of the list; a status of 8 or more reports a refusal for which `reason` holds; it is 8 only if
--- memory may be needed; and no walk pays beyond its budget
+-- the status is in the list; from 8 on it stands for a refusal for which `reason` holds; it is 8 only if memory may be
+-- needed; and no walk pays beyond its budget
 pub record IsReported (reason : Refusal → Type 0) (needed : Type 0) (budget status : ℕ) (report : CapnReport)
     : Type 0 where
   pub listed : IsTrue (is_status status)
@@ -30,9 +30,10 @@ pub record IsReported (reason : Refusal → Type 0) (needed : Type 0) (budget st
   pub memory : status ≡ 8 → needed
   pub bounded : IsBounded budget report.paid report.visits
 
--- ---- calls with one answer, of status 0
+-- ---- calls with one success, of status 0
 
--- a call has done this, and has, wherever there is a value, unless memory runs out; or it reports a refusal
+-- a call returns 0 only if `done` holds, and does so whenever there is a value, unless memory runs out; otherwise it
+-- reports a refusal
 pub record IsDone (done : Type 0) (value : Tree → Type 0) (reason : Refusal → Type 0) (needed : Type 0)
     (budget status : ℕ) (report : CapnReport) : Type 0 where
   pub possible : (status ≡ 0) ⊎ (8 ≤ status)
@@ -40,19 +41,19 @@ pub record IsDone (done : Type 0) (value : Tree → Type 0) (reason : Refusal �
   pub only : (v : Tree) → value v → (status ≡ 0) ⊎ (status ≡ 8)
   pub reported : IsReported reason needed budget status report
 
--- a call has done this for bytes in a form, or reports why they are not accepted
+-- a call on bytes in a form returns 0 only if `done` holds, or reports why they are not accepted
 abbrev pub IsDoneIn : Form → List ℕ → Bounds → (done needed : Type 0) → ℕ → CapnReport → Type 0
 IsDoneIn form bs limits done needed status report =
     IsDone done (Denotes form bs limits) (IsUnacceptedIn form bs limits) needed limits.budget status report
 
--- a call has done this for segments, without memory, or reports why they are not accepted
+-- a call on segments returns 0 only if `done` holds, or reports why they are not accepted; it takes no memory
 abbrev pub IsDoneHeld : List (List ℕ) → Bounds → (done : Type 0) → ℕ → CapnReport → Type 0
 IsDoneHeld message limits done status report =
     IsDone done (DenotesHeld message limits) (IsUnacceptedHeld message limits) ⊥ limits.budget status report
 
 -- ---- calls for canonical bytes
 
--- a call has written the canonical bytes of a value to a buffer, or says that they have no room; or reports a refusal
+-- a call has written the canonical bytes of a value to the buffer, or says that they have no room, or reports a refusal
 pub record IsFilled (value : Tree → Type 0) (answer : List ℕ → ℕ → Type 0) (reason : Refusal → Type 0)
     (needed : Type 0) (limits : Bounds) (old new : List ℕ) (status : ℕ) (report : CapnReport) : Type 0 where
   pub possible : (status ≤ 1) ⊎ (8 ≤ status)
@@ -64,7 +65,8 @@ pub record IsFilled (value : Tree → Type 0) (answer : List ℕ → ℕ → Typ
   pub kept : status ≢ 0 → new ≡ old
   pub canonical : status ≡ 0 → (v : Tree) → value v → IsCanonicalForm (take report.length new) limits v
 
--- it has done so for bytes in a form, or reports why they have no canonical bytes
+-- a call has written the canonical bytes of bytes in a form to the buffer, or says that they have no room, or reports
+-- why there are none
 abbrev pub IsFilledIn : Form → List ℕ → Bounds → (needed : Type 0) → (old new : List ℕ) → ℕ → CapnReport → Type 0
 IsFilledIn form bs limits needed old new status report =
     IsFilled (Denotes form bs limits) (Answers form bs limits) (IsRefused form bs limits) needed limits old new status
@@ -72,23 +74,24 @@ IsFilledIn form bs limits needed old new status report =
 
 -- ---- calls for an index
 
--- a message is accepted, and its index fits into the room
+-- `message` is accepted, and its index has at most `room` entries
 pub record HasRoom (message : List (List ℕ)) (limits : Bounds) (room : ℕ) : Type 0 where
   pub accepted : IsAccepted message limits
   pub fits : length (index_of message limits) ≤ room
 
--- the index of a message that comes after a table is at the start of the room, and the rest of the room is as it was
+-- the index of a message that comes after a table of `table` bytes is at the start of the buffer, and the rest of that
+-- is as it was
 abbrev pub IsIndex : (table : ℕ) → List (List ℕ) → Bounds → (old new : List CapnEntry) → Type 0
 IsIndex table message limits old new =
     new ≡ c_index table message limits ++ drop (length (index_of message limits)) old
 
--- the index is written, or memory was refused, and the room is as it was
+-- the index is written, or memory was refused and the buffer is as it was
 pub record IsIndexOr (table : ℕ) (message : List (List ℕ)) (limits : Bounds) (old new : List CapnEntry)
     (is_written : Bool) : Type 0 where
   pub written : IsTrue is_written → IsIndex table message limits old new
   pub kept : is_written ≡ false → new ≡ old
 
--- a call has written the index of a surveyed message to a room, or says that it doesn't fit; or it reports a refusal
+-- a call has written the index of a surveyed message to the buffer, or says that it doesn't fit, or reports a refusal
 pub record IsIndexed (survey : Surveyed → Type 0) (index : Type 0) (value : Tree → Type 0) (reason : Refusal → Type 0)
     (needed : Type 0) (budget : ℕ) (old new : List CapnEntry) (status : ℕ) (report : CapnReport) : Type 0 where
   pub possible : (status ≤ 1) ⊎ (8 ≤ status)
@@ -99,7 +102,8 @@ pub record IsIndexed (survey : Surveyed → Type 0) (index : Type 0) (value : Tr
   pub reported : IsReported reason needed budget status report
   pub kept : status ≢ 0 → new ≡ old
 
--- it has done so for bytes in a form, or reports why they are not accepted
+-- a call has written the index of the message that bytes are read as to the buffer, or says that it doesn't fit, or
+-- reports why the message is not accepted
 abbrev pub IsIndexedIn : Form → List ℕ → Bounds → (needed : Type 0) → (old new : List CapnEntry) → ℕ → CapnReport
     → Type 0
 IsIndexedIn form bs limits needed old new status report =

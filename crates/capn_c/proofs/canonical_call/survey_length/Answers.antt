@@ -1,4 +1,4 @@
--- A survey answers a price and a length that is enough; a value without capabilities is refused only if memory runs
+-- A survey gives the price, and a length that is enough. A value without capabilities is refused only if memory runs
 -- out.
 use Rattle.std.proofs.Common.{inl, ap, sym, refl, ◌∙◌, arith, Err}
 use Rattle.capn_canon.specs.Layout.{canon}

@@ -1,4 +1,4 @@
--- What is written of bare words is written of their bytes.
+-- The canonical bytes written for the words are those of their bytes.
 use Rattle.std.proofs.Common.{[], ◌∷◌, refl}
 use Rattle.capn_canon.specs.declared.form.Form.TheVariants as forms
 use Rattle.capn_canon.specs.declared.refusal.Refusal.TheVariants as refusals

@@ -1,4 +1,4 @@
--- What is said of the canonical bytes is said of the bytes in the buffer.
+-- The properties of the canonical bytes hold of the bytes in the buffer.
 use Rattle.std.proofs.Common.{rules, ◌≡◌, length, ap, Err}
 use Rattle.capn_canon.specs.Canonicity.{IsCanonicalForm}
 use Rattle.capn_abi.specs.Calls.{Delivers}

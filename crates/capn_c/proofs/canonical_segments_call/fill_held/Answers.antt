@@ -1,4 +1,4 @@
--- What is written of the message that segments hold is written of the segments.
+-- The canonical bytes written for the message are those of the segments that hold it.
 use Rattle.std.proofs.Common.{refl}
 use Rattle.capn_stream.specs.Segments.{message_of}
 use Rattle.capn_c.proofs.Filled.{filled_held}

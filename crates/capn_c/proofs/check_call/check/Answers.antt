@@ -1,4 +1,4 @@
--- What is accepted is refused only if memory runs out, for which the status is 8.
+-- An accepted message is refused only if memory runs out, with the status 8.
 use Rattle.std.proofs.Common.{ap, Err}
 use Rattle.capn_c.proofs.Reported.{unaccepted_done}
 use Rattle.capn_c.proofs.check_call.check.Goals as goal

@@ -1,4 +1,4 @@
--- What is told of two messages is told of the bytes.
+-- The result for two messages is that for their bytes.
 use Rattle.capn_canon.proofs.shared.TaskRuns.{run_answered}
 use Rattle.capn_c.specs.inner.Told.{IsComparedTo}
 use Rattle.capn_c.proofs.Comparisons.{compared_bounded, compared_found, compared_refused}

@@ -1,4 +1,4 @@
--- What is told of the stream that is packed is told of its packed text.
+-- The result for the stream that a packed text unpacks to is that for the text.
 use Rattle.std.proofs.Common.{arith}
 use Rattle.std.proofs.lemmas.Result.{IfOk-weaker, IfErr-weaker}
 use Rattle.capn_c.proofs.Comparisons.{packed_refused, packed_same}

@@ -1,4 +1,4 @@
--- One start more, and the words of one segment more.
+-- Each turn of the loop writes one more start, and adds the words of one more segment.
 use Rattle.std.proofs.Common.{ℕ, ◌<◌, ◌≡◌, List, [], ◌++◌, drop, get_or, length, set, take, ap, ◌∙◌, arith}
 use Rattle.std.proofs.lemmas.List.{take_all}
 use Rattle.std.proofs.lemmas.List.Sums.{sum_by_more}

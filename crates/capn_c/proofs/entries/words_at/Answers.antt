@@ -1,4 +1,4 @@
--- The words of a segment, where there is one.
+-- The number of words of a segment, which is 0 if there is no such segment.
 use Rattle.capn_c.proofs.OneBare.{words-at}
 use Rattle.capn_c.proofs.entries.words_at.Goals as goal
 

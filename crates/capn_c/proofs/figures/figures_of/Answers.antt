@@ -1,4 +1,4 @@
--- The figures are those that were measured.
+-- The figures of a message are those that were measured.
 use Rattle.capn_c.proofs.Figured.{figured}
 use Rattle.capn_c.proofs.figures.figures_of.Goals as goal
 

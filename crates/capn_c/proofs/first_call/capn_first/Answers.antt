@@ -1,4 +1,4 @@
--- The number of words is that of the limits that were passed.
+-- The limit on message words is that of the limits that were passed.
 use Rattle.std.proofs.Common.{ℕ, ap, sym, subst, ◌∙◌}
 use Rattle.capn_stream.specs.Frames.{StandsFirst}
 use Rattle.capn_walk.specs.Limits.{Bounds}

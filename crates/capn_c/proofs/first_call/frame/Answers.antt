@@ -1,4 +1,4 @@
--- What is reported of a frame that comes first, and of one that is not whole.
+-- The report of a frame that comes first, and of one that is not whole.
 use Rattle.std.proofs.Common.{inl, inr, ap, refl, sym, ◌∙◌, Err}
 use Rattle.capn_abi.specs.declared.report.CapnReport.{CapnReport}
 use Rattle.capn_abi.specs.StatusCodes.{frame_code}

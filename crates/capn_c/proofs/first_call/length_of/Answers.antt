@@ -1,4 +1,4 @@
--- What holds of the first frame holds of its length.
+-- The result for the first frame is that for its length.
 use Rattle.std.proofs.Common.{rules}
 use Rattle.capn_c.proofs.first_call.length_of.Goals as goal
 

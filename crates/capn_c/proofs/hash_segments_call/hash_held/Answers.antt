@@ -1,4 +1,4 @@
--- A refusal with the status 8 says that memory ran out.
+-- A refusal has the status 8 only if memory ran out.
 use Rattle.std.proofs.Common.{ap, Err}
 use Rattle.capn_stream.specs.Segments.{message_of}
 use Rattle.capn_c.proofs.Listed.{held_listed}

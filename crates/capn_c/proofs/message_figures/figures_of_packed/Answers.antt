@@ -1,4 +1,4 @@
--- What is answered of the stream that is packed is answered of its packed text.
+-- The figures of the stream that a packed text unpacks to are those of the text.
 use Rattle.std.proofs.Common.{arith}
 use Rattle.std.proofs.lemmas.Result.{IfOk-weaker, IfErr-weaker}
 use Rattle.capn_c.proofs.PackedText.{packed_figures, packed_unaccepted, packed_needs, unpacks}

@@ -1,4 +1,4 @@
--- What is written of bare words is written of their bytes.
+-- The index written for the words is that of their bytes.
 use Rattle.std.proofs.Common.{[], ◌∷◌, refl, arith}
 use Rattle.capn_canon.specs.declared.form.Form.TheVariants as forms
 use Rattle.capn_canon.specs.declared.refusal.Refusal.TheVariants as refusals

@@ -1,4 +1,4 @@
--- The text of the packer is the one that is delivered.
+-- The text that is delivered is the one that the packer chooses.
 use Rattle.std.proofs.Common.{inr, subst, rules, arith}
 use Rattle.capn_abi.specs.Calls.{Delivers}
 use Rattle.capn_c.proofs.pack_calls.capn_pack.Goals as goal

@@ -1,4 +1,4 @@
--- A message is accepted, or its walk stopped and the status is the one of that; else the bytes are not read.
+-- A message is accepted, or its walk stopped and the status is that of the stop, or the bytes are not read.
 use Rattle.std.proofs.Common.{ℕ, List, length, inr, ap, sym, subst, ◌∙◌, arith, Err}
 use Rattle.std.specs.Bool.{IsTrue}
 use Rattle.capn_walk.specs.Accepted.{IsBounded}
@@ -23,7 +23,7 @@ returns-in-Accepted-clause-bounded c =
     subst (λ (r : CapnReport). IsBounded c.args.limits.budget r.paid r.visits) (sym c.answer_of.ensures)
     (rw c.in-Accepted.is at c.in-Ok.ensures.bounded)
 
--- ---- one whose walk stopped
+-- ---- a message whose walk stopped
 
 pub tell_path-requires : goal.tell_path-requires
 tell_path-requires c =

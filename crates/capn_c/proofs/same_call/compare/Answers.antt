@@ -1,4 +1,4 @@
--- Values are the same exactly where they are said to be. A refusal is that of the message which is named, and has the
+-- The status says whether the values are the same. A refusal is that of the message that `which` names, and has the
 -- status 8 only if memory ran out.
 use Rattle.std.proofs.Common.{◌≡◌, ℕ, Bool, true, false, inl, inr, refl, ap, sym, subst, ◌∙◌, arith}
 use Rattle.std.proofs.Common.{Result, Err}
@@ -13,7 +13,7 @@ use Rattle.capn_c.proofs.Comparisons.{same_only, told_in}
 use Rattle.capn_c.proofs.OutOfMemory.{refused_memory}
 use Rattle.capn_c.proofs.same_call.compare.Goals as goal
 
--- ---- both are compared
+-- ---- both messages are compared
 
 pub returns-in-Ok-true-clause-same : goal.returns-in-Ok-true-clause-same
 returns-in-Ok-true-clause-same c t =
@@ -77,7 +77,7 @@ returns-in-Ok-false-clause-only c v w d =
     let s = same_only c.args.form c.args.first.now c.args.second.now l false told v w d in
     inr (inr (refl, (λ q. let t : false ≡ true = s.1 q in absurd cc)))
 
--- ---- the second one is refused
+-- ---- the second message is refused
 
 pub returns-in-Err-compared-clause-only : goal.returns-in-Err-compared-clause-only
 returns-in-Err-compared-clause-only c v w d =
@@ -97,7 +97,7 @@ returns-in-Err-compared-clause-memory c e =
     (refused_memory c.args.form c.args.second.now l c.in-Err-compared.refusal h.second.refused
     (sym c.refuse.ensures.status_is ∙ e)))
 
--- ---- the first one is
+-- ---- the first message is refused
 
 pub returns-in-Err-clause-only : goal.returns-in-Err-clause-only
 returns-in-Err-clause-only c v w d =

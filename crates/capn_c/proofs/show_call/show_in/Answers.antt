@@ -1,4 +1,5 @@
--- The bytes have one text in the style that the number names; what is accepted is refused only if memory runs out.
+-- The bytes have only one text in the style that the number names. An accepted message is refused only if memory runs
+-- out.
 use Rattle.std.proofs.Common.{rules, List, ℕ, inl, inr, ap, subst, ◌∙◌, Err}
 use Rattle.capn_canon.proofs.shared.NotUnaccepted.{not_unaccepted}
 use Rattle.capn_show.specs.declared.style.Style.{Style}

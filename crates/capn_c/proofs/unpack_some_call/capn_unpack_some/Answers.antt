@@ -1,4 +1,4 @@
--- What was unpacked has room, and is what the buffer then has.
+-- The words that were unpacked fit into the buffer, and are at its start.
 use Rattle.std.proofs.Common.{rules, [], length}
 use Rattle.capn_pack.specs.WholeGroups.{UnpacksSome}
 use Rattle.capn_c.specs.UnpackedPieces.{words_in}

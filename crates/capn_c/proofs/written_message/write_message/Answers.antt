@@ -1,4 +1,4 @@
--- What is written is the canonical bytes of the one value that the message denotes.
+-- The bytes written are the canonical bytes of the only value that the message denotes.
 use Rattle.std.proofs.Common.{◌≡◌, inl, inr, ℕ, Some, None, length, take, refl, ap, sym, subst, ◌∙◌, arith}
 use Rattle.capn_value.specs.FirstCap.{first_cap}
 use Rattle.capn_walk.specs.Accepted.{root}
