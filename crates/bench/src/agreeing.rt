@@ -1,4 +1,4 @@
-//! Agreement of the operations on a little of each shape.
+//! `agree`: tests that the operations agree on a small message of each shape.
 
 use crate::calls::{
     canonical, digest, message, packed, paid, received, test, unpacked, walked, words_of,
@@ -9,10 +9,10 @@ use capn_stream::frame;
 use capn_words::Bare;
 use std::alloc::Global;
 
-/// The bytes of each message.
+/// The size of each message in bytes.
 const BYTES: u32 = 1 << 12;
 
-/// Bytes of one segment after a table.
+/// Returns the frame of one segment with the contents `bytes`.
 fn framed_again(alloc: Global, bytes: &[u8]) -> Result<Vec<u8>> {
     match Bare::new(bytes) {
         Ok(words) => match frame(alloc, &words) {
@@ -23,13 +23,13 @@ fn framed_again(alloc: Global, bytes: &[u8]) -> Result<Vec<u8>> {
     }
 }
 
-/// Tests whether canonical bytes are their own canonical bytes.
+/// Tests whether the canonical bytes `once` are their own canonical bytes.
 fn is_own(alloc: Global, once: &[u8]) -> Result<bool> {
     let framed = framed_again(alloc, once)?;
     Ok(canonical(alloc, &framed)?.as_slice() == once)
 }
 
-/// Tests that the canonical bytes of a message are canonical, and their own canonical bytes.
+/// Checks that the canonical bytes of a message are canonical, and are their own canonical bytes.
 fn check_canonical(alloc: Global, bytes: &[u8]) -> Result<()> {
     let once = canonical(alloc, bytes)?;
     ensure!(test(alloc, &once)?, "not canonical");
@@ -37,18 +37,17 @@ fn check_canonical(alloc: Global, bytes: &[u8]) -> Result<()> {
     Ok(())
 }
 
-/// Tests whether unpacking takes back what packing gives.
+/// Tests whether `bytes`, packed and unpacked, are the same.
 fn is_unpacked(alloc: Global, bytes: &[u8]) -> Result<bool> {
     let text = packed(alloc, bytes)?;
     Ok(unpacked(alloc, &text)?.as_slice() == bytes)
 }
 
-/// The words of the first message.
 fn first_words(alloc: Global, bytes: &[u8]) -> Result<u32> {
     Ok(words_of(&message(alloc, bytes)?))
 }
 
-/// Tests that unpacking takes back what packing gives, that the framer gives what `first` gives, and that the walk pays
+/// Checks that unpacking inverts packing, that a framer gives the message that `first` gives, and that the walk pays
 /// what the survey reports.
 fn check_readings(alloc: Global, bytes: &[u8]) -> Result<()> {
     ensure!(is_unpacked(alloc, bytes)?, "other words");
@@ -59,7 +58,7 @@ fn check_readings(alloc: Global, bytes: &[u8]) -> Result<()> {
     Ok(())
 }
 
-/// The digest of a message's canonical bytes, in digits.
+/// Returns the digest of a message's canonical bytes, in hexadecimal.
 fn digits_of(alloc: Global, bytes: &[u8]) -> Result<String> {
     let digest = digest(alloc, bytes)?;
     Ok(hex::encode(alloc, digest.as_slice())?)
@@ -72,7 +71,7 @@ fn print_digest(rt: &impl Print, alloc: Global, shape: Shape, bytes: &[u8]) -> R
     Ok(())
 }
 
-/// Prints for each shape the digest of its canonical bytes, where the operations agree.
+/// Prints the digest of the canonical bytes of each shape, if the operations agree.
 pub(crate) fn agree(rt: &impl Print, alloc: Global) -> Result<()> {
     for shape in Shape::MESSAGES {
         let bytes = framed(alloc, shape, BYTES)?;

@@ -11,10 +11,9 @@ use capn_words::{MOST_MESSAGE_WORDS, Space, Watched};
 use sha2::{Digest, Sha256};
 use std::alloc::Global;
 
-/// The bytes of a piece.
+/// The number of bytes of a chunk.
 const PIECE: usize = 65_536;
 
-/// The first message in the bytes.
 pub(crate) fn message(alloc: Global, framed: &[u8]) -> Result<Framed<'_>> {
     match first(alloc, framed, MOST_MESSAGE_WORDS) {
         Ok((message, _)) => Ok(message),
@@ -22,7 +21,7 @@ pub(crate) fn message(alloc: Global, framed: &[u8]) -> Result<Framed<'_>> {
     }
 }
 
-/// The tree of a message, with what its walk paid.
+/// Returns the tree of a message, with the price of its walk.
 fn walk_of<S: Space>(alloc: Global, space: &S) -> Result<Walked> {
     match walk(alloc, space, Limits::usual()) {
         Ok(walked) => Ok(walked),
@@ -30,23 +29,21 @@ fn walk_of<S: Space>(alloc: Global, space: &S) -> Result<Walked> {
     }
 }
 
-/// The words that the walk of a framed message pays; its tree is freed.
+/// Returns the words that the walk of a framed message pays. Its tree is freed.
 pub(crate) fn walked(alloc: Global, framed: &[u8]) -> Result<u32> {
     let message = message(alloc, framed)?;
     let walked = walk_of(alloc, &message)?;
     let paid = walked.paid;
-    // One call is cheaper to check than fields that are dropped one by one.
+    // One call of `drop` is cheaper for the prover than fields that are dropped one by one.
     drop(walked);
     Ok(paid)
 }
 
-/// The tree of a framed message.
 pub(crate) fn tree_of(alloc: Global, framed: &[u8]) -> Result<Tree> {
     let message = message(alloc, framed)?;
     Ok(walk_of(alloc, &message)?.tree)
 }
 
-/// The canonical bytes of a framed message.
 pub(crate) fn canonical(alloc: Global, framed: &[u8]) -> Result<Vec<u8>> {
     match canonical_of(alloc, &message(alloc, framed)?, Limits::usual()) {
         Ok(canonical) => Ok(canonical.bytes),
@@ -54,7 +51,7 @@ pub(crate) fn canonical(alloc: Global, framed: &[u8]) -> Result<Vec<u8>> {
     }
 }
 
-/// The canonical bytes of a framed message, and a word after them that no object has.
+/// Returns the canonical bytes of a framed message, and a word after them that belongs to no object.
 pub(crate) fn longer(alloc: Global, framed: &[u8]) -> Result<Vec<u8>> {
     let mut bytes = canonical(alloc, framed)?;
     bytes.extend_from_slice(&[0; 8])?;
@@ -66,17 +63,17 @@ pub(crate) fn test(alloc: Global, bytes: &[u8]) -> Result<bool> {
     is_canonical(alloc, bytes, Limits::usual()).map_err(|_| anyhow!("not read"))
 }
 
-/// The packed text of some words.
+/// Returns the packed bytes of `words`.
 pub(crate) fn packed(alloc: Global, words: &[u8]) -> Result<Vec<u8>> {
     pack(alloc, words).map_err(|_| anyhow!("not packed"))
 }
 
-/// The words of a packed text.
+/// Returns the words that the packed bytes `text` stand for.
 pub(crate) fn unpacked(alloc: Global, text: &[u8]) -> Result<Vec<u8>> {
     unpack(alloc, text, MOST_MESSAGE_WORDS).map_err(|_| anyhow!("not unpacked"))
 }
 
-/// The words that reading a message pays.
+/// Returns the words that the survey of a framed message pays.
 pub(crate) fn paid(alloc: Global, framed: &[u8]) -> Result<u32> {
     match survey(alloc, &message(alloc, framed)?, Limits::usual()) {
         Ok(surveyed) => Ok(surveyed.paid),
@@ -84,7 +81,7 @@ pub(crate) fn paid(alloc: Global, framed: &[u8]) -> Result<u32> {
     }
 }
 
-/// Room for as many entries as a framed message has words.
+/// Returns a vector of as many index entries as a framed message has words.
 fn room_of(alloc: Global, framed: &[u8]) -> Result<Vec<Entry>> {
     let words = framed.len() / 8;
     let mut room = Vec::with_capacity(alloc, words)?;
@@ -94,12 +91,12 @@ fn room_of(alloc: Global, framed: &[u8]) -> Result<Vec<Entry>> {
     Ok(room)
 }
 
-/// The length of the room alone.
+/// Returns the length of the vector that `room_of` makes.
 pub(crate) fn roomed(alloc: Global, framed: &[u8]) -> Result<usize> {
     Ok(room_of(alloc, framed)?.len())
 }
 
-/// The number of entries of a framed message.
+/// Returns the number of index entries of a framed message.
 pub(crate) fn indexed(alloc: Global, framed: &[u8]) -> Result<u32> {
     let message = message(alloc, framed)?;
     let mut room = room_of(alloc, framed)?;
@@ -109,7 +106,7 @@ pub(crate) fn indexed(alloc: Global, framed: &[u8]) -> Result<u32> {
     }
 }
 
-/// The contents of the message that a framer is fed in pieces, in words.
+/// Feeds the message to `framer` in chunks. Returns the number of words of the message.
 fn fed(framer: &mut Framer, framed: &[u8]) -> Result<u32> {
     for piece in framed.chunks(PIECE) {
         match framer.feed(piece) {
@@ -125,33 +122,31 @@ fn fed(framer: &mut Framer, framed: &[u8]) -> Result<u32> {
     }
 }
 
-/// The contents of the message that comes in pieces, in words.
+/// Reads the message in chunks by a new framer. Returns the number of words of the message.
 pub(crate) fn received(alloc: Global, framed: &[u8]) -> Result<u32> {
     let mut framer = Framer::new(alloc, MOST_MESSAGE_WORDS);
     fed(&mut framer, framed)
 }
 
-/// A copy of some bytes.
 pub(crate) fn copied(alloc: Global, bytes: &[u8]) -> Result<Vec<u8>> {
     Ok(Vec::from_slice(alloc, bytes)?)
 }
 
-/// The segments of the first message.
 pub(crate) fn segments_of(alloc: Global, framed: &[u8]) -> Result<u32> {
     Ok(message(alloc, framed)?.segments())
 }
 
-/// 1 where bytes are canonical, else 0.
+/// Returns 1 if `bytes` are canonical, else 0.
 pub(crate) fn told(alloc: Global, bytes: &[u8]) -> Result<u32> {
     Ok(u32::from(test(alloc, bytes)?))
 }
 
-/// The first byte of the digest of a message's canonical bytes.
+/// Returns the first byte of the digest of a message's canonical bytes.
 pub(crate) fn first_byte(alloc: Global, framed: &[u8]) -> Result<u32> {
     Ok(u32::from(digest(alloc, framed)?[0]))
 }
 
-/// The words of a message.
+/// Returns the number of words of all segments of a message.
 pub(crate) fn words_of<S: Space>(message: &S) -> u32 {
     let mut words = 0u32;
     for segment in 0..message.segments() {
@@ -171,13 +166,13 @@ pub(crate) fn checked(alloc: Global, stream: &[u8]) -> Result<Vec<u8>> {
     }
 }
 
-/// The SHA-256 of a message's canonical bytes.
+/// Returns the SHA-256 of a message's canonical bytes.
 pub(crate) fn digest(alloc: Global, framed: &[u8]) -> Result<[u8; 32]> {
     Ok(Sha256::digest(canonical(alloc, framed)?.as_slice()))
 }
 
-/// The framed message with the first word of its root's content changed, if the root is a near pointer to the next
-/// word.
+/// Returns a framed message with one changed bit in the first word of its root's content. The root must be a near
+/// pointer to the next word.
 pub(crate) fn changed(alloc: Global, framed: &[u8]) -> Result<Vec<u8>> {
     let mut bytes = copied(alloc, framed)?;
     match bytes.get_mut(16) {
@@ -189,7 +184,7 @@ pub(crate) fn changed(alloc: Global, framed: &[u8]) -> Result<Vec<u8>> {
     }
 }
 
-/// 1 where two framed messages have the same value, else 0.
+/// Returns 1 if two framed messages have the same value, else 0.
 pub(crate) fn compared(alloc: Global, one: &[u8], other: &[u8]) -> Result<u32> {
     match same_messages(
         &message(alloc, one)?,

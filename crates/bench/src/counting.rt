@@ -5,7 +5,7 @@ use crate::shapes::{Shape, framed};
 use anyhow::Result;
 use std::alloc::Global;
 
-/// Does an operation `steps` times. The answer is some number of what came out.
+/// Does an operation `steps` times. Returns the sum of the numbers that it returned, so that no step can be left out.
 fn repeated(alloc: Global, operation: Operation, input: &Input, steps: u32) -> Result<usize> {
     let mut sum = 0usize;
     for _ in 0..steps {
@@ -14,7 +14,8 @@ fn repeated(alloc: Global, operation: Operation, input: &Input, steps: u32) -> R
     Ok(sum)
 }
 
-/// Makes the input of an operation and does the operation `steps` times. Prints the bytes by which its cost is given.
+/// Makes the input of an operation, and does the operation `steps` times. Prints the number of bytes by which the cost
+/// is divided.
 pub(crate) fn count(
     rt: &impl Print,
     alloc: Global,
@@ -26,7 +27,7 @@ pub(crate) fn count(
     let input = Input::new(alloc, operation, framed(alloc, shape, bytes)?)?;
     let size = input.size;
     let sum = repeated(alloc, operation, &input, steps);
-    // One call is cheaper to check than fields that are dropped one by one.
+    // One call of `drop` is cheaper for the prover than fields that are dropped one by one.
     drop(input);
     let sum = sum?;
     println!(rt; "{size} {sum}")?;

@@ -22,25 +22,22 @@ use anyhow::{Context, Result, bail};
 use std::alloc::Global;
 use std::env;
 
-/// The operation that a word names.
 fn operation_of(word: Option<&String>) -> Result<Operation> {
     word.and_then(|name| Operation::named(name.as_str()))
         .context("no such operation")
 }
 
-/// The shape that a word names.
 fn shape_of(word: Option<&String>) -> Result<Shape> {
     word.and_then(|name| Shape::named(name.as_str()))
         .context("no such shape")
 }
 
-/// The number that a word says.
 fn number_of(word: Option<&String>) -> Result<u32> {
     word.and_then(|text| text.parse::<u32>().ok())
         .context("no number")
 }
 
-/// `count OPERATION SHAPE STEPS [BYTES]`.
+/// Carries out `count OPERATION SHAPE STEPS [BYTES]`.
 fn count(rt: &impl Print, alloc: Global, words: &[String]) -> Result<()> {
     let operation = operation_of(words.get(2))?;
     let shape = shape_of(words.get(3))?;
@@ -53,7 +50,7 @@ fn count(rt: &impl Print, alloc: Global, words: &[String]) -> Result<()> {
     counting::count(rt, alloc, operation, shape, steps, bytes)
 }
 
-/// `write SHAPE BYTES`.
+/// Carries out `write SHAPE BYTES`.
 fn write(rt: &impl Print, alloc: Global, words: &[String]) -> Result<()> {
     let shape = shape_of(words.get(2))?;
     let bytes = number_of(words.get(3))?;

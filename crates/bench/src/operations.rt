@@ -15,13 +15,13 @@ pub(crate) enum Operation {
     Copy,
     /// The message of the frame.
     First,
-    /// The message out of pieces of 64 KiB.
+    /// The message, read in chunks of 64 KiB.
     Framer,
     /// The price of reading the message.
     Survey,
-    /// Room for an entry a word, to compare with.
+    /// A vector of one index entry for each word, to compare with.
     Room,
-    /// The entries of the message, with the room for them.
+    /// The index of the message, with the vector for its entries.
     Index,
     /// The message as a tree, which is freed.
     Walk,
@@ -33,7 +33,7 @@ pub(crate) enum Operation {
     NotCanonical,
     /// The SHA-256 of the message's canonical bytes.
     Hash,
-    /// The text of a tree.
+    /// The text of the message's tree.
     Show,
     /// The packed text of the framed message's words.
     Pack,
@@ -41,7 +41,7 @@ pub(crate) enum Operation {
     Unpack,
     /// The program's run of `check` over a stream.
     Check,
-    /// The comparison of the message with itself, surveyed twice.
+    /// The comparison of the message with itself, surveyed once as each of the two.
     Same,
     /// The comparison with a message that differs in the root's first word.
     NotSame,
@@ -66,7 +66,7 @@ impl Operation {
         Operation::Unpack,
     ];
 
-    /// Returns its name.
+    /// Returns the name of the operation.
     pub(crate) fn name(self) -> &'static str {
         match self {
             Operation::Copy => "copy",
@@ -89,7 +89,7 @@ impl Operation {
         }
     }
 
-    /// The operation of that name.
+    /// Returns the operation called `name`.
     pub(crate) fn named(name: &str) -> Option<Operation> {
         for operation in [Operation::Check, Operation::Same, Operation::NotSame] {
             if name == operation.name() {
@@ -106,17 +106,18 @@ impl Operation {
 /// The input of an operation.
 #[derive(Drop)]
 pub(crate) struct Input {
-    /// The framed message, its canonical bytes, its packed text, or a stream; nothing beside a tree.
+    /// The framed message, its canonical bytes, its packed bytes, or a stream. Empty if the input is a tree.
     bytes: Vec<u8>,
     /// The tree of the message.
     tree: Option<Tree>,
-    /// A second message, if the operation takes two; else nothing.
+    /// A second message if the operation takes two, else empty.
     other: Vec<u8>,
-    /// The bytes by which its cost is given: those of canonical bytes, else of the framed message or the stream.
+    /// The number of bytes by which the cost is divided: those of the canonical bytes, else those of the framed message
+    /// or the stream.
     pub size: usize,
 }
 
-/// Bytes of which the cost is given by a size, or else by their own.
+/// Returns an input of `bytes`, whose cost is divided by `size`, or by the number of `bytes` if that is `None`.
 fn of_bytes(alloc: Global, bytes: Result<Vec<u8>>, size: Option<usize>) -> Result<Input> {
     let bytes = bytes?;
     let size = size.unwrap_or(bytes.len());
@@ -128,7 +129,7 @@ fn of_bytes(alloc: Global, bytes: Result<Vec<u8>>, size: Option<usize>) -> Resul
     })
 }
 
-/// A tree of which the cost is given by the size of its framed message.
+/// Returns an input of a tree, whose cost is divided by the `size` of its framed message.
 fn of_tree(alloc: Global, tree: Result<Tree>, size: usize) -> Result<Input> {
     let tree = tree?;
     Ok(Input {
@@ -139,7 +140,7 @@ fn of_tree(alloc: Global, tree: Result<Tree>, size: usize) -> Result<Input> {
     })
 }
 
-/// A message and another, of which the cost is given by the size of the first.
+/// Returns an input of two messages, whose cost is divided by the size of `bytes`.
 fn of_two(other: Result<Vec<u8>>, bytes: Vec<u8>) -> Result<Input> {
     let other = other?;
     let size = bytes.len();
@@ -151,12 +152,12 @@ fn of_two(other: Result<Vec<u8>>, bytes: Vec<u8>) -> Result<Input> {
     })
 }
 
-/// Returns the number of bytes that came out.
+/// Returns the number of bytes that an operation returned.
 fn len_of(bytes: Result<Vec<u8>>) -> Result<usize> {
     Ok(bytes?.len())
 }
 
-/// A number that came out.
+/// Returns the number that an operation returned.
 fn number_of(number: Result<u32>) -> Result<usize> {
     Ok(number? as usize)
 }
@@ -175,7 +176,7 @@ impl Input {
         }
     }
 
-    /// The text of the tree.
+    /// Returns the length of the text of the tree.
     fn text(&self, alloc: Global) -> Result<usize> {
         match &self.tree {
             Some(tree) => match show(alloc, tree) {
@@ -186,7 +187,7 @@ impl Input {
         }
     }
 
-    /// Does the operation once. The answer is some number of what came out.
+    /// Does the operation once. Returns a number that depends on its result.
     #[inline(never)]
     pub(crate) fn perform(&self, alloc: Global, operation: Operation) -> Result<usize> {
         let bytes = self.bytes.as_slice();

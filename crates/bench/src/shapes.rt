@@ -26,11 +26,12 @@ pub(crate) enum Shape {
     Zeros,
     /// One list of random bytes.
     Noise,
-    /// As `Mixed`, in many segments.
+    /// The content of `Mixed`, in many segments.
     Segments,
     /// Structs, lists of structs with slots, texts, lists of pointers and null slots.
     Mixed,
-    /// Lists of structs and of pointers in the segments of a builder: three of four objects are near.
+    /// Lists of structs and of pointers in segments as a builder fills them: three of four objects are in the segment
+    /// of their pointer.
     Builder,
     /// A stream of messages of 32 bytes each, in place of one message.
     Small,
@@ -50,7 +51,7 @@ impl Shape {
         Shape::Builder,
     ];
 
-    /// Returns its name.
+    /// Returns the name of the shape.
     pub(crate) fn name(self) -> &'static str {
         match self {
             Shape::Wide => "wide",
@@ -66,7 +67,7 @@ impl Shape {
         }
     }
 
-    /// The shape of that name.
+    /// Returns the shape called `name`.
     pub(crate) fn named(name: &str) -> Option<Shape> {
         if name == Shape::Small.name() {
             return Some(Shape::Small);
@@ -78,7 +79,7 @@ impl Shape {
     }
 }
 
-/// A framed message of about `bytes` bytes, or a stream of small ones.
+/// Returns a framed message of `shape` of about `bytes` bytes, or a stream of small messages.
 pub(crate) fn framed(alloc: Global, shape: Shape, bytes: u32) -> Result<Vec<u8>, AllocError> {
     match shape {
         Shape::Wide => flat::wide(alloc, bytes),

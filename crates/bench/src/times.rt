@@ -1,4 +1,4 @@
-//! The shortest times of each operation.
+//! `measure`: prints the shortest times of each operation.
 
 use crate::operations::{Input, Operation};
 use crate::shapes::{Shape, framed};
@@ -6,19 +6,19 @@ use anyhow::Result;
 use std::alloc::Global;
 use std::time::{Clock, Instant};
 
-/// The sizes of message.
+/// The sizes of the measured messages, in bytes.
 const SIZES: [u32; 4] = [1 << 10, 1 << 16, 1 << 20, 1 << 24];
 
-/// The messages of the stream of small ones.
+/// The number of messages in the stream of small ones.
 const MESSAGES: u32 = 1 << 20;
 
-/// The thousandths of a nanosecond a unit, of which there are `units`.
+/// Returns the time of one unit in thousandths of a nanosecond, if `units` units take `nanoseconds`.
 fn per_unit(nanoseconds: u128, units: usize) -> u64 {
     let thousandths = nanoseconds.saturating_mul(1000) / (units.max(1) as u128);
     u64::try_from(thousandths).unwrap_or(u64::MAX)
 }
 
-/// The time of `steps` steps of an operation, in thousandths of a nanosecond a byte.
+/// Returns the time of `steps` steps of an operation, in thousandths of a nanosecond for each byte.
 fn timed<R: Clock>(
     rt: &R,
     alloc: Global,
@@ -34,8 +34,8 @@ fn timed<R: Clock>(
     Ok(per_unit(start.elapsed(rt)?.as_nanos(), units))
 }
 
-/// The shortest of some times of an operation on an input of about `bytes` bytes. A small one is taken many times over,
-/// so that the clock's own time counts for little.
+/// Returns the shortest of several times of an operation on an input of about `bytes` bytes. A time for a small input
+/// covers many steps, so that the clock's own time hardly counts.
 fn least_of<R: Clock>(
     rt: &R,
     alloc: Global,
@@ -52,7 +52,7 @@ fn least_of<R: Clock>(
     Ok(least)
 }
 
-/// The shortest of some times of an operation on a message of a shape.
+/// Returns the shortest of several times of an operation on a message of `shape`.
 fn shortest<R: Clock>(
     rt: &R,
     alloc: Global,
@@ -66,7 +66,6 @@ fn shortest<R: Clock>(
     least
 }
 
-/// The line of the operations' names.
 fn print_names(rt: &impl Print) -> Result<()> {
     for operation in Operation::ALL {
         print!(rt; " {:>12}", operation.name())?;
@@ -75,7 +74,7 @@ fn print_names(rt: &impl Print) -> Result<()> {
     Ok(())
 }
 
-/// The times of one shape at one size.
+/// Prints the times of one shape at one size.
 fn print_shape<R: Print + Clock>(rt: &R, alloc: Global, shape: Shape, bytes: u32) -> Result<()> {
     print!(rt; "{:>8}", shape.name())?;
     for operation in Operation::ALL {
@@ -86,7 +85,6 @@ fn print_shape<R: Print + Clock>(rt: &R, alloc: Global, shape: Shape, bytes: u32
     Ok(())
 }
 
-/// The table of one size.
 fn print_size<R: Print + Clock>(rt: &R, alloc: Global, bytes: u32) -> Result<()> {
     print!(rt; "{:>8}", bytes)?;
     print_names(rt)?;
@@ -96,7 +94,7 @@ fn print_size<R: Print + Clock>(rt: &R, alloc: Global, bytes: u32) -> Result<()>
     Ok(())
 }
 
-/// The time of a message in a stream of small ones.
+/// Prints the time of `check` for one message in a stream of small ones.
 fn print_small<R: Print + Clock>(rt: &R, alloc: Global) -> Result<()> {
     let bytes = MESSAGES * 32;
     let time = shortest(rt, alloc, Operation::Check, Shape::Small, bytes)?.saturating_mul(32);

@@ -1,5 +1,4 @@
-//! Each message, cut at each byte.
-//! Its beginnings have the answer that the definitions give for them.
+//! `cut_each`: cuts the message of a case at each byte, and compares the result with what the definitions give.
 
 use crate::messages::{canonical_text, paid_text, true_limits_at};
 use crate::refusals::told;
@@ -12,7 +11,7 @@ use capn_words::{Bare, MOST_MESSAGE_WORDS, MOST_SEGMENTS};
 use conformance_cases::{bytes_at, form_at, word_at};
 use std::alloc::Global;
 
-/// The first `len` bytes.
+/// Returns the first `len` bytes, or all if there are fewer.
 fn start_of(bytes: &[u8], len: usize) -> &[u8] {
     if len <= bytes.len() {
         &bytes[..len]
@@ -21,7 +20,7 @@ fn start_of(bytes: &[u8], len: usize) -> &[u8] {
     }
 }
 
-/// Returns the answer of `tree` by its layout, with the words that were `paid` for it.
+/// Returns the answer for `tree` by its layout, with the words that were `paid` for it.
 fn tree_text(alloc: Global, paid: u32, tree: &Tree) -> Result<String> {
     match layout(alloc, tree) {
         Ok(laid) => paid_text(alloc, paid, laid.as_slice()),
@@ -30,7 +29,7 @@ fn tree_text(alloc: Global, paid: u32, tree: &Tree) -> Result<String> {
     }
 }
 
-/// Returns the answer of a bare message by its length and the layout of its tree.
+/// Returns the answer for a bare message by its length and the layout of its tree.
 fn bare_text(alloc: Global, bytes: &[u8], limits: Limits) -> Result<String> {
     let length = bytes.len();
     let Ok(space) = Bare::new(bytes) else {
@@ -39,7 +38,7 @@ fn bare_text(alloc: Global, bytes: &[u8], limits: Limits) -> Result<String> {
     match walk(alloc, &space, limits) {
         Ok(walked) => {
             let text = tree_text(alloc, walked.paid, &walked.tree);
-            // One call is cheaper to check than fields that are dropped one by one.
+            // One call of `drop` is cheaper for the prover than fields that are dropped one by one.
             drop(walked);
             text
         }
@@ -47,8 +46,9 @@ fn bare_text(alloc: Global, bytes: &[u8], limits: Limits) -> Result<String> {
     }
 }
 
-/// Returns the end of the group that starts at offset `at`, unless it is cut: one of zeros has two bytes, one of raw
-/// words ten and eight for each further word, and any other its tag and a byte for each bit of it.
+/// Returns the end of the group that starts at offset `at`, or `None` if the group is cut. A group of zeros has two
+/// bytes. A group of raw words has ten bytes, and eight for each further word. Any other group has its tag, and a byte
+/// for each bit that is set in it.
 fn group_end(text: &[u8], at: usize) -> Option<usize> {
     let len = match *text.get(at)? {
         0 => 2,
@@ -71,8 +71,8 @@ fn last_group(text: &[u8]) -> usize {
     at
 }
 
-/// Tests whether the words of the whole groups of `text` are answered, and the place at which it is cut if it is: by
-/// one call, and in one piece.
+/// Tests whether an unpacker returns the words of the whole groups of `text`, and reports the place at which it is cut,
+/// if it is. It is fed `text` at once, and compared with `unpack`.
 fn is_unpacked(alloc: Global, text: &[u8]) -> bool {
     let at = last_group(text);
     let mut unpacker = Unpacker::new();
@@ -93,7 +93,7 @@ fn is_unpacked(alloc: Global, text: &[u8]) -> bool {
     is_whole && cut_of(ending) == cut && cut_of(unpack(alloc, text, MOST_MESSAGE_WORDS)) == cut
 }
 
-/// Returns the offset at which an answer says that a text is cut.
+/// Returns the offset at which `answer` says that packed bytes are cut.
 fn cut_of<T: Drop>(answer: Result<T, UnpackFault>) -> Option<u64> {
     match answer {
         Err(UnpackFault::Cut { at }) => Some(at),
@@ -101,7 +101,8 @@ fn cut_of<T: Drop>(answer: Result<T, UnpackFault>) -> Option<u64> {
     }
 }
 
-/// Returns the answer of a packed `text` by its groups: that it is cut, or the answer of the stream that it packs.
+/// Returns the answer for the packed bytes `text` by their groups: that they are cut, or the answer for the stream that
+/// they pack.
 fn packed_text(alloc: Global, text: &[u8], limits: Limits) -> Result<String> {
     if !is_unpacked(alloc, text) {
         bail!("the groups of a beginning are other ones");
@@ -116,7 +117,7 @@ fn packed_text(alloc: Global, text: &[u8], limits: Limits) -> Result<String> {
     }
 }
 
-/// The number in four bytes of a table.
+/// Returns the number in the four bytes of a table at `at`.
 fn entry_at(bytes: &[u8], at: usize) -> Option<u64> {
     let low = *bytes.get(at)? as u64;
     let next = *bytes.get(at.saturating_add(1))? as u64;
@@ -125,7 +126,7 @@ fn entry_at(bytes: &[u8], at: usize) -> Option<u64> {
     Some(low | next << 8 | third << 16 | high << 24)
 }
 
-/// The sum of the sizes in a table.
+/// Returns the sum of the `count` sizes in a table.
 fn sizes_of(bytes: &[u8], count: u64) -> Option<u64> {
     let mut sum = 0u64;
     for segment in 1..=count {
@@ -134,7 +135,7 @@ fn sizes_of(bytes: &[u8], count: u64) -> Option<u64> {
     Some(sum)
 }
 
-/// The fault for which a frame is refused.
+/// The reason why a frame is refused.
 #[derive(Clone, Copy)]
 enum FrameRefusal {
     Empty,
@@ -143,7 +144,7 @@ enum FrameRefusal {
     TooManyWords(u64),
 }
 
-/// Returns the fault for which the frame of a stream is refused, if it is.
+/// Returns the reason why the first frame of a stream is refused, if it is.
 fn frame_refusal(bytes: &[u8], limits: Limits) -> Option<FrameRefusal> {
     if bytes.is_empty() {
         return Some(FrameRefusal::Empty);
@@ -156,7 +157,7 @@ fn frame_refusal(bytes: &[u8], limits: Limits) -> Option<FrameRefusal> {
         return Some(FrameRefusal::TooManySegments(count));
     }
     let table = count.saturating_add(2) / 2;
-    // Sizes are summed only if all are there: each beginning of a long table comes here.
+    // Sizes are summed only if all are there, because each prefix of a long table is tested here.
     if (bytes.len() as u64) < count.saturating_add(1).saturating_mul(4) {
         return Some(FrameRefusal::Cut);
     }
@@ -175,7 +176,7 @@ fn frame_refusal(bytes: &[u8], limits: Limits) -> Option<FrameRefusal> {
     None
 }
 
-/// A frame's refusal as a line.
+/// Returns the refusal of a frame as a line.
 fn refusal_text(alloc: Global, refusal: FrameRefusal) -> Result<String> {
     match refusal {
         FrameRefusal::Empty => Ok(String::from_str(alloc, "frame: Empty")?),
@@ -189,7 +190,8 @@ fn refusal_text(alloc: Global, refusal: FrameRefusal) -> Result<String> {
     }
 }
 
-/// Returns the answer of a beginning, if the definitions give it without its message; else the one that it does give.
+/// Returns the answer that is right for a prefix of a message. If its frame is refused, or it is bare or packed, the
+/// definitions give the answer without `canonicalise`. Otherwise it is that of `canonicalise`.
 fn due_text(alloc: Global, form: Form, bytes: &[u8], limits: Limits) -> Result<String> {
     match form {
         Form::Bare => bare_text(alloc, bytes, limits),
@@ -201,7 +203,7 @@ fn due_text(alloc: Global, form: Form, bytes: &[u8], limits: Limits) -> Result<S
     }
 }
 
-/// A message that is cut answers what it must.
+/// Checks that a cut message has the answer that is right for it.
 fn cut_once(alloc: Global, form: Form, start: &[u8], limits: Limits) -> Result<()> {
     let told = canonical_text(alloc, form, start, limits)?;
     let due = due_text(alloc, form, start, limits)?;
@@ -213,8 +215,8 @@ fn cut_once(alloc: Global, form: Form, start: &[u8], limits: Limits) -> Result<(
     }
 }
 
-/// Cuts the message of a case at each byte, where the case is one of canonical bytes: each beginning answers what it
-/// must. A text that is longer than its limit is left out.
+/// Cuts the message of a case at each byte, if the case is one of `canonicalise`, and checks the answer for each
+/// prefix. A case of packed bytes that exceed their limit is left out.
 pub(crate) fn cut_each(alloc: Global, words: &[&str], answer: &str) -> Result<()> {
     let (tariff, words) = tariff_and_call(words);
     if word_at(words, 0)? != "canonicalise" || answer.starts_with("packed: TooLong") {

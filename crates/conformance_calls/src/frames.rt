@@ -1,4 +1,4 @@
-//! The calls of frames.
+//! The answers for calls on frames: `first` and `frame`.
 
 ghost use Rattle.std.specs.Prelude.{◌≤◌, IfOk};
 ghost use Rattle.capn_words.specs.Message.{most_message_words};
@@ -10,7 +10,7 @@ use capn_words::{MOST_MESSAGE_WORDS, Place, Space};
 use conformance_cases::{Heap, MEMORY, bytes_at, digits_of, number_at};
 use std::alloc::Global;
 
-/// The limit on message words at a place of the line.
+/// Reads the limit on message words at word `at` of the line `words`.
 pub(crate) fn limit_at(words: &[&str], at: usize) -> Result<u32>
     ensures { IfOk result (λ limit. limit ≤ most_message_words) }
 {
@@ -21,7 +21,7 @@ pub(crate) fn limit_at(words: &[&str], at: usize) -> Result<u32>
     Ok(limit)
 }
 
-/// The bytes of each segment, each after a space.
+/// Returns the bytes of each segment, each after a space.
 pub(crate) fn segments_text<S: Space>(alloc: Global, space: &S) -> Result<String> {
     let mut text = String::new(alloc);
     for segment in 0..space.segments() {
@@ -36,13 +36,12 @@ pub(crate) fn segments_text<S: Space>(alloc: Global, space: &S) -> Result<String
     Ok(text)
 }
 
-/// Prints a message that takes `taken` bytes.
+/// Returns the line of a message that takes `taken` bytes.
 fn taken_text<S: Space>(alloc: Global, message: &S, taken: usize) -> Result<String> {
     let segments = segments_text(alloc, message)?;
     Ok(format!(in alloc; "taken {taken}:{segments}")?)
 }
 
-/// `first MOST_WORDS BYTES`.
 pub(crate) fn first_answer(alloc: Global, heap: &Heap, words: &[&str]) -> Result<String> {
     let limit = limit_at(words, 1)?;
     let bytes = bytes_at(alloc, words, 2)?;
@@ -52,7 +51,7 @@ pub(crate) fn first_answer(alloc: Global, heap: &Heap, words: &[&str]) -> Result
     }
 }
 
-/// The frame of a message.
+/// Returns the frame of a message, in hexadecimal.
 fn frame_text<S: Space>(alloc: Global, heap: &Heap, message: &S) -> Result<String> {
     match frame(heap, message) {
         Ok(framed) => digits_of(alloc, framed.as_slice()),
@@ -60,7 +59,7 @@ fn frame_text<S: Space>(alloc: Global, heap: &Heap, message: &S) -> Result<Strin
     }
 }
 
-/// `frame BYTES`: the frame of the first message in the bytes.
+/// Answers `frame BYTES` by the frame of the first message in the bytes.
 pub(crate) fn frame_answer(alloc: Global, heap: &Heap, words: &[&str]) -> Result<String> {
     let bytes = bytes_at(alloc, words, 1)?;
     match first(heap, bytes.as_slice(), MOST_MESSAGE_WORDS) {

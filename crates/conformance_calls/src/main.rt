@@ -1,9 +1,10 @@
-//! Answers to the cases of standard input that are calls of libraries, from packed bytes to canonical ones.
-//! A case is a line with its name and a line with a call, each word parted by a space. Bytes are hexadecimal, and `-`
-//! stands for none. A call after the word `plain` pays by the plain tariff, another by the strict one. What must come
-//! out is the stored output, which no run of ours wrote. Each call is made once with ample memory, and then as often as
-//! it grows with one growth refused; a message is cut at each byte too. The line of a case is printed only if it
-//! answered each time that memory ran out, and its answer afterwards, and for each beginning what the definitions give.
+//! Answers to the cases of standard input that are calls of libraries, from packed bytes to canonical ones. A case is a
+//! line with its name and a line with a call, whose words are parted by a space. Bytes are hexadecimal, and `-` stands
+//! for none. A call after the word `plain` pays by the plain tariff, any other by the strict one. The answers must
+//! equal the stored output, which no run of this program wrote. Each call is made once with enough memory, and then
+//! once for each of its growths, with that growth refused. A message is also cut at each byte. The line of a case is
+//! printed only if the call reported refused memory each time, gave its answer afterwards, and gave for each prefix
+//! what the definitions give.
 #![tactic(auto)]
 
 mod cuts;
@@ -24,7 +25,7 @@ use std::alloc::Global;
 use std::io::BufRead;
 use visits::Asked;
 
-/// The tariff by which a call pays, and the words of the call.
+/// Returns the tariff of a call, and the words of the call.
 fn tariff_and_call<'w, 'a>(words: &'w [&'a str]) -> (Tariff, &'w [&'a str]) {
     match words {
         [first, call @ ..] if *first == "plain" => (Tariff::Plain, call),
@@ -32,7 +33,7 @@ fn tariff_and_call<'w, 'a>(words: &'w [&'a str]) -> (Tariff, &'w [&'a str]) {
     }
 }
 
-/// Calls of the libraries.
+/// The answers for calls of the libraries.
 #[derive(Clone, Copy)]
 struct Calls;
 
@@ -64,8 +65,8 @@ impl Answers for Calls {
     }
 }
 
-/// Returns the answer of a call, as a line. Growths of it are refused, one each time, and if its message is cut it
-/// answers what it must.
+/// Returns the answer for a call, as a line. Checks the call with each growth refused, and with its message cut at each
+/// byte.
 fn answer_line(alloc: Global, line: &str) -> Result<String> {
     let words: Vec<&str> = line.split(' ').collect(alloc)?;
     let (growths, call) = growths_and_call(words.as_slice());

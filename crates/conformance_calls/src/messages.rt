@@ -1,4 +1,4 @@
-//! The calls on messages.
+//! The answers for calls on messages: `limits`, `canonicalise`, `again` and `equal`.
 
 use crate::refusals::told;
 use anyhow::{Result, anyhow, bail};
@@ -11,7 +11,7 @@ use capn_words::{Bare, MOST_MESSAGE_WORDS, Space};
 use conformance_cases::{Heap, MEMORY, bytes_at, digits_of, form_at, number_at};
 use std::alloc::Global;
 
-/// Three numbers from a place of the line on, as limits.
+/// Reads three numbers from word `at` of the line on, as limits.
 fn limits_at(words: &[&str], at: usize) -> Result<Option<Limits>> {
     let message_words = number_at(words, at)?;
     let budget = number_at(words, at.saturating_add(1))?;
@@ -19,7 +19,7 @@ fn limits_at(words: &[&str], at: usize) -> Result<Option<Limits>> {
     Ok(Limits::new(message_words, budget, depth))
 }
 
-/// Reads limits that have to be there, with the prices of `tariff`.
+/// Reads limits that must be valid, with the prices of `tariff`.
 pub(crate) fn true_limits_at(words: &[&str], at: usize, tariff: Tariff) -> Result<Limits> {
     match limits_at(words, at)? {
         Some(limits) => Ok(limits.with_tariff(tariff)),
@@ -27,7 +27,6 @@ pub(crate) fn true_limits_at(words: &[&str], at: usize, tariff: Tariff) -> Resul
     }
 }
 
-/// `limits MESSAGE_WORDS BUDGET DEPTH`.
 pub(crate) fn limits_answer(alloc: Global, words: &[&str]) -> Result<String> {
     let text = match limits_at(words, 1)? {
         Some(_) => "limits",
@@ -36,7 +35,7 @@ pub(crate) fn limits_answer(alloc: Global, words: &[&str]) -> Result<String> {
     Ok(String::from_str(alloc, text)?)
 }
 
-/// Tests whether `bytes` are the layout of `tree`; `false` if memory ran out.
+/// Tests whether `bytes` are the layout of `tree`. Returns `false` if memory ran out, and an error if they are not.
 fn is_layout(heap: &Heap, tree: &Tree<&Heap>, bytes: &[u8]) -> Result<bool> {
     match layout(heap, tree) {
         Ok(laid) if laid.as_slice() == bytes => Ok(true),
@@ -46,12 +45,12 @@ fn is_layout(heap: &Heap, tree: &Tree<&Heap>, bytes: &[u8]) -> Result<bool> {
     }
 }
 
-/// Tests whether bytes are the layout of a tree that was to be made.
+/// Tests whether `bytes` are the layout of the tree `made`. Returns `false` if memory ran out.
 fn is_layout_of_made(heap: &Heap, made: Result<Tree<&Heap>, Memory>, bytes: &[u8]) -> Result<bool> {
     match made {
         Ok(tree) => {
             let told = is_layout(heap, &tree, bytes);
-            // One call is cheaper to check than fields that are dropped one by one.
+            // One call of `drop` is cheaper for the prover than fields that are dropped one by one.
             drop(tree);
             told
         }
@@ -59,7 +58,8 @@ fn is_layout_of_made(heap: &Heap, made: Result<Tree<&Heap>, Memory>, bytes: &[u8
     }
 }
 
-/// Tests whether bytes are the layout of a tree, of its copy, and of its trimmed form.
+/// Tests whether `bytes` are the layout of `tree`, of its copy, and of its trimmed form. Returns `false` if memory ran
+/// out.
 fn is_layout_of_each(heap: &Heap, tree: &Tree<&Heap>, bytes: &[u8]) -> Result<bool> {
     Ok(
         is_layout(heap, tree, bytes)?
@@ -68,7 +68,8 @@ fn is_layout_of_each(heap: &Heap, tree: &Tree<&Heap>, bytes: &[u8]) -> Result<bo
     )
 }
 
-/// Tests whether bytes are the layout of the tree that a walk of the message makes.
+/// Tests whether `bytes` are the layout of the tree that a walk of the message makes. Returns `false` if memory ran
+/// out.
 fn is_layout_of<S: Space>(heap: &Heap, space: &S, limits: Limits, bytes: &[u8]) -> Result<bool> {
     match walk(heap, space, limits) {
         Ok(walked) => {
@@ -81,7 +82,8 @@ fn is_layout_of<S: Space>(heap: &Heap, space: &S, limits: Limits, bytes: &[u8]) 
     }
 }
 
-/// Tests whether bytes are the layout of the tree of the first message.
+/// Tests whether `bytes` are the layout of the tree of the first message in `stream`. Returns `false` if memory ran
+/// out.
 fn is_layout_of_frame(heap: &Heap, stream: &[u8], limits: Limits, bytes: &[u8]) -> Result<bool> {
     match first(heap, stream, MOST_MESSAGE_WORDS) {
         Ok((space, _)) => is_layout_of(heap, &space, limits, bytes),
@@ -90,7 +92,8 @@ fn is_layout_of_frame(heap: &Heap, stream: &[u8], limits: Limits, bytes: &[u8]) 
     }
 }
 
-/// Tests whether bytes are the layout of the tree of the message that an input is in a form.
+/// Tests whether `bytes` are the layout of the tree of the message that `input` holds in `form`. Returns `false` if
+/// memory ran out.
 fn is_layout_in_form(
     heap: &Heap,
     form: Form,
@@ -112,13 +115,13 @@ fn is_layout_in_form(
     }
 }
 
-/// Canonical bytes, and what was paid for them.
+/// Returns the line of canonical bytes and their price.
 pub(crate) fn paid_text(alloc: Global, paid: u32, bytes: &[u8]) -> Result<String> {
     let digits = digits_of(alloc, bytes)?;
     Ok(format!(in alloc; "paid {paid}, {digits}")?)
 }
 
-/// Prints the canonical bytes of a message, or the reason why it has none.
+/// Returns the line of a message's canonical bytes, or of the reason why it has none.
 pub(crate) fn canonical_text(
     alloc: Global,
     form: Form,
@@ -131,8 +134,8 @@ pub(crate) fn canonical_text(
     }
 }
 
-/// Prints canonical bytes, if they are the layout of the tree that a walk of the input makes, of its copy, and of its
-/// trimmed form.
+/// Returns the line of canonical bytes, if they are the layout of the tree that a walk of the input makes, of its copy,
+/// and of its trimmed form.
 fn laid_text(
     alloc: Global,
     heap: &Heap,
@@ -148,8 +151,8 @@ fn laid_text(
     }
 }
 
-/// `canonicalise FORM MESSAGE_WORDS BUDGET DEPTH BYTES`. The bytes have to be the layout of the tree that a walk makes,
-/// of its copy, and of its trimmed form.
+/// Answers `canonicalise FORM MESSAGE_WORDS BUDGET DEPTH BYTES`. The canonical bytes must be the layout of the tree
+/// that a walk makes, of its copy, and of its trimmed form.
 pub(crate) fn canonicalise_answer(
     alloc: Global,
     heap: &Heap,
@@ -165,7 +168,7 @@ pub(crate) fn canonicalise_answer(
     }
 }
 
-/// Prints canonical bytes by whether they have themselves as canonical bytes.
+/// Returns the word that says whether the canonical bytes `once` are their own canonical bytes.
 fn again_text(heap: &Heap, once: &[u8], limits: Limits) -> &'static str {
     match canonicalise(heap, Form::Bare, once, limits) {
         Ok(again) if again.bytes.as_slice() == once => "again",
@@ -175,8 +178,8 @@ fn again_text(heap: &Heap, once: &[u8], limits: Limits) -> &'static str {
     }
 }
 
-/// `again FORM MESSAGE_WORDS BUDGET DEPTH BYTES`: whether the canonical bytes, read bare, have themselves as canonical
-/// bytes under the same limits; `refused` where there are none.
+/// Answers `again FORM MESSAGE_WORDS BUDGET DEPTH BYTES`: whether the canonical bytes, read as a bare message, are
+/// their own canonical bytes under the same limits. The answer is `refused` if there are none.
 pub(crate) fn again_answer(
     alloc: Global,
     heap: &Heap,
@@ -194,7 +197,7 @@ pub(crate) fn again_answer(
     Ok(String::from_str(alloc, text)?)
 }
 
-/// Prints canonical bytes, beside those of the first message.
+/// Returns the word that says whether `canonical` equals `first`, the canonical bytes of the first message.
 fn equal_text(first: &[u8], canonical: Result<Canonical<&Heap>, Refusal>) -> Result<&'static str> {
     match canonical {
         Ok(canonical) if canonical.bytes.as_slice() == first => Ok("equal"),
@@ -204,7 +207,7 @@ fn equal_text(first: &[u8], canonical: Result<Canonical<&Heap>, Refusal>) -> Res
     }
 }
 
-/// Prints the canonical bytes of the message at word `at` of the line, beside those of the first.
+/// Returns the word that says whether the canonical bytes of the message at word `at` of the line equal `first`.
 fn equal_at(
     alloc: Global,
     heap: &Heap,
@@ -218,7 +221,7 @@ fn equal_at(
     equal_text(first, canonical)
 }
 
-/// Prints the messages after the first: the first that isn't equal, if one isn't.
+/// Returns the word for the messages after the first: `equal`, or that of the first one that is not.
 fn equal_each(alloc: Global, heap: &Heap, words: &[&str], first: &[u8]) -> Result<&'static str> {
     for pair in 1..words.len() / 2 {
         let text = equal_at(alloc, heap, words, 2 * pair + 1, first)?;
@@ -229,7 +232,8 @@ fn equal_each(alloc: Global, heap: &Heap, words: &[&str], first: &[u8]) -> Resul
     Ok("equal")
 }
 
-/// `equal FORM BYTES FORM BYTES ..`: whether all have the same canonical bytes under the usual limits.
+/// Answers `equal FORM BYTES FORM BYTES ..`: whether all messages have the same canonical bytes under the default
+/// limits.
 pub(crate) fn equal_answer(alloc: Global, heap: &Heap, words: &[&str]) -> Result<String> {
     let form = form_at(words, 1)?;
     let bytes = bytes_at(alloc, words, 2)?;

@@ -1,4 +1,4 @@
-//! The calls of packing.
+//! The answers for calls of packing: `pack`, `unpack` and `tag`.
 
 use crate::refusals::told;
 use anyhow::{Result, anyhow};
@@ -6,7 +6,6 @@ use capn_pack::{PackFault, pack, tag, unpack};
 use conformance_cases::{Heap, MEMORY, bytes_at, digits_of, number_at};
 use std::alloc::Global;
 
-/// `pack BYTES`.
 pub(crate) fn pack_answer(alloc: Global, heap: &Heap, words: &[&str]) -> Result<String> {
     let bytes = bytes_at(alloc, words, 1)?;
     match pack(heap, bytes.as_slice()) {
@@ -16,7 +15,7 @@ pub(crate) fn pack_answer(alloc: Global, heap: &Heap, words: &[&str]) -> Result<
     }
 }
 
-/// `unpack MOST_WORDS BYTES`.
+/// Answers `unpack MOST_WORDS BYTES`.
 pub(crate) fn unpack_answer(alloc: Global, heap: &Heap, words: &[&str]) -> Result<String> {
     let most = number_at(words, 1)?;
     let text = bytes_at(alloc, words, 2)?;
@@ -26,7 +25,7 @@ pub(crate) fn unpack_answer(alloc: Global, heap: &Heap, words: &[&str]) -> Resul
     }
 }
 
-/// `tag BYTES`, of a word.
+/// Answers `tag BYTES`, where the bytes are a word.
 pub(crate) fn tag_answer(alloc: Global, words: &[&str]) -> Result<String> {
     let bytes = bytes_at(alloc, words, 1)?;
     if bytes.len() != 8 {

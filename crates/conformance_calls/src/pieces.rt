@@ -1,4 +1,4 @@
-//! Calls on streams in pieces, and on readers and writers.
+//! The answers for calls on streams read in chunks, and on readers and writers.
 
 ghost use Rattle.std.specs.Prelude.{◌≤◌};
 ghost use Rattle.capn_words.specs.Message.{most_message_words};
@@ -11,19 +11,17 @@ use capn_words::{MOST_MESSAGE_WORDS, Watched};
 use conformance_cases::{Heap, MEMORY, bytes_at, digits_of, number_at, push_told, word_at};
 use std::alloc::Global;
 
-/// A message, by the bytes of its segments.
+/// Returns the line of a message, by the bytes of its segments.
 fn message_text(alloc: Global, message: &Stored<&Heap>) -> Result<String> {
     let segments = segments_text(alloc, message)?;
     Ok(format!(in alloc; "message{segments}")?)
 }
 
-/// Appends a message.
 fn push_message(alloc: Global, message: &Stored<&Heap>, text: &mut String) -> Result<()> {
     let told = message_text(alloc, message)?;
     push_told(text, told.as_str())
 }
 
-/// Prints the end of a stream.
 fn ending_text(alloc: Global, ending: Result<(), FrameFault>) -> Result<String> {
     match ending {
         Ok(()) => Ok(String::from_str(alloc, "Ok")?),
@@ -39,7 +37,7 @@ fn fed_text(framer: &mut Framer<&Heap>, alloc: Global, piece: &[u8]) -> Result<S
     }
 }
 
-/// The message that a framer has, if it has one.
+/// Returns the line of the message that a framer has, or `none`.
 fn taken_text(framer: &mut Framer<&Heap>, alloc: Global) -> Result<String> {
     match framer.take() {
         Some(message) => message_text(alloc, &message),
@@ -47,8 +45,8 @@ fn taken_text(framer: &mut Framer<&Heap>, alloc: Global) -> Result<String> {
     }
 }
 
-/// Does the step of a framer that word `at` of the line names, and returns its answer; bytes are those of the next
-/// word.
+/// Does the step of a framer that word `at` of the line names, and returns its answer. The bytes to feed are those of
+/// the next word.
 fn framer_text(
     framer: &mut Framer<&Heap>,
     alloc: Global,
@@ -66,7 +64,7 @@ fn framer_text(
     }
 }
 
-/// If memory ran out, a framer has to fail from then on.
+/// Checks that a framer fails at every call, after memory ran out.
 fn has_to_fail(framer: &mut Framer<&Heap>) -> Result<()> {
     match (framer.feed(&[0]), framer.finish(), framer.take()) {
         (Err(FrameFault::Failed), Err(FrameFault::Failed), None) => Ok(()),
@@ -74,7 +72,7 @@ fn has_to_fail(framer: &mut Framer<&Heap>) -> Result<()> {
     }
 }
 
-/// Appends what a framer answers to a step; whether memory ran out.
+/// Does a step of a framer and appends its answer. Returns whether memory ran out.
 fn framer_step(
     framer: &mut Framer<&Heap>,
     alloc: Global,
@@ -105,18 +103,17 @@ fn framer_steps(framer: &mut Framer<&Heap>, alloc: Global, words: &[&str]) -> Re
     Ok(text)
 }
 
-/// `framer MOST_WORDS STEP ..`: each step is `feed BYTES`, `take` or `finish`.
+/// Answers `framer MOST_WORDS STEP ..`, where each step is `feed BYTES`, `take` or `finish`.
 pub(crate) fn framer_answer(alloc: Global, heap: &Heap, words: &[&str]) -> Result<String> {
     let mut framer = Framer::new(heap, limit_at(words, 1)?);
     framer_steps(&mut framer, alloc, words)
 }
 
-/// The bytes from an offset on.
 fn rest_of(bytes: &[u8], at: usize) -> &[u8] {
     if at <= bytes.len() { &bytes[at..] } else { &[] }
 }
 
-/// Appends the message that a framer has, if it has one.
+/// Appends the line of the message that a framer has, if it has one.
 fn push_taken(framer: &mut Framer<&Heap>, alloc: Global, text: &mut String) -> Result<()> {
     match framer.take() {
         Some(message) => push_message(alloc, &message, text),
@@ -124,7 +121,7 @@ fn push_taken(framer: &mut Framer<&Heap>, alloc: Global, text: &mut String) -> R
     }
 }
 
-/// Feeds a piece, and appends each message that it makes whole.
+/// Feeds `piece`, and appends the line of each message that becomes whole.
 fn feed_all(
     framer: &mut Framer<&Heap>,
     alloc: Global,
@@ -145,7 +142,7 @@ fn feed_all(
     Ok(Ok(()))
 }
 
-/// Feeds the bytes, `size` at a time, and appends each message that they make whole; how that ends.
+/// Feeds `bytes`, `size` at a time, and appends the line of each message that becomes whole. Returns how that ends.
 fn feed_pieces(
     framer: &mut Framer<&Heap>,
     alloc: Global,
@@ -165,7 +162,7 @@ fn feed_pieces(
     Ok(framer.finish())
 }
 
-/// The messages that a framer makes of the bytes, and the ending.
+/// Returns the lines of the messages that a framer makes of `bytes`, and of the ending.
 fn pieces_text(
     framer: &mut Framer<&Heap>,
     alloc: Global,
@@ -182,7 +179,7 @@ fn pieces_text(
     Ok(text)
 }
 
-/// `pieces SIZE MOST_WORDS BYTES`: the messages of the bytes, fed `SIZE` at a time, and the ending.
+/// Answers `pieces SIZE MOST_WORDS BYTES` by the messages of the bytes, fed `SIZE` at a time, and the ending.
 pub(crate) fn pieces_answer(alloc: Global, heap: &Heap, words: &[&str]) -> Result<String> {
     let size = number_at(words, 1)? as usize;
     let limit = limit_at(words, 2)?;
@@ -191,13 +188,13 @@ pub(crate) fn pieces_answer(alloc: Global, heap: &Heap, words: &[&str]) -> Resul
     pieces_text(&mut framer, alloc, bytes.as_slice(), size)
 }
 
-/// Appends a message that was read; that it was one.
+/// Appends the line of a message that was read. Returns `true`, which says that it was one.
 fn push_read(alloc: Global, message: &Stored<&Heap>, text: &mut String) -> Result<bool> {
     push_message(alloc, message, text)?;
     Ok(true)
 }
 
-/// Appends what a reader gives next, a message or the ending; whether it was a message.
+/// Appends what is read next, a message or the ending. Returns whether it was a message.
 fn read_next(
     reader: &mut Watched<&[u8]>,
     alloc: Global,
@@ -222,7 +219,7 @@ fn read_next(
     Ok(false)
 }
 
-/// `read MOST_WORDS BYTES`: the messages of a reader that has the bytes to give, and the ending.
+/// Answers `read MOST_WORDS BYTES` by the messages that are read from the bytes, and the ending.
 pub(crate) fn read_answer(alloc: Global, heap: &Heap, words: &[&str]) -> Result<String> {
     let limit = limit_at(words, 1)?;
     let bytes = bytes_at(alloc, words, 2)?;
@@ -236,7 +233,7 @@ pub(crate) fn read_answer(alloc: Global, heap: &Heap, words: &[&str]) -> Result<
     Err(anyhow!("a reader without end"))
 }
 
-/// Returns the bytes that are written of `message`.
+/// Returns the bytes that `write_message` writes for `message`, in hexadecimal.
 fn written_text(alloc: Global, message: &Stored<&Heap>) -> Result<String> {
     let mut writer = Watched::new(Vec::new(alloc));
     match write_message(&mut writer, message) {
@@ -245,7 +242,7 @@ fn written_text(alloc: Global, message: &Stored<&Heap>) -> Result<String> {
     }
 }
 
-/// `write BYTES`: what is written of the message that a reader of the bytes gives first.
+/// Answers `write BYTES` by what is written for the first message that is read from the bytes.
 pub(crate) fn write_answer(alloc: Global, heap: &Heap, words: &[&str]) -> Result<String> {
     let bytes = bytes_at(alloc, words, 1)?;
     let mut reader = Watched::new(bytes.as_slice());

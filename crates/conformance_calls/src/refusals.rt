@@ -6,7 +6,7 @@ use conformance_cases::MEMORY;
 use std::alloc::Global;
 use std::fmt::Display;
 
-/// Displays `fault`; if memory ran out, wherever that was, as the one word by which growths know it.
+/// Displays `fault`. Refused memory is displayed as `Memory`, by which the check of growths recognises it.
 pub(crate) fn told<E: Display + Drop>(alloc: Global, fault: E) -> Result<String> {
     let text = format!(in alloc; "{fault}")?;
     match text.as_str().strip_suffix("out of memory") {
@@ -15,7 +15,7 @@ pub(crate) fn told<E: Display + Drop>(alloc: Global, fault: E) -> Result<String>
     }
 }
 
-/// Displays the reason why a walk by itself gave no answer.
+/// Displays the reason why a walk that was called directly stopped.
 pub(crate) fn stop_told(alloc: Global, stopped: Stopped) -> Result<String> {
     match stopped.fault {
         Fault::Memory => Ok(String::from_str(alloc, MEMORY)?),

@@ -1,4 +1,4 @@
-//! The call to resolve a slot.
+//! The answers for the call `resolve`, which finds the target of a slot.
 
 use crate::refusals::told;
 use anyhow::{Result, anyhow};
@@ -62,7 +62,7 @@ fn resolve_in_bare(alloc: Global, bytes: &[u8], at: Place) -> Result<String> {
     }
 }
 
-/// `resolve FORM SEGMENT WORD BYTES`.
+/// Answers `resolve FORM SEGMENT WORD BYTES`.
 pub(crate) fn resolve_answer(alloc: Global, heap: &Heap, words: &[&str]) -> Result<String> {
     let form = form_at(words, 1)?;
     let segment = number_at(words, 2)?;

@@ -1,4 +1,4 @@
-//! The calls on packed texts in pieces.
+//! The answers for calls on packed bytes that are fed in chunks.
 
 use crate::refusals::told;
 use anyhow::{Result, anyhow, bail};
@@ -6,7 +6,7 @@ use capn_pack::{UnpackFault, Unpacker};
 use conformance_cases::{Heap, MEMORY, bytes_at, cut_short, digits_of, push_told, word_at};
 use std::alloc::Global;
 
-/// If memory ran out, an unpacker has to fail from then on.
+/// Checks that an unpacker fails at every call, after memory ran out.
 fn unpacker_has_to_fail(unpacker: &mut Unpacker, alloc: Global) -> Result<()> {
     let mut unpacked = Vec::new(alloc);
     match (unpacker.feed(&[0, 0], &mut unpacked), unpacker.finish()) {
@@ -25,8 +25,8 @@ fn fed_text(unpacker: &mut Unpacker, alloc: Global, heap: &Heap, piece: &[u8]) -
     }
 }
 
-/// Does the step of an unpacker that word `at` of the line names, and returns its answer; bytes are those of the next
-/// word.
+/// Does the step of an unpacker that word `at` of the line names, and returns its answer. The bytes to feed are those
+/// of the next word.
 fn unpacker_text(
     unpacker: &mut Unpacker,
     alloc: Global,
@@ -47,7 +47,7 @@ fn unpacker_text(
     }
 }
 
-/// Appends what an unpacker answers to a step; whether memory ran out.
+/// Does a step of an unpacker and appends its answer. Returns whether memory ran out.
 fn unpacker_step(
     unpacker: &mut Unpacker,
     alloc: Global,
@@ -61,7 +61,7 @@ fn unpacker_step(
     Ok(told.as_str().ends_with(MEMORY))
 }
 
-/// `unpacker STEP ..`: each step is `feed BYTES` or `finish`.
+/// Answers `unpacker STEP ..`, where each step is `feed BYTES` or `finish`.
 pub(crate) fn unpacker_answer(alloc: Global, heap: &Heap, words: &[&str]) -> Result<String> {
     let mut unpacker = Unpacker::new();
     let mut text = String::new(alloc);

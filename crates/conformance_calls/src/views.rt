@@ -1,5 +1,4 @@
-//! The calls on views of a message.
-//! Each step that makes a view gives it the next number, from 0 on.
+//! The answers for calls on views of a message. Each step that makes a view gives it the next number, from 0 on.
 
 ghost use Rattle.std.specs.Prelude.{◌≡◌, ◌<◌, ◌≤◌, ◌^◌, IfOk};
 
@@ -14,7 +13,7 @@ use capn_words::{Bare, MOST_MESSAGE_WORDS, Space};
 use conformance_cases::{Heap, bytes_at, digits_of, form_at, number_at, push_told, word_at};
 use std::alloc::Global;
 
-/// A step to a slot of a struct or an element of a list of pointers.
+/// Steps to a slot of a struct, or to an element of a list of pointers.
 fn slot_of<'s, S: Space>(
     view: &View<'s, S>,
     index: u32,
@@ -31,7 +30,7 @@ fn slot_of<'s, S: Space>(
     }
 }
 
-/// A row of a list of structs.
+/// Returns a row of a list of structs.
 fn row_of<'s, S: Space>(view: &View<'s, S>, index: u32) -> Result<View<'s, S>> {
     match view.kind() {
         Kind::Rows if index < view.len() => Ok(view.row(index)),
@@ -39,7 +38,7 @@ fn row_of<'s, S: Space>(view: &View<'s, S>, index: u32) -> Result<View<'s, S>> {
     }
 }
 
-/// A data word of a struct.
+/// Returns a data word of a struct.
 fn word_of<S: Space>(view: &View<'_, S>, index: u32) -> Result<u64> {
     if index < view.words() as u32 {
         Ok(view.word(index))
@@ -48,7 +47,7 @@ fn word_of<S: Space>(view: &View<'_, S>, index: u32) -> Result<u64> {
     }
 }
 
-/// An element of a list of numbers.
+/// Returns an element of a list of numbers.
 #[tactic(auto, using(crate::proofs::Numbers::numbers_and_others))]
 fn number_of<S: Space>(view: &View<'_, S>, index: u32) -> Result<u64> {
     match view.kind() {
@@ -59,7 +58,7 @@ fn number_of<S: Space>(view: &View<'_, S>, index: u32) -> Result<u64> {
     }
 }
 
-/// The view whose number is at a place of the line.
+/// Returns the view whose number is word `at` of the line.
 fn view_at<'v, 's, S: Space>(
     views: &'v [View<'s, S>],
     words: &[&str],
@@ -71,7 +70,7 @@ fn view_at<'v, 's, S: Space>(
     }
 }
 
-/// Prints a step to a view, and the words that were paid by then.
+/// Returns the answer for a step to a view: the words paid so far, or the fault. Appends the view to `views`.
 fn step_text<'s, S: Space>(
     alloc: Global,
     step: Result<View<'s, S>, Fault>,
@@ -91,7 +90,7 @@ fn step_text<'s, S: Space>(
     }
 }
 
-/// Prints `view` by its kind and its sizes.
+/// Returns the kind and the sizes of `view` as text.
 fn shape_text<S: Space>(alloc: Global, view: &View<'_, S>) -> Result<String> {
     let len = view.len();
     let words = view.words();
@@ -105,7 +104,7 @@ fn shape_text<S: Space>(alloc: Global, view: &View<'_, S>) -> Result<String> {
     }
 }
 
-/// A step from a view, in the words of the line from a place on: its answer.
+/// Does the step that word `at` of the line names, from the view in the next word, and returns its answer.
 fn step_answer<'s, S: Space>(
     alloc: Global,
     words: &[&str],
@@ -145,7 +144,7 @@ fn step_answer<'s, S: Space>(
     }
 }
 
-/// Returns the number of words of `step`.
+/// Returns the number of words that `step` takes in a line.
 fn words_of_step(step: &str) -> usize {
     match step {
         "root" => 1,
@@ -154,7 +153,7 @@ fn words_of_step(step: &str) -> usize {
     }
 }
 
-/// Prints all steps, from the first, which is to the root, on.
+/// Returns the answers for all steps of a line. The first step must be to the root.
 fn steps_text<S: Space>(
     alloc: Global,
     space: &S,
@@ -183,8 +182,8 @@ fn steps_text<S: Space>(
     Ok(text)
 }
 
-/// `view FORM BUDGET DEPTH BYTES STEP ..`: each step is `root`, `slot VIEW INDEX`, `row VIEW INDEX`, `word VIEW INDEX`,
-/// `number VIEW INDEX`, `bytes VIEW` or `shape VIEW`.
+/// Answers `view FORM BUDGET DEPTH BYTES STEP ..`, where each step is `root`, `slot VIEW INDEX`, `row VIEW INDEX`,
+/// `word VIEW INDEX`, `number VIEW INDEX`, `bytes VIEW` or `shape VIEW`.
 pub(crate) fn view_answer(
     alloc: Global,
     heap: &Heap,

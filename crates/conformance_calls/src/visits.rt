@@ -1,4 +1,4 @@
-//! The calls for a message's visits and for its canonicity.
+//! The answers for the calls `walk`, `survey` and `is_canonical`.
 
 use crate::messages::true_limits_at;
 use crate::refusals::{stop_told, told};
@@ -43,14 +43,14 @@ fn survey_text<S: Space>(alloc: Global, heap: &Heap, space: &S, limits: Limits) 
     }
 }
 
-/// The question to a message.
+/// The call on a message.
 #[derive(Clone, Copy)]
 pub(crate) enum Asked {
     Walk,
     Survey,
 }
 
-/// Returns the answer of a message.
+/// Returns the answer of the call `asked` for the message `space`.
 fn visits_text<S: Space>(
     alloc: Global,
     heap: &Heap,
@@ -64,7 +64,7 @@ fn visits_text<S: Space>(
     }
 }
 
-/// Returns the answer of the first message.
+/// Returns the answer of the call `asked` for the first message in `bytes`.
 fn visits_of_frame(
     alloc: Global,
     heap: &Heap,
@@ -78,7 +78,7 @@ fn visits_of_frame(
     }
 }
 
-/// `walk FORM MESSAGE_WORDS BUDGET DEPTH BYTES`, or `survey` with the same.
+/// Answers `walk FORM MESSAGE_WORDS BUDGET DEPTH BYTES`, or `survey` with the same words.
 pub(crate) fn visits_answer(
     alloc: Global,
     heap: &Heap,
@@ -102,7 +102,7 @@ pub(crate) fn visits_answer(
     }
 }
 
-/// `is_canonical MESSAGE_WORDS BUDGET DEPTH BYTES`.
+/// Answers `is_canonical MESSAGE_WORDS BUDGET DEPTH BYTES`.
 pub(crate) fn is_canonical_answer(
     alloc: Global,
     heap: &Heap,

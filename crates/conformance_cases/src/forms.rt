@@ -1,4 +1,4 @@
-//! The forms of a case.
+//! `form_at`: the form that a case names.
 
 use crate::words::word_at;
 use anyhow::{Result, bail};

@@ -1,30 +1,28 @@
-//! Each case, with ample and with refused memory.
-//! It is answered with ample memory, and then with each growth of its calls refused in turn.
+//! `answer_each`: answers a case with enough memory, and then with each growth of its call refused in turn.
 
 use anyhow::{Result, bail};
 use std::alloc::Global;
 use test_allocator::Refusing;
 
-/// The allocator of the calls of a case. Memory for the case itself, as for its text, is never refused.
+/// The allocator for the call of a case. Memory for the case itself, such as its text, is never refused.
 pub type Heap = Refusing<Global>;
 
-/// The end of the answer of a case whose call answered that memory ran out. Before it come the bytes that were printed
-/// or written by then.
+/// The end of the answer for a call that reported refused memory. The bytes that it had written by then come before it.
 pub const MEMORY: &str = "Memory";
 
-/// Answers cases.
+/// A program that answers cases.
 pub trait Answers {
-    /// Returns the answer of the call of a case, given by `words`, as a line; the call takes its memory from `heap`.
+    /// Returns the answer for the call given by `words`, as a line. The call takes its memory from `heap`.
     fn answer(&self, alloc: Global, heap: &Heap, words: &[&str]) -> Result<String>;
 }
 
-/// Returns the bytes that were `written` before memory ran out, and that it did.
+/// Returns the answer for a call that ran out of memory: the bytes `written` before, and `MEMORY`.
 pub fn cut_short(alloc: Global, written: &[u8]) -> Result<String> {
     let digits = hex::encode(alloc, written)?;
     Ok(format!(in alloc; "{digits}{MEMORY}")?)
 }
 
-/// An answer after its status, if it has one.
+/// Returns an answer without the status at its start, if it has one.
 fn behind_status(text: &str) -> &str {
     match text.strip_prefix("status 0, ") {
         Some(rest) => rest,
@@ -32,7 +30,7 @@ fn behind_status(text: &str) -> &str {
     }
 }
 
-/// Tests whether a case with a refused growth gave a beginning of the answer, and then that memory ran out.
+/// Tests whether `told`, the answer with a refused growth, is a prefix of `want` followed by `MEMORY`.
 fn is_cut_short(told: &str, want: &str) -> bool {
     match told.strip_suffix(MEMORY) {
         Some(begun) => want.starts_with(begun) || behind_status(want).starts_with(begun),
@@ -40,8 +38,8 @@ fn is_cut_short(told: &str, want: &str) -> bool {
     }
 }
 
-/// Refuses a growth of a call: it must answer that memory ran out and nothing else, and the same call afterwards, which
-/// meets no refusal, must give the answer.
+/// Refuses growth `number` of a call. The call must report refused memory and nothing else. Called again without a
+/// refusal, it must give the answer `want`.
 fn refuse<C: Answers>(
     alloc: Global,
     calls: &C,
@@ -61,17 +59,17 @@ fn refuse<C: Answers>(
     Ok(())
 }
 
-/// Growths of a call that are refused.
+/// The growths of a call that are refused.
 #[derive(Clone, Copy, PartialEq, Eq)]
 pub enum Growths {
-    /// Each.
+    /// Each growth.
     Each,
-    /// Some 64, one as far from the next as the other, as the word `few` before a call asks: for runs that check each
-    /// step, where the thousands of growths of a large message would take minutes.
+    /// About 64 growths at equal distances, for a call after the word `few`. It is for large messages, whose thousands
+    /// of growths would take minutes in runs that check each step.
     Few,
 }
 
-/// Returns which growths of the call of a case are refused, and the words of the call.
+/// Returns the growths to refuse for a case, and the words of its call.
 pub fn growths_and_call<'w, 'a>(words: &'w [&'a str]) -> (Growths, &'w [&'a str]) {
     match words {
         [first, call @ ..] if *first == "few" => (Growths::Few, call),
@@ -79,8 +77,7 @@ pub fn growths_and_call<'w, 'a>(words: &'w [&'a str]) -> (Growths, &'w [&'a str]
     }
 }
 
-/// Returns the answer of a call of `calls`, given by `words`, as a line, once these of its `growths` were refused, and
-/// answered as they must be.
+/// Returns the answer for the call given by `words`, as a line, after checking the call with each of `growths` refused.
 pub fn answer_each<C: Answers>(
     alloc: Global,
     calls: &C,

@@ -1,4 +1,4 @@
-//! The words of a case.
+//! The words of a case, read as text, numbers and bytes, and the text of its answer.
 
 use anyhow::{Result, anyhow};
 use std::alloc::Global;
@@ -25,7 +25,7 @@ pub fn bytes_at(alloc: Global, words: &[&str], at: usize) -> Result<Vec<u8>> {
     Ok(hex::decode(alloc, digits)?)
 }
 
-/// Writes `bytes` as they stand in a case.
+/// Returns `bytes` as they are written in a case.
 pub fn digits_of(alloc: Global, bytes: &[u8]) -> Result<String> {
     if bytes.is_empty() {
         return Ok(String::from_str(alloc, "-")?);

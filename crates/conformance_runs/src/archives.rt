@@ -1,4 +1,4 @@
-//! Runs over archives, and over texts.
+//! The answers for runs over archives and over texts of values.
 
 use crate::runs::{command_line, tool_told};
 use anyhow::{Result, anyhow};
@@ -16,7 +16,7 @@ use capn_words::Watched;
 use conformance_cases::{Heap, bytes_at, cut_short, digits_of, form_at, push_told};
 use std::alloc::Global;
 
-/// The fault of a run that picks or explains messages, as one of a run over an archive.
+/// Maps the fault of a run that picks or explains messages to the fault of a run over an archive.
 fn archive_fault_of(fault: RunFault) -> ArchiveFault {
     match fault {
         RunFault::Memory => ArchiveFault::Memory,
@@ -26,7 +26,7 @@ fn archive_fault_of(fault: RunFault) -> ArchiveFault {
     }
 }
 
-/// Returns the status of a run, the bytes that are `written`, and the line or both lines on standard error.
+/// Returns the answer for a run: its status, the bytes that are `written`, and the lines on standard error.
 fn run_told<F: Ending>(alloc: Global, outcome: &Result<(), F>, written: &[u8]) -> Result<String> {
     let mut errors = Watched::new(Vec::new(alloc));
     let status = end(outcome, &mut errors);
@@ -39,7 +39,7 @@ fn run_told<F: Ending>(alloc: Global, outcome: &Result<(), F>, written: &[u8]) -
     Ok(told)
 }
 
-/// Returns how a run over an archive ended, and the bytes that are `written`.
+/// Returns the answer for a run over an archive, with the bytes that are `written`.
 fn archive_told(
     alloc: Global,
     outcome: Result<(), ArchiveFault>,
@@ -51,7 +51,7 @@ fn archive_told(
     run_told(alloc, &outcome, written)
 }
 
-/// Returns how a run ended that explains every message that is refused, and the bytes that are `written`.
+/// Returns the answer for a run that explains every refused message, with the bytes that are `written`.
 fn report_told(alloc: Global, outcome: Result<(), ReportFault>, written: &[u8]) -> Result<String> {
     if let Err(ReportFault::Ended(RunFault::Memory)) = outcome {
         return cut_short(alloc, written);
@@ -59,7 +59,8 @@ fn report_told(alloc: Global, outcome: Result<(), ReportFault>, written: &[u8]) 
     run_told(alloc, &outcome, written)
 }
 
-/// Returns the end of a run that compares: the status, what is written, and the line on standard error.
+/// Returns the answer for a run that compares messages: the status, the bytes that are `written`, and the line on
+/// standard error.
 fn found_told(
     alloc: Global,
     found: Result<Comparison, CmpFault>,
@@ -76,8 +77,8 @@ fn found_told(
     }
 }
 
-/// Returns the end of a run that packs or unpacks: the status, the bytes that are `written`, and the line on standard
-/// error.
+/// Returns the answer for a run that packs or unpacks: the status, the bytes that are `written`, and the line on
+/// standard error.
 fn flow_told(alloc: Global, outcome: Result<(), FlowFault>, written: &[u8]) -> Result<String> {
     let digits = digits_of(alloc, written)?;
     match outcome {
@@ -90,8 +91,8 @@ fn flow_told(alloc: Global, outcome: Result<(), FlowFault>, written: &[u8]) -> R
     }
 }
 
-/// `archive COUNT WORD .. BYTES`: the status, what is written, and the line on standard error, of a run whose input may
-/// have any length.
+/// Answers `archive COUNT WORD .. BYTES`, a run whose input may have any length, by its status, its output, and the
+/// line on standard error.
 pub(crate) fn archive_answer(alloc: Global, heap: &Heap, words: &[&str]) -> Result<String> {
     let line = command_line(alloc, words)?;
     let input = bytes_at(alloc, words, line.len().saturating_add(1))?;
@@ -166,7 +167,7 @@ pub(crate) fn archive_answer(alloc: Global, heap: &Heap, words: &[&str]) -> Resu
     }
 }
 
-/// `order COUNT WORD ..`: the status of a command line that orders nothing, for the whole program.
+/// Answers `order COUNT WORD ..` by the status of a command line that means no invocation of the whole program.
 pub(crate) fn order_answer(alloc: Global, words: &[&str]) -> Result<String> {
     let line = command_line(alloc, words)?;
     match invocation_of(alloc, line.as_slice()) {
@@ -178,7 +179,8 @@ pub(crate) fn order_answer(alloc: Global, words: &[&str]) -> Result<String> {
     }
 }
 
-/// `make FORM BYTES`: the status, what is written for the texts that the bytes are, and the line on standard error.
+/// Answers `make FORM BYTES`, where the bytes are texts of values, by the status, the output, and the line on standard
+/// error.
 pub(crate) fn make_answer(alloc: Global, heap: &Heap, words: &[&str]) -> Result<String> {
     let form = form_at(words, 1)?;
     let input = bytes_at(alloc, words, 2)?;
@@ -188,7 +190,7 @@ pub(crate) fn make_answer(alloc: Global, heap: &Heap, words: &[&str]) -> Result<
     made_told(alloc, outcome, writer.into_inner().as_slice())
 }
 
-/// Returns the end of a run over texts: the status, the bytes that are `written`, and the line on standard error.
+/// Returns the answer for a run over texts: the status, the bytes that are `written`, and the line on standard error.
 fn made_told(alloc: Global, outcome: Result<(), MakeFault>, written: &[u8]) -> Result<String> {
     let digits = digits_of(alloc, written)?;
     match outcome {

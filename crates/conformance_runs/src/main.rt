@@ -1,8 +1,8 @@
-//! Answers to the cases of standard input that are runs: what a command line orders, what a run writes, and its status.
-//! A case is a line with its name and a line with a call, each word parted by a space. Bytes are hexadecimal, and `-`
-//! stands for none. What must come out is the stored output, which no run of ours wrote. Each call is made once with
-//! ample memory, and then as often as it grows with one growth refused. The line of a case is printed only if it
-//! answered each time that memory ran out, and its answer afterwards.
+//! Answers to the cases of standard input that are runs: the invocation that a command line means, the output of a run,
+//! and its status. A case is a line with its name and a line with a call, whose words are parted by a space. Bytes are
+//! hexadecimal, and `-` stands for none. The answers must equal the stored output, which no run of this program wrote.
+//! Each call is made once with enough memory, and then once for each of its growths, with that growth refused. The line
+//! of a case is printed only if the call reported refused memory each time, and gave its answer afterwards.
 #![tactic(auto)]
 
 mod archives;
@@ -13,7 +13,7 @@ use conformance_cases::{Answers, Heap, answer_each, growths_and_call, word_at};
 use std::alloc::Global;
 use std::io::BufRead;
 
-/// Runs of the program, and of its commands.
+/// The answers for runs of the program and of its commands.
 #[derive(Clone, Copy)]
 struct RunAnswers;
 
@@ -30,7 +30,7 @@ impl Answers for RunAnswers {
     }
 }
 
-/// Returns the answer of a call, as a line.
+/// Returns the answer for a call, as a line.
 fn answer_line(alloc: Global, line: &str) -> Result<String> {
     let words: Vec<&str> = line.split(' ').collect(alloc)?;
     let (growths, call) = growths_and_call(words.as_slice());

@@ -1,4 +1,4 @@
-//! Runs of the program, from command line to output.
+//! The answers for runs of the program, from a command line to its output.
 
 use anyhow::{Result, anyhow};
 use capn_tool::{ToolFault, command_of, fault_text, run, status};
@@ -6,7 +6,7 @@ use capn_words::Watched;
 use conformance_cases::{Heap, bytes_at, cut_short, digits_of, number_at, word_at};
 use std::alloc::Global;
 
-/// The command line whose number of words is in the line, the program's name first.
+/// Returns the command line of a case: the program's name, and the words, whose number is the first word of the case.
 pub(crate) fn command_line<'a>(alloc: Global, words: &[&'a str]) -> Result<Vec<&'a str>> {
     let count = number_at(words, 1)? as usize;
     let mut line = Vec::new(alloc);
@@ -17,7 +17,7 @@ pub(crate) fn command_line<'a>(alloc: Global, words: &[&'a str]) -> Result<Vec<&
     Ok(line)
 }
 
-/// `run COUNT WORD .. BYTES`: the status, what is written, and the line on standard error.
+/// Answers `run COUNT WORD .. BYTES` by the status, the output, and the line on standard error.
 pub(crate) fn run_answer(alloc: Global, heap: &Heap, words: &[&str]) -> Result<String> {
     let line = command_line(alloc, words)?;
     let input = bytes_at(alloc, words, line.len().saturating_add(1))?;
@@ -30,7 +30,7 @@ pub(crate) fn run_answer(alloc: Global, heap: &Heap, words: &[&str]) -> Result<S
     tool_told(alloc, heap, outcome, writer.into_inner().as_slice())
 }
 
-/// Returns the end of a run: its status, the bytes that are `written`, and the line on standard error.
+/// Returns the answer for a run: its status, the bytes that are `written`, and the line on standard error.
 pub(crate) fn tool_told(
     alloc: Global,
     heap: &Heap,
@@ -49,7 +49,7 @@ pub(crate) fn tool_told(
     }
 }
 
-/// `usage COUNT WORD ..`: the status of a command line that orders nothing.
+/// Answers `usage COUNT WORD ..` by the status of a command line that means no command.
 pub(crate) fn usage_answer(alloc: Global, words: &[&str]) -> Result<String> {
     let line = command_line(alloc, words)?;
     match command_of(alloc, line.as_slice()) {

@@ -1,10 +1,9 @@
-//! An example of the libraries: the digests of messages.
-//! It prints for each message of standard input the digest of its canonical bytes, and whether its value is that of
-//! the message before it.
+//! An example of the libraries. For each message of standard input it prints the digest of its canonical bytes, and
+//! whether its value is that of the message before it.
 //!
-//! Canonical bytes are what one signs, hashes and compares: they are equal if and only if the values are, up to
-//! trailing zero words and trailing null pointers. Programs that read messages from strangers set limits first; a
-//! message that is refused is reported in words.
+//! Canonical bytes are made to sign, hash and compare messages: they are equal if and only if the values are, up to
+//! trailing zero words and trailing null pointers. A program that reads messages from strangers sets limits first. The
+//! example reports a refused message in plain words.
 #![tactic(auto)]
 
 use anyhow::Result;
@@ -13,7 +12,7 @@ use capn_stream::read_message;
 use capn_words::Watched;
 use sha2::{Digest, Sha256};
 
-/// Says what `refusal` means, to somebody who does not know the format.
+/// Returns the meaning of `refusal`, for somebody who does not know the format.
 fn in_words(refusal: &Refusal) -> &'static str {
     match refusal {
         Refusal::Bare(_) | Refusal::Packed(_) | Refusal::Frame(_) => "these bytes are no message",

@@ -1,22 +1,23 @@
-//! The account of an allocator: growths asked for and refused.
+//! The account of a test allocator: which growths it refuses, and the count and the greatest size of those requested.
 
 ghost use Rattle.std.specs.Prelude.{◌≡◌, ◌⊎◌, ◌+◌, ◌-◌, ◌^◌, ◌<◌, ◌↔◌, true, max, min};
 
-/// The growths that are refused, and those that were asked for so far.
+/// The growths that are refused, and the figures of those requested so far.
 #[derive(Clone, Copy)]
 pub(crate) struct Account {
-    /// The number of the growth that is refused, counted from 1 for the next one; 0 where none is.
+    /// The number of the growth that is refused, counted from 1 for the next one. With 0 none is refused by its number.
     pub left: u64,
-    /// The most bytes of a growth that is let through.
+    /// The greatest size in bytes of a growth that is let through.
     pub most: usize,
-    /// The most bytes that a growth asked for.
+    /// The greatest size in bytes that was requested.
     pub greatest: usize,
-    /// The number of growths that came.
+    /// The number of growths requested.
     pub count: u64,
 }
 
 impl Account {
-    /// Returns an account that refuses the growth of this `number`, counted from 1, and no other; none for 0.
+    /// Returns an account that refuses only the growth with the number `number`, counted from 1. With 0 it refuses
+    /// none.
     pub(crate) fn nth(number: u64) -> Account
         ensures left { result.left ≡ number }
         ensures most { result.most ≡ 2 ^ 64 - 1 }
@@ -38,7 +39,7 @@ impl Account {
         self.left == 1 || self.most < size
     }
 
-    /// Returns the account once a growth of `size` bytes has come.
+    /// Returns the account after a request for a growth of `size` bytes.
     pub(crate) fn counted(self, size: usize) -> Account
         ensures left { result.left ≡ self.left - 1 }
         ensures most { result.most ≡ self.most }

@@ -1,18 +1,18 @@
-//! An allocator with refusals, and an account of its growths.
+//! `Refusing`: an allocator that refuses growths, and keeps an account of those requested.
 
 use crate::account::Account;
 use std::alloc::{AllocError, Allocator};
 use std::cell::Cell;
 
-/// Passes each call on, except for the growths that it refuses.
+/// An allocator that passes each call to `inner`, except for the growths that it refuses.
 pub struct Refusing<B: Allocator> {
     inner: B,
     account: Cell<Account>,
 }
 
 impl<B: Allocator> Refusing<B> {
-    /// Returns an allocator over `inner` that refuses the growth of this `number`, counted from 1, and no other; none
-    /// for 0.
+    /// Returns an allocator over `inner` that refuses only the growth with the number `number`, counted from 1. With 0
+    /// it refuses none.
     pub fn nth(inner: B, number: u64) -> Refusing<B> {
         Refusing {
             inner,
@@ -31,17 +31,18 @@ impl<B: Allocator> Refusing<B> {
         self.refuse_above(0);
     }
 
-    /// Returns `true` if fewer growths came than the number, so that it was refused none.
+    /// Tests whether fewer growths were requested than the number of the one to refuse, so that it refused none by its
+    /// number.
     pub fn has_spared(&self) -> bool {
         self.account.get().left != 0
     }
 
-    /// Returns the most bytes that a growth asked for, a refused one too.
+    /// Returns the greatest size in bytes of the growths requested, refused ones included.
     pub fn greatest(&self) -> usize {
         self.account.get().greatest
     }
 
-    /// Returns the number of growths that came, refused ones too.
+    /// Returns the number of growths requested, refused ones included.
     pub fn count(&self) -> u64 {
         self.account.get().count
     }
@@ -56,7 +57,7 @@ impl<B: Allocator> Drop for Refusing<B> {
     }
 }
 
-// Counts a growth of `size` bytes, and says whether it is to be refused.
+// Counts a growth of `size` bytes, and tests whether it is to be refused.
 fn is_refused(account: &Cell<Account>, size: usize) -> bool {
     let before = account.get();
     account.set(before.counted(size));

@@ -1,14 +1,14 @@
-//! One segment, read by itself and as any message.
+//! Tests of one segment, read as a bare message and through the trait of all messages.
 
 use capn_words::{Bare, BareFault, Place, Space, total_words};
 
-/// A segment's bytes, over any message.
+/// Returns the bytes of `segment`, for any kind of message.
 fn segment_bytes<S: Space>(space: &S, segment: u32) -> Option<&[u8]> {
     let words = space.words(segment)?;
     Some(space.bytes(Place { segment, word: 0 }, 8 * words as usize))
 }
 
-/// Tests whether a message's first segment begins with a zero word.
+/// Tests whether the first segment of `space` begins with a zero word.
 fn is_null<S: Space>(space: &S) -> bool {
     match space.words(0) {
         None => false,

@@ -1,4 +1,4 @@
-//! Bare messages as frames, frames as bare messages, empty framers.
+//! Tests of frames: bare messages written as frames, frames read as bare messages, and framers that were fed nothing.
 
 ghost use Rattle.std.specs.Prelude.{◌≤◌};
 ghost use Rattle.capn_words.specs.Message.{most_message_words};
@@ -6,7 +6,7 @@ ghost use Rattle.capn_words.specs.Message.{most_message_words};
 use capn_stream::{FrameFault, Framer, first_bare, frame};
 use capn_words::{Bare, Space};
 
-/// A struct of the word 5, framed.
+/// The frame of a struct with the data word 5.
 const FRAMED: [u8; 24] = [
     0, 0, 0, 0, 2, 0, 0, 0, 0, 0, 0, 0, 1, 0, 0, 0, 5, 0, 0, 0, 0, 0, 0, 0,
 ];
@@ -43,7 +43,7 @@ fn a_framer_holds_the_table_that_it_refuses(rt: HostRuntime) {
     assert_eq!(rt; framer.feed(&FRAMED), Err(FrameFault::Failed));
 }
 
-/// Returns the words and the bytes of the message of one segment with which `bytes` begin.
+/// Returns the size in words and in bytes of the message of one segment at the start of `bytes`.
 fn bare_sizes(bytes: &[u8], max_words: u32) -> Option<(Option<u32>, usize)>
     requires { max_words ≤ most_message_words }
 {
@@ -51,7 +51,7 @@ fn bare_sizes(bytes: &[u8], max_words: u32) -> Option<(Option<u32>, usize)>
     Some((message.words(0), taken))
 }
 
-/// A frame of two segments, of no word each.
+/// The frame of a message of two segments without words.
 const TWO: [u8; 16] = [1, 0, 0, 0, 0, 0, 0, 0, 0, 0, 0, 0, 0, 0, 0, 0];
 
 #[test]

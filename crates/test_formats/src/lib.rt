@@ -1,7 +1,7 @@
-//! Trials of pointer words, packed words, frames, readers and writers.
+//! Tests of pointer words, packed words, frames, readers and writers.
 //!
-//! They stand apart from the crates that they try, since a crate with tests is proved twice, and apart from the trials
-//! of the crates above these, since they need not wait for those.
+//! They are apart from the crates that they test, because a crate with tests is proved twice. They are apart from the
+//! tests of the crates above these, because they need not wait for them.
 #![tactic(auto)]
 
 #[cfg(test)]

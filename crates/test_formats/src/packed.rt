@@ -1,10 +1,10 @@
-//! Words of every kind of group, packed and unpacked.
+//! Tests of packing: words of every kind of group, packed and unpacked.
 
 use capn_pack::{UnpackFault, Unpacker, pack, tag, unpack};
 use std::alloc::Global;
 use std::test::Fail;
 
-/// Tests whether the words pack to the text, and the text unpacks to the words.
+/// Tests whether `words` pack to `text`, and `text` unpacks to `words`.
 fn there_and_back(alloc: Global, words: &[u8], text: &[u8]) -> Result<bool, Fail> {
     let most = u32::try_from(words.len() / 8).unwrap_or(0);
     let packed = pack(alloc, words)?;
@@ -12,7 +12,7 @@ fn there_and_back(alloc: Global, words: &[u8], text: &[u8]) -> Result<bool, Fail
     Ok(packed.as_slice() == text && unpacked.as_slice() == words)
 }
 
-/// The word whose bytes are 7 where the pattern has a bit, and zero elsewhere.
+/// Returns the word whose byte `i` is 7 if bit `i` of `pattern` is set, and zero otherwise.
 fn word_of(pattern: u16) -> [u8; 8] {
     let mut word = [0; 8];
     for i in 0..8usize {
@@ -43,7 +43,7 @@ fn each_pattern_of_zero_bytes(rt: HostRuntime) -> Result<(), Fail> {
     Ok(())
 }
 
-/// Words of every kind of group, many of each.
+/// Returns words for every kind of group, many of each.
 fn many_words(alloc: Global) -> Result<Vec<u8>, Fail> {
     let mut words = Vec::new(alloc);
     for i in 0..4000u16 {
@@ -76,7 +76,7 @@ fn many_words_and_pieces(rt: HostRuntime) -> Result<(), Fail> {
 fn an_unpacker_lends_the_group_that_is_cut(rt: HostRuntime) -> Result<(), Fail> {
     let mut unpacker = Unpacker::new();
     let mut out = Vec::new(rt.alloc());
-    // A whole group; then one of three bytes beside its tag, of which two came.
+    // A whole group, and then two of the three bytes that follow the tag of the next.
     unpacker.feed(&[0x01, 5, 0x15, 7], &mut out)?;
     unpacker.feed(&[8], &mut out)?;
     assert_eq!(rt; unpacker.held(), [0x15, 7, 8].as_slice());

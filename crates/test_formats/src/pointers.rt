@@ -1,18 +1,18 @@
-//! Pointer words of each kind, at their fields' limits.
+//! Tests of pointer words of each kind, at the limits of their fields.
 
 ghost use Rattle.std.specs.Prelude.{◌≡◌};
 ghost use Rattle.capn_words.specs.Pointers.{FitsFields};
 
 use capn_words::{Pointer, Width, join, split};
 
-/// A word is the word of what it says.
+/// Returns `word`, split and joined again. The clause states that nothing is lost.
 fn joined_again(word: u64) -> u64
     ensures { result ≡ word }
 {
     join(split(word))
 }
 
-/// A pointer that fits is what its word says.
+/// Returns `pointer`, joined and split again. The clause states that nothing is lost if its fields fit.
 fn split_again(pointer: Pointer) -> Pointer
     requires { FitsFields pointer }
     ensures { result ≡ pointer }
@@ -20,12 +20,12 @@ fn split_again(pointer: Pointer) -> Pointer
     split(join(pointer))
 }
 
-/// Tests whether `word` is read as `pointer`, and is the word of it.
+/// Tests whether `word` splits to `pointer`, and `pointer` joins to `word`.
 fn is_word_of(word: u64, pointer: Pointer) -> bool {
     split(word) == pointer && joined_again(word) == word && join(pointer) == word
 }
 
-/// Words of structs, with the offset, the data words and the slots that each says.
+/// Words of struct pointers, each with its offset, data words and slots.
 const STRUCTS: [(u64, i32, u16, u16); 5] = [
     (0x0000_0000_ffff_fffc, -1, 0, 0),
     (0x0000_0000_0000_0004, 1, 0, 0),
@@ -57,7 +57,7 @@ fn a_struct_at_the_ends_of_its_ranges(rt: HostRuntime) {
     assert!(rt; split_again(backwards) == backwards);
 }
 
-/// Words of lists, with the offset, the width and the count that each says.
+/// Words of list pointers, each with its offset, width and count.
 const LISTS: [(u64, i32, Width, u32); 9] = [
     (0xffff_fff8_0000_0001, 0, Width::W0, 0x1fff_ffff),
     (0x0000_0051_0000_0001, 0, Width::W1, 10),
@@ -87,7 +87,7 @@ fn lists_of_each_width(rt: HostRuntime) {
     }
 }
 
-/// Words of far pointers, with whether each is double, the word and the segment that it says.
+/// Words of far pointers, each with whether it is double, its word and its segment.
 const FARS: [(u64, bool, u32, u32); 2] = [
     (0x0000_0001_0000_0002, false, 0, 1),
     (0xffff_ffff_ffff_fffe, true, 0x1fff_ffff, 0xffff_ffff),

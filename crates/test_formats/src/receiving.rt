@@ -1,4 +1,4 @@
-//! Bytes asked of a reader, and left after a refusal.
+//! Tests of reading a message: the number of bytes requested of the reader, and those left to it after a refusal.
 
 use capn_stream::{FrameFault, ReadFault, read_message};
 use capn_words::{MOST_MESSAGE_WORDS, Watched};
@@ -6,7 +6,7 @@ use std::alloc::{AllocError, Global};
 use std::io::{self, Read};
 use std::test::Fail;
 
-/// A reader that remembers the most bytes that a call asked for.
+/// A reader that remembers the greatest number of bytes that a call requested.
 #[derive(Drop)]
 struct Source<'a> {
     bytes: &'a [u8],
@@ -24,7 +24,7 @@ impl Read for Source<'_> {
     }
 }
 
-/// A segment of 100,000 words, framed, and three bytes after it.
+/// Returns the frame of one segment of 100,000 words, and three bytes after it.
 fn long_stream(alloc: Global) -> Result<Vec<u8>, AllocError> {
     let mut stream = Vec::new(alloc);
     stream.extend_from_slice(&[0; 4])?;
@@ -33,7 +33,8 @@ fn long_stream(alloc: Global) -> Result<Vec<u8>, AllocError> {
     Ok(stream)
 }
 
-/// The most bytes that a call asked for where a message was read, and how many the reader has left.
+/// Returns the greatest number of bytes that a call requested while a message was read, and the number left to the
+/// reader.
 fn asked_and_left(alloc: Global, stream: &[u8]) -> Option<(usize, usize)> {
     let mut reader = Watched::new(Source {
         bytes: stream,
@@ -57,8 +58,8 @@ fn a_call_asks_for_no_more_than_16_384_bytes(rt: HostRuntime) -> Result<(), Fail
     Ok(())
 }
 
-/// A stream that is refused, why, and how many bytes were read of it: for its table, those that decide; for the end of
-/// the input, all.
+/// Streams that are refused, each with the reason and the number of bytes that were read of it. For a wrong table those
+/// are the bytes that decide, and for a cut stream all of its bytes.
 const REFUSED: [(&[u8], FrameFault, usize); 8] = [
     (
         &[0, 0x10, 0, 0, 1, 0, 0, 0, 2, 0, 0, 0],
@@ -98,7 +99,7 @@ const REFUSED: [(&[u8], FrameFault, usize); 8] = [
     ),
 ];
 
-/// Returns the reason why the first message is refused, and the number of bytes that were read.
+/// Returns the reason why the first message of `stream` is refused, and the number of bytes that were read.
 fn refused(alloc: Global, stream: &[u8]) -> Option<(FrameFault, usize)> {
     let mut reader = Watched::new(stream);
     match read_message(alloc, &mut reader, MOST_MESSAGE_WORDS) {

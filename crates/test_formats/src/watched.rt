@@ -1,4 +1,4 @@
-//! Watched readers and writers: calls passed on, and failures.
+//! Tests of `Watched` readers and writers: calls are passed on, and failures are remembered.
 
 ghost use Rattle.std.specs.Prelude.{◌≤◌, IfOk};
 
@@ -6,7 +6,7 @@ use capn_words::Watched;
 use std::io::{self, Error, ErrorKind, Read, Write};
 use std::test::Fail;
 
-/// Kinds of error, among them those after which another would try again.
+/// Kinds of error, including those after which other code would try again.
 const KINDS: [ErrorKind; 5] = [
     ErrorKind::Interrupted,
     ErrorKind::WouldBlock,
@@ -15,14 +15,14 @@ const KINDS: [ErrorKind; 5] = [
     ErrorKind::Other,
 ];
 
-/// The answer that a call is to give.
+/// The result that a call is to return.
 #[derive(Clone, Copy)]
 enum Answer {
     Bytes(usize),
     Fault(ErrorKind),
 }
 
-/// A reader and writer that answers each call as its list says, and in the end 0.
+/// A reader and writer whose calls return the results of a list, one after the other, and 0 after the last.
 #[derive(Drop)]
 struct Told<'a> {
     answers: &'a [Answer],
@@ -116,7 +116,7 @@ fn fails_at_the_first_error_of_a_write(rt: HostRuntime) {
     }
 }
 
-/// Each flush is passed on, also after one that failed: as many inner calls were made, and their answers are answered.
+/// Each flush is passed on, even after one that failed: the inner writer gets every call, and its results are returned.
 #[test]
 fn fails_at_the_first_error_of_a_flush(rt: HostRuntime) {
     for kind in KINDS {
@@ -135,7 +135,7 @@ fn fails_at_the_first_error_of_a_flush(rt: HostRuntime) {
     }
 }
 
-/// All output goes through this call: what fails is not tried again.
+/// All output goes through `write_all`. A write that fails is not tried again.
 #[test]
 fn fails_at_the_first_error_of_a_whole_text(rt: HostRuntime) {
     for kind in KINDS {

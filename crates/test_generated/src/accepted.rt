@@ -1,5 +1,4 @@
-//! A thousand accepted messages of all kinds.
-//! They are five hundred values, each in one segment and in several.
+//! Tests of a thousand accepted messages of all kinds: five hundred values, each in one segment and in several.
 
 use crate::agreement::{Answer, agreed};
 use crate::writing::message;
@@ -8,7 +7,7 @@ use capn_walk::Limits;
 use std::alloc::Global;
 use std::test::Fail;
 
-// Returns the answer of all calls to a seed's message in `segments` segments.
+// Returns the result of all calls for the message of `seed` in `segments` segments.
 fn answer(alloc: Global, seed: u64, segments: u64) -> Result<Answer, Fail> {
     let stream = message(alloc, seed, segments)?;
     agreed(alloc, stream.as_slice(), Limits::usual()).map_err(Fail::new)
@@ -23,7 +22,7 @@ fn is_one_value(one: &Answer, other: &Answer) -> bool {
     }
 }
 
-// The calls agree on each message, and a value has the same canonical bytes in however many segments it is.
+// The calls agree on each message, and a value has the same canonical bytes in any number of segments.
 #[test]
 fn a_thousand_messages(rt: HostRuntime) -> Result<(), Fail> {
     let mut capabilities = 0u64;

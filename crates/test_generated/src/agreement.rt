@@ -1,4 +1,4 @@
-//! The agreement of all calls on one message.
+//! `agreed`: tests that all calls say the same about one message.
 
 use capn_canon::{
     Canonical, Form, LayoutFault, Refusal, canonical_of, canonicalise, is_canonical, layout,
@@ -9,10 +9,10 @@ use capn_walk::{Limits, Stopped, Surveyed, Walked, survey, walk};
 use capn_words::{Place, Space};
 use std::alloc::Global;
 
-/// Canonical bytes, or why there are none.
+/// The canonical bytes, or the reason why there are none.
 pub(crate) type Answer = Result<Canonical, Refusal>;
 
-/// The answer of all calls on a stream's message, or the call that says something else than its walk.
+/// Returns the result of all calls on the message of `stream`, or the name of the call that contradicts its walk.
 pub(crate) fn agreed(alloc: Global, stream: &[u8], limits: Limits) -> Result<Answer, &'static str> {
     let Ok((space, _)) = first(alloc, stream, 268_435_456) else {
         return Err("first");
@@ -37,7 +37,8 @@ pub(crate) fn agreed(alloc: Global, stream: &[u8], limits: Limits) -> Result<Ans
     Ok(answer)
 }
 
-// Tests whether a survey reports what a walk paid, visited and met, or the place and the reason at which it stopped.
+// Tests whether `surveyed` has the price, the visits and the first capability of `walked`, or the place and the reason
+// at which that stopped.
 fn is_surveyed(surveyed: &Result<Surveyed, Stopped>, walked: &Result<Walked, Stopped>) -> bool {
     match (surveyed, walked) {
         (Ok(told), Ok(walked)) => {
@@ -50,7 +51,7 @@ fn is_surveyed(surveyed: &Result<Surveyed, Stopped>, walked: &Result<Walked, Sto
     }
 }
 
-// The answer that follows from a walk: the layout of its value.
+// Returns the result that follows from `walked`: the layout of its value.
 fn answer_of(alloc: Global, walked: Result<Walked, Stopped>) -> Answer {
     match walked {
         Err(stopped) => Err(Refusal::Walk(stopped)),
@@ -65,7 +66,6 @@ fn answer_of(alloc: Global, walked: Result<Walked, Stopped>) -> Answer {
     }
 }
 
-// Tests whether two answers are equal.
 fn is_same(one: &Answer, other: &Answer) -> bool {
     match (one, other) {
         (Ok(one), Ok(other)) => {
@@ -76,8 +76,8 @@ fn is_same(one: &Answer, other: &Answer) -> bool {
     }
 }
 
-// Tests whether canonical bytes, read bare under the same limits, are canonical and have themselves as their canonical
-// bytes.
+// Tests whether canonical bytes, read as a bare message under the same limits, are canonical and are their own
+// canonical bytes.
 fn is_own(alloc: Global, answer: &Answer, limits: Limits) -> bool {
     let Ok(canonical) = answer else {
         return true;
@@ -86,7 +86,6 @@ fn is_own(alloc: Global, answer: &Answer, limits: Limits) -> bool {
     is_canonical(alloc, bytes, limits) == Ok(true) && is_told(alloc, bytes, limits)
 }
 
-// The bytes of the first segment.
 fn segment_of<S: Space>(space: &S) -> &[u8] {
     let start = Place {
         segment: 0,
@@ -98,7 +97,7 @@ fn segment_of<S: Space>(space: &S) -> &[u8] {
     }
 }
 
-/// Tests whether `is_canonical` answers of bytes what comparing them with their canonical bytes does.
+/// Tests whether `is_canonical` says of `bytes` what a comparison with their canonical bytes says.
 pub(crate) fn is_told(alloc: Global, bytes: &[u8], limits: Limits) -> bool {
     let told = is_canonical(alloc, bytes, limits);
     match canonicalise(alloc, Form::Bare, bytes, limits) {

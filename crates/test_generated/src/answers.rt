@@ -1,4 +1,4 @@
-//! Mismatches and walks of bytes, with their surveys.
+//! Tests of whether the mismatch and the walk of a stream agree with its survey.
 
 use crate::writing::message;
 use capn_answers::{Mismatch, Walked, mismatch_and_survey_in, walk_in};
@@ -7,7 +7,7 @@ use capn_walk::Limits;
 use std::alloc::Global;
 use std::test::Fail;
 
-// Tests whether a walk ends as a survey of the same stream, and why it stopped if it did.
+// Tests whether the walk of `stream` ends as its survey does: with the same figures, or with the same refusal.
 fn is_walked(alloc: Global, stream: &[u8], limits: Limits) -> bool {
     match (
         survey_bytes(alloc, Form::Stream, stream, limits),
@@ -19,7 +19,7 @@ fn is_walked(alloc: Global, stream: &[u8], limits: Limits) -> bool {
     }
 }
 
-// Tests whether a mismatch comes with the survey of the same stream, and names its segments if it has more than one.
+// Tests whether the mismatch of `stream` is returned with its survey, and counts its segments if it has more than one.
 fn is_mismatched(alloc: Global, stream: &[u8], segments: u64, limits: Limits) -> bool {
     match (
         survey_bytes(alloc, Form::Stream, stream, limits),

@@ -1,11 +1,11 @@
-//! Canonical bytes with one byte changed.
+//! Tests of canonical bytes with one byte changed.
 
 use crate::agreement::is_told;
 use capn_walk::Limits;
 use std::alloc::Global;
 use std::test::Fail;
 
-/// Canonical bytes of small messages.
+/// The canonical bytes of small messages, in hexadecimal.
 const CANONICAL: [&str; 22] = [
     "0000000000000000",
     "fcffffff00000000",
@@ -31,7 +31,7 @@ const CANONICAL: [&str; 22] = [
     "0100000051000000ff03000000000000",
 ];
 
-// Tests whether `is_canonical` answers what comparing does, whichever byte is changed to whichever other.
+// Tests whether `is_canonical` agrees with a comparison for every byte of `bytes`, changed to every other value.
 fn are_told(alloc: Global, bytes: &mut [u8], limits: Limits) -> bool {
     for at in 0..bytes.len() {
         for change in 0..=255u8 {
@@ -47,7 +47,7 @@ fn are_told(alloc: Global, bytes: &mut [u8], limits: Limits) -> bool {
 
 #[test]
 fn every_byte_changed(rt: HostRuntime) -> Result<(), Fail> {
-    // Of a small budget, since a byte can make a pointer lead in circles.
+    // The budget is small, because a changed byte can make a pointer lead in circles.
     let limits = Limits::new(1_000, 4_000, 64).unwrap_or(Limits::usual());
     for digits in &CANONICAL {
         let Ok(mut bytes) = hex::decode(rt.alloc(), digits) else {

@@ -1,4 +1,4 @@
-//! Hostile messages: words of pointers to anywhere.
+//! Tests of hostile messages: random words that are pointers to anywhere.
 
 use crate::agreement::{Answer, agreed};
 use crate::random::Random;
@@ -9,7 +9,7 @@ use std::alloc::{AllocError, Global};
 use std::process::Abort;
 use std::test::Fail;
 
-// One of a segment's words, the word after them, or the greatest number.
+// Returns an index below `count`, or rarely `count` itself or `greatest`.
 fn any_index(random: &mut Random, count: u64, greatest: u64) -> u64 {
     match random.below(24) {
         0 => count,
@@ -18,14 +18,15 @@ fn any_index(random: &mut Random, count: u64, greatest: u64) -> u64 {
     }
 }
 
-// A place of a message: mostly one that is there.
+// Returns a place of a message, mostly one inside it.
 fn any_place(random: &mut Random, segments: u64, words: u64) -> At {
     let segment = any_index(random, segments, 0xffff_ffff);
     let word = any_index(random, words, 0x1fff_ffff);
     At { segment, word }
 }
 
-// The offset's field of a pointer: to any place of the segment, or at an end of its range.
+// Returns the offset field of a pointer at word `pointer`: to any word of the segment, or at an end of the field's
+// range.
 fn any_offset(random: &mut Random, words: u64, pointer: u64) -> u64 {
     match random.below(24) {
         0 => offset_to(0x1fff_ffff, 0),
@@ -35,7 +36,7 @@ fn any_offset(random: &mut Random, words: u64, pointer: u64) -> u64 {
     }
 }
 
-// A small number, or one at an end of its range.
+// Returns a small number, or `greatest`, or the one below it.
 fn any_size(random: &mut Random, greatest: u64) -> u64 {
     match random.below(16) {
         0 => greatest,
@@ -44,7 +45,8 @@ fn any_size(random: &mut Random, greatest: u64) -> u64 {
     }
 }
 
-// A composite list's count: small, or such that its rows are many or negative as an offset.
+// Returns the tag word of a composite list. Its count is small, or so great that the rows are too many, or that it
+// reads as a negative offset.
 fn any_tag(random: &mut Random) -> u64 {
     let count = any_size(random, 0x3fff_ffff);
     let words = any_size(random, 0xffff);
@@ -62,7 +64,7 @@ fn any_list(random: &mut Random) -> u64 {
     list(code, count)
 }
 
-// A word at a place of a message of `segments` segments with `words` words each.
+// Returns the word at word `at` of a segment, in a message of `segments` segments of `words` words each.
 fn any_word(random: &mut Random, segments: u64, words: u64, at: u64) -> u64 {
     match random.below(32) {
         0..=12 => {
@@ -78,7 +80,7 @@ fn any_word(random: &mut Random, segments: u64, words: u64, at: u64) -> u64 {
     }
 }
 
-// The root: a pointer to a struct or a list, a far pointer, or a capability.
+// Returns the root word: a pointer to a struct or a list, a far pointer, or a capability.
 fn any_root(random: &mut Random, segments: u64, words: u64) -> u64 {
     match random.below(16) {
         0 => return any_list(random) | any_offset(random, words, 0),
@@ -94,7 +96,7 @@ fn any_root(random: &mut Random, segments: u64, words: u64) -> u64 {
     sizes | offset_to(random.below(words), 0)
 }
 
-// A message of one to three segments, of which one in a hundred has no words.
+// Returns a message of one to three segments. One message in a hundred has no words.
 fn message(alloc: Global, random: &mut Random) -> Result<Vec<u8>, AllocError> {
     let count = random.below(3).saturating_add(1);
     let words = match random.below(100) {
@@ -118,7 +120,7 @@ fn message(alloc: Global, random: &mut Random) -> Result<Vec<u8>, AllocError> {
     segments.stream(alloc)
 }
 
-// Limits of a small budget, and a depth of mostly few objects.
+// Returns limits with a small budget, and with a depth that mostly lets few objects through.
 fn any_limits(random: &mut Random) -> Limits {
     let budget = match random.below(8) {
         0 => 0,
@@ -133,7 +135,7 @@ fn any_limits(random: &mut Random) -> Limits {
     Limits::new(1_000, budget, depth).unwrap_or(Limits::usual())
 }
 
-// A bit for each way in which a message can end: the first where it has a value, else that of its fault.
+// Returns a bit for each ending of a message: the first bit if it has a value, else the bit of its fault.
 fn ending_of(answer: &Answer) -> u32 {
     let Err(Refusal::Walk(stopped)) = answer else {
         return 1;
@@ -154,7 +156,7 @@ fn ending_of(answer: &Answer) -> u32 {
     }
 }
 
-// Returns the end of a seed's message, by the answers of all calls.
+// Returns the ending of the message of `seed`, on which all calls agree.
 fn ending(rt: &impl Abort, alloc: Global, seed: u64) -> Result<u32, AllocError> {
     let mut random = Random::new(seed);
     let stream = message(alloc, &mut random)?;
@@ -168,8 +170,8 @@ fn ending(rt: &impl Abort, alloc: Global, seed: u64) -> Result<u32, AllocError> 
 }
 
 // All calls agree on messages with cycles, near and far, overlaps, shared rows, tags and offsets at the ends of their
-// ranges, and pads that name pads: in each answer and in each refusal, its place, what was paid and its visits. Each
-// ending is met except running out of memory.
+// ranges, and landing pads that point to pads. They agree in each result, and in the place, the price and the visits of
+// each refusal. Every ending occurs except refused memory.
 #[test]
 fn a_hundred_thousand_messages(rt: HostRuntime) -> Result<(), Fail> {
     let mut met = 0;

@@ -1,7 +1,6 @@
-//! Trials of the libraries' calls on messages from fixed seeds.
-//! All calls have to agree on each.
+//! Tests of the libraries' calls on messages made from fixed seeds. All calls have to agree on each message.
 //!
-//! They stand apart from the crates that they try, since a crate with tests is proved twice.
+//! They are apart from the crates that they test, because a crate with tests is proved twice.
 #![tactic(auto)]
 
 #[cfg(test)]

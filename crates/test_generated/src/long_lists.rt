@@ -1,4 +1,4 @@
-//! Answers about a message of many elements, with memory that is there.
+//! Tests of a list of very many pointers: memory suffices for the results about its last one.
 
 use capn_answers::{Mismatch, Walked, mismatch_and_survey_in, walk_in};
 use capn_canon::Form;
@@ -6,7 +6,7 @@ use capn_walk::Limits;
 use std::alloc::{AllocError, Global};
 use std::test::Fail;
 
-/// Returns the frame of one segment of a list of 110,000 pointers, all null but the last, which is `last`.
+/// Returns the frame of one segment with a list of 110,000 pointers, all null except the last, which is `last`.
 fn long_list(alloc: Global, last: u64) -> Result<Vec<u8>, AllocError> {
     let mut stream = Vec::from_slice(alloc, &[0, 0, 0, 0])?;
     stream.extend_from_slice(&110_001u32.to_le_bytes())?;
@@ -18,8 +18,8 @@ fn long_list(alloc: Global, last: u64) -> Result<Vec<u8>, AllocError> {
     Ok(stream)
 }
 
-/// The last of many elements is told: refused, as it lies far out of the message, and a capability of the greatest
-/// index. There is memory for both.
+/// The last of many elements is found: one that points far out of the message is refused, and a capability with the
+/// greatest index is reported. Memory suffices for both.
 #[test]
 fn the_last_of_many_elements_is_told(rt: HostRuntime) -> Result<(), Fail> {
     let limits = Limits::usual();

@@ -2,14 +2,14 @@
 
 ghost use Rattle.std.specs.Prelude.{◌≡◌, ◌+◌, ◌*◌, ◌%◌, ◌^◌, ◌<◌, ◌≤◌};
 
-/// Random numbers, the same for each seed.
+/// A source of numbers that are the same for the same seed.
 #[derive(Drop)]
 pub(crate) struct Random {
     state: u64,
 }
 
 impl Random {
-    /// The numbers of a seed.
+    /// Returns the source for `seed`.
     pub(crate) fn new(seed: u64) -> Random
         ensures { result.state ≡ (seed * 11_400_714_819_323_198_485 + 1) % 2 ^ 64 }
     {
@@ -18,7 +18,6 @@ impl Random {
         }
     }
 
-    /// The next word.
     pub(crate) fn word(&mut self) -> u64
         ensures { result ≡ self.new.state * 2_685_821_657_736_338_717 % 2 ^ 64 }
     {
@@ -30,7 +29,7 @@ impl Random {
         state.wrapping_mul(0x2545_f491_4f6c_dd1d)
     }
 
-    /// The next number below a bound; 0 where that is 0.
+    /// Returns the next number below `bound`, or 0 if `bound` is 0.
     pub(crate) fn below(&mut self, bound: u64) -> u64
         ensures below { 0 < bound → result < bound }
         ensures within { result ≤ bound }

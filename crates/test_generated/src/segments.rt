@@ -1,10 +1,10 @@
-//! Segments written word by word, pointers into them, their frame.
+//! `Segments`: the segments of a message, written word by word, with pointers into them and their frame.
 
 ghost use Rattle.std.specs.Prelude.{◌≡◌, [], length, map, replicate, slice_index_or, IfOk};
 
 use std::alloc::{AllocError, Global};
 
-/// A word of a segment.
+/// The place of a word: its segment, and its index there.
 #[derive(Clone, Copy)]
 pub(crate) struct At {
     pub segment: u64,
@@ -18,7 +18,7 @@ pub(crate) struct Segments {
 }
 
 impl Segments {
-    /// `count` segments of no words.
+    /// Returns `count` empty segments.
     pub(crate) fn new(alloc: Global, count: u64) -> Result<Segments, AllocError>
         ensures { IfOk result (λ it. map (λ words. words.items) it.segments.items ≡ replicate count []) }
     {
@@ -29,14 +29,12 @@ impl Segments {
         Ok(Segments { segments })
     }
 
-    /// Returns the number of segments.
     pub(crate) fn count(&self) -> u64
         ensures { result ≡ length self.now.segments.items }
     {
         self.segments.len() as u64
     }
 
-    /// Returns the number of words of `segment`.
     pub(crate) fn len(&self, segment: u64) -> u64
         ensures { result ≡ length (slice_index_or (map (λ words. words.items) self.now.segments.items) segment []) }
     {
@@ -46,7 +44,7 @@ impl Segments {
         }
     }
 
-    /// Appends a word to one.
+    /// Appends `word` to `segment`.
     pub(crate) fn push(&mut self, segment: u64, word: u64) -> Result<(), AllocError> {
         match self.segments.get_mut(segment as usize) {
             Some(words) => Ok(words.push(word)?),
@@ -54,7 +52,7 @@ impl Segments {
         }
     }
 
-    /// Replaces a word.
+    /// Replaces the word at `at` by `word`.
     pub(crate) fn set(&mut self, at: At, word: u64) {
         if let Some(words) = self.segments.get_mut(at.segment as usize) {
             if let Some(place) = words.get_mut(at.word as usize) {
@@ -63,7 +61,7 @@ impl Segments {
         }
     }
 
-    /// The message as a stream.
+    /// Returns the message as a stream.
     pub(crate) fn stream(&self, alloc: Global) -> Result<Vec<u8>, AllocError> {
         let count = self.count();
         let mut bytes = Vec::new(alloc);
@@ -81,7 +79,7 @@ impl Segments {
     }
 }
 
-// A number of a table, in four bytes.
+// Appends `number` in the four bytes of a table entry.
 fn push_entry(bytes: &mut Vec<u8>, number: u64) -> Result<(), AllocError> {
     Ok(bytes.extend_from_slice(&number.to_le_bytes()[..4])?)
 }
@@ -93,33 +91,33 @@ fn push_words(bytes: &mut Vec<u8>, words: &[u64]) -> Result<(), AllocError> {
     Ok(())
 }
 
-/// An offset's field: from the word after a pointer to where the content starts.
+/// Returns the offset field of a pointer at word `pointer` to content that starts at word `start`.
 pub(crate) fn offset_to(start: u64, pointer: u64) -> u64 {
     (start.wrapping_sub(pointer).wrapping_sub(1) & 0x3fff_ffff) << 2
 }
 
-/// A pointer to a struct, at offset 0.
+/// Returns a pointer to a struct, with the offset 0.
 pub(crate) fn node(words: u64, slots: u64) -> u64 {
     (words & 0xffff) << 32 | (slots & 0xffff) << 48
 }
 
-/// A pointer to a list, by the code of its width, at offset 0.
+/// Returns a pointer to a list whose width has the code `code`, with the offset 0.
 pub(crate) fn list(code: u64, count: u64) -> u64 {
     (count & 0x1fff_ffff) << 35 | (code & 7) << 32 | 1
 }
 
-/// A tag of `count` rows.
+/// Returns the tag word of a composite list of `count` rows.
 pub(crate) fn tag(count: u64, words: u64, slots: u64) -> u64 {
     node(words, slots) | (count & 0x3fff_ffff) << 2
 }
 
-/// A far pointer to a pad of one word, or of two.
+/// Returns a far pointer to the landing pad at `pad`, which has one word, or two if `is_double`.
 pub(crate) fn far(pad: At, is_double: bool) -> u64 {
     let double = if is_double { 4 } else { 0 };
     (pad.segment & 0xffff_ffff) << 32 | (pad.word & 0x1fff_ffff) << 3 | double | 2
 }
 
-/// A capability.
+/// Returns the pointer to the capability `index`.
 pub(crate) fn capability(index: u64) -> u64 {
     (index & 0xffff_ffff) << 32 | 3
 }

@@ -1,4 +1,4 @@
-//! Texts of values, read back singly and as a stream.
+//! Tests of the texts of values, read back one by one and as a stream.
 
 use crate::writing::message;
 use capn_stream::first;
@@ -9,7 +9,7 @@ use capn_words::MOST_MESSAGE_WORDS;
 use std::alloc::{AllocError, Global};
 use std::test::Fail;
 
-/// The value of a seed's message.
+/// Returns the value of the message of `seed`.
 pub(crate) fn value_of(alloc: Global, seed: u64) -> Result<Tree, Fail> {
     let stream = message(alloc, seed, 1)?;
     let Ok((space, _)) = first(alloc, stream.as_slice(), MOST_MESSAGE_WORDS) else {
@@ -21,14 +21,14 @@ pub(crate) fn value_of(alloc: Global, seed: u64) -> Result<Tree, Fail> {
     }
 }
 
-// Tests whether a tree that was read is this one, with this text. Values with trailing zeros are the same as others
-// without, but have another text.
+// Tests whether `read` is the same value as `tree`, and has the text `text`. The text is compared too, because values
+// with and without trailing zeros are the same, but differ in their texts.
 fn is_read(alloc: Global, tree: &Tree, read: Option<Tree>, text: &[u8]) -> bool {
     match read {
         Some(read) => {
             let is_same = same(tree.value(), read.value());
             let again = show(alloc, &read);
-            // One call is cheaper to check than fields that are dropped one by one.
+            // One call of `drop` is cheaper for the prover than fields that are dropped one by one.
             drop(read);
             is_same && matches!(again, Ok(again) if again.as_bytes() == text)
         }
@@ -36,7 +36,7 @@ fn is_read(alloc: Global, tree: &Tree, read: Option<Tree>, text: &[u8]) -> bool 
     }
 }
 
-// Tests whether the text of a tree is read back as this tree; the text joins a stream.
+// Tests whether the text of `tree` is read back as `tree`. Appends the text to `stream`.
 fn joins(alloc: Global, tree: &Tree, stream: &mut Vec<u8>) -> Result<bool, AllocError> {
     let Ok(text) = show(alloc, tree) else {
         return Ok(false);
@@ -47,7 +47,7 @@ fn joins(alloc: Global, tree: &Tree, stream: &mut Vec<u8>) -> Result<bool, Alloc
     Ok(is_read(alloc, tree, alone, text.as_bytes()))
 }
 
-// Tests whether the next text of a stream is read as this tree.
+// Tests whether the next of `texts` is read as `tree`.
 fn is_next(alloc: Global, tree: &Tree, texts: &mut Texts) -> bool {
     match (texts.read_next(alloc), show(alloc, tree)) {
         (Ok(next), Ok(text)) => is_read(alloc, tree, next, text.as_bytes()),

@@ -1,5 +1,4 @@
-//! Layouts of a thousand values, read bare by all calls.
-//! The values have no capability.
+//! Tests of the layouts of a thousand values without capabilities, read as bare messages by all calls.
 
 use crate::texts::value_of;
 use capn_canon::{Form, canonicalise, is_canonical, layout};
@@ -9,12 +8,12 @@ use capn_words::Bare;
 use std::alloc::Global;
 use std::test::Fail;
 
-// The value of a seed's message, unless it has a capability.
+// Returns the value of the message of `seed`, unless it has a capability.
 fn value_without_capability(alloc: Global, seed: u64) -> Result<Option<Tree>, Fail> {
     Ok(without_capability(value_of(alloc, seed)?))
 }
 
-// A value, unless it has a capability.
+// Returns `tree`, unless its value has a capability.
 fn without_capability(tree: Tree) -> Option<Tree> {
     if first_cap(tree.value()).is_some() {
         drop(tree);
@@ -23,7 +22,8 @@ fn without_capability(tree: Tree) -> Option<Tree> {
     Some(tree)
 }
 
-// Tests whether a walk of canonical bytes finds the value again, and lays it as these bytes.
+// Tests whether the walk of the canonical `bytes` finds the value of `tree`, and the layout of what it found is `bytes`
+// again.
 fn is_walked(alloc: Global, tree: &Tree, bytes: &[u8]) -> bool {
     let Ok(space) = Bare::new(bytes) else {
         return false;
@@ -32,7 +32,7 @@ fn is_walked(alloc: Global, tree: &Tree, bytes: &[u8]) -> bool {
         Ok(walked) => {
             let is_same = same(tree.value(), walked.tree.value());
             let again = layout(alloc, &walked.tree);
-            // One call is cheaper to check than fields that are dropped one by one.
+            // One call of `drop` is cheaper for the prover than fields that are dropped one by one.
             drop(walked);
             is_same && matches!(again, Ok(laid) if laid.as_slice() == bytes)
         }
@@ -40,7 +40,7 @@ fn is_walked(alloc: Global, tree: &Tree, bytes: &[u8]) -> bool {
     }
 }
 
-// Tests whether bytes are their own canonical bytes, by both calls.
+// Tests whether `canonicalise` and `is_canonical` both find `bytes` canonical.
 fn is_own(alloc: Global, bytes: &[u8]) -> bool {
     let is_equal = match canonicalise(alloc, Form::Bare, bytes, Limits::usual()) {
         Ok(canonical) => canonical.bytes.as_slice() == bytes,
@@ -49,7 +49,7 @@ fn is_own(alloc: Global, bytes: &[u8]) -> bool {
     is_equal && is_canonical(alloc, bytes, Limits::usual()) == Ok(true)
 }
 
-// Tests whether the layout of a value, read bare, is that value to all calls.
+// Tests whether every call reads the layout of `tree` as a bare message with the value of `tree`.
 fn is_read_back(alloc: Global, tree: &Tree) -> bool {
     match layout(alloc, tree) {
         Ok(bytes) => is_walked(alloc, tree, bytes.as_slice()) && is_own(alloc, bytes.as_slice()),
@@ -57,7 +57,7 @@ fn is_read_back(alloc: Global, tree: &Tree) -> bool {
     }
 }
 
-// With ample memory none of the calls on a layout runs out of memory.
+// None of the calls on a layout runs out of memory if there is enough.
 #[test]
 fn layouts_of_a_thousand_values(rt: HostRuntime) -> Result<(), Fail> {
     let mut values = 0u64;

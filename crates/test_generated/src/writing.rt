@@ -1,18 +1,18 @@
-//! Accepted messages of all kinds, made from a seed.
+//! `message`: accepted messages of all kinds, made from a seed.
 
 use crate::random::Random;
 use crate::segments::{At, Segments, capability, far, list, node, offset_to, tag};
 use std::alloc::{AllocError, Global};
 
-// Content that has been written: where it starts, and its pointer at offset 0.
+// An object that has been written: where it starts, and its pointer with the offset 0.
 #[derive(Clone, Copy)]
 struct Object {
     at: At,
     pointer: u64,
 }
 
-// A message that is being written, and its slots that have no pointer yet. One source of numbers decides what it says,
-// and the other where it is put, so that the value doesn't depend on the segments.
+// A message that is being written, and its slots that have no pointer yet. `value` decides what the message says, and
+// `layout` where it is put, so that the value does not depend on the number of segments.
 #[derive(Drop)]
 struct Writing {
     value: Random,
@@ -22,7 +22,7 @@ struct Writing {
 }
 
 impl Writing {
-    // The end of a segment that is picked.
+    // Returns the end of a random segment.
     fn place(&mut self) -> At {
         let segment = self.layout.below(self.segments.count());
         At {
@@ -31,7 +31,7 @@ impl Writing {
         }
     }
 
-    // Words of all kinds, so that zeros are at ends and junk in padding.
+    // Appends `count` words of all kinds to `segment`. Zeros occur at the ends of structs, and junk in padding.
     fn push_data(&mut self, segment: u64, count: u64) -> Result<(), AllocError> {
         for _ in 0..count {
             let word = match self.value.below(4) {
@@ -44,7 +44,7 @@ impl Writing {
         Ok(())
     }
 
-    // Slots that are null for now.
+    // Appends `count` slots to `segment`, which are null until they are filled.
     fn push_slots(&mut self, segment: u64, count: u64) -> Result<(), AllocError> {
         for _ in 0..count {
             let word = self.segments.len(segment);
@@ -66,7 +66,7 @@ impl Writing {
         })
     }
 
-    // A list of elements of 0, 1, 8, 16, 32 or 64 bits.
+    // Appends a list of elements of 0, 1, 8, 16, 32 or 64 bits.
     fn push_numbers(&mut self) -> Result<Object, AllocError> {
         let at = self.place();
         let code = self.value.below(6);
@@ -96,7 +96,7 @@ impl Writing {
         })
     }
 
-    // A composite list, with words of slack after its rows.
+    // Appends a composite list, with up to two unused words after its rows.
     fn push_rows(&mut self) -> Result<Object, AllocError> {
         let at = self.place();
         let count = self.value.below(4);
@@ -115,8 +115,8 @@ impl Writing {
         })
     }
 
-    // Points a slot to an object: near where it can, else over a pad of one word or of two. A pointer to an empty
-    // struct leads to itself, since at offset 0 it would be null.
+    // Points `slot` to `object`: directly if it can, else by a landing pad of one word or of two. A pointer to an empty
+    // struct leads to the slot itself, because it would be null with the offset 0.
     fn point(&mut self, slot: At, object: Object) -> Result<(), AllocError> {
         let to = object.at;
         if slot.segment == to.segment && self.layout.below(4) != 0 {
@@ -146,7 +146,7 @@ impl Writing {
         Ok(())
     }
 
-    // The object at the root: a struct mostly, else a list of any kind.
+    // Appends the object at the root: mostly a struct, else a list of any kind.
     fn push_root(&mut self) -> Result<Object, AllocError> {
         match self.value.below(12) {
             0 => self.push_numbers(),
@@ -156,7 +156,7 @@ impl Writing {
         }
     }
 
-    // Fills a slot, or leaves it null.
+    // Fills `slot` with a pointer, or leaves it null.
     fn fill(&mut self, slot: At) -> Result<(), AllocError> {
         let object = match self.value.below(40) {
             0..=4 => return Ok(()),
@@ -174,8 +174,8 @@ impl Writing {
     }
 }
 
-/// The stream of a seed's message, in `count` segments: the same value in however many. Below the struct or the list at
-/// its root there are fewer than 40 objects.
+/// Returns the stream of the message of `seed` in `count` segments, which has the same value for every `count`. Below
+/// the struct or the list at its root there are fewer than 40 objects.
 pub(crate) fn message(alloc: Global, seed: u64, count: u64) -> Result<Vec<u8>, AllocError> {
     let mut writing = Writing {
         value: Random::new(seed),

@@ -1,15 +1,15 @@
-//! Streams cut at every byte, in pieces of several sizes.
+//! Tests of streams cut at every byte, and fed to a framer in chunks of several sizes.
 
 use capn_stream::{FrameFault, Framer, first, frame};
 use capn_words::Space;
 use std::alloc::Global;
 use std::test::Fail;
 
-/// The most words of a message, as usual.
+/// The limit on the words of a message, which is the default.
 const MOST: u32 = 8_388_608;
 
-/// Whole messages, messages that are followed by others, and streams that are refused. None begins another, since each
-/// is cut at every byte.
+/// Whole messages, messages that are followed by others, and streams that are refused. No stream is a prefix of
+/// another, because each is cut at every byte.
 const STREAMS: [&str; 33] = [
     "00100000",
     "0002000000",
@@ -46,19 +46,18 @@ const STREAMS: [&str; 33] = [
     "0000000002000000000000000100000005000000000000000000000003000000000000000200000005000000000000000000000000000000",
 ];
 
-/// The messages that are read of a stream, framed again, and its end.
+/// The messages that are read from a stream, framed again, and the way it ends.
 #[derive(Drop)]
 struct Told {
     frames: Vec<u8>,
     ending: Result<(), FrameFault>,
 }
 
-/// The bytes from an offset on.
 fn rest_of(bytes: &[u8], at: usize) -> &[u8] {
     if at <= bytes.len() { &bytes[at..] } else { &[] }
 }
 
-/// The first `len` bytes.
+/// Returns the first `len` bytes, or all if there are fewer.
 fn start_of(bytes: &[u8], len: usize) -> &[u8] {
     if len <= bytes.len() {
         &bytes[..len]
@@ -67,7 +66,6 @@ fn start_of(bytes: &[u8], len: usize) -> &[u8] {
     }
 }
 
-/// Appends the frame of a message.
 fn push_frame<S: Space>(
     frames: &mut Vec<u8>,
     alloc: Global,
@@ -79,7 +77,7 @@ fn push_frame<S: Space>(
     }
 }
 
-/// Takes the messages by `first`, one by one, and answers how the stream ends.
+/// Reads the messages of `bytes` by `first`, one by one, and returns how the stream ends.
 fn take_each(alloc: Global, bytes: &[u8], frames: &mut Vec<u8>) -> Result<(), FrameFault> {
     let mut at = 0usize;
     for _ in 0..=bytes.len() {
@@ -95,7 +93,7 @@ fn take_each(alloc: Global, bytes: &[u8], frames: &mut Vec<u8>) -> Result<(), Fr
     Err(FrameFault::Memory)
 }
 
-/// Feeds one piece, and takes each message that it makes whole.
+/// Feeds `piece` to `framer`, and takes each message that becomes whole.
 fn feed_piece(
     framer: &mut Framer,
     alloc: Global,
@@ -116,7 +114,7 @@ fn feed_piece(
     Ok(())
 }
 
-/// Takes the messages by a framer that is fed `size` bytes at a time, and answers how the stream ends.
+/// Reads the messages of `bytes` by a framer that is fed `size` bytes at a time, and returns how the stream ends.
 fn feed_each(
     alloc: Global,
     bytes: &[u8],
@@ -136,32 +134,31 @@ fn feed_each(
     framer.finish()
 }
 
-/// By `first`.
 fn told_at_once(alloc: Global, bytes: &[u8]) -> Told {
     let mut frames = Vec::new(alloc);
     let ending = take_each(alloc, bytes, &mut frames);
     Told { frames, ending }
 }
 
-/// By a framer.
+/// Reads the messages of `bytes` by a framer that is fed `size` bytes at a time.
 fn told_in_pieces(alloc: Global, bytes: &[u8], size: usize) -> Told {
     let mut frames = Vec::new(alloc);
     let ending = feed_each(alloc, bytes, size, &mut frames);
     Told { frames, ending }
 }
 
-/// Tests whether a framer that is fed `size` bytes at a time reads some bytes as `first` does.
+/// Tests whether a framer that is fed `size` bytes at a time reads `bytes` as `want` has it.
 fn is_told(alloc: Global, bytes: &[u8], want: &Told, size: usize) -> bool {
     let told = told_in_pieces(alloc, bytes, size);
     told.ending == want.ending && told.frames.as_slice() == want.frames.as_slice()
 }
 
-/// Tests whether each beginning of a stream is read as `first` reads it, in pieces of each size.
+/// Tests whether each prefix of `stream`, fed in chunks of each size, is read as `first` reads it.
 fn are_told(alloc: Global, stream: &[u8]) -> bool {
     are_told_from(alloc, stream, 0)
 }
 
-/// Tests whether the beginnings of at least `least` bytes are read as `first` reads them.
+/// Tests whether each prefix of at least `least` bytes is read as `first` reads it.
 fn are_told_from(alloc: Global, stream: &[u8], least: usize) -> bool {
     for len in least..=stream.len() {
         let bytes = start_of(stream, len);
@@ -175,7 +172,7 @@ fn are_told_from(alloc: Global, stream: &[u8], least: usize) -> bool {
     true
 }
 
-/// A stream, twice over.
+/// Returns the bytes of `digits` twice, one after the other.
 fn twice(alloc: Global, digits: &str) -> Result<Vec<u8>, Fail> {
     let Ok(mut bytes) = hex::decode(alloc, digits) else {
         return Err(Fail::new("no digits"));
@@ -184,7 +181,7 @@ fn twice(alloc: Global, digits: &str) -> Result<Vec<u8>, Fail> {
     Ok(bytes)
 }
 
-/// A stream is cut alone and after itself: each beginning of it is one of the two.
+/// Each stream is written twice and cut at every byte, so that it is cut alone and after itself.
 #[test]
 fn streams_cut_at_every_byte(rt: HostRuntime) -> Result<(), Fail> {
     for digits in &STREAMS {
@@ -194,7 +191,7 @@ fn streams_cut_at_every_byte(rt: HostRuntime) -> Result<(), Fail> {
     Ok(())
 }
 
-/// A table of `count` segments and one more, of which the first alone has a word, and its null.
+/// Returns a table of `count + 1` segments, of which only the first has a word, and that word, which is null.
 pub(crate) fn long_table(alloc: Global, count: u32) -> Result<Vec<u8>, Fail> {
     let mut bytes = Vec::new(alloc);
     bytes.extend_from_slice(&count.to_le_bytes())?;
@@ -204,8 +201,8 @@ pub(crate) fn long_table(alloc: Global, count: u32) -> Result<Vec<u8>, Fail> {
     Ok(bytes)
 }
 
-/// A long table; the longest that may be, cut in its first words and its last; and one that is too long, which is
-/// refused at its fourth byte.
+/// A long table is cut at every byte. The longest table allowed is cut in its first words and in its last. A longer one
+/// is refused at its fourth byte.
 #[test]
 fn long_tables_cut_at_every_byte(rt: HostRuntime) -> Result<(), Fail> {
     let long = long_table(rt.alloc(), 512)?;

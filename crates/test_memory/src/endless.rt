@@ -1,5 +1,4 @@
-//! Inputs too long for a command to hold.
-//! It holds no more, and answers what is right of all.
+//! Tests of inputs too long for a command to hold: it holds no more than it may, and its result is still right.
 
 use capn_canon::{Form, Refusal};
 use capn_commands::{Command, MessageText, ToolFault, run};
@@ -12,8 +11,8 @@ use std::io::{self, Read};
 use std::process::Abort;
 use test_allocator::Refusing;
 
-/// A reader of pieces that fill the buffer. Each begins with these bytes, and goes on with what the buffer holds, which
-/// is zeros where nothing else was put there.
+/// A reader whose calls fill the buffer. Each begins with `first`, and leaves the rest of the buffer as it is, which is
+/// zeros if nothing else was put there.
 #[derive(Drop)]
 struct Pieces<'a> {
     first: &'a [u8],
@@ -32,19 +31,19 @@ impl Read for Pieces<'_> {
     }
 }
 
-/// A mebibyte in pieces of 65,536 bytes.
+/// The number of chunks of 65,536 bytes in a mebibyte.
 const MEBIBYTE: u64 = 16;
 
-/// One piece more than a run takes.
+/// The number of chunks in one chunk more than a run takes.
 const ENDLESS: u64 = 65_537;
 
-/// The most words of a message.
+/// The limit on the words of a message.
 const WORDS: u32 = 1_000;
 
-/// Twice the bytes of those words and of the longest table.
+/// Twice the bytes of a message of `WORDS` words and of the longest table.
 const ROOM: usize = 2 * 8 * (1_000 + 2_049);
 
-/// A command that holds what it reads.
+/// A command that holds all that it reads.
 #[derive(Clone, Copy)]
 enum Order {
     Unpack,
@@ -52,7 +51,7 @@ enum Order {
     One(MessageText, Form),
 }
 
-/// Returns the end of a command that is let no growth through for more room.
+/// Returns the result of a command to which no growth above `ROOM` is allowed.
 fn outcome_of(alloc: Global, order: Order, first: &[u8], pieces: u64) -> Result<(), ToolFault> {
     let limits = Limits::new(WORDS, 1_000, 64).unwrap_or(Limits::usual());
     let command = match order {
@@ -86,7 +85,7 @@ fn an_input_without_end(rt: HostRuntime) {
     }
 }
 
-/// The first bytes of a stream, and the reason why it is refused.
+/// The first bytes of streams, each with the reason why the stream is refused.
 const STREAMS: [([u8; 8], Refusal); 4] = [
     ([0; 8], Refusal::Trailing(8)),
     ([0, 0, 0, 0, 0xe8, 3, 0, 0], Refusal::Trailing(8_008)),

@@ -1,4 +1,4 @@
-//! Many framers, each waiting for the greatest message.
+//! A test of many framers, each waiting for a message of the greatest size.
 
 use capn_stream::{FrameFault, Framer};
 use std::alloc::{AllocError, Global};
@@ -6,7 +6,7 @@ use std::process::Abort;
 use std::test::Fail;
 use test_allocator::Refusing;
 
-/// A framer to which a message of 2^28 words was announced.
+/// Returns a framer that has read the table of a message of 2^28 words, and no more.
 fn waiting<'a>(rt: &impl Abort, heap: &'a Refusing<Global>) -> Framer<&'a Refusing<Global>> {
     let mut framer = Framer::new(heap, 268_435_456);
     let fed = framer.feed(&[0, 0, 0, 0, 0, 0, 0, 0x10]);
@@ -14,7 +14,7 @@ fn waiting<'a>(rt: &impl Abort, heap: &'a Refusing<Global>) -> Framer<&'a Refusi
     framer
 }
 
-/// Returns `count` framers, to each of which such a message was announced.
+/// Returns `count` framers, each of which waits for a message of 2^28 words.
 fn waiting_each<'a>(
     rt: &impl Abort,
     alloc: Global,
@@ -28,7 +28,7 @@ fn waiting_each<'a>(
     Ok(framers)
 }
 
-/// Tests whether each of some framers has no room for 256 bytes.
+/// Tests whether each of `framers` runs out of memory when it is fed 256 bytes.
 fn are_without_room(framers: &mut [Framer<&Refusing<Global>>]) -> bool {
     for framer in framers {
         if framer.feed(&[0; 256]) != Err(FrameFault::Memory) {
@@ -38,7 +38,7 @@ fn are_without_room(framers: &mut [Framer<&Refusing<Global>>]) -> bool {
     true
 }
 
-/// No framer takes memory for what was announced to it: where no more comes, none has room for 256 bytes.
+/// No framer takes memory for the words that a table announces: once growths are refused, none has room for 256 bytes.
 #[test]
 fn many_framers_that_wait_for_the_greatest_message(rt: HostRuntime) -> Result<(), Fail> {
     let heap = Refusing::nth(rt.alloc(), 0);

@@ -1,5 +1,5 @@
-//! The number and the size of calls' growths.
-//! The trials are of tables of many segments, bytes that come one by one, and what is announced.
+//! Tests of the number and the size of calls' growths: for tables of many segments, for bytes fed one by one, and for
+//! sizes that are only announced.
 
 use crate::cuts::long_table;
 use crate::short_runs::output;
@@ -15,7 +15,7 @@ use std::alloc::{AllocError, Global};
 use std::test::Fail;
 use test_allocator::Refusing;
 
-/// Tests whether the first message is all of the stream, and has `segments` segments.
+/// Tests whether the first message of `stream` is all of it, and has `segments` segments.
 fn is_whole(alloc: Global, stream: &[u8], segments: u32) -> bool {
     match first(alloc, stream, MOST) {
         Ok((message, taken)) => taken == stream.len() && message.segments() == segments,
@@ -23,7 +23,7 @@ fn is_whole(alloc: Global, stream: &[u8], segments: u32) -> bool {
     }
 }
 
-/// No number of segments is refused as Memory where there is memory.
+/// No number of segments is refused as `Memory` if there is memory.
 #[test]
 fn each_number_of_segments(rt: HostRuntime) -> Result<(), Fail> {
     for count in 2..=4_096u32 {
@@ -42,7 +42,7 @@ fn the_longest_table_through_each_call(rt: HostRuntime) -> Result<(), Fail> {
     stream_through_each(&rt, rt.alloc(), stream.as_slice())
 }
 
-/// A stream of 4,096 segments of 32 words each: a table of 16,392 bytes, and a mebibyte.
+/// Returns a stream of 4,096 segments of 32 words each: a table of 16,392 bytes, and a mebibyte.
 fn many_segments(alloc: Global) -> Result<Vec<u8>, AllocError> {
     let mut stream = Vec::new(alloc);
     stream.extend_from_slice(&4_095u32.to_le_bytes())?;
@@ -53,7 +53,8 @@ fn many_segments(alloc: Global) -> Result<Vec<u8>, AllocError> {
     Ok(stream)
 }
 
-/// Returns the number of growths that a message of a stream takes and the most bytes of one, and both for its frame.
+/// Returns the number of growths that reading the message of `stream` takes, and the greatest size of one. Returns both
+/// for writing its frame, too.
 fn framed_growths(alloc: Global, stream: &[u8]) -> Option<((u64, usize), (u64, usize))> {
     let heap = Refusing::nth(alloc, 0);
     let (message, _) = first(&heap, stream, MOST).ok()?;
@@ -69,7 +70,8 @@ fn framed_growths(alloc: Global, stream: &[u8]) -> Option<((u64, usize), (u64, u
     }
 }
 
-/// A message of many segments takes four bytes for each, whatever these hold; its frame is one growth of its length.
+/// A message of many segments takes four bytes for each segment, whatever it holds. Its frame takes one growth of its
+/// length.
 #[test]
 fn growths_of_many_segments(rt: HostRuntime) -> Result<(), Fail> {
     let stream = many_segments(rt.alloc())?;
@@ -78,7 +80,7 @@ fn growths_of_many_segments(rt: HostRuntime) -> Result<(), Fail> {
     Ok(())
 }
 
-/// Counts the growths of a framer that is fed a message byte by byte.
+/// Counts the growths of a framer that is fed `stream` byte by byte.
 fn growths_by_the_byte(alloc: Global, stream: &[u8]) -> Option<u64> {
     let heap = Refusing::nth(alloc, 0);
     let mut framer = Framer::new(&heap, MOST);
@@ -94,7 +96,7 @@ fn growths_by_the_byte(alloc: Global, stream: &[u8]) -> Option<u64> {
     }
 }
 
-/// Room for bytes grows with what is there, so that a message that comes byte by byte is copied a few times at most.
+/// Room for bytes grows with what has been fed, so that a message fed byte by byte is copied only a few times.
 #[test]
 fn a_mebibyte_byte_by_byte(rt: HostRuntime) -> Result<(), Fail> {
     let list = long_list(rt.alloc())?;
@@ -104,7 +106,7 @@ fn a_mebibyte_byte_by_byte(rt: HostRuntime) -> Result<(), Fail> {
     Ok(())
 }
 
-/// Tests whether bytes are their own canonical bytes, which ask for no growth of more than a kibibyte.
+/// Tests whether `bytes` are canonical, which takes no growth of more than a kibibyte to find out.
 fn is_small(alloc: Global, bytes: &[u8]) -> bool {
     let heap = Refusing::nth(alloc, 0);
     let is_own = match canonicalise(&heap, Form::Bare, bytes, limits(64)) {
@@ -114,7 +116,8 @@ fn is_small(alloc: Global, bytes: &[u8]) -> bool {
     is_own && is_canonical(&heap, bytes, limits(64)) == Ok(true) && heap.greatest() <= 1_024
 }
 
-/// The words that were paid for are not taken for those to write: eight million voids cost as many words.
+/// The price of a message is not taken for the size of its canonical bytes: eight million elements without bits cost as
+/// many words.
 #[test]
 fn voids_by_the_million(rt: HostRuntime) -> Result<(), Fail> {
     let voids = [0x1_0000_0000_0000, 8_000_000 << 35 | 1];
@@ -123,8 +126,8 @@ fn voids_by_the_million(rt: HostRuntime) -> Result<(), Fail> {
     Ok(())
 }
 
-/// Returns the number of growths that the price of a packed input takes that begins with an empty message, and the most
-/// bytes of one.
+/// Returns the number of growths of `check` over a packed input that begins with an empty message, and the greatest
+/// size of one.
 fn priced_growths(alloc: Global, packed: &[u8]) -> Option<(u64, usize)> {
     let heap = Refusing::nth(alloc, 0);
     let command = Command::Check(Form::Packed, limits(64));
@@ -137,7 +140,7 @@ fn priced_growths(alloc: Global, packed: &[u8]) -> Option<(u64, usize)> {
     }
 }
 
-/// Of packed zeros that stand for 64 MiB no more is unpacked at once than 514 KiB.
+/// Packed zeros that stand for 64 MiB are unpacked bit by bit: no growth is above 514 KiB.
 #[test]
 fn packed_zeros_are_unpacked_bit_by_bit(rt: HostRuntime) -> Result<(), Fail> {
     let mut packed = Vec::new(rt.alloc());
@@ -160,7 +163,7 @@ fn walked_growths(alloc: Global, bytes: &[u8]) -> Option<u64> {
         return None;
     };
     let count = heap.count();
-    // One call is cheaper to check than fields that are dropped one by one.
+    // One call of `drop` is cheaper for the prover than fields that are dropped one by one.
     drop(walked);
     Some(count)
 }
@@ -175,7 +178,7 @@ fn shown_growths(alloc: Global, stream: &[u8]) -> Option<u64> {
     }
 }
 
-/// To show a message no value is made: a few growths for the message, its survey and a text of 64 KiB are enough.
+/// A message is shown without its tree: a few growths suffice, for the message, its survey and a text of 64 KiB.
 #[test]
 fn a_message_is_shown_without_its_value(rt: HostRuntime) -> Result<(), Fail> {
     let deep = chain(rt.alloc(), 200)?;

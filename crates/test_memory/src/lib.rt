@@ -1,7 +1,7 @@
-//! Trials of the libraries' calls, short of memory or input.
-//! Memory is refused at each growth in turn, and input is cut at each byte.
+//! Tests of the libraries' calls with too little memory or input. Memory is refused at each growth in turn, and input
+//! is cut at each byte.
 //!
-//! They stand apart from the crates that they try, since a crate with tests is proved twice.
+//! They are apart from the crates that they test, because a crate with tests is proved twice.
 #![tactic(auto)]
 
 #[cfg(test)]

@@ -1,5 +1,5 @@
-//! Archives beyond a number of messages or bytes, and the growths of a run that packs.
-//! With ample memory no run over them tells that it ran out.
+//! Tests of archives of very many messages or bytes, and of the growths of a run that packs. No run over them reports
+//! that memory ran out if there is enough.
 
 use capn_archive::{ArchiveFault, ArchiveOrder, Task, UniqOrder, run_archive, run_uniq};
 use capn_canon::Form;
@@ -11,8 +11,8 @@ use std::io::{self, Read, Write};
 use std::test::Fail;
 use test_allocator::Refusing;
 
-/// A reader that gives `len` bytes at each of `left` calls, and then `last`. Each time they begin with `row`, and go on
-/// with what the buffer holds, which is zeros if nothing else was put there: so few are copied.
+/// A reader that gives `len` bytes at each of `left` calls, and then `last`. Each call writes only `row` to the buffer,
+/// and leaves the rest as it is, which is zeros if nothing else was put there.
 #[derive(Drop)]
 struct Rows<'a> {
     row: &'a [u8],
@@ -38,7 +38,7 @@ impl Read for Rows<'_> {
     }
 }
 
-/// A writer that keeps the bytes of its last call, and counts those of all.
+/// A writer that keeps the bytes of its last call, and counts the bytes of all calls.
 #[derive(Drop)]
 struct Latest {
     bytes: Vec<u8>,
@@ -66,18 +66,18 @@ fn unwritten(alloc: Global) -> Watched<Latest> {
     })
 }
 
-/// The table of a message of one segment of 8,191 words, whose frame has 65,536 bytes.
+/// The table of a message of one segment of 8,191 words, so that its frame has 65,536 bytes.
 const TABLE: [u8; 8] = [0, 0, 0, 0, 0xff, 0x1f, 0, 0];
 
-/// The frame of a message whose root is a struct behind its end.
+/// The frame of a message whose root is a struct that ends after the message.
 const REFUSED: [u8; 16] = [0, 0, 0, 0, 1, 0, 0, 0, 0, 0, 0, 0, 1, 0, 0, 0];
 
-/// The line of that message after 65,537 of 65,536 bytes.
+/// The line of `list` for the message in `REFUSED`, after 65,537 messages of 65,536 bytes each.
 const LINE: &[u8] = b"65538 at 4295032832 bytes 16 segments 1 words 1 \
 refused Range at 0:0, paid 0, visits 1\n";
 
-/// A message that is refused has its line past 4 GiB too. A body that has room for the numbers below 2^32 alone, and
-/// else tells that memory ran out, ends there.
+/// A refused message past 4 GiB has its line. The test fails for code that has room only for numbers below 2^32 and
+/// reports that memory ran out.
 #[test]
 fn a_refusal_past_4_gibibytes_is_listed(rt: HostRuntime) {
     let order = ArchiveOrder {
@@ -99,7 +99,7 @@ fn a_refusal_past_4_gibibytes_is_listed(rt: HostRuntime) {
     assert!(rt; writer.into_inner().bytes.as_slice().ends_with(LINE));
 }
 
-/// Returns the stream of `count` structs of one word, of which no two are the same.
+/// Returns a stream of `count` structs of one word, no two of which are the same.
 fn different(alloc: Global, count: u32) -> Result<Vec<u8>, AllocError> {
     let mut stream = Vec::new(alloc);
     for number in 0..count {
@@ -110,8 +110,8 @@ fn different(alloc: Global, count: u32) -> Result<Vec<u8>, AllocError> {
     Ok(stream)
 }
 
-/// Each of 20,000 different messages is kept. A body that takes no digest above a number of them, and tells that memory
-/// ran out, ends there. (`capn_digests` has a test of a million digests.)
+/// Each of 20,000 different messages is kept. The test fails for code that takes no more than some number of digests
+/// and reports that memory ran out. (`capn_digests` has a test of a million digests.)
 #[test]
 fn twenty_thousand_that_differ_are_kept(rt: HostRuntime) -> Result<(), Fail> {
     let stream = different(rt.alloc(), 20_000)?;
@@ -129,10 +129,10 @@ fn twenty_thousand_that_differ_are_kept(rt: HostRuntime) -> Result<(), Fail> {
     Ok(())
 }
 
-/// The number of rows that are packed.
+/// The number of rows that are packed, each of 65,536 bytes.
 const PACKED: u64 = 49;
 
-/// Counts the growths that it takes to pack `row` that often.
+/// Counts the growths of packing `row`, `PACKED` times.
 fn packed_growths(alloc: Global, row: &[u8]) -> Option<u64> {
     let heap = Refusing::nth(alloc, 0);
     let mut reader = Watched::new(Rows {
@@ -148,7 +148,7 @@ fn packed_growths(alloc: Global, row: &[u8]) -> Option<u64> {
     }
 }
 
-/// Returns a row of 65,536 bytes: words that are one, and the `last` word.
+/// Returns a row of 65,536 bytes: words that are 1, and then the word `last`.
 fn row_of(alloc: Global, last: u64) -> Result<Vec<u8>, AllocError> {
     let mut row = Vec::new(alloc);
     for _ in 0..8_191u32 {
@@ -158,8 +158,8 @@ fn row_of(alloc: Global, last: u64) -> Result<Vec<u8>, AllocError> {
     Ok(row)
 }
 
-/// A row that ends with a dense word is packed without the word, which is held: that takes one growth more than a row
-/// that doesn't. A body that unpacks what it packed, to find the last group of each row, takes two more.
+/// A dense word at the end of a row is held back, which takes one growth more than a row without one. The test fails
+/// for code that unpacks what it packed to find the last group of each row, which takes two more.
 #[test]
 fn nothing_that_was_packed_is_unpacked(rt: HostRuntime) -> Result<(), Fail> {
     let sparse = row_of(rt.alloc(), 1)?;

@@ -1,5 +1,4 @@
-//! Streams longer than the part held by a run.
-//! A run holds a piece and the message in hand.
+//! Tests of streams longer than what a run holds, which is a chunk and the current message.
 
 use crate::subject::MOST;
 use capn_archive::{ArchiveOrder, FilterOrder, Task, UniqOrder, run_archive, run_filter, run_uniq};
@@ -14,7 +13,7 @@ use std::io::{self, Read, Write};
 use std::test::Fail;
 use test_allocator::Refusing;
 
-/// A reader that gives the same bytes at each of so many calls. No run asks for fewer than a row of them has here.
+/// A reader that gives the bytes of `row` at each of `left` calls. No run requests fewer bytes than `row` has.
 #[derive(Drop)]
 struct Again<'a> {
     row: &'a [u8],
@@ -33,7 +32,7 @@ impl Read for Again<'_> {
     }
 }
 
-/// A writer that counts the bytes.
+/// A writer that counts the bytes written.
 #[derive(Drop)]
 pub(crate) struct Counted {
     pub(crate) bytes: u64,
@@ -62,13 +61,13 @@ fn times(alloc: Global, bytes: &[u8], count: u32) -> Result<Vec<u8>, AllocError>
 /// The frame of a message of one segment with a null root.
 const EMPTY: [u8; 16] = [0, 0, 0, 0, 1, 0, 0, 0, 0, 0, 0, 0, 0, 0, 0, 0];
 
-/// The times that it is in a row of 65,536 bytes.
+/// The number of `EMPTY` frames in a row of 65,536 bytes.
 const IN_A_ROW: u32 = 4_096;
 
-/// The number of rows in which it is more than 200,000 times: 200,704.
+/// The number of rows in the stream of `EMPTY` frames, which then has 200,704 of them.
 const ROWS: u64 = 49;
 
-/// A packed frame of 65,536 bytes: one segment of 8,191 words that are zero.
+/// Returns a packed frame, which unpacks to 65,536 bytes: one segment of 8,191 zero words.
 fn packed_zeros(alloc: Global) -> Result<Vec<u8>, AllocError> {
     let mut packed = Vec::from_slice(alloc, &[0x30, 0xff, 0x1f])?;
     for _ in 0..31u32 {
@@ -78,13 +77,13 @@ fn packed_zeros(alloc: Global) -> Result<Vec<u8>, AllocError> {
     Ok(packed)
 }
 
-/// The times that it is in a row of no more than 65,536 bytes, and the number of these rows that unpack to more than 1
-/// GiB.
+/// The number of these packed frames in a row of at most 65,536 bytes, and then the number of such rows that unpack to
+/// more than 1 GiB.
 const PACKED_IN_A_ROW: u32 = 978;
 
 const PACKED_ROWS: u64 = 17;
 
-/// The bytes that they unpack to.
+/// The number of bytes that the packed rows unpack to.
 const UNPACKED: u64 = 65_536 * 978 * 17;
 
 /// A run over a stream.
@@ -99,7 +98,7 @@ enum Order {
     Unpack,
 }
 
-/// Returns the form of a stream that an input is in this form.
+/// Maps the form of an input to the form of a stream.
 fn stream_form_of(form: Form) -> StreamForm {
     match form {
         Form::Packed => StreamForm::Packed,
@@ -107,8 +106,7 @@ fn stream_form_of(form: Form) -> StreamForm {
     }
 }
 
-/// The demand of a run for memory, and its output: the number of growths, the most bytes of one, and the number of
-/// bytes that it wrote.
+/// The demand of a run: its number of growths, the greatest size of one, and the number of bytes that it wrote.
 #[derive(Clone, Copy)]
 struct Demand {
     growths: u64,
@@ -116,7 +114,7 @@ struct Demand {
     written: u64,
 }
 
-/// Returns the demand of a run over `row`, `left` times; `None` if it is not done.
+/// Returns the demand of a run over `row`, `left` times, or `None` if the run does not end with `Ok`.
 fn taken(alloc: Global, order: Order, form: Form, row: &[u8], left: u64) -> Option<Demand> {
     let heap = Refusing::nth(alloc, 0);
     let limits = Limits::new(MOST, 8_388_608, 64)?;
@@ -183,8 +181,8 @@ fn taken(alloc: Global, order: Order, form: Form, row: &[u8], left: u64) -> Opti
     }
 }
 
-/// Lines and frames of 200,704 messages are written in a text of no more than 65,536 bytes and a message, which grows
-/// a few times.
+/// The lines and frames of 200,704 messages are gathered in a text of at most 65,536 bytes and one message, which grows
+/// only a few times.
 #[test]
 fn two_hundred_thousand_messages(rt: HostRuntime) -> Result<(), Fail> {
     let row = times(rt.alloc(), &EMPTY, IN_A_ROW)?;
@@ -203,7 +201,7 @@ fn two_hundred_thousand_messages(rt: HostRuntime) -> Result<(), Fail> {
     Ok(())
 }
 
-/// Tests whether a run that is done over 200,704 messages writes `written` bytes, and asks for no growth above 256 KiB.
+/// Tests whether a run over 200,704 messages ends with `Ok`, writes `written` bytes, and takes no growth above 256 KiB.
 fn writes(alloc: Global, order: Order, written: u64) -> Result<bool, AllocError> {
     let row = times(alloc, &EMPTY, IN_A_ROW)?;
     match taken(alloc, order, Form::Stream, row.as_slice(), ROWS) {
@@ -212,7 +210,7 @@ fn writes(alloc: Global, order: Order, written: u64) -> Result<bool, AllocError>
     }
 }
 
-/// Canonical bytes are made for each message, and none are kept.
+/// `canonical --framed` makes canonical bytes for each message, and keeps none.
 #[test]
 fn canonical_bytes_of_two_hundred_thousand_messages(rt: HostRuntime) -> Result<(), Fail> {
     let order = Order::Archive(Task::Canonical);
@@ -221,7 +219,7 @@ fn canonical_bytes_of_two_hundred_thousand_messages(rt: HostRuntime) -> Result<(
     Ok(())
 }
 
-/// Nothing is kept of a message but its digest, if that is new.
+/// `uniq` keeps nothing of a message but its digest, if that is new.
 #[test]
 fn the_frame_of_two_hundred_thousand_that_are_one(rt: HostRuntime) -> Result<(), Fail> {
     let is_right = writes(rt.alloc(), Order::Uniq(false), 16)?;
@@ -229,7 +227,7 @@ fn the_frame_of_two_hundred_thousand_that_are_one(rt: HostRuntime) -> Result<(),
     Ok(())
 }
 
-/// The line is `1 of 200704`.
+/// `uniq --count` writes the line `1 of 200704`.
 #[test]
 fn the_count_of_two_hundred_thousand_that_are_one(rt: HostRuntime) -> Result<(), Fail> {
     let is_right = writes(rt.alloc(), Order::Uniq(true), 12)?;
@@ -237,7 +235,7 @@ fn the_count_of_two_hundred_thousand_that_are_one(rt: HostRuntime) -> Result<(),
     Ok(())
 }
 
-/// Tests that nothing is kept of a message that is let through.
+/// `filter` keeps nothing of a message that is let through.
 #[test]
 fn the_frames_of_two_hundred_thousand_messages(rt: HostRuntime) -> Result<(), Fail> {
     let is_right = writes(rt.alloc(), Order::Filter(false), 16 * 200_704)?;
@@ -245,7 +243,7 @@ fn the_frames_of_two_hundred_thousand_messages(rt: HostRuntime) -> Result<(), Fa
     Ok(())
 }
 
-/// Tests that nothing is kept if only canonical ones are let through, and that no canonical bytes are made.
+/// `filter --canonical` keeps nothing either, and makes no canonical bytes.
 #[test]
 fn two_hundred_thousand_canonical_messages(rt: HostRuntime) -> Result<(), Fail> {
     let is_right = writes(rt.alloc(), Order::Filter(true), 16 * 200_704)?;
@@ -253,7 +251,7 @@ fn two_hundred_thousand_canonical_messages(rt: HostRuntime) -> Result<(), Fail> 
     Ok(())
 }
 
-/// Tests that of the messages that are compared the first one's canonical bytes alone are kept.
+/// `cmp` keeps the canonical bytes of the first message only.
 #[test]
 fn two_hundred_thousand_messages_of_one_value(rt: HostRuntime) -> Result<(), Fail> {
     let is_right = writes(rt.alloc(), Order::Cmp, 0)?;
@@ -261,7 +259,7 @@ fn two_hundred_thousand_messages_of_one_value(rt: HostRuntime) -> Result<(), Fai
     Ok(())
 }
 
-/// Returns the demand of a run over so many packed `rows`, if it asks for no growth of more than 1 MiB.
+/// Returns the demand of a run over `rows` packed rows, if it takes no growth of more than 1 MiB.
 fn taken_of_packed(alloc: Global, order: Order, rows: u64) -> Result<Option<Demand>, AllocError> {
     let frame = packed_zeros(alloc)?;
     let row = times(alloc, frame.as_slice(), PACKED_IN_A_ROW)?;
@@ -271,7 +269,7 @@ fn taken_of_packed(alloc: Global, order: Order, rows: u64) -> Result<Option<Dema
     }
 }
 
-/// More than 1 GiB is unpacked, of which no more is held than a slice unpacks to.
+/// More than 1 GiB is unpacked, and no more is held at once than one slice unpacks to.
 #[test]
 fn a_gibibyte_is_unpacked(rt: HostRuntime) -> Result<(), Fail> {
     let took = taken_of_packed(rt.alloc(), Order::Unpack, PACKED_ROWS)?;
@@ -295,7 +293,7 @@ fn packed_messages_are_listed(rt: HostRuntime) -> Result<(), Fail> {
     Ok(())
 }
 
-/// The packed text of a stream is written a piece at a time.
+/// A stream is packed a chunk at a time.
 #[test]
 fn a_stream_is_packed_in_pieces(rt: HostRuntime) -> Result<(), Fail> {
     let row = times(rt.alloc(), &EMPTY, IN_A_ROW)?;

@@ -1,4 +1,4 @@
-//! Checks without memory.
+//! Tests of canonical checks and surveys that take no memory.
 
 use crate::short_runs::accounted;
 use crate::subject::{chain, limits};
@@ -9,13 +9,14 @@ use std::process::Abort;
 use std::test::Fail;
 use test_allocator::Refusing;
 
-/// Tests whether a chain of 63 structs is canonical, with its price and its visits.
+/// Tests whether the chain `deep` of 63 structs is found canonical, with the right price and visits.
 fn is_told(heap: &Refusing<Global>, deep: &[u8]) -> bool {
     is_canonical(heap, deep, limits(64)) == Ok(true)
         && accounted(heap, Form::Bare, deep, limits(64)) == Ok((253, 127, None))
 }
 
-/// Tests whether a chain of 64 structs is refused as too deep at its last object, and as it is with ample memory.
+/// Tests whether the chain `deeper` of 64 structs is refused as too deep at its last object, as it is with enough
+/// memory.
 fn is_too_deep(heap: &Refusing<Global>, alloc: Global, deeper: &[u8]) -> bool {
     let is_stopped = match is_canonical(heap, deeper, limits(64)) {
         Err(Refusal::Walk(stopped)) => stopped.fault == Fault::TooDeep
@@ -28,8 +29,8 @@ fn is_too_deep(heap: &Refusing<Global>, alloc: Global, deeper: &[u8]) -> bool {
     is_stopped && refusal == accounted(alloc, Form::Bare, deeper, limits(64))
 }
 
-/// The usual depth of 64 objects is checked without memory, and the first object that is deeper is refused as such. If
-/// the limit lets it be, the bytes are found canonical without memory, too.
+/// The default depth of 64 objects is checked without memory, and the first deeper object is refused. If the limit
+/// allows that object, the bytes are found canonical without memory, too.
 #[test]
 fn no_memory_for_64_objects(rt: HostRuntime) -> Result<(), Fail> {
     let deep = chain(rt.alloc(), 63)?;

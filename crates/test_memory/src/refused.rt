@@ -1,4 +1,4 @@
-//! Calls with each growth refused in turn.
+//! Tests of calls with each growth refused in turn.
 
 use crate::short_runs::*;
 use crate::short_shows::*;
@@ -15,7 +15,7 @@ use std::process::Abort;
 use std::test::Fail;
 use test_allocator::Refusing;
 
-/// The contents of a message: a struct with a word, a text, two rows, two pointers, and a double-far pointer to a
+/// The words of a message: a struct with a data word, a text, two rows, two pointers, and a double-far pointer to a
 /// struct, in segments of 15, 2 and 1 words.
 const CONTENTS: [u64; 18] = [
     0x4_0001_0000_0000,
@@ -38,7 +38,8 @@ const CONTENTS: [u64; 18] = [
     9,
 ];
 
-/// Returns a stream of a message in 65 segments, all but the first three of them empty: so its table takes memory.
+/// Returns a stream of a message in 65 segments, of which all but the first three are empty. Its table is so long that
+/// it takes memory.
 pub(crate) fn stream_of_65(alloc: Global) -> Result<Vec<u8>, Fail> {
     let mut stream = bytes_of(alloc, &[0xf_0000_0040, 0x1_0000_0002])?;
     stream.extend_from_slice(&[0; 248])?;
@@ -46,7 +47,7 @@ pub(crate) fn stream_of_65(alloc: Global) -> Result<Vec<u8>, Fail> {
     Ok(stream)
 }
 
-/// A command that is run. Its limits can't be in a constant, so it is named apart from them.
+/// A command to run. Its limits cannot be in a constant, so it is named without them.
 #[derive(Clone, Copy)]
 pub(crate) enum Order {
     Show,
@@ -57,7 +58,7 @@ pub(crate) enum Order {
     Unpack,
 }
 
-/// A call that takes memory.
+/// A call to test.
 #[derive(Clone, Copy)]
 pub(crate) enum Call {
     First,
@@ -89,7 +90,7 @@ pub(crate) enum Call {
     Run(Order),
 }
 
-/// Calls that take memory. A list that is constant costs its users nothing to check.
+/// The calls to test, by name. A constant list costs its users nothing to prove.
 pub(crate) const CALLS: [(&str, Call); 34] = [
     ("first", Call::First),
     ("frame", Call::Frame),
@@ -127,7 +128,7 @@ pub(crate) const CALLS: [(&str, Call); 34] = [
     ("run of unpack", Call::Run(Order::Unpack)),
 ];
 
-/// The command of an order, within the limits of a walk to 256 objects below one another.
+/// Returns the command for `order`, with limits that allow a depth of 256 objects.
 fn command_of(order: Order) -> Command {
     match order {
         Order::Show => Command::Show(Form::Stream, limits(256)),
@@ -139,7 +140,7 @@ fn command_of(order: Order) -> Command {
     }
 }
 
-/// Returns the answer of a call with an allocator.
+/// Returns the outcome of `call` with the allocator `short`.
 pub(crate) fn answer(of: &Subject, short: &Refusing<Global>, call: Call) -> Answer {
     match call {
         Call::First => first_answer(of, short),
@@ -172,8 +173,8 @@ pub(crate) fn answer(of: &Subject, short: &Refusing<Global>, call: Call) -> Answ
     }
 }
 
-/// Tests whether no growth of a call had this `number`, and returns its answers with that refused, and then, unless no
-/// growth had it, once more.
+/// Calls `call` while growth `number` is refused, and then once more. Returns whether there was no growth with that
+/// number, and both outcomes. If there was one, the second call has enough memory.
 fn answers(of: &Subject, call: Call, number: u64) -> (bool, Answer, Answer) {
     let short = Refusing::nth(of.alloc, number);
     let first = answer(of, &short, call);
@@ -182,13 +183,14 @@ fn answers(of: &Subject, call: Call, number: u64) -> (bool, Answer, Answer) {
     (is_spared, first, again)
 }
 
-/// Tests whether a call asks for memory: a survey takes none, whatever the depth, nor does what reads bare words.
+/// Tests whether `call` takes memory. A survey takes none, whatever the depth, nor does a check or a survey of bare
+/// words.
 fn takes_memory(call: Call) -> bool {
     !matches!(call, Call::Survey | Call::Check | Call::Account(Form::Bare))
 }
 
-/// Refuses each growth of a call in turn, until a run meets none: it answers Memory and nothing else, and then, with
-/// ample memory, what is right. A call that takes no memory meets none at once.
+/// Refuses each growth of `call` in turn, until no growth is left to refuse. The call then returns only `Memory`, and
+/// with enough memory it returns what is right. A call that takes no memory has no growth to refuse.
 fn refuse_each(rt: &impl Abort, of: &Subject, name: &str, call: Call) {
     for number in 1..1_000u64 {
         match answers(of, call, number) {
@@ -210,8 +212,9 @@ fn each_call(rt: HostRuntime) -> Result<(), Fail> {
     Ok(())
 }
 
-/// Tests whether no growth had this `number`, and returns the answer of showing two messages, each with this `text`,
-/// with it refused: both texts, or that of the first, perhaps a beginning of the second's, and that memory ran out.
+/// Shows two messages, each with the text `text`, while growth `number` is refused. Returns whether there was no growth
+/// with that number, and the outcome. It is right if both texts are written, or if memory ran out after the first text
+/// and perhaps a prefix of the second.
 fn shows_twice(alloc: Global, twice: &[u8], text: &[u8], number: u64) -> (bool, Answer) {
     let short = Refusing::nth(alloc, number);
     let (outcome, shown) = output(alloc, &short, command_of(Order::Show), twice);
@@ -227,7 +230,7 @@ fn shows_twice(alloc: Global, twice: &[u8], text: &[u8], number: u64) -> (bool, 
     )
 }
 
-/// If a growth for the second of two messages is refused, the text of the first is written all the same.
+/// If a growth for the second of two messages is refused, the text of the first is still written.
 #[test]
 fn the_first_message_is_written(rt: HostRuntime) -> Result<(), Fail> {
     let once = stream_of_65(rt.alloc())?;
@@ -247,7 +250,8 @@ fn the_first_message_is_written(rt: HostRuntime) -> Result<(), Fail> {
     Err(Fail::new("a thousand growths"))
 }
 
-/// Returns a stream of null in one segment, and of a struct of one word that is in two segments of 65.
+/// Returns a stream of two messages: a null root in one segment, and a struct of one word in the first two of 65
+/// segments.
 fn two_messages(alloc: Global) -> Result<Vec<u8>, Fail> {
     let mut stream = bytes_of(alloc, &[0x1_0000_0000, 0, 0x1_0000_0040, 0x2])?;
     stream.extend_from_slice(&[0; 248])?;
@@ -256,7 +260,8 @@ fn two_messages(alloc: Global) -> Result<Vec<u8>, Fail> {
     Ok(stream)
 }
 
-/// Tests whether no growth of a run had this `number`, and whether the run ended as done then, and else as `Memory`.
+/// Runs `command` while growth `number` is refused. Returns whether there was no growth with that number, and whether
+/// the run ended as it must: with `Ok` in that case, else with `Memory`.
 fn ends_by(alloc: Global, command: &Command, input: &[u8], number: u64) -> (bool, bool) {
     let short = Refusing::nth(alloc, number);
     let (outcome, _) = output(alloc, &short, *command, input);
@@ -269,7 +274,7 @@ fn ends_by(alloc: Global, command: &Command, input: &[u8], number: u64) -> (bool
     (is_spared, outcome == want)
 }
 
-/// Counts the growths of a run, each of which ends it as `Memory` if it is refused; `None` if one doesn't.
+/// Counts the growths of a run. Returns `None` if one of them is refused and the run does not end with `Memory`.
 fn growths_of(alloc: Global, command: &Command, input: &[u8]) -> Option<u64> {
     for number in 1..1_000u64 {
         match ends_by(alloc, command, input, number) {
@@ -281,7 +286,7 @@ fn growths_of(alloc: Global, command: &Command, input: &[u8]) -> Option<u64> {
     None
 }
 
-/// Wherever a growth is refused the run ends as Memory, also for a message that is whole in a piece after another one.
+/// A run ends with `Memory` whichever growth is refused, even for a message that is whole in a chunk after another one.
 #[test]
 fn a_refused_growth_ends_a_run(rt: HostRuntime) -> Result<(), Fail> {
     let stream = two_messages(rt.alloc())?;

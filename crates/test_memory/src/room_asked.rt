@@ -1,4 +1,4 @@
-//! Room asked for at once.
+//! Tests of the greatest growth of `show`, for bare inputs and for the texts of long lists.
 
 use crate::long_streams::Counted;
 use crate::short_runs::output;
@@ -12,14 +12,15 @@ use std::alloc::{AllocError, Global};
 use std::test::Fail;
 use test_allocator::Refusing;
 
-/// A bare message of `len` bytes: its root, and what is below it, each of whose bytes is the letter x.
+/// Returns a bare message of `len` bytes: the word `root`, and below it bytes that are the letter x.
 fn bare_of(alloc: Global, root: u64, len: usize) -> Result<Vec<u8>, AllocError> {
     let mut bytes = bytes_of(alloc, &[root])?;
     bytes.resize(len, b'x')?;
     Ok(bytes)
 }
 
-/// Tests whether a bare message is shown, and no growth asks for more than four pieces of an input and twice its bytes.
+/// Tests whether a bare message of `len` bytes is shown, and no growth is above the size of four chunks and twice its
+/// bytes.
 fn follows_its_input(alloc: Global, root: u64, len: usize) -> Result<bool, AllocError> {
     let input = bare_of(alloc, root, len)?;
     let most = len.saturating_mul(2).saturating_add(262_144);
@@ -30,7 +31,7 @@ fn follows_its_input(alloc: Global, root: u64, len: usize) -> Result<bool, Alloc
     Ok(outcome == Ok(()) && !text.is_empty() && heap.greatest() <= most)
 }
 
-/// A bare input may have 2 GiB, for which no room is asked before they came: lists of 7 words, and of 24,999.
+/// A bare input may have 2 GiB, but no room is allocated before its bytes are read. The lists have 7 and 24,999 words.
 #[test]
 fn room_for_a_bare_input(rt: HostRuntime) -> Result<(), Fail> {
     assert!(rt; follows_its_input(rt.alloc(), 0x3d_0000_0001, 64)?);
@@ -38,15 +39,15 @@ fn room_for_a_bare_input(rt: HostRuntime) -> Result<(), Fail> {
     Ok(())
 }
 
-/// The root of a list of 4 MiB of bytes, and the bytes of its message.
+/// The root of a list of 4 MiB of bytes, and the length of its message.
 const LONG: u64 = 0x200_0002_0000_0001;
 
 const LONG_LEN: usize = 4_194_312;
 
-/// Twice the most bytes of a text that are kept, which are those of a text that isn't long, and of a piece.
+/// Twice the greatest size of a text that is held: a text that is not yet long enough to be written, and one chunk.
 const ROOM: usize = 2 * (65_536 + 4_096);
 
-/// The text of a message in a style, if no growth asks for more than that room: its length.
+/// Returns the length of the text of a message in `style`, if no growth is above `ROOM`.
 fn shown_in(alloc: Global, style: Style, bytes: &[u8]) -> Option<u64> {
     let heap = Refusing::nth(alloc, 0);
     heap.refuse_above(ROOM);
@@ -71,7 +72,7 @@ fn shown_in(alloc: Global, style: Style, bytes: &[u8]) -> Option<u64> {
     }
 }
 
-/// The text of a list of 4 MiB is written a piece at a time: `bytes 4194304 "x..x"`, its digits below `bytes 4194304`,
+/// The text of a list of 4 MiB is written a chunk at a time: `bytes 4194304 "x..x"`, its digits below `bytes 4194304`,
 /// and `{"bytes":"78..78"}`.
 #[test]
 fn room_for_the_text_of_a_long_list(rt: HostRuntime) -> Result<(), Fail> {

@@ -1,4 +1,4 @@
-//! Canonical bytes, fault texts and runs, short of memory.
+//! Calls that are tested with refused growths: canonical bytes, texts of faults, and runs.
 
 use crate::subject::{Answer, Subject, judged, limits, wanting};
 use capn_canon::{
@@ -10,18 +10,16 @@ use capn_words::Watched;
 use std::alloc::{Allocator, Global};
 use test_allocator::Refusing;
 
-/// The canonical bytes of the message.
 pub(crate) fn canonical_answer(of: &Subject, short: &Refusing<Global>) -> Answer {
     judged_canonical(of, canonical_of(short, &of.message, limits(256)))
 }
 
-/// The canonical bytes of the packed stream.
 pub(crate) fn canonicalise_answer(of: &Subject, short: &Refusing<Global>) -> Answer {
     let packed = of.packed.as_slice();
     judged_canonical(of, canonicalise(short, Form::Packed, packed, limits(256)))
 }
 
-/// Judges `canonical`: right if and only if it has the canonical bytes of the value.
+/// Judges `canonical`: it is right if it has the canonical bytes of the value.
 pub(crate) fn judged_canonical(
     of: &Subject,
     canonical: Result<Canonical<&Refusing<Global>>, Refusal>,
@@ -33,8 +31,8 @@ pub(crate) fn judged_canonical(
     }
 }
 
-/// Tests that the chain isn't canonical with another offset in its last pointer: a survey follows the pass that finds
-/// that.
+/// Returns the outcome of `is_canonical` for the chain whose last pointer has another offset. It is not canonical, and
+/// a survey follows the pass that finds that.
 pub(crate) fn check_answer(of: &Subject, short: &Refusing<Global>) -> Answer {
     match is_canonical(short, of.respelt.as_slice(), limits(256)) {
         Ok(is_canonical) => judged(!is_canonical),
@@ -42,7 +40,7 @@ pub(crate) fn check_answer(of: &Subject, short: &Refusing<Global>) -> Answer {
     }
 }
 
-/// The price, the visits and the first capability that a survey of bytes answers.
+/// Returns the price, the visits and the first capability that a survey of `bytes` finds.
 pub(crate) fn accounted<A: Allocator + Copy>(
     alloc: A,
     form: Form,
@@ -53,7 +51,8 @@ pub(crate) fn accounted<A: Allocator + Copy>(
     Ok((told.paid, told.visits, told.capability))
 }
 
-/// Returns the answer of a survey for the stream, for its packed text, and for the chain, which is read bare.
+/// Returns the outcome of a survey of the stream, of its packed bytes, or of the chain, which is read as a bare
+/// message.
 pub(crate) fn account_answer(of: &Subject, short: &Refusing<Global>, form: Form) -> Answer {
     let bytes = match form {
         Form::Stream => of.stream,
@@ -68,7 +67,6 @@ pub(crate) fn account_answer(of: &Subject, short: &Refusing<Global>, form: Form)
     }
 }
 
-/// The text of a fault.
 pub(crate) fn text_answer(short: &Refusing<Global>) -> Answer {
     match fault_text(short, &ToolFault::NotWhole(9)) {
         Ok(text) => judged(text.as_bytes() == b"NotWhole(9)".as_slice()),
@@ -76,7 +74,8 @@ pub(crate) fn text_answer(short: &Refusing<Global>) -> Answer {
     }
 }
 
-/// Returns the output of a command for some bytes, to memory that is never short.
+/// Runs `command` over `input`, and returns its result and its output. The output is kept in memory that is never
+/// refused.
 pub(crate) fn output<A: Allocator + Copy>(
     ample: Global,
     alloc: A,
@@ -89,7 +88,7 @@ pub(crate) fn output<A: Allocator + Copy>(
     (outcome, writer.into_inner())
 }
 
-/// Returns the output of a command for an input.
+/// Runs `command` over the stream, or over its packed bytes if the command takes these.
 fn written<A: Allocator + Copy>(
     of: &Subject,
     alloc: A,
@@ -102,7 +101,7 @@ fn written<A: Allocator + Copy>(
     output(of.alloc, alloc, command, input)
 }
 
-/// The text of a run, of which a refusal leaves a beginning.
+/// Returns the outcome of a run. After a refused growth its output must be a prefix of the right one.
 pub(crate) fn run_answer(of: &Subject, short: &Refusing<Global>, command: Command) -> Answer {
     let (_, want) = written(of, of.alloc, command);
     let (outcome, text) = written(of, short, command);

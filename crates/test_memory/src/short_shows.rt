@@ -1,4 +1,4 @@
-//! Texts with marks, and messages made of texts, short of memory.
+//! Calls that are tested with refused growths: texts with marks, and messages made from texts.
 
 use crate::subject::{Answer, Subject, judged, limits, wanting};
 use capn_canon::Form;
@@ -10,7 +10,7 @@ use capn_words::Watched;
 use std::alloc::{Allocator, Global};
 use test_allocator::Refusing;
 
-/// All marks there are, of a message behind a table of two words.
+/// Every kind of mark, for a message behind a table of two words.
 const MARKS: Marks = Marks {
     offsets: true,
     ways: true,
@@ -19,7 +19,7 @@ const MARKS: Marks = Marks {
     table: 2,
 };
 
-/// The text of the message with marks, as far as it is neither written nor lost.
+/// Returns the result of showing the message with marks, and the part of the text that has not been written yet.
 fn marked<A: Allocator + Copy>(of: &Subject, alloc: A) -> (Result<(), ShowFault>, Vec<u8, A>) {
     let mut text = Vec::new(alloc);
     let mut writer = Watched::new(Vec::new(of.alloc));
@@ -36,7 +36,7 @@ fn marked<A: Allocator + Copy>(of: &Subject, alloc: A) -> (Result<(), ShowFault>
     (outcome, text)
 }
 
-/// Tests whether it is memory that was refused.
+/// Tests whether `fault` is refused memory.
 fn is_memory(fault: ShowFault) -> bool {
     match fault {
         ShowFault::Memory => true,
@@ -45,7 +45,8 @@ fn is_memory(fault: ShowFault) -> bool {
     }
 }
 
-/// The text of the message with marks, of which a refusal leaves a beginning.
+/// Returns the outcome of showing the message with marks. After a refused growth the text must be a prefix of the right
+/// one.
 pub(crate) fn marked_answer(of: &Subject, short: &Refusing<Global>) -> Answer {
     let (_, want) = marked(of, of.alloc);
     let (outcome, text) = marked(of, short);
@@ -55,10 +56,10 @@ pub(crate) fn marked_answer(of: &Subject, short: &Refusing<Global>) -> Answer {
     }
 }
 
-/// Two texts, with a list of bytes between quotes in each.
+/// Two texts, each with a list of bytes between quotes.
 const TEXTS: &[u8] = b"struct 0 1\n  bytes 3 \"ab\\0\"\nend\nstruct 0 1\n  bytes \"c\"\nend\n";
 
-/// Makes messages of the texts, to memory that is never short.
+/// Makes messages from the texts. The output is kept in memory that is never refused.
 fn made<A: Allocator + Copy>(ample: Global, alloc: A) -> (Result<(), MakeFault>, Vec<u8>) {
     let mut reader = Watched::new(TEXTS);
     let mut writer = Watched::new(Vec::new(ample));
@@ -66,7 +67,8 @@ fn made<A: Allocator + Copy>(ample: Global, alloc: A) -> (Result<(), MakeFault>,
     (outcome, writer.into_inner())
 }
 
-/// The messages that are made of the texts, of which a refusal leaves a beginning.
+/// Returns the outcome of making messages from the texts. After a refused growth the output must be a prefix of the
+/// right one.
 pub(crate) fn made_answer(of: &Subject, short: &Refusing<Global>) -> Answer {
     let (_, want) = made(of.alloc, of.alloc);
     let (outcome, made) = made(of.alloc, short);

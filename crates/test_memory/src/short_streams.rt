@@ -1,4 +1,4 @@
-//! Calls on streams and packed texts, short of memory.
+//! Calls that are tested with refused growths: on streams and packed bytes.
 
 use crate::subject::{Answer, MOST, Subject, judged, judged_message, wanting};
 use capn_pack::{PackFault, UnpackFault, Unpacker, pack, unpack};
@@ -7,7 +7,6 @@ use capn_words::Watched;
 use std::alloc::Global;
 use test_allocator::Refusing;
 
-/// The first message of the stream.
 pub(crate) fn first_answer(of: &Subject, short: &Refusing<Global>) -> Answer {
     match first(short, of.stream, MOST) {
         Ok((message, _)) => judged_message(of, &message),
@@ -16,7 +15,6 @@ pub(crate) fn first_answer(of: &Subject, short: &Refusing<Global>) -> Answer {
     }
 }
 
-/// The stream of the message.
 pub(crate) fn frame_answer(of: &Subject, short: &Refusing<Global>) -> Answer {
     match frame(short, &of.message) {
         Ok(text) => judged(text.as_slice() == of.stream),
@@ -24,7 +22,7 @@ pub(crate) fn frame_answer(of: &Subject, short: &Refusing<Global>) -> Answer {
     }
 }
 
-/// The message that a framer takes, which fails from its refusal on.
+/// Returns the outcome of feeding the stream to `framer`. After a refused growth the framer must fail at every call.
 fn fed_answer(of: &Subject, framer: &mut Framer<&Refusing<Global>>) -> Answer {
     match framer.feed(of.stream) {
         Ok(_) => match framer.take() {
@@ -38,13 +36,11 @@ fn fed_answer(of: &Subject, framer: &mut Framer<&Refusing<Global>>) -> Answer {
     }
 }
 
-/// Returns the answer of a new framer.
 pub(crate) fn feed_answer(of: &Subject, short: &Refusing<Global>) -> Answer {
     let mut framer = Framer::new(short, MOST);
     fed_answer(of, &mut framer)
 }
 
-/// The message that a reader gives.
 pub(crate) fn read_answer(of: &Subject, short: &Refusing<Global>) -> Answer {
     let mut reader = Watched::new(of.stream);
     match read_message(short, &mut reader, MOST) {
@@ -54,7 +50,6 @@ pub(crate) fn read_answer(of: &Subject, short: &Refusing<Global>) -> Answer {
     }
 }
 
-/// The packed text of the stream.
 pub(crate) fn pack_answer(of: &Subject, short: &Refusing<Global>) -> Answer {
     match pack(short, of.stream) {
         Ok(text) => judged(text.as_slice() == of.packed.as_slice()),
@@ -63,7 +58,6 @@ pub(crate) fn pack_answer(of: &Subject, short: &Refusing<Global>) -> Answer {
     }
 }
 
-/// The stream of its packed text.
 pub(crate) fn unpack_answer(of: &Subject, short: &Refusing<Global>) -> Answer {
     match unpack(short, of.packed.as_slice(), MOST) {
         Ok(bytes) => judged(bytes.as_slice() == of.stream),
@@ -72,7 +66,8 @@ pub(crate) fn unpack_answer(of: &Subject, short: &Refusing<Global>) -> Answer {
     }
 }
 
-/// The stream that an unpacker appends, of which a refusal leaves a beginning, and from which on it fails.
+/// Returns the outcome of a new unpacker that appends to `bytes`. After a refused growth these must be a prefix of the
+/// stream, and the unpacker must fail at the next call.
 fn unpacked_answer(of: &Subject, bytes: &mut Vec<u8, &Refusing<Global>>) -> Answer {
     let mut unpacker = Unpacker::new();
     match unpacker.feed(of.packed.as_slice(), bytes) {
@@ -85,7 +80,7 @@ fn unpacked_answer(of: &Subject, bytes: &mut Vec<u8, &Refusing<Global>>) -> Answ
     }
 }
 
-/// Returns the answer of an unpacker that appends to nothing.
+/// Returns the outcome of an unpacker that appends to an empty vector.
 pub(crate) fn feed_packed_answer(of: &Subject, short: &Refusing<Global>) -> Answer {
     let mut bytes = Vec::new(short);
     unpacked_answer(of, &mut bytes)

@@ -1,4 +1,4 @@
-//! Readings of texts, short of memory.
+//! Calls that are tested with refused growths: on texts that are read.
 
 use crate::short_values::judged_tree;
 use crate::subject::{Answer, Subject, wanting};
@@ -7,7 +7,7 @@ use capn_value::{Tree, same, show};
 use std::alloc::{AllocError, Global};
 use test_allocator::Refusing;
 
-/// Judges `read`: right if and only if it is the value of the message.
+/// Judges `read`: it is right if it is the value of the message.
 fn judged_read(of: &Subject, read: Result<Tree<&Refusing<Global>>, TextFault>) -> Answer {
     match read {
         Ok(tree) => judged_tree(of, Ok(tree)),
@@ -15,7 +15,7 @@ fn judged_read(of: &Subject, read: Result<Tree<&Refusing<Global>>, TextFault>) -
     }
 }
 
-/// The value that its text is read as.
+/// Returns the outcome of `read` for the text of the value.
 pub(crate) fn read_text_answer(of: &Subject, short: &Refusing<Global>) -> Answer {
     match show(of.alloc, &of.walked.tree) {
         Ok(text) => judged_read(of, read(short, text.as_bytes())),
@@ -23,7 +23,7 @@ pub(crate) fn read_text_answer(of: &Subject, short: &Refusing<Global>) -> Answer
     }
 }
 
-/// The text of the value, and the line `end`.
+/// Returns the text of the value, and the line `end`.
 fn ended_text(of: &Subject) -> Result<Vec<u8>, AllocError> {
     let mut bytes = Vec::new(of.alloc);
     if let Ok(text) = show(of.alloc, &of.walked.tree) {
@@ -33,7 +33,7 @@ fn ended_text(of: &Subject) -> Result<Vec<u8>, AllocError> {
     Ok(bytes)
 }
 
-/// Tests whether the next text is still that of the value.
+/// Tests whether the next of `texts` is that of the value.
 fn is_next(of: &Subject, texts: &mut Texts) -> bool {
     match texts.read_next(of.alloc) {
         Ok(Some(tree)) => {
@@ -45,7 +45,7 @@ fn is_next(of: &Subject, texts: &mut Texts) -> bool {
     }
 }
 
-/// Returns the answer of the next text. After a refusal the place is as it was.
+/// Returns the outcome of reading the next of `texts`. After a refused growth the reading position must be unchanged.
 fn next_answer(of: &Subject, short: &Refusing<Global>, texts: &mut Texts) -> Answer {
     match texts.read_next(short) {
         Ok(Some(tree)) => judged_tree(of, Ok(tree)),
@@ -54,7 +54,7 @@ fn next_answer(of: &Subject, short: &Refusing<Global>, texts: &mut Texts) -> Ans
     }
 }
 
-/// The value of the one text of a stream.
+/// Returns the outcome of reading a stream of one text.
 pub(crate) fn texts_answer(of: &Subject, short: &Refusing<Global>) -> Answer {
     match ended_text(of) {
         Ok(text) => next_answer(of, short, &mut Texts::new(text.as_slice())),

@@ -1,4 +1,4 @@
-//! Calls on messages and their values, short of memory.
+//! Calls that are tested with refused growths: on messages and their values.
 
 use crate::subject::{Answer, Subject, judged, limits, wanting};
 use capn_canon::{LayoutFault, Patch, layout};
@@ -8,12 +8,11 @@ use capn_words::{Bare, Space};
 use std::alloc::{AllocError, Global};
 use test_allocator::Refusing;
 
-/// The value of the message.
 pub(crate) fn walk_answer(of: &Subject, short: &Refusing<Global>) -> Answer {
     match walk(short, &of.message, limits(256)) {
         Ok(walked) => {
             let is_same = same(walked.tree.value(), of.walked.tree.value());
-            // One call is cheaper to check than fields that are dropped one by one.
+            // One call of `drop` is cheaper for the prover than fields that are dropped one by one.
             drop(walked);
             judged(is_same)
         }
@@ -21,7 +20,6 @@ pub(crate) fn walk_answer(of: &Subject, short: &Refusing<Global>) -> Answer {
     }
 }
 
-/// Returns the answer of a survey of the chain.
 pub(crate) fn survey_answer(of: &Subject, short: &Refusing<Global>) -> Answer {
     let Ok(bare) = Bare::new(of.chain.as_slice()) else {
         return Answer::Wrong;
@@ -32,7 +30,7 @@ pub(crate) fn survey_answer(of: &Subject, short: &Refusing<Global>) -> Answer {
     }
 }
 
-/// The index of a message.
+/// Returns the outcome of `index` for the message `space`.
 pub(crate) fn index_answer<S: Space>(of: &Subject, short: &Refusing<Global>, space: &S) -> Answer {
     match (
         index(short, space, limits(256)),
@@ -46,7 +44,7 @@ pub(crate) fn index_answer<S: Space>(of: &Subject, short: &Refusing<Global>, spa
     }
 }
 
-/// The index of the chain, whose survey takes no memory.
+/// Returns the outcome of `index` for the chain, whose survey takes no memory.
 pub(crate) fn deep_index_answer(of: &Subject, short: &Refusing<Global>) -> Answer {
     match Bare::new(of.chain.as_slice()) {
         Ok(bare) => index_answer(of, short, &bare),
@@ -54,7 +52,6 @@ pub(crate) fn deep_index_answer(of: &Subject, short: &Refusing<Global>) -> Answe
     }
 }
 
-/// The text of the value.
 pub(crate) fn show_answer(of: &Subject, short: &Refusing<Global>) -> Answer {
     match (
         show(short, &of.walked.tree),
@@ -65,7 +62,7 @@ pub(crate) fn show_answer(of: &Subject, short: &Refusing<Global>) -> Answer {
     }
 }
 
-/// Judges `tree`: right if and only if it is the value of the message.
+/// Judges `tree`: it is right if it is the value of the message.
 pub(crate) fn judged_tree(of: &Subject, tree: Result<Tree<&Refusing<Global>>, Memory>) -> Answer {
     match tree {
         Ok(tree) => {
@@ -77,14 +74,13 @@ pub(crate) fn judged_tree(of: &Subject, tree: Result<Tree<&Refusing<Global>>, Me
     }
 }
 
-/// Two items.
 pub(crate) fn items(short: &Refusing<Global>) -> Result<Items<u16, &Refusing<Global>>, AllocError> {
     let mut items = Items::from_slice(short, &[7u16])?;
     items.push(8)?;
     Ok(items)
 }
 
-/// Returns the number of growths that four items take, room for which is asked for at once.
+/// Returns the number of growths of a list of four items whose room is allocated at once.
 pub(crate) fn growths_of_four(alloc: Global) -> Result<u64, AllocError> {
     let heap = Refusing::nth(alloc, 0);
     let mut items = Items::with_capacity(&heap, 4)?;
@@ -94,7 +90,7 @@ pub(crate) fn growths_of_four(alloc: Global) -> Result<u64, AllocError> {
     Ok(heap.count())
 }
 
-/// Judges the two items: right if and only if they are those that were put in.
+/// Returns the outcome of a list of two items, which is right if it has them.
 pub(crate) fn items_answer(short: &Refusing<Global>) -> Answer {
     match items(short) {
         Ok(items) => judged(items.as_slice() == [7, 8].as_slice()),
@@ -102,7 +98,6 @@ pub(crate) fn items_answer(short: &Refusing<Global>) -> Answer {
     }
 }
 
-/// The layout of the value.
 pub(crate) fn layout_answer(of: &Subject, short: &Refusing<Global>) -> Answer {
     match (
         layout(short, &of.walked.tree),
@@ -114,7 +109,7 @@ pub(crate) fn layout_answer(of: &Subject, short: &Refusing<Global>) -> Answer {
     }
 }
 
-/// A word and a hole that is filled; no holes are left after them.
+/// Returns the bytes of a word and of a hole that is filled, with an empty hole after them.
 pub(crate) fn patched(short: &Refusing<Global>) -> Result<Vec<u8, &Refusing<Global>>, Memory> {
     let mut patch = Patch::new(short);
     patch.push(1)?;
@@ -127,7 +122,7 @@ pub(crate) fn patched(short: &Refusing<Global>) -> Result<Vec<u8, &Refusing<Glob
     }
 }
 
-/// Judges the words of the buffer: right if and only if they are those that were put in.
+/// Returns the outcome of a patch buffer, which is right if it has the words that were put in.
 pub(crate) fn patch_answer(short: &Refusing<Global>) -> Answer {
     match patched(short) {
         Ok(bytes) => judged(bytes.as_slice() == b"\x01\0\0\0\0\0\0\0\x02\0\0\0\0\0\0\0".as_slice()),

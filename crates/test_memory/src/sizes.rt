@@ -1,5 +1,5 @@
-//! Sizes of the growths of calls on big messages.
-//! Nothing is asked for before the input is known to have it.
+//! Tests of the sizes of the growths of calls on big messages. No memory may be allocated before the input is known to
+//! need it.
 
 use crate::refused::{CALLS, Call, answer};
 use crate::short_values::growths_of_four;
@@ -15,7 +15,7 @@ use std::process::Abort;
 use std::test::Fail;
 use test_allocator::Refusing;
 
-/// The stream of a message of one segment.
+/// Returns the stream of a message of one segment.
 pub(crate) fn stream_of(alloc: Global, segment: &[u8]) -> Result<Vec<u8>, AllocError> {
     let count = (segment.len() / 8) as u64;
     let mut stream = bytes_of(alloc, &[count << 32])?;
@@ -23,7 +23,7 @@ pub(crate) fn stream_of(alloc: Global, segment: &[u8]) -> Result<Vec<u8>, AllocE
     Ok(stream)
 }
 
-/// A root, and `count` words of all kinds.
+/// Returns the bytes of the word `root` and of `count` words of all kinds.
 fn segment_of(alloc: Global, root: u64, count: u64) -> Result<Vec<u8>, AllocError> {
     let mut words = Vec::new(alloc);
     words.push(root)?;
@@ -33,17 +33,17 @@ fn segment_of(alloc: Global, root: u64, count: u64) -> Result<Vec<u8>, AllocErro
     bytes_of(alloc, words.as_slice())
 }
 
-/// A list of numbers of eight bytes of a mebibyte.
+/// Returns a segment with a list of eight-byte numbers, one mebibyte in all.
 pub(crate) fn long_list(alloc: Global) -> Result<Vec<u8>, AllocError> {
     segment_of(alloc, 0x10_0005_0000_0001, 131_072)
 }
 
-/// A struct of 65,535 words.
+/// Returns a segment with a struct of 65,535 words.
 fn wide_struct(alloc: Global) -> Result<Vec<u8>, AllocError> {
     segment_of(alloc, 0xffff_0000_0000, 65_535)
 }
 
-/// Tests that the answer of the call is right, and that no growth of it asks for more bytes than `most`.
+/// Checks that the outcome of `call` is right, and that no growth of it is above `most` bytes.
 fn within(rt: &impl Abort, of: &Subject, name: &str, call: Call, most: usize) {
     let heap = Refusing::nth(of.alloc, 0);
     heap.refuse_above(most);
@@ -55,13 +55,13 @@ fn within(rt: &impl Abort, of: &Subject, name: &str, call: Call, most: usize) {
     );
 }
 
-/// Puts a message of one segment through each call; seven of them take something small in its place.
+/// Checks the growths of each call for a message of one segment. Seven of the calls use a small input instead.
 fn through_each(rt: &impl Abort, alloc: Global, segment: &[u8]) -> Result<(), Fail> {
     let stream = stream_of(alloc, segment)?;
     stream_through_each(rt, alloc, stream.as_slice())
 }
 
-/// No call on the message of a stream asks for more than it may.
+/// Checks that no call on the message of `stream` takes a growth of more than eight times its bytes and 512 KiB.
 pub(crate) fn stream_through_each(
     rt: &impl Abort,
     alloc: Global,
@@ -87,15 +87,15 @@ fn a_wide_struct_through_each_call(rt: HostRuntime) -> Result<(), Fail> {
     through_each(&rt, rt.alloc(), data.as_slice())
 }
 
-/// 256 structs below one another, the most that a limit lets through.
+/// Each call takes 256 structs below one another, the greatest depth that a limit allows.
 #[test]
 fn the_greatest_height_through_each_call(rt: HostRuntime) -> Result<(), Fail> {
     let deep = chain(rt.alloc(), 255)?;
     through_each(&rt, rt.alloc(), deep.as_slice())
 }
 
-/// Big messages are canonical or not without memory, a frame is one growth of its length, and items grow once where
-/// room for them is asked for.
+/// Big messages are found canonical without memory. A frame takes one growth of its length. Items grow once if room for
+/// them is allocated at once.
 #[test]
 fn exact_growths(rt: HostRuntime) -> Result<(), Fail> {
     let heap = Refusing::nth(rt.alloc(), 0);
@@ -114,7 +114,8 @@ fn exact_growths(rt: HostRuntime) -> Result<(), Fail> {
     Ok(())
 }
 
-/// Tests whether a walk stops so, and no growth of it or of canonical bytes asks for more than a kibibyte.
+/// Tests whether the walk stops with the fault `want`, and neither it nor canonical bytes take a growth of more than a
+/// kibibyte.
 fn stops_small(alloc: Global, words: &[u64], want: Fault) -> Result<bool, AllocError> {
     let bytes = bytes_of(alloc, words)?;
     let heap = Refusing::nth(alloc, 0);
@@ -132,7 +133,8 @@ fn stops_small(alloc: Global, words: &[u64], want: Fault) -> Result<bool, AllocE
     Ok(is_stopped && is_refused && heap.greatest() <= 1_024)
 }
 
-/// Lists that aren't paid or aren't there: of voids, of rows without words, of bytes.
+/// No memory is taken for lists that exceed the budget or the message: lists without bits, rows without words, lists of
+/// bytes.
 #[test]
 fn no_memory_before_it_is_paid(rt: HostRuntime) -> Result<(), Fail> {
     let alloc = rt.alloc();
@@ -146,14 +148,14 @@ fn no_memory_before_it_is_paid(rt: HostRuntime) -> Result<(), Fail> {
     Ok(())
 }
 
-/// Tests whether `first` answers that a stream is cut, without memory.
+/// Tests whether `first` reports that `stream` is cut, and takes no memory.
 fn is_cut(alloc: Global, stream: &[u8]) -> bool {
     let heap = Refusing::nth(alloc, 0);
     matches!(first(&heap, stream, 268_435_456), Err(FrameFault::Cut)) && heap.count() == 0
 }
 
-/// Tests whether `unpack` refuses a text like this, or takes it if that is None, with the greatest maximum and no
-/// growth of more than `most` bytes.
+/// Tests whether `unpack` refuses `text` with `want`, or takes it if `want` is `None`. The limit on words is the
+/// greatest, and no growth may be above `most` bytes.
 fn unpacks_small(alloc: Global, text: &[u8], want: Option<UnpackFault>, most: usize) -> bool {
     let heap = Refusing::nth(alloc, 0);
     let told = match unpack(&heap, text, u32::MAX) {
@@ -163,7 +165,7 @@ fn unpacks_small(alloc: Global, text: &[u8], want: Option<UnpackFault>, most: us
     told == want && heap.greatest() <= most
 }
 
-/// The numbers that a table or a group announces are not taken for those that are there.
+/// No memory is taken for the sizes that a table or a group announces before the bytes are there.
 #[test]
 fn no_memory_for_what_is_announced(rt: HostRuntime) {
     let alloc = rt.alloc();

@@ -1,4 +1,4 @@
-//! The subject of the trials, and judgements of answers.
+//! `Subject`: the messages that calls with refused growths are tested on, and the judgement of their outcomes.
 
 use crate::words::bytes_of;
 use capn_pack::pack;
@@ -8,10 +8,10 @@ use capn_words::Space;
 use std::alloc::{AllocError, Global};
 use std::test::Fail;
 
-/// The most words of a message.
+/// The limit on the words of a message.
 pub(crate) const MOST: u32 = 268_435_456;
 
-/// The answer of a call.
+/// The outcome of a call: a right result, a wrong one, or refused memory.
 #[derive(Clone, Copy)]
 pub(crate) enum Answer {
     Right,
@@ -19,8 +19,8 @@ pub(crate) enum Answer {
     Memory,
 }
 
-/// The subject of the calls: a message, as a stream and packed, its walk, a chain of 70 structs, and that with another
-/// offset in its last pointer, which only a survey finds to be accepted.
+/// The inputs of the calls: a message, as a stream and packed, its walk, and a chain of 70 structs. `respelt` is the
+/// chain with another offset in its last pointer, so that only a survey can find it accepted.
 #[derive(Drop)]
 pub(crate) struct Subject<'a> {
     pub alloc: Global,
@@ -32,7 +32,7 @@ pub(crate) struct Subject<'a> {
     pub respelt: Vec<u8>,
 }
 
-/// The limits of a walk to `depth` objects below one another.
+/// Returns the default limits, but for a depth of `depth` objects.
 pub(crate) fn limits(depth: u32) -> Limits {
     Limits::new(8_388_608, 8_388_608, depth).unwrap_or(Limits::usual())
 }
@@ -40,8 +40,8 @@ pub(crate) fn limits(depth: u32) -> Limits {
 /// The canonical pointer to an empty struct.
 const EMPTY: u64 = 0xffff_fffc;
 
-/// Returns `levels` structs of two slots, each in the first slot of the one before, with empty structs in the slots
-/// that are left, of which the last has the pointer `last`.
+/// Returns a chain of `levels` structs of two slots, each in the first slot of the one before. The remaining slots
+/// point to empty structs, and the last one is `last`.
 fn chain_to(alloc: Global, levels: u32, last: u64) -> Result<Vec<u8>, AllocError> {
     let mut words = Vec::new(alloc);
     words.push(0x2_0000_0000_0000)?;
@@ -52,12 +52,11 @@ fn chain_to(alloc: Global, levels: u32, last: u64) -> Result<Vec<u8>, AllocError
     bytes_of(alloc, words.as_slice())
 }
 
-/// Such a chain as canonical bytes have it.
+/// Returns the canonical bytes of a chain of `levels` structs.
 pub(crate) fn chain(alloc: Global, levels: u32) -> Result<Vec<u8>, AllocError> {
     chain_to(alloc, levels, EMPTY)
 }
 
-/// The packed text of a stream.
 pub(crate) fn packed_of(alloc: Global, stream: &[u8]) -> Result<Vec<u8>, Fail> {
     match pack(alloc, stream) {
         Ok(packed) => Ok(packed),
@@ -65,7 +64,6 @@ pub(crate) fn packed_of(alloc: Global, stream: &[u8]) -> Result<Vec<u8>, Fail> {
     }
 }
 
-/// The first message in a stream.
 fn message_of(alloc: Global, stream: &[u8]) -> Result<Framed<'_>, Fail> {
     match first(alloc, stream, MOST) {
         Ok((message, _)) => Ok(message),
@@ -73,7 +71,6 @@ fn message_of(alloc: Global, stream: &[u8]) -> Result<Framed<'_>, Fail> {
     }
 }
 
-/// The walk of a message.
 fn walked_of<S: Space>(alloc: Global, message: &S) -> Result<Walked, Fail> {
     match walk(alloc, message, limits(256)) {
         Ok(walked) => Ok(walked),
@@ -81,7 +78,7 @@ fn walked_of<S: Space>(alloc: Global, message: &S) -> Result<Walked, Fail> {
     }
 }
 
-/// Returns the subject of the calls for `stream`.
+/// Returns the inputs of the calls for `stream`.
 pub(crate) fn subject_of(alloc: Global, stream: &[u8]) -> Result<Subject<'_>, Fail> {
     let chain = chain(alloc, 70)?;
     let respelt = chain_to(alloc, 70, 0xffff_fff8)?;
@@ -99,7 +96,7 @@ pub(crate) fn subject_of(alloc: Global, stream: &[u8]) -> Result<Subject<'_>, Fa
     })
 }
 
-/// Returns `Right` if and only if `is_right`.
+/// Returns `Right` if `is_right`, and `Wrong` otherwise.
 pub(crate) fn judged(is_right: bool) -> Answer {
     if is_right {
         Answer::Right
@@ -108,7 +105,7 @@ pub(crate) fn judged(is_right: bool) -> Answer {
     }
 }
 
-/// Returns `Memory`, an answer that memory ran out, if and only if `is_right`.
+/// Returns `Memory` if `is_right`, and `Wrong` otherwise: for a call that ran out of memory.
 pub(crate) fn wanting(is_right: bool) -> Answer {
     if is_right {
         Answer::Memory
@@ -117,7 +114,7 @@ pub(crate) fn wanting(is_right: bool) -> Answer {
     }
 }
 
-/// Judges `message`: right if and only if it is the message of the stream.
+/// Judges `message`: it is right if it is the message of the stream.
 pub(crate) fn judged_message<S: Space>(of: &Subject, message: &S) -> Answer {
     match frame(of.alloc, message) {
         Ok(text) => judged(text.as_slice() == of.stream),

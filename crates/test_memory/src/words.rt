@@ -1,8 +1,8 @@
-//! Bytes of words.
+//! `bytes_of`: the bytes of words.
 
 use std::alloc::{AllocError, Global};
 
-/// The bytes of some words.
+/// Returns the bytes of `words`, one after the other.
 pub(crate) fn bytes_of(alloc: Global, words: &[u64]) -> Result<Vec<u8>, AllocError> {
     let mut bytes = Vec::new(alloc);
     for word in words {

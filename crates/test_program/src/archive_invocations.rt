@@ -1,4 +1,4 @@
-//! Invocations of command lines over archives, and what each command takes.
+//! Tests of command lines over archives: the invocations that they mean, and the options that each command takes.
 
 use crate::invocations::expect_usage;
 use capn_tool::{
@@ -8,7 +8,7 @@ use capn_tool::{
 use std::alloc::Global;
 use std::process::Abort;
 
-/// Tests whether the words order this run over an archive.
+/// Tests whether `words` mean the run `want` over an archive.
 fn is_archive(alloc: Global, words: &[&str], want: ArchiveOrder) -> bool {
     let told = invocation_of(alloc, words);
     match &told {
@@ -17,7 +17,7 @@ fn is_archive(alloc: Global, words: &[&str], want: ArchiveOrder) -> bool {
     }
 }
 
-/// Tests whether the words order this run without duplicates.
+/// Tests whether `words` mean the run `want` of `uniq`.
 fn is_uniq(alloc: Global, words: &[&str], want: UniqOrder) -> bool {
     let told = invocation_of(alloc, words);
     match &told {
@@ -26,7 +26,7 @@ fn is_uniq(alloc: Global, words: &[&str], want: UniqOrder) -> bool {
     }
 }
 
-/// Tests whether the words let these messages through.
+/// Tests whether `words` mean the run `want` of `filter`.
 fn is_filter(alloc: Global, words: &[&str], want: FilterOrder) -> bool {
     let told = invocation_of(alloc, words);
     match &told {
@@ -35,7 +35,7 @@ fn is_filter(alloc: Global, words: &[&str], want: FilterOrder) -> bool {
     }
 }
 
-/// Tests whether the words compare these messages.
+/// Tests whether `words` mean the run `want` of `cmp`.
 fn is_cmp(alloc: Global, words: &[&str], want: CmpOrder) -> bool {
     let told = invocation_of(alloc, words);
     match &told {
@@ -44,7 +44,7 @@ fn is_cmp(alloc: Global, words: &[&str], want: CmpOrder) -> bool {
     }
 }
 
-/// Tests whether the words pick these messages.
+/// Tests whether `words` mean the run `want` of `pick`.
 fn is_pick(alloc: Global, words: &[&str], want: Pick) -> bool {
     let told = invocation_of(alloc, words);
     match &told {
@@ -53,7 +53,7 @@ fn is_pick(alloc: Global, words: &[&str], want: Pick) -> bool {
     }
 }
 
-/// Tests whether the words pick the messages of this list.
+/// Tests whether `words` mean the run `want` of `pick --only`.
 fn is_only(alloc: Global, words: &[&str], want: &Only) -> bool {
     let told = invocation_of(alloc, words);
     match &told {
@@ -64,7 +64,7 @@ fn is_only(alloc: Global, words: &[&str], want: &Only) -> bool {
     }
 }
 
-/// A run over a stream with usual limits.
+/// Returns the order of a run over a stream, with the default limits.
 fn over(task: Task, keep_going: bool) -> ArchiveOrder {
     ArchiveOrder {
         task,
@@ -239,7 +239,7 @@ fn messages_are_picked_by_their_numbers(rt: HostRuntime) {
     }
 }
 
-/// `--only` takes numbers and ranges that ascend.
+/// `--only` takes numbers and ranges in ascending order.
 #[test]
 fn messages_are_picked_by_a_list(rt: HostRuntime) {
     for list in [
@@ -287,7 +287,7 @@ fn messages_are_picked_by_a_list(rt: HostRuntime) {
     }
 }
 
-/// `--only` goes without `--from` and `--to`, whatever these say, and with the other options.
+/// `--only` is refused with `--from` or `--to`, whatever their values, and allowed with the other options.
 #[test]
 fn a_list_stands_alone(rt: HostRuntime) {
     for other in [

@@ -1,10 +1,10 @@
-//! Runs over failing readers and writers.
+//! Runs of the program over failing readers and writers, and their outcomes.
 
 use capn_tool::{Watched, program};
 use std::alloc::Global;
 use std::io::{self, ErrorKind, Read, Write};
 
-/// A reader of pieces of at most `most` bytes, which ends with its bytes, or fails there and notes that it did.
+/// A reader of at most `most` bytes a call. After its bytes it ends, or it fails and notes that it did.
 #[derive(Drop)]
 struct Pieces<'a> {
     bytes: &'a [u8],
@@ -31,7 +31,7 @@ impl Read for Pieces<'_> {
 pub(crate) struct Short {
     /// The bytes that it took.
     pub(crate) bytes: Vec<u8>,
-    /// The bytes that it still takes.
+    /// The number of bytes that it still takes.
     pub(crate) room: usize,
 }
 
@@ -54,18 +54,18 @@ impl Write for Short {
 /// The input of a run, and the fate of its reader and of its writer.
 #[derive(Clone, Copy)]
 pub(crate) struct Input<'a> {
-    /// The bytes that come.
+    /// The bytes that the reader gives.
     pub(crate) bytes: &'a [u8],
-    /// The most bytes of a piece.
+    /// The greatest number of bytes of one read.
     pub(crate) most: usize,
-    /// `true` if the reader fails behind them.
+    /// `true` if the reader fails after `bytes`.
     pub(crate) fails: bool,
-    /// The most bytes that the writer takes.
+    /// The greatest number of bytes that the writer takes.
     pub(crate) room: usize,
 }
 
 impl<'a> Input<'a> {
-    /// Returns an input of `bytes`, in pieces of at most `most`, and then the end.
+    /// Returns an input of `bytes`, read in chunks of at most `most`, without a failure.
     pub(crate) fn whole(bytes: &'a [u8], most: usize) -> Input<'a> {
         Input {
             bytes,
@@ -86,12 +86,12 @@ pub(crate) struct Ending {
 }
 
 impl Ending {
-    /// Returns `true` if it says that the input or the output failed.
+    /// Tests whether the run reported that the input or the output failed.
     pub(crate) fn is_broken(&self) -> bool {
         self.status == 3 && self.line.as_slice() == b"capn: input or output failed\n".as_slice()
     }
 
-    /// Returns `true` if it is the same as `other`, but for the fate of the reader.
+    /// Tests whether the run ended as `other` did, apart from the fate of the reader.
     pub(crate) fn is_as(&self, other: &Ending) -> bool {
         self.text.as_slice() == other.text.as_slice()
             && self.line.as_slice() == other.line.as_slice()
@@ -99,7 +99,7 @@ impl Ending {
     }
 }
 
-/// Returns the end of the program that is started with these `words`.
+/// Returns the outcome of the program that is started with `words`.
 pub(crate) fn ended(alloc: Global, words: &[&str], input: Input<'_>) -> Ending {
     let mut reader = Watched::new(Pieces {
         bytes: input.bytes,

@@ -1,4 +1,4 @@
-//! Outputs of runs over a failing reader or writer.
+//! Tests of the output of runs whose reader or writer fails.
 
 use crate::broken::{Ending, Input, ended};
 use capn_tool::program_command;
@@ -13,7 +13,7 @@ const ARCHIVE: [u8; 112] = [
     0, 0, 0, 1, 0, 0, 0, 26, 0, 0, 0, 104, 105, 0, 0, 0, 0, 0, 0,
 ];
 
-/// Runs over an archive that write what a message says once it came.
+/// Runs over an archive that write about each message as soon as it is read.
 const OVER_ARCHIVES: [&[&str]; 4] = [
     &["capn", "list"],
     &["capn", "list", "--keep-going"],
@@ -37,7 +37,7 @@ const SHOWING: [&[&str]; 3] = [
     &["capn", "show", "--json"],
 ];
 
-/// Runs that do so with the messages of a packed stream, or with its words.
+/// Runs over the messages or the words of a packed stream.
 const OVER_PACKED: [&[&str]; 5] = [
     &["capn", "list", "--form=packed", "--keep-going"],
     &["capn", "filter", "--form=packed", "--keep-going"],
@@ -52,10 +52,10 @@ const AT_THE_END: [&[&str]; 2] = [
     &["capn", "uniq", "--count", "--keep-going"],
 ];
 
-/// The order to pack, before more comes.
+/// The command line that packs while it reads.
 const PACK: [&str; 3] = ["capn", "pack", "--streaming"];
 
-/// Returns the end of a run whose reader fails behind these `bytes`, which come in pieces of at most `most`.
+/// Returns the outcome of a run whose reader fails after `bytes`, which are read in chunks of at most `most`.
 fn unread(alloc: Global, words: &[&str], bytes: &[u8], most: usize) -> Ending {
     let input = Input {
         bytes,
@@ -66,7 +66,7 @@ fn unread(alloc: Global, words: &[&str], bytes: &[u8], most: usize) -> Ending {
     ended(alloc, words, input)
 }
 
-/// Returns the end of a run whose writer takes `room` bytes.
+/// Returns the outcome of a run whose writer takes `room` bytes.
 fn unwritten(alloc: Global, words: &[&str], bytes: &[u8], room: usize) -> Ending {
     let input = Input {
         bytes,
@@ -77,13 +77,13 @@ fn unwritten(alloc: Global, words: &[&str], bytes: &[u8], room: usize) -> Ending
     ended(alloc, words, input)
 }
 
-/// The bytes come one by one for an even number of them, and at once for an odd one.
+/// Returns the size of a chunk for an input of `count` bytes: 1 if `count` is even, else no limit.
 fn piece_of(count: usize) -> usize {
     if count % 2 == 0 { 1 } else { usize::MAX }
 }
 
-/// Tests the end of a run whose reader fails: if the run was told so, it says that its input failed; else it has ended
-/// before, as the run does whose input ends there.
+/// Tests the outcome of a run whose reader fails. If the reader reported its failure, the run must say that the input
+/// failed. Otherwise it must have ended before, like the run whose input ends there.
 fn ends_by_its_reader(cut: &Ending, whole: &Ending) -> bool {
     if cut.read_failed {
         cut.is_broken()
@@ -92,8 +92,8 @@ fn ends_by_its_reader(cut: &Ending, whole: &Ending) -> bool {
     }
 }
 
-/// After each number of bytes that came, all was written that the run writes whose input ends there, and the run has
-/// ended by its reader.
+/// If the reader fails after any number of bytes, all is written that a run writes whose input ends there, and the run
+/// ends by its reader.
 fn expect_all_that_came(rt: &impl Abort, alloc: Global, words: &[&str], bytes: &[u8]) {
     for count in 0..=bytes.len() {
         let (came, most) = (&bytes[..count], piece_of(count));
@@ -128,7 +128,7 @@ fn the_reader_of_what_is_shown_fails_after_each_byte(rt: HostRuntime) {
     }
 }
 
-/// A comparison, whose first message is the null one, and whose second differs.
+/// The command line of a comparison. Its first message is the null one, and its second differs.
 const CMP: [&str; 2] = ["capn", "cmp"];
 
 #[test]
@@ -141,7 +141,7 @@ fn the_writer_of_a_difference_fails_after_each_byte(rt: HostRuntime) {
     expect_what_has_room(&rt, rt.alloc(), &CMP, &ARCHIVE[56..]);
 }
 
-/// The packed text of the archive.
+/// Returns the outcome of packing the archive.
 fn packed(alloc: Global) -> Ending {
     let input = Input::whole(&ARCHIVE, usize::MAX);
     ended(alloc, &["capn", "pack"], input)
@@ -155,7 +155,7 @@ fn the_reader_of_a_packed_stream_fails_after_each_byte(rt: HostRuntime) {
     }
 }
 
-/// The closing output is not written if the reader fails first.
+/// The text at the end of the input is not written if the reader fails first.
 #[test]
 fn a_reader_fails_before_the_end(rt: HostRuntime) {
     for words in AT_THE_END {
@@ -171,7 +171,8 @@ fn a_reader_fails_before_the_end(rt: HostRuntime) {
     }
 }
 
-/// The text of the last word may go on where the word is zero, or has one zero byte at most; any other was written.
+/// Tests whether more input can change the packed bytes of the last word. It can if the word is zero, or has at most
+/// one zero byte.
 fn may_go_on(bytes: &[u8]) -> bool {
     let whole = bytes.len() / 8 * 8;
     if whole == 0 {
@@ -186,7 +187,7 @@ fn may_go_on(bytes: &[u8]) -> bool {
     zeros < 2 || zeros == 8
 }
 
-/// The packed text of the bytes that came was written; but not the last group, if it may go on.
+/// The packed bytes of what was read are written, except the last group if more input can change it.
 #[test]
 fn the_reader_of_words_fails_after_each_byte(rt: HostRuntime) {
     for count in 0..=ARCHIVE.len() {
@@ -202,7 +203,8 @@ fn the_reader_of_words_fails_after_each_byte(rt: HostRuntime) {
     }
 }
 
-/// Of the whole text as much was written as the writer takes, and the run says that its output failed.
+/// If the writer fails, exactly the part of the text for which it had room is written, and the run says that its output
+/// failed.
 fn expect_what_has_room(rt: &impl Abort, alloc: Global, words: &[&str], bytes: &[u8]) {
     let whole = ended(alloc, words, Input::whole(bytes, usize::MAX));
     assert!(rt; !whole.text.is_empty(), "{words:?}");
@@ -259,17 +261,18 @@ fn the_writer_of_words_fails_after_each_byte(rt: HostRuntime) {
     expect_what_has_room(&rt, rt.alloc(), &words, packed.text.as_slice());
 }
 
-/// Each command is tried after each ninth byte, which is at each place of a word in turn.
+/// The distance between the places where a reader or a writer fails: nine bytes, so that each byte of a word has its
+/// turn.
 const STEP: usize = 9;
 
-/// Returns what a command writes of the last message of the archive.
+/// Returns the outcome of a command over the last message of the archive.
 fn written(alloc: Global, name: &str) -> Ending {
     let input = Input::whole(&ARCHIVE[72..], usize::MAX);
     ended(alloc, &["capn", name], input)
 }
 
-/// After each ninth byte that came, no more was written than the run writes whose input ends there, and the run has
-/// ended by its reader.
+/// If the reader fails after each ninth byte, no more is written than a run writes whose input ends there, and the run
+/// ends by its reader.
 fn expect_no_more_than_came(rt: &impl Abort, alloc: Global, words: &[&str], bytes: &[u8]) {
     for count in 0..=bytes.len() {
         if count % STEP == 0 {
@@ -285,8 +288,8 @@ fn expect_no_more_than_came(rt: &impl Abort, alloc: Global, words: &[&str], byte
     }
 }
 
-/// Of the whole text as much was written as the writer takes, after each ninth byte of it, and the run says that its
-/// output failed. Returns `true` if there is a text.
+/// If the writer fails at each ninth byte, exactly the part of the text for which it had room is written, and the run
+/// says that its output failed. Returns `true` if there is a text.
 fn writes_what_has_room(rt: &impl Abort, alloc: Global, words: &[&str], bytes: &[u8]) -> bool {
     let whole = ended(alloc, words, Input::whole(bytes, usize::MAX));
     for room in 0..whole.text.len() {
@@ -301,7 +304,7 @@ fn writes_what_has_room(rt: &impl Abort, alloc: Global, words: &[&str], bytes: &
     !whole.text.is_empty()
 }
 
-/// Each command of the table, over two messages, over one, over its packed text, and over its text.
+/// Each command of the table is run over two messages, over one, over its packed bytes, and over its text.
 #[test]
 fn the_reader_of_each_command_fails(rt: HostRuntime) {
     let tool = program_command(rt.alloc()).expect(&rt, "memory");
@@ -320,7 +323,7 @@ fn the_reader_of_each_command_fails(rt: HostRuntime) {
     }
 }
 
-/// Each command of the table writes something of one of these.
+/// Each command of the table writes something for at least one of the inputs.
 #[test]
 fn the_writer_of_each_command_fails(rt: HostRuntime) {
     let tool = program_command(rt.alloc()).expect(&rt, "memory");

@@ -1,4 +1,4 @@
-//! The lines written at the end of runs.
+//! Tests of the lines that the program writes for faults.
 
 use crate::broken::Short;
 use capn_serve::{Line, end};
@@ -8,37 +8,37 @@ use capn_tool::{
 use std::io::{self, Write};
 use std::process::Abort;
 
-/// The last message that a run can have.
+/// The position of the last message that a run can have.
 const LAST: Position = Position {
     index: u64::MAX,
     offset: u64::MAX,
 };
 
-/// Messages that were skipped, as many as can be.
+/// The greatest count of skipped messages.
 const SKIPPED: Skipped = Skipped {
     refused: u64::MAX,
     messages: u64::MAX,
     first: LAST,
 };
 
-/// The line of a run that skipped them.
+/// The line of a run that skipped `SKIPPED`.
 const SKIPPED_LINE: &str = "capn: 18446744073709551615 of 18446744073709551615 messages refused, \
     the first is 18446744073709551616 at 18446744073709551615\n";
 
-/// A run that skipped them, and then was refused what follows.
+/// The fault of a run that skipped `SKIPPED`, and then met a refused frame.
 const REFUSED_AFTER: ArchiveFault = ArchiveFault::RefusedAfterSkipped(
     SKIPPED,
     LAST,
     Refusal::Trailing(u64::MAX),
 );
 
-/// The lines of that.
+/// The two lines for `REFUSED_AFTER`.
 const TWO_LINES: &str = "capn: 18446744073709551615 of 18446744073709551615 messages refused, \
     the first is 18446744073709551616 at 18446744073709551615\n\
     capn: message 18446744073709551616 at 18446744073709551615: \
     trailing bytes at 18446744073709551615\n";
 
-/// A writer that counts the calls.
+/// A writer that counts its calls.
 #[derive(Drop)]
 struct Counted {
     bytes: Vec<u8>,
@@ -277,7 +277,7 @@ fn a_line_may_be_longer_than_what_is_held_back(rt: HostRuntime) {
     want.push(b'7').expect(&rt, "memory");
     line.send(&mut errors);
     let said = errors.into_inner();
-    // The block, the part that it had no room for, the long part, and the end.
+    // The four calls write the full block, the part of the text for which it had no room, the long part, and the end.
     assert!(rt; said.calls == 4);
     assert!(rt; said.bytes.as_slice() == want.as_slice());
 }

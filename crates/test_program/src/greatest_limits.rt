@@ -1,15 +1,15 @@
-//! Long lists of numbers, and the greatest limits, with memory that is there: no run tells that it ran out.
+//! Tests of long lists of numbers and of the greatest limits. No run reports that memory ran out if there is enough.
 
 use crate::large_inputs::{is_ended, over};
 use std::alloc::Global;
 use std::test::Fail;
 
-/// A struct of one word, framed.
+/// The frame of a struct of one word.
 const STRUCT: [u8; 24] = [
     0, 0, 0, 0, 2, 0, 0, 0, 0, 0, 0, 0, 1, 0, 0, 0, 5, 0, 0, 0, 0, 0, 0, 0,
 ];
 
-/// Of a list of 600 numbers the first is that of the only message.
+/// A list of 600 numbers is taken, and its first number is that of the only message.
 #[test]
 fn a_list_of_many_numbers_is_taken(rt: HostRuntime) -> Result<(), Fail> {
     let mut list = String::from_str(rt.alloc(), "1")?;
@@ -36,16 +36,16 @@ const LIMITED: [&str; 8] = [
     "filter",
 ];
 
-/// The greatest words of a message, and the greatest budget.
+/// The greatest limit on the words of a message, and on the budget.
 const MOST: &str = "268435456";
 
-/// Tests whether a run is done, and writes something.
+/// Tests whether a run ends with status 0, and writes something.
 fn is_done(alloc: Global, words: &[&str]) -> bool {
     let ending = over(alloc, words, &STRUCT);
     ending.status == 0 && ending.line.as_slice().is_empty() && !ending.text.as_slice().is_empty()
 }
 
-/// Each limit may have its greatest value, also in an invocation of eighteen words.
+/// Each limit may have its greatest value, even in a command line of eighteen words.
 #[test]
 fn each_limit_may_have_its_greatest_value(rt: HostRuntime) {
     for name in LIMITED {

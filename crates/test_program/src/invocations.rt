@@ -1,4 +1,4 @@
-//! Invocations of command lines.
+//! Tests of command lines: the invocations that they mean, and those that are refused.
 
 use capn_tool::{
     Command, Explain, ExplainRefused, Explanation, Flow, Form, Invocation, Limits, Make,
@@ -7,7 +7,7 @@ use capn_tool::{
 use std::alloc::Global;
 use std::process::Abort;
 
-/// Tests whether the words order this command over messages.
+/// Tests whether `words` mean the command `want` over messages.
 fn is_command(alloc: Global, words: &[&str], want: Command) -> bool {
     let told = invocation_of(alloc, words);
     match &told {
@@ -16,8 +16,7 @@ fn is_command(alloc: Global, words: &[&str], want: Command) -> bool {
     }
 }
 
-/// Tests whether the words order to show, in a style, what is at a path from the roots of a packed stream, or all of
-/// it.
+/// Tests whether `words` mean a `show` of a packed stream in `style`, at `path` or of all.
 fn is_shown(alloc: Global, words: &[&str], style: Style, path: Option<&str>) -> bool {
     let told = invocation_of(alloc, words);
     match &told {
@@ -31,7 +30,7 @@ fn is_shown(alloc: Global, words: &[&str], style: Style, path: Option<&str>) -> 
     }
 }
 
-/// Tests whether the words order to show, in a style and with these marks, all of each message of a packed stream.
+/// Tests whether `words` mean a `show` of all of a packed stream in `style`, with the marks `offsets` and `ways`.
 fn is_marked(alloc: Global, words: &[&str], style: Style, offsets: bool, ways: bool) -> bool {
     let told = invocation_of(alloc, words);
     match &told {
@@ -45,7 +44,7 @@ fn is_marked(alloc: Global, words: &[&str], style: Style, offsets: bool, ways: b
     }
 }
 
-/// Tests whether the words explain this message.
+/// Tests whether `words` mean the run `want`, which explains one message.
 fn is_explained(alloc: Global, words: &[&str], want: Explain) -> bool {
     let told = invocation_of(alloc, words);
     match &told {
@@ -54,7 +53,7 @@ fn is_explained(alloc: Global, words: &[&str], want: Explain) -> bool {
     }
 }
 
-/// Tests whether the words explain every message that is refused.
+/// Tests whether `words` mean the run `want`, which explains every refused message.
 fn is_each_explained(alloc: Global, words: &[&str], want: ExplainRefused) -> bool {
     let told = invocation_of(alloc, words);
     match &told {
@@ -63,7 +62,7 @@ fn is_each_explained(alloc: Global, words: &[&str], want: ExplainRefused) -> boo
     }
 }
 
-/// Tests whether the words have bytes flow this way.
+/// Tests whether `words` mean the flow `want`.
 fn is_flow(alloc: Global, words: &[&str], want: Flow) -> bool {
     let told = invocation_of(alloc, words);
     match &told {
@@ -72,7 +71,7 @@ fn is_flow(alloc: Global, words: &[&str], want: Flow) -> bool {
     }
 }
 
-/// Tests whether the words have messages made in this form, of texts between quotes or not.
+/// Tests whether `words` mean a `make` in `form`, with or without texts between quotes.
 fn is_made(alloc: Global, words: &[&str], form: Form, quoted: bool) -> bool {
     let told = invocation_of(alloc, words);
     match &told {
@@ -81,7 +80,7 @@ fn is_made(alloc: Global, words: &[&str], form: Form, quoted: bool) -> bool {
     }
 }
 
-/// Expects that the `words` order nothing, and that the exit status is `status`.
+/// Checks that `words` mean no invocation, and that the exit status is `status`.
 pub(crate) fn expect_usage(rt: &impl Abort, alloc: Global, words: &[&str], status: u8) {
     match invocation_of(alloc, words) {
         Ok(_) => assert!(rt; false, "{words:?}"),
@@ -266,7 +265,7 @@ fn messages_are_shown_in_a_style(rt: HostRuntime) {
     }
 }
 
-/// Without `--number` the first message that is refused is explained.
+/// Without `--number`, `explain` explains the first refused message.
 #[test]
 fn a_message_is_explained(rt: HostRuntime) {
     let limits = Limits::new(1, 2, 3).unwrap_or(Limits::usual());
@@ -295,7 +294,7 @@ fn a_message_is_explained(rt: HostRuntime) {
     assert!(rt; is_explained(rt.alloc(), &words, want), "{words:?}");
 }
 
-/// With `--keep-going` every message that is refused is explained.
+/// With `--keep-going`, `explain` explains every refused message.
 #[test]
 fn every_refused_message_is_explained(rt: HostRuntime) {
     let want = ExplainRefused {
@@ -314,7 +313,7 @@ fn every_refused_message_is_explained(rt: HostRuntime) {
     expect_usage(&rt, rt.alloc(), &words, 2);
 }
 
-/// Numbers of messages are written in plain digits.
+/// `--number` takes plain digits.
 #[test]
 fn a_message_is_explained_by_its_number(rt: HostRuntime) {
     for (text, number) in [
@@ -348,7 +347,7 @@ fn a_message_is_explained_by_its_number(rt: HostRuntime) {
     }
 }
 
-/// Tests whether the first line of the mistake of these words is this one.
+/// Tests whether `words` are refused with a text that starts with `line`.
 fn is_mistaken(alloc: Global, words: &[&str], line: &str) -> bool {
     match invocation_of(alloc, words) {
         Ok(_) => false,

@@ -1,4 +1,4 @@
-//! Large messages and long paths, with memory that is there: no run tells that it ran out.
+//! Tests of large messages and long paths. No run reports that memory ran out if there is enough.
 
 use crate::broken::{Ending, Input, ended};
 use std::alloc::{AllocError, Global};
@@ -9,8 +9,7 @@ fn add_word(bytes: &mut Vec<u8>, word: u64) -> Result<(), AllocError> {
     bytes.extend_from_slice(&word.to_le_bytes())
 }
 
-/// Returns the frame of one segment of `words` words, of which `root` is the first and `last` the last, and all others
-/// are `word`.
+/// Returns the frame of one segment of `words` words: `root`, then copies of `word`, and `last` at the end.
 fn frame_of(
     alloc: Global,
     root: u64,
@@ -28,12 +27,11 @@ fn frame_of(
     Ok(frame)
 }
 
-/// Returns the end of the program with these `words` over these `bytes`.
 pub(crate) fn over(alloc: Global, words: &[&str], bytes: &[u8]) -> Ending {
     ended(alloc, words, Input::whole(bytes, 65_536))
 }
 
-/// Tests whether a run ended with this status, and wrote this text and this line.
+/// Tests whether a run ended with `status`, wrote `text`, and ended with `line`.
 pub(crate) fn is_ended(ending: &Ending, status: u8, text: &[u8], line: &[u8]) -> bool {
     ending.status == status && ending.text.as_slice() == text && ending.line.as_slice() == line
 }
@@ -41,19 +39,19 @@ pub(crate) fn is_ended(ending: &Ending, status: u8, text: &[u8], line: &[u8]) ->
 /// The number of elements of a long list of pointers.
 const ELEMENTS: u32 = 110_000;
 
-/// The pointer to that list, behind it.
+/// The root pointer to a list of `ELEMENTS` pointers that follows it.
 const LONG_LIST: u64 = 0xd_6d86_0000_0001;
 
-/// A pointer to a struct of a word, far behind the end of its message.
+/// A pointer to a struct of one word, far beyond the end of its message.
 const OUT_OF_RANGE: u64 = 0x1_7fff_fffc;
 
-/// The beginning of its explanation.
+/// The first lines of the explanation of a list whose last element is `OUT_OF_RANGE`.
 const EXPLAINED: &[u8] = b"message: 1 at 0\n\
 segments: 1 of 110001 words\n\
 refused: Range at 0:110000, paid 110001, visits 110001\n\
 way: 109999\n";
 
-/// The last element is refused: the visit after more than 100,000, in a slot of a place above 65,536.
+/// The last element is refused, after more than 100,000 visits and in a word whose index is above 65,536.
 #[test]
 fn a_refusal_after_many_visits_is_explained(rt: HostRuntime) -> Result<(), Fail> {
     let frame = frame_of(rt.alloc(), LONG_LIST, 0, OUT_OF_RANGE, ELEMENTS + 1)?;
@@ -67,7 +65,7 @@ fn a_refusal_after_many_visits_is_explained(rt: HostRuntime) -> Result<(), Fail>
     Ok(())
 }
 
-/// A capability of the greatest index is told, in the last element.
+/// A capability with the greatest index is explained in the last element.
 #[test]
 fn a_great_capability_is_explained(rt: HostRuntime) -> Result<(), Fail> {
     let frame = frame_of(
@@ -86,7 +84,7 @@ canonical: no: capability 4294967295 at 109999\n";
     Ok(())
 }
 
-/// A list of so many null pointers is told by a line for each.
+/// A list of 110,000 null pointers is shown with a line for each.
 #[test]
 fn a_list_of_many_pointers_is_shown(rt: HostRuntime) -> Result<(), Fail> {
     let frame = frame_of(rt.alloc(), LONG_LIST, 0, 0, ELEMENTS + 1)?;
@@ -104,7 +102,7 @@ fn a_list_of_many_pointers_is_shown(rt: HostRuntime) -> Result<(), Fail> {
     Ok(())
 }
 
-/// A frame that announces 200,000 words, of which 125,000 came.
+/// A frame that announces 200,000 words and has 125,000 is explained as cut.
 #[test]
 fn a_long_frame_that_is_cut_is_explained(rt: HostRuntime) -> Result<(), Fail> {
     let mut frame = Vec::from_slice(rt.alloc(), &[0, 0, 0, 0])?;
@@ -121,16 +119,16 @@ there: 1000008 bytes of at least 1600008\n";
     Ok(())
 }
 
-/// The pointer to a list of 8 MiB of bytes, behind it.
+/// The root pointer to a list of 8 MiB of bytes that follows it.
 const LONG_BYTES: u64 = 0x400_0002_0000_0001;
 
-/// The words of a message of that list.
+/// The number of words of a message with that list.
 const LONG_WORDS: u32 = 1_048_577;
 
-/// Eight bytes of it, each of them an `a`.
+/// Eight bytes of the list, each the letter `a`.
 const LETTERS: u64 = 0x6161_6161_6161_6161;
 
-/// A message of 8 MiB is accepted, canonical, and told of.
+/// A message of 8 MiB is accepted and canonical, and is explained so.
 #[test]
 fn a_long_message_is_explained(rt: HostRuntime) -> Result<(), Fail> {
     let frame = frame_of(rt.alloc(), LONG_BYTES, LETTERS, LETTERS, LONG_WORDS)?;
@@ -143,7 +141,7 @@ canonical: yes\n";
     Ok(())
 }
 
-/// Its last line has the byte after it.
+/// The last line of a long text has the offset after the message.
 #[test]
 fn a_long_message_is_shown_with_marks(rt: HostRuntime) -> Result<(), Fail> {
     let frame = frame_of(rt.alloc(), LONG_BYTES, LETTERS, LETTERS, LONG_WORDS)?;
@@ -156,10 +154,10 @@ fn a_long_message_is_shown_with_marks(rt: HostRuntime) -> Result<(), Fail> {
     Ok(())
 }
 
-/// The number of structs that hold one another: the path to the last slot has 203 characters.
+/// The number of structs in a chain, each in the slot of the one before: the path to the last slot has 203 characters.
 const STRUCTS: u32 = 102;
 
-/// Returns the frame of structs of one slot that hold one another.
+/// Returns the frame of a chain of structs with one slot each.
 fn chain(alloc: Global) -> Result<Vec<u8>, AllocError> {
     frame_of(
         alloc,

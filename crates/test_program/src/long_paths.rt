@@ -1,14 +1,14 @@
-//! Values shown at a path of many numbers.
+//! A test of values shown at a path of many numbers.
 
 use crate::broken::{Input, ended};
 use std::process::Abort;
 
-/// The number of structs that hold one another: as many as the usual depth allows.
+/// The number of structs in a chain, each in the slot of the one before: as many as the default depth allows.
 const STRUCTS: usize = 64;
 
 #[test]
 fn a_path_of_many_numbers_is_followed(rt: HostRuntime) {
-    // A frame of structs with one slot each, of which the last has a word and no slot.
+    // The frame of a chain of structs with one slot each, except the last, which has one word instead.
     let mut bytes = Vec::from_slice(rt.alloc(), &[0, 0, 0, 0, 65, 0, 0, 0]).expect(&rt, "memory");
     for _ in 1..STRUCTS {
         bytes

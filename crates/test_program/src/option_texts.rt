@@ -1,4 +1,4 @@
-//! Values of options, read as numbers and ranges.
+//! Tests of option values that are read as numbers and ranges.
 
 use capn_args::{numbers_of, ranges_in};
 use capn_serve::Range;

@@ -1,16 +1,16 @@
-//! Picks of messages by a list.
+//! A test of `pick --only`: messages picked by a list of numbers.
 
 use capn_tool::{Limits, Only, StreamForm, Watched, pick_only};
 use std::test::Fail;
 
-/// Frames of 16 bytes, with a null root; of 16 bytes, of two empty segments, with a byte of padding that is not zero;
-/// and of 8 bytes, of one empty segment.
+/// Three frames. The first has 16 bytes and a null root. The second has 16 bytes, two empty segments, and a byte of
+/// padding that is not zero. The third has 8 bytes and one empty segment.
 const FRAMES: [u8; 40] = [
     0, 0, 0, 0, 1, 0, 0, 0, 0, 0, 0, 0, 0, 0, 0, 0, 1, 0, 0, 0, 0, 0, 0, 0, 0, 0, 0, 0, 9, 0, 0, 0,
     0, 0, 0, 0, 0, 0, 0, 0,
 ];
 
-/// The first frame and the third are written, and the second is not; the list asks for more than there are.
+/// The first and the third frame are written, and the second is not. The list names more messages than there are.
 #[test]
 fn picks_the_messages_of_a_list(rt: HostRuntime) -> Result<(), Fail> {
     let only = Only {

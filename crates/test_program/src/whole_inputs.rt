@@ -1,11 +1,11 @@
-//! The greatest length of an input that is exactly one message.
+//! Tests of the greatest length of an input that must be exactly one message.
 
 use capn_tool::{Form, Limits, Refusal, Show, Style, ToolFault, Watched, show_parts};
 use std::alloc::Global;
 use std::io::{self, Read};
 use std::process::Abort;
 
-/// A reader of pieces that fill the buffer, with what it holds: zeros.
+/// A reader whose calls fill the buffer and leave its bytes as they are, which are zeros.
 #[derive(Drop)]
 struct Zeros {
     left: u64,
@@ -21,10 +21,10 @@ impl Read for Zeros {
     }
 }
 
-/// The pieces of 65,536 bytes that a run takes.
+/// The number of chunks of 65,536 bytes that a run takes.
 const ALL: u64 = 65_536;
 
-/// How it ends that exactly one message of so many pieces is shown as JSON.
+/// Returns the result of `show --one --json` over an input of `pieces` chunks.
 fn outcome_of(alloc: Global, form: Form, pieces: u64) -> Result<(), ToolFault> {
     let show = Show {
         form,
@@ -40,7 +40,7 @@ fn outcome_of(alloc: Global, form: Form, pieces: u64) -> Result<(), ToolFault> {
     show_parts(alloc, &show, &mut reader, &mut writer)
 }
 
-/// Zeros are a message without words, and more bytes.
+/// An input of zeros is a message without words, followed by more bytes.
 #[test]
 fn one_message_is_shown_of_2_to_the_32_bytes(rt: HostRuntime) {
     let refused = Err(ToolFault::Refused(Refusal::Trailing(8)));

@@ -1,4 +1,4 @@
-//! Work and memory for the messages of an archive of which one is explained.
+//! Tests of the work and the memory of `explain` for the messages of an archive.
 
 use capn_canon::{Form, Limits};
 use capn_explain::{Explain, run_explain};
@@ -8,7 +8,7 @@ use std::alloc::{AllocError, Allocator, Global};
 use std::test::Fail;
 use test_allocator::Refusing;
 
-/// Appends the frame of one segment of these `words` to `archive`.
+/// Appends the frame of one segment with `words` to `archive`.
 fn add_frame(archive: &mut Vec<u8>, words: &[u64]) -> Result<(), AllocError> {
     archive.extend_from_slice(&((words.len() as u64) << 32).to_le_bytes())?;
     for word in words {
@@ -17,7 +17,7 @@ fn add_frame(archive: &mut Vec<u8>, words: &[u64]) -> Result<(), AllocError> {
     Ok(())
 }
 
-/// Returns the archive of `count` messages of these `words`.
+/// Returns an archive of `count` messages, each with `words`.
 fn archive_of(alloc: Global, words: &[u64], count: u32) -> Result<Vec<u8>, AllocError> {
     let mut archive = Vec::new(alloc);
     for _ in 0..count {
@@ -26,8 +26,8 @@ fn archive_of(alloc: Global, words: &[u64], count: u32) -> Result<Vec<u8>, Alloc
     Ok(archive)
 }
 
-/// Explains the message of a number, or the first that is refused, by memory of `heap`: returns the end of the run, and
-/// its output.
+/// Explains the message `number`, or the first refused one, with the allocator `heap`. Returns the result of the run,
+/// and its output.
 fn explained<A: Allocator + Copy>(
     alloc: Global,
     heap: A,
@@ -45,13 +45,13 @@ fn explained<A: Allocator + Copy>(
     (ending, writer.into_inner())
 }
 
-/// The pointer to a struct of two slots after the next `between` words.
+/// Returns the pointer to a struct of two slots after the next `between` words.
 fn pair(between: u64) -> u64 {
     0x2_0000_0000_0000 | between << 2
 }
 
-/// Returns the words of a message with 63 levels of structs of two slots below its root, both of which lead to the next
-/// level: its walk passes any budget.
+/// Returns the words of a message with 63 levels of structs of two slots below its root, both of which point to the
+/// next level. Its walk exceeds every budget.
 fn costly(alloc: Global) -> Result<Vec<u64>, AllocError> {
     let mut words = Vec::new(alloc);
     words.push(pair(0))?;
@@ -64,8 +64,8 @@ fn costly(alloc: Global) -> Result<Vec<u64>, AllocError> {
     Ok(words)
 }
 
-/// A message before the one of a number is not walked. A body that walks each of them, to be refused or not, makes 2^27
-/// visits of each of these 5,000, which takes an hour; without them the test takes a second.
+/// A message before the one with the number is not walked. Code that walks each of these 5,000 messages makes 2^27
+/// visits for each, which takes an hour. Without them the test takes a second.
 #[test]
 fn no_message_before_the_number_is_walked(rt: HostRuntime) -> Result<(), Fail> {
     let words = costly(rt.alloc())?;
@@ -80,7 +80,7 @@ canonical: yes\n";
     Ok(())
 }
 
-/// Counts the growths of a run over `archive` that is done and writes something.
+/// Counts the growths of a run over `archive` that ends with `Ok` and writes something.
 fn growths(alloc: Global, number: Option<u64>, archive: &[u8]) -> Option<u64> {
     let heap = Refusing::nth(alloc, 0);
     let (ending, text) = explained(alloc, &heap, number, archive);
@@ -91,11 +91,11 @@ fn growths(alloc: Global, number: Option<u64>, archive: &[u8]) -> Option<u64> {
     }
 }
 
-/// The words of a struct whose only word is zero, which no canonical bytes have.
+/// The words of a struct whose only word is zero, which is not canonical.
 const ZERO: [u64; 2] = [0x1_0000_0000, 0];
 
-/// No account is made of a message after the first. A body that makes one of each message, and drops it, lays out the
-/// canonical bytes of each of these 2,000, which takes a growth at least.
+/// No account is made of a message after the first. Code that makes one for each message lays out the canonical bytes
+/// of each of these 2,000, which takes at least one growth each.
 #[test]
 fn no_later_message_is_laid_out(rt: HostRuntime) -> Result<(), Fail> {
     let two = archive_of(rt.alloc(), &ZERO, 2)?;
@@ -110,26 +110,26 @@ fn no_later_message_is_laid_out(rt: HostRuntime) -> Result<(), Fail> {
     Ok(())
 }
 
-/// The number of structs that hold one another.
+/// The number of structs in a chain, each in the slot of the one before.
 const LINKS: u64 = 200;
 
-/// The pointer to a struct of one slot after the next `between` words.
+/// Returns the pointer to a struct of one slot after the next `between` words.
 fn link(between: u64) -> u64 {
     0x1_0000_0000_0000 | between << 2
 }
 
-/// The pointer to a struct without words and slots.
+/// The pointer to an empty struct.
 const EMPTY: u64 = 0xffff_fffc;
 
-/// The pointer to a list of three bytes after the next `between` words.
+/// Returns the pointer to a list of three bytes after the next `between` words.
 fn list(between: u64) -> u64 {
     0x1a_0000_0001 | between << 2
 }
 
-/// Three bytes, and one of padding that is not zero.
+/// A word with three bytes and a byte of padding that is not zero.
 const PADDED: u64 = 0x9_63_62_61;
 
-/// Appends the structs of a chain.
+/// Appends the structs of the chain to `words`.
 fn add_chain(words: &mut Vec<u64>) -> Result<(), AllocError> {
     for _ in 1..LINKS {
         words.push(link(0))?;
@@ -138,7 +138,8 @@ fn add_chain(words: &mut Vec<u64>) -> Result<(), AllocError> {
     Ok(())
 }
 
-/// Returns the frame of a struct of two slots, with such a chain and such a list; the list `comes_first`, or last.
+/// Returns the frame of a struct of two slots, one with the chain and one with the list of `PADDED`. The list
+/// `comes_first`, or last.
 fn chain_and_list(alloc: Global, comes_first: bool) -> Result<Vec<u8>, AllocError> {
     let mut words = Vec::new(alloc);
     words.push(pair(0))?;
@@ -158,8 +159,8 @@ fn chain_and_list(alloc: Global, comes_first: bool) -> Result<Vec<u8>, AllocErro
     Ok(frame)
 }
 
-/// The word that differs is found by a descent to it, past what lies before. A body whose descent never answers finds
-/// it by a search of all that is before it: down this chain, for whose path of 200 numbers memory grows six times more.
+/// The word that differs is found by a descent to it that skips what lies before. Code that searches all that is before
+/// it walks down the chain, and for its path of 200 numbers memory grows six times more.
 #[test]
 fn the_word_that_differs_is_found_without_a_search(rt: HostRuntime) -> Result<(), Fail> {
     let first = chain_and_list(rt.alloc(), true)?;

@@ -1,4 +1,4 @@
-//! Runs that explain messages which were made by hand.
+//! Tests of runs that explain handmade messages.
 
 use capn_canon::{BareFault, Form, FrameFault, Limits, Refusal};
 use capn_explain::{Explain, run_explain};
@@ -10,7 +10,7 @@ use std::io::{self, Read};
 use std::test::Fail;
 use test_allocator::Refusing;
 
-/// A reader that gives its bytes with the first call, and fails with the next one.
+/// A reader that gives its bytes in the first call, and fails in the next.
 #[derive(Drop)]
 pub(crate) struct Once<'a> {
     pub bytes: &'a [u8],
@@ -29,14 +29,13 @@ impl Read for Once<'_> {
     }
 }
 
-/// The output of a run, and its end.
+/// The output of a run, and its result.
 #[derive(Drop)]
 struct Outcome {
     text: Vec<u8>,
     ending: Result<(), RunFault>,
 }
 
-/// Explains a message of a reader.
 fn explained_of<R: Read + Drop>(
     alloc: Global,
     form: Form,
@@ -57,12 +56,11 @@ fn explained_of<R: Read + Drop>(
     }
 }
 
-/// Explains a message of some bytes.
 fn explained(alloc: Global, form: Form, number: Option<u64>, bytes: &[u8]) -> Outcome {
     explained_of(alloc, form, number, bytes)
 }
 
-/// The fault of a message whose root is no whole struct.
+/// Returns the fault of a message whose root is a struct beyond its segment.
 fn out_of_range(index: u64, offset: u64) -> RunFault {
     let stopped = Stopped {
         fault: Fault::Range,
@@ -80,7 +78,7 @@ pub(crate) const FRAMES: [u8; 64] = [
     0, 0, 0, 0, 1, 0, 0, 0, 0, 0, 0, 0, 0, 0, 0, 0, 0, 0, 0, 0, 1, 0, 0, 0, 0, 0, 0, 0, 1, 0, 0, 0,
 ];
 
-/// A frame of two segments, of one word and of none, with a null root.
+/// The frame of a message of two segments, of one word and of none, with a null root.
 const TWO_SEGMENTS: [u8; 24] = [
     1, 0, 0, 0, 1, 0, 0, 0, 0, 0, 0, 0, 0, 0, 0, 0, 0, 0, 0, 0, 0, 0, 0, 0,
 ];
@@ -110,7 +108,7 @@ accepted: paid 0 visits 1 depth 0
 canonical: yes
 ";
 
-/// The first message that is refused is explained, and nothing is read after the piece that has it.
+/// The first refused message is explained, and nothing is read after the chunk that has it.
 #[test]
 fn explains_the_first_refused_message(rt: HostRuntime) -> Result<(), Fail> {
     let input = Once {
@@ -123,7 +121,7 @@ fn explains_the_first_refused_message(rt: HostRuntime) -> Result<(), Fail> {
     Ok(())
 }
 
-/// The message of a number is explained, refused or accepted, and those before it are not walked.
+/// The message with the given number is explained, refused or accepted, and those before it are not walked.
 #[test]
 fn explains_the_message_of_a_number(rt: HostRuntime) -> Result<(), Fail> {
     let fourth = explained(rt.alloc(), Form::Stream, Some(4), &FRAMES);
@@ -136,7 +134,7 @@ fn explains_the_message_of_a_number(rt: HostRuntime) -> Result<(), Fail> {
     Ok(())
 }
 
-/// If no message is refused, the only one is explained, or they are counted.
+/// If no message is refused, the only message is explained. If there is not exactly one, they are counted.
 #[test]
 fn explains_the_only_message(rt: HostRuntime) -> Result<(), Fail> {
     let one = explained(rt.alloc(), Form::Stream, None, &FRAMES[..16]);
@@ -154,7 +152,7 @@ fn explains_the_only_message(rt: HostRuntime) -> Result<(), Fail> {
     Ok(())
 }
 
-/// A message of two segments is not canonical.
+/// A message of two segments is explained as not canonical.
 #[test]
 fn explains_a_message_of_two_segments(rt: HostRuntime) -> Result<(), Fail> {
     let lines = "message: 1 at 0
@@ -167,7 +165,7 @@ canonical: no: 2 segments
     Ok(())
 }
 
-/// Of a packed stream the bytes are those that it unpacks to. A group that is cut is explained.
+/// Positions in a packed stream are counted in the unpacked bytes. A cut group is explained.
 #[test]
 fn explains_packed_messages(rt: HostRuntime) -> Result<(), Fail> {
     let packed = [0x10, 1, 0, 0, 0x10, 1, 0x10, 1];
@@ -183,7 +181,7 @@ group: byte 4 of the packed input, tag 10: needs 2 bytes, 1 came
     Ok(())
 }
 
-/// A bare input is one message, and its bytes are counted from its first word on.
+/// A bare input is one message, and its bytes are counted from its first word.
 #[test]
 fn explains_a_bare_message(rt: HostRuntime) -> Result<(), Fail> {
     let refused = "message: 1 at 0
@@ -207,7 +205,7 @@ content: words 1 to 2 of segment 0, which has 1
     Ok(())
 }
 
-/// A length that is no whole number of words is explained.
+/// A bare input whose length is not a whole number of words is explained.
 #[test]
 fn explains_a_length(rt: HostRuntime) -> Result<(), Fail> {
     let nine = explained(rt.alloc(), Form::Bare, None, &FRAMES[..9]);
@@ -221,7 +219,8 @@ fn explains_a_length(rt: HostRuntime) -> Result<(), Fail> {
     Ok(())
 }
 
-/// A frame that is cut, or whose table announces too much, is explained, also where a later message is asked for.
+/// A frame that is cut, or whose table announces too much, is explained even if the given number is that of a later
+/// message.
 #[test]
 fn explains_a_frame(rt: HostRuntime) -> Result<(), Fail> {
     let cut = explained(rt.alloc(), Form::Stream, Some(7), &FRAMES[..20]);
@@ -248,7 +247,7 @@ announced: 8388609, at most 8388608
     Ok(())
 }
 
-/// If the reader fails, nothing is written of what is kept.
+/// If the reader fails, the lines that are kept are not written.
 #[test]
 fn writes_nothing_where_the_reader_fails(rt: HostRuntime) -> Result<(), Fail> {
     let input = Once {
@@ -260,7 +259,7 @@ fn writes_nothing_where_the_reader_fails(rt: HostRuntime) -> Result<(), Fail> {
     Ok(())
 }
 
-/// Messages of one segment that aren't canonical, and what is told of each after its head.
+/// Messages of one segment that are not canonical, each with the lines that explain it, after its head.
 const MISMATCHED: [([u8; 24], &str); 5] = [
     (
         [
@@ -307,8 +306,8 @@ canonical: no: capability 5 at 0
     ),
 ];
 
-/// A run explains by which word a message of one segment differs from its canonical bytes, a pointer, a tag, the
-/// padding of a last word, a word after its value, or by which capability, with a number and without one.
+/// A run explains why a message of one segment is not canonical, with a number and without one. The cause is a pointer,
+/// a tag word, the padding of a last word, a word after the value, or a capability.
 #[test]
 fn explains_why_a_message_is_not_canonical(rt: HostRuntime) -> Result<(), Fail> {
     for (bytes, told) in MISMATCHED {
@@ -324,7 +323,8 @@ fn explains_why_a_message_is_not_canonical(rt: HostRuntime) -> Result<(), Fail> 
     Ok(())
 }
 
-/// Explains a message of some bytes while one growth is refused: what the run wrote, and whether no growth was.
+/// Explains a message of `bytes` while the growth `refused` is refused. Returns the outcome, and whether no growth was
+/// refused.
 fn explained_under(alloc: Global, refused: u64, bytes: &[u8]) -> (Outcome, bool) {
     let heap = Refusing::nth(alloc, refused);
     let order = Explain {
@@ -342,7 +342,7 @@ fn explained_under(alloc: Global, refused: u64, bytes: &[u8]) -> (Outcome, bool)
     (outcome, heap.has_spared())
 }
 
-/// If any growth is refused for the only message, the run ends so, and nothing is written.
+/// If any growth is refused for the only message, the run ends with `Memory`, and nothing is written.
 #[test]
 fn tells_that_memory_ran_out_for_the_only_message(rt: HostRuntime) -> Result<(), Fail> {
     let bytes = &MISMATCHED[0].0;
@@ -361,7 +361,7 @@ fn tells_that_memory_ran_out_for_the_only_message(rt: HostRuntime) -> Result<(),
     Ok(())
 }
 
-/// Memory that ran out for the first message is not reported if another one comes.
+/// Memory that ran out for the first message is not reported if there is a second one.
 #[test]
 fn forgets_that_memory_ran_out_where_another_message_comes(rt: HostRuntime) -> Result<(), Fail> {
     let mut frames = Vec::from_slice(rt.alloc(), &MISMATCHED[0].0)?;

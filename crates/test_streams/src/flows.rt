@@ -1,13 +1,13 @@
-//! Handmade streams, packed and unpacked.
+//! Tests of `pack_stream` and `unpack_stream` over handmade streams.
 
 use capn_commands::{FlowFault, pack_stream, unpack_stream};
 use capn_words::Watched;
 use std::test::Fail;
 
-/// A named word and two zero words, packed.
+/// A word and two zero words, packed.
 const PACKED: [u8; 6] = [0x51, 8, 3, 2, 0, 1];
 
-/// Their bytes.
+/// The bytes of these words.
 const WORDS: [u8; 24] = [
     8, 0, 0, 0, 3, 0, 2, 0, 0, 0, 0, 0, 0, 0, 0, 0, 0, 0, 0, 0, 0, 0, 0, 0,
 ];

@@ -1,7 +1,6 @@
-//! Tests of runs over handmade streams.
-//! Messages are served, and words are packed and unpacked.
+//! Tests of runs over handmade streams: messages are served, and words are packed and unpacked.
 //!
-//! They stand apart from the crates that they test, since a crate with tests is proved twice.
+//! They are apart from the crates that they test, because a crate with tests is proved twice.
 #![tactic(auto)]
 
 #[cfg(test)]

@@ -1,4 +1,4 @@
-//! Picks of handmade messages.
+//! Tests of `pick` over handmade messages.
 
 ghost use Rattle.capn_serve.specs.Pick.{AreAscending};
 
@@ -10,7 +10,7 @@ use std::alloc::Global;
 use std::io::{self, Read};
 use std::test::Fail;
 
-/// A reader that gives its bytes with the first call, and fails with the next one.
+/// A reader that gives its bytes in the first call, and fails in the next.
 #[derive(Drop)]
 struct Once<'a> {
     bytes: &'a [u8],
@@ -29,14 +29,14 @@ impl Read for Once<'_> {
     }
 }
 
-/// The output of a run, and its end.
+/// The output of a run, and its result.
 #[derive(Drop)]
 struct Outcome {
     text: Vec<u8>,
     ending: Result<(), RunFault>,
 }
 
-/// Picks the messages of these numbers of a reader that fails if it is read again.
+/// Picks the messages `from` to `to` of a reader that fails if it is read again.
 fn picked(alloc: Global, form: StreamForm, from: u64, to: u64, bytes: &[u8]) -> Outcome {
     let pick = Pick {
         form,
@@ -56,17 +56,18 @@ fn picked(alloc: Global, form: StreamForm, from: u64, to: u64, bytes: &[u8]) -> 
     }
 }
 
-/// Frames of 16 bytes, with a null root; of 16 bytes, of two empty segments, with 1 byte of padding that is not zero;
-/// and of 8 bytes, of one empty segment. After them comes the count of a frame with too many segments.
+/// Three frames, and then the count of a frame with too many segments. The first has 16 bytes and a null root. The
+/// second has 16 bytes, two empty segments, and a byte of padding that is not zero. The third has 8 bytes and one empty
+/// segment.
 const FRAMES: [u8; 48] = [
     0, 0, 0, 0, 1, 0, 0, 0, 0, 0, 0, 0, 0, 0, 0, 0, 1, 0, 0, 0, 0, 0, 0, 0, 0, 0, 0, 0, 9, 0, 0, 0,
     0, 0, 0, 0, 0, 0, 0, 0, 255, 255, 255, 255, 0, 0, 0, 0,
 ];
 
-/// The packed text of the first two, and then a group that is cut.
+/// The packed bytes of the first two frames, and then a cut group.
 const PACKED: [u8; 9] = [0x10, 1, 0, 0, 0x01, 1, 0x10, 9, 0];
 
-/// The frames stand as they are, with their padding, and nothing is read after the last one.
+/// Frames are written unchanged, with their padding, and nothing is read after the last one.
 #[test]
 fn picks_some_messages(rt: HostRuntime) -> Result<(), Fail> {
     let two = picked(rt.alloc(), StreamForm::Stream, 2, 3, &FRAMES);
@@ -76,7 +77,7 @@ fn picks_some_messages(rt: HostRuntime) -> Result<(), Fail> {
     Ok(())
 }
 
-/// Of a packed stream the unpacked bytes are written, and a group after them that is cut is not looked at.
+/// From a packed stream the unpacked bytes are written, and a cut group after the last message is not looked at.
 #[test]
 fn picks_packed_messages(rt: HostRuntime) -> Result<(), Fail> {
     let second = picked(rt.alloc(), StreamForm::Packed, 2, 2, &PACKED);
@@ -84,7 +85,7 @@ fn picks_packed_messages(rt: HostRuntime) -> Result<(), Fail> {
     Ok(())
 }
 
-/// A reader that would be read after the last message fails.
+/// The reader is read again if the last message has not been read, which fails here.
 #[test]
 fn reads_on_before_the_last_message(rt: HostRuntime) -> Result<(), Fail> {
     let three = picked(rt.alloc(), StreamForm::Stream, 1, 4, &FRAMES[..40]);
@@ -125,7 +126,7 @@ fn reads_nothing_of_no_messages(rt: HostRuntime) -> Result<(), Fail> {
     Ok(())
 }
 
-/// A frame of words that are zero.
+/// Returns a frame of `words` zero words.
 fn zeros(alloc: Global, words: u32) -> Result<Vec<u8>, Fail> {
     let mut frame = Vec::from_slice(alloc, &[0; 4])?;
     frame.extend_from_slice(&words.to_le_bytes())?;
@@ -155,7 +156,7 @@ fn picks_a_long_message(rt: HostRuntime) -> Result<(), Fail> {
     Ok(())
 }
 
-/// Picks the messages of ranges of a reader that fails if it is read again.
+/// Picks the messages of `ranges` from a reader that fails if it is read again.
 fn picked_only(alloc: Global, form: StreamForm, ranges: &[Range], bytes: &[u8]) -> Outcome
     requires { AreAscending ranges.now }
 {
@@ -183,7 +184,7 @@ fn picks_ranges(rt: HostRuntime) -> Result<(), Fail> {
     Ok(())
 }
 
-/// Ranges that touch are as good as one.
+/// Adjacent ranges pick what one range over both does.
 #[test]
 fn picks_adjacent_ranges(rt: HostRuntime) -> Result<(), Fail> {
     let ranges = [Range { from: 1, to: 2 }, Range { from: 3, to: 3 }];
@@ -192,7 +193,7 @@ fn picks_adjacent_ranges(rt: HostRuntime) -> Result<(), Fail> {
     Ok(())
 }
 
-/// Of a packed stream too, and a group after the last message is not looked at.
+/// Ranges pick from a packed stream, too, and a group after the last message is not looked at.
 #[test]
 fn picks_packed_ranges(rt: HostRuntime) -> Result<(), Fail> {
     let second = picked_only(
@@ -205,7 +206,7 @@ fn picks_packed_ranges(rt: HostRuntime) -> Result<(), Fail> {
     Ok(())
 }
 
-/// A frame that is refused before the last range ends the run, and what was picked before it is written.
+/// A frame that is refused before the last range ends the run, after the messages picked before it have been written.
 #[test]
 fn ends_between_ranges(rt: HostRuntime) -> Result<(), Fail> {
     let ranges = [Range { from: 2, to: 2 }, Range { from: 9, to: 12 }];
@@ -220,7 +221,7 @@ fn ends_between_ranges(rt: HostRuntime) -> Result<(), Fail> {
     Ok(())
 }
 
-/// Fewer messages than the ranges name are those that there are.
+/// If there are fewer messages than the ranges name, those that exist are picked.
 #[test]
 fn picks_fewer_than_asked_for(rt: HostRuntime) -> Result<(), Fail> {
     let ranges = [

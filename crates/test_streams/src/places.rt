@@ -1,5 +1,4 @@
-//! Runs of a service over handmade inputs.
-//! No command has this service.
+//! Tests of the positions that a service gets, by a service that no command has.
 
 ghost use Rattle.std.specs.Prelude.{⊤};
 
@@ -14,7 +13,7 @@ use std::alloc::{Allocator, Global};
 use std::io::{self, Read, Write};
 use std::test::Fail;
 
-/// Writes of each message its index, its offset and the number of bytes of its frame, a byte each.
+/// The service that writes three bytes for each message: its index, its offset, and the length of its frame.
 #[derive(Drop)]
 struct Places;
 
@@ -71,7 +70,7 @@ impl<'a> Read for Single<'a> {
     }
 }
 
-/// Returns the end of a run over a packed input, and its output.
+/// Returns the result of a run over the packed `input` that unpacks at most `limit` bytes, and its output.
 fn packed<R: Read + Drop>(alloc: Global, input: R, limit: u64) -> (Result<(), RunFault>, Vec<u8>) {
     let mut run = Run::new(Places);
     let mut reader = Watched::new(input);
@@ -89,13 +88,13 @@ fn packed<R: Read + Drop>(alloc: Global, input: R, limit: u64) -> (Result<(), Ru
     (ending, writer.into_inner())
 }
 
-/// The packed text of a frame of 16 bytes, of another, and of one of 8 bytes, which shares a group with the second.
+/// The packed bytes of two frames of 16 bytes and one of 8 bytes, which shares a group with the second.
 const THREE: [u8; 8] = [0x10, 1, 0, 0, 0x10, 1, 0, 1];
 
-/// The output for them.
+/// The output for `THREE`.
 const PLACES: [u8; 9] = [0, 0, 16, 1, 16, 16, 2, 32, 8];
 
-/// Offsets are those of what is unpacked, also where each byte comes by itself.
+/// Offsets are counted in the unpacked bytes, even if each packed byte is read by itself.
 #[test]
 fn packed_messages_in_many_chunks(rt: HostRuntime) -> Result<(), Fail> {
     let (ending, text) = packed(rt.alloc(), Single { bytes: &THREE }, u64::MAX);
@@ -103,7 +102,7 @@ fn packed_messages_in_many_chunks(rt: HostRuntime) -> Result<(), Fail> {
     Ok(())
 }
 
-/// The limit is of what is unpacked, and the messages within it are served.
+/// The limit is on the unpacked bytes, and the messages within it are served.
 #[test]
 fn more_than_the_limit(rt: HostRuntime) -> Result<(), Fail> {
     let (within, all) = packed(rt.alloc(), THREE.as_slice(), 40);
@@ -115,8 +114,8 @@ fn more_than_the_limit(rt: HostRuntime) -> Result<(), Fail> {
     Ok(())
 }
 
-/// Returns the stop of a run over an input in a form, and the parts that came of the message and of the group at which
-/// it did.
+/// Returns the result of a run over `input` in `form`, and the parts that were read of the message and of the group at
+/// which it stopped.
 fn stopped(alloc: Global, form: Form, input: &[u8]) -> (Result<(), RunFault>, Begun<Global>) {
     let mut run = Run::new(Places);
     let mut begun = Begun::new(alloc);
@@ -135,7 +134,7 @@ fn stopped(alloc: Global, form: Form, input: &[u8]) -> (Result<(), RunFault>, Be
     (ending, begun)
 }
 
-/// The fault of a frame after one of 16 bytes.
+/// Returns the fault of a second frame, after one of 16 bytes.
 fn second(refusal: Refusal) -> Result<(), RunFault> {
     let at = Position {
         index: 1,
@@ -144,12 +143,12 @@ fn second(refusal: Refusal) -> Result<(), RunFault> {
     Err(RunFault::Refused(at, refusal))
 }
 
-/// A frame of 16 bytes, and the table of one of 2^32 - 1 words.
+/// A frame of 16 bytes, and then the table of a segment of 2^32 - 1 words.
 const LONG: [u8; 24] = [
     0, 0, 0, 0, 1, 0, 0, 0, 0, 0, 0, 0, 0, 0, 0, 0, 0, 0, 0, 0, 255, 255, 255, 255,
 ];
 
-/// The part that came of a frame that is cut, or has too many words, is left.
+/// The part that was read of a frame is kept, if the frame is cut or has too many words.
 #[test]
 fn what_came_of_a_frame(rt: HostRuntime) -> Result<(), Fail> {
     let (ending, begun) = stopped(rt.alloc(), Form::Stream, &LONG[..22]);
@@ -163,7 +162,7 @@ fn what_came_of_a_frame(rt: HostRuntime) -> Result<(), Fail> {
     Ok(())
 }
 
-/// The part that came of a packed frame that is cut is left as it is unpacked, and of a group that is cut as it came.
+/// The unpacked bytes of a cut frame are kept, and the packed bytes of a cut group.
 #[test]
 fn what_came_of_a_group(rt: HostRuntime) -> Result<(), Fail> {
     let (ending, begun) = stopped(rt.alloc(), Form::Packed, &THREE[..6]);

@@ -1,4 +1,4 @@
-//! Runs that explain every refused message of a stream made by hand.
+//! Tests of runs that explain every refused message of a handmade stream.
 
 use crate::explanations::{FIRST, FOURTH, FRAMES, Once, SECOND};
 use capn_canon::{BareFault, Form, FrameFault, Limits, Refusal};
@@ -10,14 +10,14 @@ use std::io::Read;
 use std::test::Fail;
 use test_allocator::Refusing;
 
-/// The output of a run, and its end.
+/// The output of a run, and its result.
 #[derive(Drop)]
 struct Outcome {
     text: Vec<u8>,
     ending: Result<(), ReportFault>,
 }
 
-/// Explains every refused message of a reader, by memory of `heap`.
+/// Explains every refused message of `input`, with the allocator `heap`.
 fn explained_by<A: Allocator + Copy, R: Read + Drop>(
     alloc: Global,
     heap: A,
@@ -37,12 +37,11 @@ fn explained_by<A: Allocator + Copy, R: Read + Drop>(
     }
 }
 
-/// Explains every refused message of some bytes.
 fn explained(alloc: Global, form: Form, bytes: &[u8]) -> Outcome {
     explained_by(alloc, alloc, form, bytes)
 }
 
-/// The second of four frames is refused, and the fourth.
+/// The count of the refused messages of `FRAMES`: the second and the fourth.
 const TWO_OF_FOUR: Skipped = Skipped {
     refused: 2,
     messages: 4,
@@ -52,12 +51,12 @@ const TWO_OF_FOUR: Skipped = Skipped {
     },
 };
 
-/// The lines of both, each with an empty line.
+/// Returns the lines of the second and the fourth message, each followed by an empty line.
 fn lines_of_two(alloc: Global) -> Result<String, Fail> {
     Ok(format!(in alloc; "{SECOND}\n{FOURTH}\n")?)
 }
 
-/// Every message that is refused is explained, with an empty line behind each, and the run says how many they are.
+/// Every refused message is explained, with an empty line after each, and the run reports how many there are.
 #[test]
 fn explains_every_refused_message(rt: HostRuntime) -> Result<(), Fail> {
     let two = explained(rt.alloc(), Form::Stream, &FRAMES);
@@ -73,7 +72,7 @@ fn explains_every_refused_message(rt: HostRuntime) -> Result<(), Fail> {
     Ok(())
 }
 
-/// If none is refused, the only message is explained, or they are counted, and no empty line follows.
+/// If no message is refused, the only one is explained, or they are counted. No empty line follows.
 #[test]
 fn explains_as_without_it_if_none_is_refused(rt: HostRuntime) -> Result<(), Fail> {
     let one = explained(rt.alloc(), Form::Stream, &FRAMES[..16]);
@@ -98,8 +97,8 @@ const NOT_CANONICAL_THEN_REFUSED: [u8; 48] = [
     16, 0, 0, 0, 1, 0, 0, 0, 5, 0, 0, 0, 0, 0, 0, 0,
 ];
 
-/// The account of an accepted message is dropped once another message begins, so memory that was refused for it ends
-/// no run.
+/// The account of the first message is dropped once a second one is served, so memory that was refused for it does not
+/// end the run.
 #[test]
 fn explains_behind_a_message_that_is_not_canonical(rt: HostRuntime) -> Result<(), Fail> {
     let lines = "message: 2 at 24
@@ -129,7 +128,7 @@ content: words 5 to 6 of segment 0, which has 2
     Ok(())
 }
 
-/// A frame that is cut is explained last, whether messages were refused before or not.
+/// A cut frame is explained last, whether messages were refused before it or not.
 #[test]
 fn explains_a_cut_frame_last(rt: HostRuntime) -> Result<(), Fail> {
     let at = Position {
@@ -158,7 +157,7 @@ fn explains_a_cut_frame_last(rt: HostRuntime) -> Result<(), Fail> {
     Ok(())
 }
 
-/// So is a packed group that is cut.
+/// A cut group of a packed stream is explained last.
 #[test]
 fn explains_a_cut_group_last(rt: HostRuntime) -> Result<(), Fail> {
     let packed = [0x10, 1, 0x10, 1, 0x10, 1, 0x10];
@@ -181,7 +180,7 @@ group: byte 6 of the packed input, tag 10: needs 2 bytes, 1 came
     Ok(())
 }
 
-/// A bare input is one message: it is counted as the others if its walk refuses it, and a wrong length ends the run.
+/// A bare input is one message. If its walk refuses it, it is counted like any other. A wrong length ends the run.
 #[test]
 fn explains_a_bare_message(rt: HostRuntime) -> Result<(), Fail> {
     let start = Position {
@@ -206,7 +205,7 @@ fn explains_a_bare_message(rt: HostRuntime) -> Result<(), Fail> {
     Ok(())
 }
 
-/// The lines of a piece are written before more is read, also if that fails.
+/// The lines of a chunk are written before more is read, even if that read fails.
 #[test]
 fn writes_before_it_reads_again(rt: HostRuntime) -> Result<(), Fail> {
     let input = Once {
@@ -220,7 +219,7 @@ fn writes_before_it_reads_again(rt: HostRuntime) -> Result<(), Fail> {
     Ok(())
 }
 
-/// If any growth is refused, the run ends so, and what was written is a beginning of its text.
+/// If any growth is refused, the run ends with `Memory`, and what was written is a prefix of its text.
 #[test]
 fn tells_that_memory_ran_out(rt: HostRuntime) -> Result<(), Fail> {
     let lines = lines_of_two(rt.alloc())?;

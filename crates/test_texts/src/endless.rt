@@ -1,12 +1,11 @@
-//! Endless inputs, refused after few bytes.
-//! Little more of them is read than it takes to know that they are refused.
+//! Tests of endless inputs that are refused: little more is read than it takes to find out.
 
 use capn_make::{Form, MakeFault, Misfit, Watched, make};
 use std::alloc::Global;
 use std::io::{self, Read};
 
-/// A reader that gives a text and then another one again and again, at most this many bytes a call. It ends after a
-/// million bytes, which no run takes.
+/// A reader that gives `text`, and then `again` over and over, at most `most` bytes a call. It ends after a million
+/// bytes, which no run reads.
 #[derive(Drop)]
 struct Endless<'a> {
     text: &'a [u8],
@@ -31,7 +30,7 @@ impl Read for Endless<'_> {
     }
 }
 
-/// Returns the end of a run over a text and then another one again and again, and the number of bytes that it took.
+/// Returns the result of a run over `text` and then `again` over and over, and the number of bytes that it read.
 fn run(
     alloc: Global,
     form: Form,
@@ -53,7 +52,8 @@ fn run(
 
 const CAPABILITY: &[u8] = b"pointers 1\n  capability 7\nend\n";
 
-/// Forms, texts, what comes after them again and again, why that is refused, and the bytes that it takes to know it.
+/// Forms, texts, the bytes repeated after each, the reason why the input is refused, and the number of bytes that
+/// decide it.
 const REFUSED: [(Form, &[u8], &[u8], MakeFault, usize); 9] = [
     (Form::Stream, b"", b"y\n", MakeFault::NotText(1), 2),
     (Form::Packed, b"", b"y\n", MakeFault::NotText(1), 2),
@@ -114,7 +114,7 @@ fn one_byte_a_call(rt: HostRuntime) {
     }
 }
 
-/// Forms, texts, a line without an end after them, and why that is refused.
+/// Forms, texts, a line without an end after each, and the reason why the input is refused.
 const LONG: [(Form, &[u8], &[u8], MakeFault); 9] = [
     (Form::Stream, b"", b"y", MakeFault::NotText(1)),
     (Form::Packed, b"null\nend\n", b"y", MakeFault::NotText(3)),
@@ -153,7 +153,7 @@ fn line_without_end(rt: HostRuntime) {
     }
 }
 
-/// A text that ends. Some of its lines would be wrong, were they cut.
+/// A text that is right. Some of its lines would be wrong if they were cut.
 const GOOD: &[u8] = b"struct 1 1\n  word 0000000000000005\n  bytes 3\n    616263\nend\n";
 
 #[test]

@@ -1,6 +1,6 @@
-//! Tests of reading value texts and making messages of them.
+//! Tests of reading the texts of values, and of making messages from them.
 //!
-//! They stand apart from the crates that they test, since a crate with tests is proved twice.
+//! They are apart from the crates that they test, because a crate with tests is proved twice.
 #![tactic(auto)]
 
 #[cfg(test)]

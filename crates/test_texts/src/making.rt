@@ -1,4 +1,4 @@
-//! Messages made of texts in each form, and refused runs.
+//! Tests of messages made from texts in each form, and of refused runs.
 
 use capn_make::{Form, MakeFault, Misfit, Watched, make};
 use capn_value::show;
@@ -7,7 +7,7 @@ use capn_words::Bare;
 use std::alloc::Global;
 use std::test::Fail;
 
-/// Returns the end of a run over an input, and its output.
+/// Returns the result of a run over `input`, and its output.
 pub(crate) fn run(alloc: Global, form: Form, input: &[u8]) -> (Result<(), MakeFault>, Vec<u8>) {
     let mut reader = Watched::new(input);
     let mut writer = Watched::new(Vec::new(alloc));
@@ -16,13 +16,13 @@ pub(crate) fn run(alloc: Global, form: Form, input: &[u8]) -> (Result<(), MakeFa
     (outcome, writer.into_inner())
 }
 
-/// Tests whether a run over an input ends with this fault and has written this.
+/// Tests whether a run over `input` ends with `fault` after writing `text`.
 fn refuses(alloc: Global, form: Form, input: &[u8], fault: MakeFault, text: &[u8]) -> bool {
     let (outcome, written) = run(alloc, form, input);
     outcome == Err(fault) && written.as_slice() == text
 }
 
-/// Tests whether a run over an input is done and has written this.
+/// Tests whether a run over `input` ends with `Ok` after writing `text`.
 fn makes(alloc: Global, form: Form, input: &[u8], text: &[u8]) -> bool {
     let (outcome, written) = run(alloc, form, input);
     outcome == Ok(()) && written.as_slice() == text
@@ -38,7 +38,7 @@ const NULL_PACKED: &[u8] = b"\x10\x01\0\0";
 pub(crate) const PADDED: &[u8] =
     b"struct 2 1\n  word 0000000000000005\n  word 0000000000000000\n  null\nend\n";
 
-/// Inputs with their forms, and what is written for them.
+/// Forms and inputs, each with the output for it.
 pub(crate) const MADE: [(Form, &[u8], &[u8]); 8] = [
     (Form::Stream, NULL, NULL_FRAME),
     (Form::Packed, NULL, NULL_PACKED),
@@ -47,7 +47,7 @@ pub(crate) const MADE: [(Form, &[u8], &[u8]); 8] = [
     (Form::Packed, b"", b""),
     (Form::Bare, PADDED, b"\0\0\0\0\x01\0\0\0\x05\0\0\0\0\0\0\0"),
     (Form::Packed, PADDED, b"\x10\x02\x10\x01\x01\x05"),
-    // Each frame is packed by itself.
+    // Each frame is packed separately, so that no group spans two frames.
     (
         Form::Packed,
         b"null\nend\nnull\nend\n",
@@ -62,7 +62,7 @@ fn each_form(rt: HostRuntime) {
     }
 }
 
-/// Inputs that are refused before anything is written, in the form stream, and why.
+/// Inputs that are refused in the form `stream` before anything is written, and the reason for each.
 const REFUSED: [(&[u8], MakeFault); 22] = [
     (b"nul\nend\n", MakeFault::NotText(1)),
     (b"null\r\nend\r\n", MakeFault::NotText(1)),
@@ -113,7 +113,7 @@ fn each_refusal(rt: HostRuntime) {
     }
 }
 
-/// Inputs whose second text is refused, with their forms, why, and what is written for the first.
+/// Forms and inputs whose second text is refused, the reason for each, and the output for the first text.
 const REFUSED_LATER: [(Form, &[u8], MakeFault, &[u8]); 4] = [
     (
         Form::Stream,
@@ -148,7 +148,7 @@ fn texts_before_are_written(rt: HostRuntime) {
     }
 }
 
-/// Inputs that are refused in the form bare, which takes one text, and why.
+/// Inputs that are refused in the form `bare`, which takes exactly one text, and the reason for each.
 const REFUSED_BARE: [(&[u8], MakeFault); 9] = [
     (b"", MakeFault::NoText),
     (b"null\nend\nnull\nend\n", MakeFault::Another(3)),
@@ -171,7 +171,7 @@ fn one_text(rt: HostRuntime) {
     }
 }
 
-/// Tests whether the bytes that are made of a text denote a value of the same text.
+/// Tests whether the value of the bytes made from `text` has that same text.
 fn is_shown_again(alloc: Global, text: &[u8]) -> bool {
     let (_, bytes) = run(alloc, Form::Bare, text);
     let Ok(space) = Bare::new(bytes.as_slice()) else {
@@ -212,7 +212,7 @@ fn shown_again(rt: HostRuntime) {
     }
 }
 
-/// Faults, with their texts and statuses.
+/// Faults, each with its text and its exit status.
 const REPORTED: [(MakeFault, &str, u8); 9] = [
     (MakeFault::Memory, "out of memory", 3),
     (MakeFault::Io, "input or output failed", 3),

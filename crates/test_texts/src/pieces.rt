@@ -1,4 +1,4 @@
-//! Messages made of texts in pieces.
+//! Tests of messages made from texts that are read in chunks.
 
 use crate::making::{MADE, NULL, PADDED, run};
 use capn_make::{Form, MakeFault, Watched, make};
@@ -6,7 +6,7 @@ use std::alloc::Global;
 use std::io::{self, Read, Write};
 use std::test::Fail;
 
-/// A reader that gives at most this many bytes a call.
+/// A reader that gives at most `most` bytes a call.
 #[derive(Drop)]
 pub(crate) struct Pieces<'a> {
     pub(crate) rest: &'a [u8],
@@ -22,7 +22,7 @@ impl Read for Pieces<'_> {
     }
 }
 
-/// Returns the end of a run over an input that comes in pieces, and its output.
+/// Returns the result of a run over `rest`, read in chunks of at most `most` bytes, and its output.
 fn run_in_pieces(
     alloc: Global,
     form: Form,
@@ -36,7 +36,7 @@ fn run_in_pieces(
     (outcome, writer.into_inner())
 }
 
-/// The texts of three values, the second of which is longer than what is read at once.
+/// Returns the texts of three values, the second of which is longer than one chunk.
 fn long_texts(alloc: Global, bytes: usize) -> Result<Vec<u8>, Fail> {
     let mut input = Vec::new(alloc);
     input.extend_from_slice(PADDED)?;
@@ -61,7 +61,7 @@ fn long_texts_in_pieces(rt: HostRuntime) -> Result<(), Fail> {
             assert!(rt; again == Ok(()));
             assert!(rt; same.as_slice() == written.as_slice());
         }
-        // Without its last line end the last text isn't one, and the two before it have been written.
+        // Without its last newline the last text is refused, and the messages of the two before it have been written.
         let short = &input[..input.len().saturating_sub(1)];
         let (fault, begun) = run_in_pieces(alloc, form, short, 65_536);
         assert!(rt; fault == Err(MakeFault::NotText(10)), "{fault:?}");

@@ -1,11 +1,12 @@
-//! Messages made of texts between quotes: those of the plain form, refused at the line of the input.
+//! Tests of messages made from texts between quotes: they equal those of the plain form, and a refusal names the line
+//! of the input.
 
 use crate::making::run;
 use crate::pieces::Pieces;
 use capn_make::{Form, MakeFault, Misfit, Watched, make_texts};
 use std::alloc::Global;
 
-/// Returns the end of a run over an input with quotes that comes in pieces, and its output.
+/// Returns the result of a run over an input with quotes, read in chunks of at most `most` bytes, and its output.
 fn run_texts(
     alloc: Global,
     form: Form,
@@ -19,7 +20,8 @@ fn run_texts(
     (outcome, writer.into_inner())
 }
 
-/// Tests whether a run over an input with quotes writes what one over another without them does, and ends so.
+/// Tests whether a run over `input`, which has quotes, ends with `ending`, and writes what a run over `plain` writes,
+/// which has none.
 fn is_same(
     alloc: Global,
     form: Form,
@@ -37,7 +39,7 @@ fn is_same(
     true
 }
 
-/// Inputs with quotes, and their plain forms.
+/// Inputs with quotes, each with its plain form.
 const QUOTED: [(&[u8], &[u8]); 7] = [
     (b"bytes 3 \"abc\"\nend\n", b"bytes 3\n  616263\nend\n"),
     (b"bytes \"abc\"\nend\n", b"bytes 3\n  616263\nend\n"),
@@ -64,7 +66,7 @@ fn each_quoted(rt: HostRuntime) {
     assert!(rt; is_same(rt.alloc(), Form::Bare, QUOTED[0].0, QUOTED[0].1, Ok(())));
 }
 
-/// Inputs that are refused, in the form stream, and why, at the line of the input.
+/// Inputs that are refused in the form `stream`, and the reason for each, with the line of the input.
 const REFUSED: [(&[u8], MakeFault); 20] = [
     (b"bytes \"\"\nend\n", MakeFault::NotText(1)),
     (b"bytes 0 \"\"\nend\n", MakeFault::NotText(1)),
@@ -157,7 +159,7 @@ fn own_lines_after_many_texts(rt: HostRuntime) -> Result<(), std::test::Fail> {
     Ok(())
 }
 
-/// Returns the number of bytes of an input without a line end that were not read when it was refused at its first line.
+/// Returns the number of bytes left unread of an input without a newline when its first line was refused.
 fn left_of(alloc: Global, front: &[u8], filler: u8) -> Result<usize, std::test::Fail> {
     let mut input = Vec::new(alloc);
     input.extend_from_slice(front)?;

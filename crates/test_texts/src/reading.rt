@@ -1,5 +1,5 @@
-//! Texts of values, read back or refused.
-//! What is shown is read back, and a text that isn't one is refused at its first wrong line.
+//! Tests of texts of values: what `show` wrote is read back, and a text that is wrong is refused at its first wrong
+//! line.
 
 use capn_text::{TextFault, Texts, read};
 use capn_value::{Body, Items, Misfit, Tree, Value, show};
@@ -89,7 +89,7 @@ fn fault_of(alloc: Global, text: &[u8]) -> Option<TextFault> {
     }
 }
 
-/// Texts that are refused, and why.
+/// Texts that are refused, and the reason for each.
 const REFUSED: [(&[u8], TextFault); 18] = [
     (b"", TextFault::Line(1)),
     (b"null", TextFault::Line(1)),
@@ -160,7 +160,7 @@ fn rest_of_a_stream(rt: HostRuntime) {
     assert!(rt; Texts::from_line(STREAM, most + 1).is_none());
 }
 
-/// The fault that ends a stream, and the line at which its text begins.
+/// Returns the fault that ends the stream `input`, and the line at which the refused text begins.
 fn stream_fault(alloc: Global, input: &[u8]) -> Option<(u64, TextFault)> {
     let mut texts = Texts::new(input);
     for _ in 0..input.len() {
@@ -173,7 +173,7 @@ fn stream_fault(alloc: Global, input: &[u8]) -> Option<(u64, TextFault)> {
     None
 }
 
-/// Streams of texts that are refused, the line at which the refused text begins, and why.
+/// Streams of texts that are refused, the line at which the refused text begins, and the reason.
 const REFUSED_STREAMS: [(&[u8], u64, TextFault); 7] = [
     (b"null\nend\nnull\n", 3, TextFault::Cut(4)),
     (b"null\nend\nnull\nnull\nend\n", 3, TextFault::Line(4)),
@@ -198,7 +198,7 @@ fn lines_of_a_stream(rt: HostRuntime) {
     }
 }
 
-/// Returns the text of `levels` structs, each in the one before, and the lines `last` in the last of them.
+/// Returns the text of `levels` structs, each in the one before, with the lines `last` in the innermost.
 fn nested(alloc: Global, levels: u32, last: &[u8]) -> Result<Vec<u8>, Fail> {
     let mut text = Vec::new(alloc);
     for level in 0..levels {
@@ -220,10 +220,10 @@ fn deep_fault(alloc: Global, last: &[u8]) -> Result<Option<TextFault>, Fail> {
     Ok(fault_of(alloc, text.as_slice()))
 }
 
-/// The refusal of a text that goes deeper than 256 levels. Nothing after the line that does is looked at.
+/// The refusal of a text that is deeper than 256 levels. Nothing after the line that is too deep is looked at.
 const TALL: TextFault = TextFault::Misfit(Misfit::Tall);
 
-/// Lines at level 256 that are refused, and why.
+/// Lines at level 256 that are refused, and the reason for each.
 const TOO_DEEP: [(&[u8], TextFault); 6] = [
     (b"struct 0 0\n", TALL),
     (b"void 0\n", TALL),

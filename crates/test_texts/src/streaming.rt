@@ -1,5 +1,5 @@
-//! Messages written on arrival of their texts.
-//! The tests vary the pieces, have a reader or a writer fail, and measure how much of a long input is held.
+//! Tests of messages that are written as soon as their texts are read. The tests vary the chunks, let a reader or a
+//! writer fail, and measure how much of a long input is held.
 
 use crate::making::NULL;
 use capn_make::{Form, MakeFault, Watched, make};
@@ -8,7 +8,7 @@ use std::io::{self, Error, ErrorKind, Read, Write};
 use std::test::Fail;
 use test_allocator::Refusing;
 
-/// A reader that gives these bytes, and then others or an error.
+/// A reader that gives `first`, and then `then`, or an error if `fails`.
 #[derive(Drop)]
 struct Parted<'a> {
     first: &'a [u8],
@@ -32,7 +32,7 @@ impl Read for Parted<'_> {
     }
 }
 
-/// A writer that fails at one call (at 0: never).
+/// A writer that takes the next `left - 1` calls, and fails at each later one. If `left` is 0, it never fails.
 #[derive(Drop)]
 struct Breaking {
     bytes: Vec<u8>,
@@ -54,7 +54,7 @@ impl Write for Breaking {
     }
 }
 
-/// Returns the end of a run over such a reader, and its output.
+/// Returns the result of a run over the reader `parted`, whose writer fails at the call `fails_at`, and its output.
 fn run_parted(
     alloc: Global,
     form: Form,
@@ -71,20 +71,20 @@ fn run_parted(
     (outcome, writer.into_inner().bytes)
 }
 
-/// The texts of two values: after 70 bytes the first is whole, after 79 the second.
+/// The texts of two values. The first ends after 70 bytes, the second after 79.
 const TEXTS: &[u8] =
     b"struct 2 1\n  word 0000000000000005\n  word 0000000000000000\n  null\nend\nnull\nend\n";
 
-/// The bytes of the first text, and of both.
+/// The number of bytes of the first text, and of both.
 const WHOLE: [usize; 2] = [70, 79];
 
-/// Their messages in form stream, and the bytes of the first.
+/// The messages of `TEXTS` in the form `stream`, and the length of the first.
 const FRAMES: &[u8] = b"\0\0\0\0\x02\0\0\0\0\0\0\0\x01\0\0\0\x05\0\0\0\0\0\0\0\
     \0\0\0\0\x01\0\0\0\0\0\0\0\0\0\0\0";
 
 const FIRST_FRAME: usize = 24;
 
-/// The messages of the texts in form packed.
+/// The messages of `TEXTS` in the form `packed`.
 const PACKED: &[u8] = b"\x10\x02\x10\x01\x01\x05\x10\x01\0\0";
 
 const FIRST_PACKED: usize = 6;
@@ -106,7 +106,7 @@ fn parted_at_each_byte(rt: HostRuntime) {
     }
 }
 
-/// Returns the output for the first bytes of the texts.
+/// Returns the output that is due after the first `bytes` bytes of `TEXTS`.
 fn heard(messages: &'static [u8], first: usize, bytes: usize) -> &'static [u8] {
     if bytes < WHOLE[0] {
         b""
@@ -125,7 +125,7 @@ fn a_reader_that_fails_after_each_byte(rt: HostRuntime) {
         (Form::Bare, b"".as_slice(), 0),
     ] {
         for at in 0..=TEXTS.len() {
-            // In form bare a second text is refused before the reader fails.
+            // In the form `bare` a second text is refused before the reader fails.
             if let (Form::Bare, true) = (form, at > 74) {
                 continue;
             }
@@ -163,7 +163,7 @@ fn a_writer_that_fails_at_each_write(rt: HostRuntime) {
     assert!(rt; outcome == Ok(()));
 }
 
-/// A reader that gives a beginning, then the same bytes a number of times, then an end.
+/// A reader that gives `begins`, then `again` as often as `times` says, then `ends`.
 #[derive(Drop)]
 pub(crate) struct Repeating<'a> {
     pub(crate) begins: &'a [u8],
@@ -207,7 +207,7 @@ impl Write for Counting {
     }
 }
 
-/// Returns the number of bytes that a run writes that ends well and asks for no growth of more than `most` bytes.
+/// Returns the number of bytes that a run writes, if it ends with `Ok` and no growth is above `most` bytes.
 fn written_within(alloc: Global, repeating: Repeating, most: usize) -> Option<u64> {
     let heap = Refusing::nth(alloc, 0);
     heap.refuse_above(most);
@@ -221,7 +221,7 @@ fn written_within(alloc: Global, repeating: Repeating, most: usize) -> Option<u6
     }
 }
 
-/// 200,000 texts, 8 at once, are held no longer than their piece.
+/// 200,000 texts, read 8 at once, are held no longer than the chunk that has them.
 #[test]
 fn many_texts_in_little_memory(rt: HostRuntime) {
     let repeating = Repeating {

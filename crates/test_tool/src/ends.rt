@@ -1,4 +1,4 @@
-//! Ends of runs over slow or failing readers and writers.
+//! Tests of runs over slow or failing readers and writers: their results, and what they wrote.
 
 use crate::slow::{Ending, Run, ended};
 use capn_canon::{Form, Refusal};
@@ -14,7 +14,7 @@ const BARE: [u8; 24] = [
     0, 0, 0, 0, 2, 0, 0, 0, 5, 0, 0, 0, 0, 0, 0, 0, 0, 0, 0, 0, 0, 0, 0, 0,
 ];
 
-/// Its canonical bytes, 16 of them.
+/// The canonical bytes of `BARE`, 16 of them.
 const CANONICAL: [u8; 16] = [0, 0, 0, 0, 1, 0, 0, 0, 5, 0, 0, 0, 0, 0, 0, 0];
 
 /// A stream of two messages, of 40 bytes: a struct of one word, then a null root.
@@ -23,10 +23,10 @@ const STREAM: [u8; 40] = [
     0, 0, 0, 0, 0, 0, 0, 0,
 ];
 
-/// The lines of their prices, 19 bytes each.
+/// The lines of the prices of `STREAM`, 19 bytes each.
 const PRICES: &[u8] = b"ok paid 2 visits 1\nok paid 0 visits 1\n";
 
-/// The run of `canonical` over the bare message.
+/// Returns the run of `canonical` over the bare message.
 fn canonical() -> Run<'static> {
     Run {
         command: Command::Canonical(Form::Bare, Limits::usual()),
@@ -35,7 +35,7 @@ fn canonical() -> Run<'static> {
     }
 }
 
-/// The run of `check` over the stream.
+/// Returns the run of `check` over `STREAM`.
 fn check() -> Run<'static> {
     Run {
         command: Command::Check(Form::Stream, Limits::usual()),
@@ -44,17 +44,17 @@ fn check() -> Run<'static> {
     }
 }
 
-/// A message of which each command's text is a line: a stream of a struct of one word, twice.
+/// A stream of a struct of one word, twice, so that a command writes one line for each.
 const TWICE: [u8; 48] = [
     0, 0, 0, 0, 2, 0, 0, 0, 0, 0, 0, 0, 1, 0, 0, 0, 5, 0, 0, 0, 0, 0, 0, 0, 0, 0, 0, 0, 2, 0, 0, 0,
     0, 0, 0, 0, 1, 0, 0, 0, 5, 0, 0, 0, 0, 0, 0, 0,
 ];
 
-/// The line of its digest, of 65 bytes, twice.
+/// The line of the message's digest, of 65 bytes, twice.
 const DIGESTS: &[u8] = b"6a3efd90ef3aebf0decabee51bbe92707bee76bb8f2830efd1bf615b14f61ac2\n\
     6a3efd90ef3aebf0decabee51bbe92707bee76bb8f2830efd1bf615b14f61ac2\n";
 
-/// The run of `hash` over it.
+/// Returns the run of `hash` over `TWICE`.
 fn hash() -> Run<'static> {
     Run {
         command: Command::Hash(Form::Stream, Limits::usual()),
@@ -63,8 +63,8 @@ fn hash() -> Run<'static> {
     }
 }
 
-/// Returns the part of the text that has to be there before a call of the reader, for the messages that were whole by
-/// then. Of each message `whole` has the byte at which it ends and the length of the text with it.
+/// Returns the length of the text that must be written before the call `call` of the reader. For each message, `whole`
+/// has the byte at which it ends and the length of the text up to its line.
 fn due(whole: &[(u64, usize)], call: u64) -> usize {
     let mut due = 0;
     for (bytes, text) in whole {
@@ -75,8 +75,8 @@ fn due(whole: &[(u64, usize)], call: u64) -> usize {
     due
 }
 
-/// Returns the number of calls of the reader when a byte of the text is written: as many as the message has bytes that
-/// it belongs to, or all to the end of the input.
+/// Returns the number of calls of the reader by the time that the byte `byte` of the text is written. That is the
+/// number of bytes up to the end of its message, or `all` for the text at the end of the input.
 fn reads_before(whole: &[(u64, usize)], byte: usize, all: u64) -> u64 {
     for (bytes, text) in whole {
         if byte <= *text {
@@ -86,12 +86,13 @@ fn reads_before(whole: &[(u64, usize)], byte: usize, all: u64) -> u64 {
     all
 }
 
-/// Tests whether a run ended so, and wrote this.
+/// Tests whether a run ended with `outcome` after writing `text`.
 fn is_ended(end: &Ending, outcome: Result<(), ToolFault>, text: Option<&[u8]>) -> bool {
     end.outcome == outcome && Some(end.written.as_slice()) == text
 }
 
-/// Tests whether a run whose reader fails at a call ends so and writes this, and asked for pieces of 64 KiB.
+/// Tests whether a run whose reader fails at `call` ends with `outcome` after writing `text`, and requests chunks of 64
+/// KiB.
 fn reads_so(
     alloc: Global,
     run_of: &Run,
@@ -103,7 +104,8 @@ fn reads_so(
     end.asked == 65_536 && is_ended(&end, outcome, text)
 }
 
-/// Fails each call of the reader in turn, the one that finds the end among them: the output for what came is written.
+/// Lets each call of the reader fail in turn, including the one that finds the end: the output for what was read is
+/// written.
 fn fail_each_read(rt: &impl Abort, alloc: Global, run_of: &Run, whole: &[(u64, usize)]) {
     let calls = run_of.input.len() as u64 + 1;
     for call in 0..=calls + 1 {
@@ -117,8 +119,8 @@ fn fail_each_read(rt: &impl Abort, alloc: Global, run_of: &Run, whole: &[(u64, u
     }
 }
 
-/// Tests whether a run whose writer fails at a call ended so and wrote this; returns the number of calls of its reader
-/// until then.
+/// Tests whether a run whose writer fails at `call` ends with `outcome` after writing `text`. Returns the number of
+/// calls of its reader.
 fn writes_so(
     alloc: Global,
     run_of: &Run,
@@ -135,8 +137,8 @@ fn writes_so(
     }
 }
 
-/// Fails each call of the writer in turn: what it took before is a beginning of the text, and the reader wasn't called
-/// any more.
+/// Lets each call of the writer fail in turn: what it took before is a prefix of the text, and the reader is not called
+/// again.
 fn fail_each_write(
     rt: &impl Abort,
     alloc: Global,
@@ -158,7 +160,8 @@ fn fail_each_write(
     }
 }
 
-/// The messages of `check`'s stream, and of the one that is there twice.
+/// The messages of `STREAM` and of `TWICE`: for each, the byte at which it ends, and the length of the text up to its
+/// line.
 const CHECKED: [(u64, usize); 2] = [(24, 19), (40, 38)];
 
 const HASHED: [(u64, usize); 2] = [(24, 65), (48, 130)];
@@ -179,7 +182,7 @@ fn a_writer_fails_at_each_call(rt: HostRuntime) {
     }
 }
 
-/// The run of `check` over packed bytes.
+/// Returns the run of `check` over packed bytes.
 fn check_packed<'a>(input: &'a [u8], text: &'a [u8]) -> Run<'a> {
     Run {
         command: Command::Check(Form::Packed, Limits::usual()),
@@ -188,15 +191,15 @@ fn check_packed<'a>(input: &'a [u8], text: &'a [u8]) -> Run<'a> {
     }
 }
 
-/// The packed text of a struct of one word, framed.
+/// The packed frame of a struct of one word.
 const PACKED: [u8; 6] = [0x10, 2, 0x10, 1, 1, 5];
 
-/// That message twice, and the bytes at which each ends with its line.
+/// `PACKED` twice, and for each the byte at which it ends and the length of the text up to its line.
 const PACKED_TWICE: [u8; 12] = [0x10, 2, 0x10, 1, 1, 5, 0x10, 2, 0x10, 1, 1, 5];
 
 const PACKED_WHOLE: [(u64, usize); 2] = [(6, 19), (12, 38)];
 
-/// The line of its price, once and twice.
+/// The line of the price of `PACKED`, once and twice.
 const PRICE: &[u8] = b"ok paid 2 visits 1\n";
 
 const PRICE_TWICE: &[u8] = b"ok paid 2 visits 1\nok paid 2 visits 1\n";
@@ -208,15 +211,15 @@ fn a_packed_stream_is_served(rt: HostRuntime) {
     fail_each_write(&rt, rt.alloc(), &both, &PACKED_WHOLE, true);
 }
 
-/// A packed stream that announces 4,097 segments in its second byte, one that is cut in a group, and one that is cut in
-/// a frame, the last two after a whole message.
+/// A packed stream that announces 4,097 segments in its second byte. The next one is cut in a group, and the last one
+/// in a frame, each after a whole message.
 const LONG: [u8; 4] = [2, 0x10, 0xff, 0x8a];
 
 const CUT: [u8; 9] = [0x10, 2, 0x10, 1, 1, 5, 0x10, 2, 0x10];
 
 const UNFRAMED: [u8; 8] = [0x10, 2, 0x10, 1, 1, 5, 0x10, 2];
 
-/// Tests whether `check` of packed bytes writes this and ends so.
+/// Tests whether `check` of the packed `input` ends with `outcome` after writing `text`.
 fn ends_so(alloc: Global, input: &[u8], text: &[u8], outcome: Result<(), ToolFault>) -> bool {
     let end = ended(alloc, &check_packed(input, text), 0, 0, false);
     is_ended(&end, outcome, Some(text))

@@ -1,6 +1,6 @@
 //! Tests of the program's command line, runs and failures.
 //!
-//! They stand apart from the crates that they test, since a crate with tests is proved twice.
+//! They are apart from the crates that they test, because a crate with tests is proved twice.
 #![tactic(auto)]
 
 #[cfg(test)]

@@ -1,4 +1,4 @@
-//! Command lines and their orders.
+//! Tests of command lines, and the commands that they mean.
 
 use capn_canon::Form;
 use capn_tool::*;
@@ -7,7 +7,7 @@ use capn_walk::Limits;
 use std::alloc::Global;
 use std::process::Abort;
 
-/// Expects that the `words` order the command `want`.
+/// Checks that `words` mean the command `want`.
 fn expect(rt: &impl Abort, alloc: Global, words: &[&str], want: Command) {
     let told = command_of(alloc, words).ok();
     assert!(rt; told == Some(want), "{words:?}");
@@ -55,7 +55,7 @@ fn an_empty_word_is_no_form(rt: HostRuntime) {
     }
 }
 
-/// Returns the order to `check` a stream with limits of these numbers.
+/// Returns the command to `check` a stream with the given limits.
 fn check(message_words: u32, budget: u32, depth: u32) -> Command {
     let limits = Limits::new(message_words, budget, depth).unwrap_or(Limits::usual());
     Command::Check(Form::Stream, limits)

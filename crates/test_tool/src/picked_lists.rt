@@ -1,4 +1,4 @@
-//! Memory for the list of `pick --only`.
+//! Tests of the memory for the list of `pick --only`.
 
 use capn_tool::{Limits, Only, StreamForm, pick_only};
 use capn_words::Watched;
@@ -12,8 +12,7 @@ const FRAMES: [u8; 48] = [
     0, 0, 0, 0, 1, 0, 0, 0, 0, 0, 0, 0, 0, 0, 0, 0,
 ];
 
-/// Returns the number of bytes that a pick by `list` writes that is done and asks for no growth of more than `most`
-/// bytes.
+/// Returns the number of bytes that a pick by `list` writes, if it ends with `Ok` and no growth is above `most` bytes.
 fn picked_within(alloc: Global, list: &str, most: usize) -> Option<usize> {
     let heap = Refusing::nth(alloc, 0);
     heap.refuse_above(most);
@@ -30,7 +29,7 @@ fn picked_within(alloc: Global, list: &str, most: usize) -> Option<usize> {
     }
 }
 
-/// Returns the list of `count` odd numbers.
+/// Returns the list of the first `count` odd numbers.
 fn odd(alloc: Global, count: u32) -> Result<String, AllocError> {
     let mut list = String::from_str(alloc, "1")?;
     for number in 1..count {
@@ -40,8 +39,8 @@ fn odd(alloc: Global, count: u32) -> Result<String, AllocError> {
     Ok(list)
 }
 
-/// A list takes 16 bytes for each of its ranges, at most twice. A body that asks for the room of the longest list
-/// before it reads this one asks for mebibytes.
+/// A list takes 16 bytes for each of its ranges, or at most twice that. Code that takes the room of the longest list
+/// before it reads this one has a growth of mebibytes.
 #[test]
 fn a_list_asks_for_the_room_of_its_ranges(rt: HostRuntime) -> Result<(), Fail> {
     assert!(rt; picked_within(rt.alloc(), "3", 256) == Some(16));

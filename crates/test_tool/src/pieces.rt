@@ -1,4 +1,4 @@
-//! Runs over a reader of pieces, with counted calls.
+//! Tests of runs over a reader of chunks, with counted calls.
 
 use capn_canon::Form;
 use capn_tool::*;
@@ -9,7 +9,7 @@ use std::alloc::{AllocError, Global};
 use std::cell::Cell;
 use std::io::{self, Read, Write};
 
-/// The numbers of calls of the reader and of the writer of a run, and of the reader before the writer was first called.
+/// The numbers of calls of a run's reader and writer, and of its reader before the writer was first called.
 #[derive(Drop)]
 pub(crate) struct Calls {
     pub(crate) reads: Cell<u64>,
@@ -17,7 +17,7 @@ pub(crate) struct Calls {
     reads_before: Cell<u64>,
 }
 
-/// No calls.
+/// Returns counters at zero.
 pub(crate) fn no_calls() -> Calls {
     Calls {
         reads: Cell::new(0),
@@ -26,7 +26,7 @@ pub(crate) fn no_calls() -> Calls {
     }
 }
 
-/// A reader of at most `piece` bytes a call.
+/// A reader of at most `piece` bytes a call, which counts its calls.
 #[derive(Drop)]
 pub(crate) struct Source<'a> {
     pub(crate) bytes: &'a [u8],
@@ -47,7 +47,7 @@ impl Read for Source<'_> {
     }
 }
 
-/// A writer of all that it is given.
+/// A writer that takes all that it is given, and counts its calls.
 #[derive(Drop)]
 pub(crate) struct Sink<'a> {
     pub(crate) bytes: Vec<u8>,
@@ -71,7 +71,7 @@ impl Write for Sink<'_> {
     }
 }
 
-/// Returns the end of a run over pieces of `piece` bytes, and its output.
+/// Returns the result of a run over chunks of `piece` bytes, and its output.
 fn ended(
     alloc: Global,
     command: Command,
@@ -92,15 +92,15 @@ fn ended(
     (outcome, writer.into_inner().bytes)
 }
 
-/// A struct of two words, framed: 32 bytes.
+/// The frame of a struct of two words: 32 bytes.
 pub(crate) const FRAMED: [u8; 32] = [
     0, 0, 0, 0, 3, 0, 0, 0, 0, 0, 0, 0, 2, 0, 0, 0, 5, 0, 0, 0, 0, 0, 0, 0, 6, 0, 0, 0, 0, 0, 0, 0,
 ];
 
-/// The line of its price.
+/// The line of the price of `FRAMED`.
 const LINE: &[u8] = b"ok paid 3 visits 1\n";
 
-/// `count` copies of some bytes.
+/// Returns `count` copies of `bytes`, one after the other.
 fn repeated(alloc: Global, bytes: &[u8], count: u32) -> Option<Vec<u8>> {
     let mut all = Vec::new(alloc);
     for _ in 0..count {
@@ -109,12 +109,12 @@ fn repeated(alloc: Global, bytes: &[u8], count: u32) -> Option<Vec<u8>> {
     Some(all)
 }
 
-/// `check` of a stream.
+/// Returns the command `check` of a stream.
 fn check_stream() -> Command {
     Command::Check(Form::Stream, Limits::usual())
 }
 
-/// Tests whether `check` of `count` messages, in pieces of `piece` bytes, writes their lines.
+/// Tests whether `check` of `count` messages, in chunks of `piece` bytes, writes their lines.
 fn is_checked(alloc: Global, count: u32, piece: usize, calls: &Calls) -> bool {
     let Some(lines) = repeated(alloc, LINE, count) else {
         return false;
@@ -140,11 +140,11 @@ fn ten_thousand_messages_are_written_at_once(rt: HostRuntime) {
     assert!(rt; calls.reads.get() == 6 && calls.writes.get() == 5);
 }
 
-/// Structs of this many words and null slots, as they are framed: with 1 to pay for each, these are at the borders
-/// between numbers of one digit and of more.
+/// The words and null slots of structs. With 1 to pay for each struct, their prices are the numbers before and after
+/// one more digit.
 const SIZES: [(u8, u8); 6] = [(8, 0), (9, 0), (98, 0), (99, 0), (0, 8), (0, 9)];
 
-/// The lines of their prices.
+/// The lines of the prices of `SIZES`.
 const LINES: &[u8] = b"ok paid 9 visits 1\n\
 ok paid 10 visits 1\n\
 ok paid 99 visits 1\n\
@@ -152,7 +152,7 @@ ok paid 100 visits 1\n\
 ok paid 9 visits 9\n\
 ok paid 10 visits 10\n";
 
-/// Appends the frame of a struct of so many `words` and null `slots` to `stream`.
+/// Appends the frame of a struct of `words` words and `slots` null slots to `stream`.
 fn add_struct(stream: &mut Vec<u8>, words: u8, slots: u8) -> Result<(), AllocError> {
     let content = u16::from(words) + u16::from(slots);
     let [low, high] = (content + 1).to_le_bytes();
@@ -164,7 +164,7 @@ fn add_struct(stream: &mut Vec<u8>, words: u8, slots: u8) -> Result<(), AllocErr
     Ok(())
 }
 
-/// Returns the stream of structs of these `sizes`.
+/// Returns a stream of structs with the given `sizes`.
 fn structs(alloc: Global, sizes: &[(u8, u8)]) -> Result<Vec<u8>, AllocError> {
     let mut stream = Vec::new(alloc);
     for &(words, slots) in sizes {

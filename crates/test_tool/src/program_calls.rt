@@ -1,4 +1,4 @@
-//! The program over a reader of pieces, with counted calls.
+//! Tests of the program over a reader of chunks, with counted calls.
 
 use crate::pieces::{Calls, FRAMED, Sink, Source, no_calls};
 use capn_tool::program;
@@ -6,8 +6,8 @@ use capn_words::Watched;
 use std::alloc::{AllocError, Global};
 use std::test::Fail;
 
-/// Returns the status of the program with these `words` over pieces of `piece` bytes, and its output. The calls of its
-/// errors are counted in `told`.
+/// Returns the status of the program with `words` over chunks of `piece` bytes, and its output. The calls of its error
+/// writer are counted in `told`.
 fn programmed(
     alloc: Global,
     words: &[&str],
@@ -33,11 +33,11 @@ fn programmed(
     (status, writer.into_inner().bytes)
 }
 
-/// The bytes of a piece.
+/// The number of bytes of a chunk.
 const PIECE: usize = 65_536;
 
-/// Returns the output of the program over whole pieces, if it is done after one read of each and one more, and no more
-/// than `writes` calls of its writer for each.
+/// Returns the output of the program over whole chunks. Its status must be 0. It must read once for each chunk and once
+/// more, and call its writer at most `writes` times for each chunk.
 fn in_pieces(alloc: Global, words: &[&str], input: &[u8], writes: u64) -> Option<Vec<u8>> {
     let calls = no_calls();
     let told = no_calls();

@@ -1,12 +1,11 @@
-//! The program over readers and writers in memory.
-//! The tests compare its status, and what it writes where.
+//! Tests of the program over readers and writers in memory: its status, its output and its errors.
 
 use capn_tool::program;
 use capn_words::Watched;
 use std::alloc::Global;
 use std::io::{self, Error, ErrorKind, Write};
 
-/// A writer that takes every byte, or fails at the first, or fails at the flush. It counts its flushes.
+/// A writer that takes every byte, fails at the first, or fails at the flush. It counts its flushes.
 #[derive(Drop)]
 struct Page {
     bytes: Vec<u8>,
@@ -33,7 +32,7 @@ impl Write for Page {
     }
 }
 
-/// A page that has nothing on it.
+/// Returns a writer to which nothing has been written.
 fn blank(alloc: Global, takes: bool, flushes: bool) -> Page {
     Page {
         bytes: Vec::new(alloc),
@@ -43,8 +42,7 @@ fn blank(alloc: Global, takes: bool, flushes: bool) -> Page {
     }
 }
 
-/// Returns the end of the program, and its output and errors, for these `words` and this `input`, over such an
-/// `output`.
+/// Returns the status of the program for `words` and `input`, with its output, written to `output`, and its errors.
 fn ended(alloc: Global, words: &[&str], input: &[u8], output: Page) -> (u8, Page, Page) {
     let mut reader = Watched::new(input);
     let mut writer = Watched::new(output);
@@ -58,14 +56,13 @@ const STREAM: [u8; 24] = [
     0, 0, 0, 0, 2, 0, 0, 0, 0, 0, 0, 0, 1, 0, 0, 0, 5, 0, 0, 0, 0, 0, 0, 0,
 ];
 
-/// The line of its price.
+/// The line of the price of `STREAM`.
 const PRICE: &[u8] = b"ok paid 2 visits 1\n";
 
-/// The line of an output that failed.
+/// The error line for an output that failed.
 const FAILED: &[u8] = b"capn: input or output failed\n";
 
-/// Tests whether the program ends with this status, writes this to its output and this to its errors, and flushes its
-/// output once.
+/// Tests whether the program ends with the status, the output and the errors in `want`, and flushes its output once.
 fn is_ended(
     alloc: Global,
     words: &[&str],
@@ -105,7 +102,7 @@ fn each_status_of_a_run(rt: HostRuntime) {
     }
 }
 
-/// Tests whether the words are a mistake: nothing is written to the output, and the errors begin like this.
+/// Tests whether `words` are refused: nothing is written to the output, and the errors begin with `line`.
 fn is_mistake(alloc: Global, words: &[&str], line: &[u8]) -> bool {
     let (code, written, told) = ended(alloc, words, &STREAM, blank(alloc, true, true));
     code == 2 && written.bytes.is_empty() && told.bytes.as_slice().starts_with(line)
@@ -121,7 +118,8 @@ fn mistakes_are_told_as_errors(rt: HostRuntime) {
     assert!(rt; is_mistake(rt.alloc(), &words, line));
 }
 
-/// Tests whether help over such an output ends with this status, is written or not, and leaves this on the errors.
+/// Tests whether `--help` over `output` ends with the status `code`, is written if `is_written`, and leaves `line` on
+/// the errors.
 fn is_helped(alloc: Global, output: Page, code: u8, is_written: bool, line: &[u8]) -> bool {
     let words = ["capn", "pack", "--help"];
     let (status, written, told) = ended(alloc, &words, &STREAM, output);

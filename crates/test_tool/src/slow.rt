@@ -1,11 +1,12 @@
-//! A failing reader and writer of one byte a call.
+//! A reader and a writer of one byte a call, which fail at a given call.
 
 use capn_tool::{Command, ToolFault, run};
 use capn_words::Watched;
 use std::alloc::Global;
 use std::io::{self, Error, ErrorKind, Read, Write};
 
-/// A reader of one byte a call, which fails at one call and remembers the most that it was asked for.
+/// A reader of one byte a call, which fails at the call `fails_at`, and remembers the greatest number of bytes
+/// requested.
 #[derive(Drop)]
 struct Slow<'a> {
     bytes: &'a [u8],
@@ -32,7 +33,7 @@ impl Read for Slow<'_> {
     }
 }
 
-/// A writer of one byte a call, which at one call answers an error or takes nothing.
+/// A writer of one byte a call, which at the call `fails_at` returns an error or takes nothing.
 #[derive(Drop)]
 struct Narrow {
     bytes: Vec<u8>,
@@ -65,7 +66,7 @@ impl Write for Narrow {
     }
 }
 
-/// A command with its input and what it writes.
+/// A command, its input, and its output.
 #[derive(Clone, Copy)]
 pub(crate) struct Run<'a> {
     pub(crate) command: Command,
@@ -73,8 +74,8 @@ pub(crate) struct Run<'a> {
     pub(crate) text: &'a [u8],
 }
 
-/// The end of a run: its outcome, its output, the number of calls of its reader, and the most bytes that it asked it
-/// for.
+/// The outcome of a run: its result, its output, the number of calls of its reader, and the greatest number of bytes
+/// that it requested of it.
 #[derive(Drop)]
 pub(crate) struct Ending {
     pub(crate) outcome: Result<(), ToolFault>,
@@ -83,7 +84,8 @@ pub(crate) struct Ending {
     pub(crate) asked: usize,
 }
 
-/// Returns the end of a run whose reader fails at one call and its writer at another (at 0: never).
+/// Returns the outcome of a run whose reader fails at the call `read` and its writer at the call `write`, or never if
+/// these are 0.
 pub(crate) fn ended(
     alloc: Global,
     run_of: &Run,

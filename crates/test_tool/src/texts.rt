@@ -1,5 +1,4 @@
-//! Names, texts and statuses of faults.
-//! The texts and statuses are those of faults that no message of a few bytes has.
+//! Tests of the texts and statuses of faults that no short message causes, and of the names of errors.
 
 use capn_canon::Refusal;
 use capn_pack::UnpackFault;
@@ -12,7 +11,7 @@ use std::error::Error;
 use std::process::Abort;
 use test_allocator::Refusing;
 
-/// Expects the text of a fault and its status, and its line where all memory is refused.
+/// Checks the text and the status of `fault`, and that its line is written even if all memory is refused.
 fn expect_text(rt: &impl Abort, alloc: Global, fault: ToolFault, text: &str, code: u8) {
     match fault_text(alloc, &fault) {
         Ok(got) => assert!(rt; got.as_bytes() == text.as_bytes() && status(&Err(fault)) == code),
@@ -28,7 +27,7 @@ fn expect_text(rt: &impl Abort, alloc: Global, fault: ToolFault, text: &str, cod
     }
 }
 
-/// Expects that `error` shows `name`, and only that.
+/// Checks that `error` is displayed as `name`.
 fn expect_name<E: Error>(rt: &impl Abort, alloc: Global, error: &E, name: &str) {
     match format!(in alloc; "{error}") {
         Ok(shown) => assert!(rt; shown.as_bytes() == name.as_bytes()),

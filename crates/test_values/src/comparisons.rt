@@ -1,4 +1,4 @@
-//! Comparisons of two messages, beside those of their canonical bytes.
+//! Comparisons of two messages, checked against a comparison of their canonical bytes.
 
 use crate::words::bytes_of;
 use capn_canon::{Canonical, Refusal, SameRefusal, Side, canonical_of, same_messages};
@@ -7,8 +7,8 @@ use capn_walk::Limits;
 use std::alloc::Global;
 use std::process::Abort;
 
-/// Returns the answer of a comparison of the frames of these words; `None` if it isn't what comparing their canonical
-/// bytes says, with the refusal that these have.
+/// Returns the result of `same_messages` for the frames of `one` and `other`, or `None` if it differs from a comparison
+/// of their canonical bytes, or from the refusal of these.
 pub(crate) fn compared(
     alloc: Global,
     one: &[u64],
@@ -35,7 +35,7 @@ pub(crate) fn compared(
     if answer == want { Some(answer) } else { None }
 }
 
-/// Returns what comparing canonical bytes says.
+/// Returns the result of a comparison of canonical bytes.
 fn wanted(
     one: Result<Canonical, Refusal>,
     other: Result<Canonical, Refusal>,
@@ -55,7 +55,7 @@ fn wanted(
     }
 }
 
-/// Tests whether two messages are the same, asked both ways.
+/// Checks that a comparison of `one` and `other`, in both orders, gives `want`.
 pub(crate) fn expect(rt: &impl Abort, alloc: Global, one: &[u64], other: &[u64], want: bool) {
     let limits = Limits::usual();
     let there = compared(alloc, one, other, limits);
@@ -64,14 +64,14 @@ pub(crate) fn expect(rt: &impl Abort, alloc: Global, one: &[u64], other: &[u64],
     assert!(rt; back == Some(Ok(want)));
 }
 
-/// The pointer to a struct of these sizes, `offset` words after the pointer.
+/// Returns the pointer to a struct of `words` words and `slots` slots, `offset` words after the pointer.
 pub(crate) fn node(offset: u64, words: u64, slots: u64) -> u64 {
     offset.wrapping_mul(4)
         | words.wrapping_mul(0x1_0000_0000)
         | slots.wrapping_mul(0x1_0000_0000_0000)
 }
 
-/// The pointer to a list of `count` elements of this kind, `offset` words after the pointer.
+/// Returns the pointer to a list of `count` elements of the size code `kind`, `offset` words after the pointer.
 pub(crate) fn list(offset: u64, kind: u64, count: u64) -> u64 {
     1 | offset.wrapping_mul(4)
         | kind.wrapping_mul(0x1_0000_0000)

@@ -1,4 +1,4 @@
-//! Counts of the questions to a message by the calls that take a `Space`, and not a counter.
+//! Tests that count how often a message is read, for the calls that take a plain `Space` and no counter.
 
 ghost use Rattle.std.specs.Prelude.{◌≡◌};
 
@@ -12,7 +12,7 @@ use std::alloc::Global;
 use std::cell::Cell;
 use std::test::Fail;
 
-/// A message that counts how often it is asked. Bytes count as the words that they take.
+/// A message that counts how often it is read. Bytes count as the words that they take.
 #[derive(Drop)]
 struct Asked<'s, S: Space> {
     space: &'s S,
@@ -20,12 +20,12 @@ struct Asked<'s, S: Space> {
 }
 
 impl<'s, S: Space> Asked<'s, S> {
-    /// Counts `times` questions more.
+    /// Adds `times` to the count.
     fn add(&self, times: u64) {
         self.times.set(self.times.get().wrapping_add(times));
     }
 
-    /// Returns the number of questions since this was called.
+    /// Returns the count, and resets it to zero.
     fn taken(&self) -> u64 {
         let times = self.times.get();
         self.times.set(0);
@@ -57,13 +57,13 @@ impl<'s, S: Space> Space for Asked<'s, S> {
     }
 }
 
-/// The pointer to a struct of two slots after the next `between` words.
+/// Returns the pointer to a struct of two slots after the next `between` words.
 fn pointer(between: u64) -> u64 {
     0x2_0000_0000_0000 | between << 2
 }
 
-/// A frame of two segments: the root is behind a landing pad of one word, and has `levels` of structs below it, of two
-/// slots each, both of which lead to the next one.
+/// Returns a frame of two segments whose root is behind a landing pad of one word. Below the root there are `levels`
+/// structs of two slots, both of which point to the next struct.
 fn doubling(alloc: Global, levels: u8) -> Result<Vec<u8>, Fail> {
     let mut words = Vec::new(alloc);
     words.push(0x1_0000_0001)?;
@@ -79,7 +79,7 @@ fn doubling(alloc: Global, levels: u8) -> Result<Vec<u8>, Fail> {
     Ok(bytes_of(alloc, words.as_slice())?)
 }
 
-/// Counts the questions of the five calls to a frame within limits: `survey`, `index_into`, `canonical_length`,
+/// Counts how often five calls read the frame `bytes` within `limits`: `survey`, `index_into`, `canonical_length`,
 /// `canonical_into` and `canonical_of`.
 fn times_asked(alloc: Global, bytes: &[u8], limits: Limits) -> Result<[u64; 5], Fail> {
     let Ok((message, _taken)) = first(alloc, bytes, 8_388_608) else {
@@ -103,8 +103,8 @@ fn times_asked(alloc: Global, bytes: &[u8], limits: Limits) -> Result<[u64; 5], 
     Ok([surveyed, indexed, length, written, space.taken()])
 }
 
-/// The bounds of the counted calls hold of the calls without a counter, which ask once more. Here a walk without the
-/// budget has 8,191 visits.
+/// The bounds of the counted calls hold for the calls without a counter, which read once more. The message here has
+/// 8,191 visits if the budget allows them.
 #[test]
 fn no_call_asks_more_than_its_counted_one(rt: HostRuntime) -> Result<(), Fail> {
     let bytes = doubling(rt.alloc(), 11)?;
@@ -121,7 +121,7 @@ fn no_call_asks_more_than_its_counted_one(rt: HostRuntime) -> Result<(), Fail> {
     Ok(())
 }
 
-/// These bounds hold of a message that is accepted, too, by the words that it pays.
+/// The bounds of the counted calls hold for an accepted message, too, by the words that it pays.
 #[test]
 fn nor_where_it_answers(rt: HostRuntime) -> Result<(), Fail> {
     let bytes = doubling(rt.alloc(), 2)?;
@@ -133,13 +133,14 @@ fn nor_where_it_answers(rt: HostRuntime) -> Result<(), Fail> {
         bytes.as_slice(),
         limits,
     )?;
-    // It pays 14 words, two for each of seven structs.
+    // The message pays 14 words, two for each of seven structs.
     assert!(rt; 0 < surveyed && surveyed <= 14 * 15 + 2 && indexed <= 14 * 15 + 2);
     assert!(rt; length <= 34 * 15 + 1 && written <= 54 * 15 + 1 && canonical <= 56 * 15 + 1);
     Ok(())
 }
 
-/// Counts the questions of a survey to a frame that it refuses within `limits`, and those of the explanation of that.
+/// Counts how often a survey that refuses a frame within `limits` reads it, and how often the explanation of that
+/// refusal does.
 fn times_explained(alloc: Global, bytes: &[u8], limits: Limits) -> Result<(u64, u64), Fail> {
     let Ok((message, _taken)) = first(alloc, bytes, 8_388_608) else {
         return Err(Fail::new("no frame"));
@@ -158,9 +159,9 @@ fn times_explained(alloc: Global, bytes: &[u8], limits: Limits) -> Result<(u64, 
     }
 }
 
-/// A message that its walk refuses is explained by one walk more, up to the same slot, which asks about three times as
-/// often as a survey. A body that surveys it again before that, or after, asks once more for each survey; one that
-/// looks for the path twice asks six times as often.
+/// A refused message is explained by one more walk, up to the same slot, which reads it about three times as often as a
+/// survey. Code that surveys it again reads once more for each survey. Code that looks for the path twice reads six
+/// times as often.
 #[test]
 fn a_refused_message_is_walked_once_more(rt: HostRuntime) -> Result<(), Fail> {
     let bytes = doubling(rt.alloc(), 11)?;

@@ -1,4 +1,4 @@
-//! The least depth for accepting a message.
+//! Tests of the least limit on depth within which a message is accepted.
 
 use crate::words::bytes_of;
 use capn_canon::{MeasuredBare, measure_canonical};
@@ -7,16 +7,16 @@ use capn_words::{Bare, Place, Space};
 use std::alloc::Global;
 use std::test::Fail;
 
-/// Returns the answer of a survey of a message within the usual limits with another depth; `None` if that is out of its
-/// range.
+/// Returns the result of a survey of `space` within the default limits, but for `depth`. `None` means that `depth` is
+/// out of range.
 fn surveyed_at(alloc: Global, space: &Bare<'_>, depth: u32) -> Option<Result<Surveyed, Stopped>> {
     let usual = Limits::usual();
     let limits = Limits::new(usual.message_words(), usual.budget(), depth)?;
     Some(survey(alloc, space, limits))
 }
 
-/// Tests whether one survey finds a message to be of this `depth`, another accepts it under this depth, and one more
-/// finds it too deep under the depth below, if there is one.
+/// Tests whether a survey finds that a message needs `depth`. A survey within `depth` must accept the message, and one
+/// within `depth - 1`, if limits can have that, must find it too deep.
 fn is_deep(alloc: Global, words: &[u64], depth: u32) -> Result<bool, Fail> {
     let bytes = bytes_of(alloc, words)?;
     let Ok(bare) = Bare::new(bytes.as_slice()) else {
@@ -32,7 +32,7 @@ fn is_deep(alloc: Global, words: &[u64], depth: u32) -> Result<bool, Fail> {
     let is_least = match surveyed_at(alloc, &bare, depth.saturating_sub(1)) {
         Some(Ok(_)) => false,
         Some(Err(stopped)) => stopped.fault == Fault::TooDeep,
-        // No limits have the depth 0.
+        // Limits cannot have the depth 0.
         None => depth < 2,
     };
     Ok(measured.depth == depth && is_enough && is_least)
@@ -40,13 +40,13 @@ fn is_deep(alloc: Global, words: &[u64], depth: u32) -> Result<bool, Fail> {
 
 #[test]
 fn each_depth(rt: HostRuntime) -> Result<(), Fail> {
-    // Null, and a struct that is empty.
+    // A null root, and an empty struct.
     assert!(rt; is_deep(rt.alloc(), &[0], 0)?);
     assert!(rt; is_deep(rt.alloc(), &[0xffff_fffc], 1)?);
-    // A slot that is null, and one that is a capability.
+    // A null slot, and a slot with a capability.
     assert!(rt; is_deep(rt.alloc(), &[0x1_0000_0000_0000, 0], 1)?);
     assert!(rt; is_deep(rt.alloc(), &[0x1_0000_0000_0000, 0x2_0000_0003], 1)?);
-    // Two slots that lead to the same struct, and one that leads to three bytes.
+    // Two slots that point to the same struct, and a slot that points to three bytes.
     let shared = [0x2_0000_0000_0000, 0x1_0000_0004, 0x1_0000_0000, 9];
     assert!(rt; is_deep(rt.alloc(), &shared, 2)?);
     assert!(rt;
@@ -59,7 +59,7 @@ fn each_depth(rt: HostRuntime) -> Result<(), Fail> {
     Ok(())
 }
 
-/// A struct whose slot leads to the struct itself is too deep under any depth.
+/// A struct whose slot points to the struct itself is too deep within any limit.
 #[test]
 fn a_struct_in_its_own_slot(rt: HostRuntime) -> Result<(), Fail> {
     let bytes = bytes_of(rt.alloc(), &[0x1_0000_ffff_fffc])?;
@@ -80,7 +80,7 @@ fn a_struct_in_its_own_slot(rt: HostRuntime) -> Result<(), Fail> {
     Ok(())
 }
 
-/// Returns the measure by one pass of a message that is read bare, within the usual limits with another depth.
+/// Returns the measure that one pass gives of a bare message, within the default limits, but for `depth`.
 fn measured_at(alloc: Global, words: &[u64], depth: u32) -> Option<MeasuredBare> {
     let bytes = bytes_of(alloc, words).ok()?;
     let bare = Bare::new(bytes.as_slice()).ok()?;
@@ -90,11 +90,11 @@ fn measured_at(alloc: Global, words: &[u64], depth: u32) -> Option<MeasuredBare>
     measure_canonical(&bare, limits)
 }
 
-/// One pass learns the depth of canonical bytes, whether or not the deepest object is the last one; of no other bytes,
-/// and not past its limits.
+/// One pass finds the depth of canonical bytes, whether or not the deepest object is the last one. It finds none for
+/// other bytes, or past its limits.
 #[test]
 fn one_pass_learns_the_depth(rt: HostRuntime) {
-    // Two slots that lead to a struct with a struct below it, and to a struct with none.
+    // Two slots: one points to a struct with a struct below it, the other to a struct with none.
     let slots = [
         0x2_0000_0000_0000,
         0x1_0000_0000_0004,
@@ -103,7 +103,7 @@ fn one_pass_learns_the_depth(rt: HostRuntime) {
         7,
         9,
     ];
-    // That depth below two rows of one slot each.
+    // The depth of 3 below the second of two rows, each with one slot.
     let rows = [
         0x17_0000_0001,
         0x1_0000_0000_0008,

@@ -1,4 +1,4 @@
-//! The whole texts of messages that walks refuse.
+//! Tests of the whole explanations of messages that walks refuse.
 
 use crate::words::bytes_of;
 use capn_diagnostics::explain_stop;
@@ -8,7 +8,7 @@ use capn_words::{Bare, MOST_MESSAGE_WORDS};
 use std::alloc::Global;
 use std::test::Fail;
 
-/// A struct whose second slot has two rows of a word and a slot, of which the last leads out of its segment.
+/// A struct whose second slot has two rows of a word and a slot. The last of these slots points out of its segment.
 const ROWS: [u64; 8] = [
     0x2_0000_0000_0000,
     0,
@@ -20,7 +20,7 @@ const ROWS: [u64; 8] = [
     0x1_0000_0014,
 ];
 
-/// The lines that explain it, as the fifth of a stream.
+/// The lines that explain `ROWS`, as the fifth message of a stream.
 const ROWS_TOLD: &str = "message: 5 at 1000\n\
 segments: 1 of 8 words\n\
 refused: Range at 0:7, paid 9, visits 5\n\
@@ -29,7 +29,8 @@ slot: byte 1064, segment 0 word 7: 1400000001000000: struct of 1 words and 0 slo
 in: row 1 of 2 at byte 1056\n\
 content: words 13 to 14 of segment 0, which has 8\n";
 
-/// A struct whose slot has two rows of a slot each, of which the last has more rows than its list has words for.
+/// A struct whose slot has two rows of a slot each. The last of these slots points to a list with more rows than its
+/// words have room for.
 const MANY: [u64; 9] = [
     0x1_0000_0000_0000,
     0x17_0000_0001,
@@ -42,7 +43,7 @@ const MANY: [u64; 9] = [
     3,
 ];
 
-/// The lines that explain it, as the second of a stream.
+/// The lines that explain `MANY`, as the second message of a stream.
 const MANY_TOLD: &str = "message: 2 at 16\n\
 segments: 1 of 9 words\n\
 refused: TagOverrun at 0:4, paid 6, visits 4\n\
@@ -53,13 +54,13 @@ tag: byte 64, segment 0 word 5: 0800000002000000: tag of 2 structs of 2 words an
 content: words 5 to 9 of segment 0, which has 9\n\
 rows: 2 of 2 words each: 4 of the list's 3\n";
 
-/// Segments that are refused on their own, and what explains them.
+/// Bare messages that are refused, each with the lines that explain it.
 const BARE: [(&[u64], &str); 9] = [
     (
         &[],
         "message: 1 at 0\nsegments: 1 of 0 words\nrefused: NoRoot at 0:0, paid 0, visits 0\n",
     ),
-    // A capability.
+    // A capability at the root.
     (
         &[0x7_0000_0003],
         "message: 1 at 0\n\
@@ -68,7 +69,7 @@ refused: RootKind at 0:0, paid 0, visits 1\n\
 way: root\n\
 slot: byte 0, segment 0 word 0: 0300000007000000: capability 7\n",
     ),
-    // A struct whose slot has three pointers, of which the last is reserved.
+    // A struct whose slot has three pointers, the last of which is reserved.
     (
         &[0x1_0000_0000_0000, 0x1e_0000_0001, 0, 0, 7],
         "message: 1 at 0\n\
@@ -78,7 +79,7 @@ way: 0.2\n\
 slot: byte 32, segment 0 word 4: 0700000000000000: reserved\n\
 in: list of 3 pointers at byte 16\n",
     ),
-    // A far pointer to a segment that isn't there.
+    // A far pointer to a missing segment.
     (
         &[0x1_0000_0012],
         "message: 1 at 0\n\
@@ -88,7 +89,7 @@ way: root\n\
 slot: byte 0, segment 0 word 0: 1200000001000000: far to segment 1 word 2\n\
 limit: 1 segments\n",
     ),
-    // A struct of a word and a slot, which leads to a landing pad of two words behind its segment.
+    // A struct of a word and a slot that points to a landing pad of two words beyond its segment.
     (
         &[0x1_0001_0000_0000, 9, 0x2e],
         "message: 1 at 0\n\
@@ -119,7 +120,7 @@ way: root\n\
 slot: byte 0, segment 0 word 0: f8ffffff01000000: struct of 1 words and 0 slots, offset -2\n\
 content: words -1 to 0 of segment 0, which has 1\n",
     ),
-    // A list of structs whose tag is a pointer to a list.
+    // A list of structs whose tag word is a pointer to a list.
     (
         &[0xf_0000_0001, 1, 0],
         "message: 1 at 0\n\
@@ -129,7 +130,7 @@ way: root\n\
 slot: byte 0, segment 0 word 0: 010000000f000000: list of structs in 1 words, offset 0\n\
 tag: byte 8, segment 0 word 1: 0100000000000000: list of 0 voids, offset 0\n",
     ),
-    // A list of structs whose tag counts one struct of two words, where it has one.
+    // A list of structs with one word, whose tag word counts one struct of two words.
     (
         &[0xf_0000_0001, 0x2_0000_0004, 0],
         "message: 1 at 0\n\
@@ -143,7 +144,7 @@ rows: 1 of 2 words each: 2 of the list's 1\n",
     ),
 ];
 
-/// A struct whose two slots lead to the same struct, whose slot leads to a word.
+/// A struct whose two slots point to the same struct, whose slot points to a struct of one word.
 const SHARED: [u64; 5] = [
     0x2_0000_0000_0000,
     0x1_0000_0000_0004,
@@ -152,7 +153,7 @@ const SHARED: [u64; 5] = [
     9,
 ];
 
-/// The lines that explain it if ten words may be paid.
+/// The lines that explain `SHARED` with a budget of ten words.
 const SHARED_TOLD: &str = "message: 1 at 0\n\
 segments: 1 of 5 words\n\
 refused: OverBudget at 0:3, paid 9, visits 5\n\
@@ -161,10 +162,10 @@ slot: byte 24, segment 0 word 3: 0000000001000000: struct of 1 words and 0 slots
 in: struct of 0 words and 1 slots at byte 24\n\
 limit: asks for 2 of 1 left, --budget 10\n";
 
-/// A struct whose only slot leads back to it.
+/// A struct whose only slot points to the struct itself.
 const CIRCLE: [u64; 1] = [0x1_0000_ffff_fffc];
 
-/// The lines that explain it if two objects may be one below another.
+/// The lines that explain `CIRCLE` with a depth of two objects.
 const CIRCLE_TOLD: &str = "message: 1 at 0\n\
 segments: 1 of 1 words\n\
 refused: TooDeep at 0:0, paid 4, visits 3\n\
@@ -173,8 +174,8 @@ slot: byte 0, segment 0 word 0: fcffffff00000100: struct of 0 words and 1 slots,
 in: struct of 0 words and 1 slots at byte 0\n\
 limit: --depth 2\n";
 
-/// A stream whose root has a slot that leads to twenty bytes by a landing pad of two words, all in segment 1, which has
-/// no room for them.
+/// A stream whose root has a slot that points to twenty bytes by a landing pad of two words. Pad and bytes are in
+/// segment 1, which has no room for the bytes.
 const FAR: [u64; 7] = [
     0x2_0000_0001,
     0x3,
@@ -185,7 +186,7 @@ const FAR: [u64; 7] = [
     0xa2_0000_0001,
 ];
 
-/// The lines that explain its message.
+/// The lines that explain `FAR`.
 const FAR_TOLD: &str = "message: 1 at 0\n\
 segments: 2 of 5 words: 2, 3\n\
 refused: Range at 0:1, paid 2, visits 2\n\
@@ -196,8 +197,8 @@ pad: byte 40, segment 1 word 1: 1200000001000000: far to segment 1 word 2\n\
 pad: byte 48, segment 1 word 2: 01000000a2000000: list of 20 bytes, offset 0\n\
 content: words 2 to 5 of segment 1, which has 3\n";
 
-/// Tests whether a segment that `index` messages and `offset` bytes are before, with `table` words, is explained in
-/// this way.
+/// Tests whether a bare message is explained by `want`. Of `before`, the first number is its index, the second its
+/// offset, and the third the words of its table.
 fn is_told(
     alloc: Global,
     words: &[u64],

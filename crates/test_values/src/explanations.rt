@@ -1,4 +1,4 @@
-//! The texts of explanations of messages.
+//! Tests of the texts that make up explanations.
 
 use crate::words::bytes_of;
 use capn_diagnostics::{PathText, PointerText, SlotText, TagText, WordText, place_byte};
@@ -7,13 +7,13 @@ use std::alloc::Global;
 use std::fmt;
 use std::test::Fail;
 
-/// Tests whether this is what a value is displayed as.
+/// Tests whether `value` is displayed as `want`.
 fn is_text<T: fmt::Display>(alloc: Global, value: &T, want: &str) -> Result<bool, Fail> {
     let text = format!(in alloc; "{value}")?;
     Ok(text.as_str() == want)
 }
 
-/// Tests whether this is what a word says as a pointer.
+/// Tests whether `word`, as a pointer, is described by `want`.
 fn says(alloc: Global, word: u64, want: &str) -> Result<bool, Fail> {
     is_text(alloc, &PointerText::of(word), want)
 }

@@ -1,4 +1,4 @@
-//! Indexes of messages, and rooms too short for them.
+//! Tests of indexes of messages, also into rooms that are too short for them.
 
 use crate::words::bytes_of;
 use capn_walk::{
@@ -8,7 +8,7 @@ use capn_words::{Bare, Place};
 use std::alloc::Global;
 use std::test::Fail;
 
-/// The entry of null.
+/// The entry of a null pointer.
 const NULL: Entry = Entry {
     start: 0,
     segment: 0,
@@ -19,7 +19,7 @@ const NULL: Entry = Entry {
     kind: Kind::Nil,
 };
 
-/// The content of a room before a call.
+/// The content of an entry before a call.
 const BLANK: Entry = Entry {
     start: 99,
     segment: 98,
@@ -50,8 +50,8 @@ const BYTES_INDEX: [Entry; 2] = [
     },
 ];
 
-/// A struct whose slot has two rows of one slot each, of which the first is null and the second leads to an empty
-/// struct.
+/// A struct whose slot has two rows of one slot each. The first of these slots is null, and the second points to an
+/// empty struct.
 const ROWS: [u64; 5] = [
     0x1_0000_0000_0000,
     0x17_0000_0001,
@@ -88,7 +88,7 @@ const ROWS_INDEX: [Entry; 4] = [
     },
 ];
 
-/// A struct whose two slots lead to the same struct, which is entered once for each.
+/// A struct whose two slots point to the same struct, which has an entry for each.
 const SHARED: [u64; 4] = [0x2_0000_0000_0000, 0x1_0000_0004, 0x1_0000_0000, 9];
 
 const SHARED_INDEX: [Entry; 3] = [
@@ -118,17 +118,17 @@ const SHARED_INDEX: [Entry; 3] = [
     },
 ];
 
-/// A room of which nothing is filled.
+/// A room in which no entry has been written.
 const ROOM: [Entry; 6] = [BLANK; 6];
 
-/// Returns the answer of an index of a message that is put into `room`.
+/// Returns the result of indexing a message into `room`.
 fn put(bytes: &[u8], limits: Limits, room: &mut [Entry]) -> Option<Result<Indexed, Stopped>> {
     let bare = Bare::new(bytes).ok()?;
     Some(index_into(&bare, limits, room))
 }
 
-/// Tests whether the entries are put into a room of `most` entries, as far as it goes, and nothing after them is
-/// touched.
+/// Tests whether as many of the entries `want` as have room are written to a room of `most` entries, and nothing after
+/// them.
 fn is_put(bytes: &[u8], want: &[Entry], told: Indexed, most: usize) -> bool {
     let mut room = ROOM;
     let most = most.min(6);
@@ -137,7 +137,8 @@ fn is_put(bytes: &[u8], want: &[Entry], told: Indexed, most: usize) -> bool {
     is_told && room[..filled] == want[..filled] && room[filled..] == ROOM[filled..]
 }
 
-/// Tests whether the index of a message has these entries, by both calls, and in each room that is too short for it.
+/// Tests whether the index of a message has the entries `want`, by both calls, and in every room that is too short for
+/// it.
 fn is_indexed(alloc: Global, words: &[u64], want: &[Entry], paid: u32) -> Result<bool, Fail> {
     let bytes = bytes_of(alloc, words)?;
     let told = Indexed {
@@ -167,7 +168,7 @@ fn each_entry_of_a_message(rt: HostRuntime) -> Result<(), Fail> {
     Ok(())
 }
 
-/// The form that has of each entry its span alone.
+/// The format of an index that keeps only the span of each entry.
 struct Spans;
 
 impl EntryForm for Spans {
@@ -207,7 +208,7 @@ fn an_index_in_another_form(rt: HostRuntime) -> Result<(), Fail> {
     Ok(())
 }
 
-/// The stop of the index of the rows if it may pay six words: at the struct in the last slot.
+/// The stop of the index of `ROWS` with a budget of six words: at the struct in the last slot.
 const STOPPED: Stopped = Stopped {
     fault: Fault::OverBudget,
     place: Place {

@@ -1,4 +1,4 @@
-//! Canonical bytes of handmade values.
+//! Tests of the canonical bytes of handmade values.
 
 use crate::making::*;
 use crate::words::bytes_of;
@@ -6,12 +6,12 @@ use capn_canon::{LayoutFault, layout};
 use capn_value::{Items, Value};
 use std::alloc::Global;
 
-/// The layout of a value, if it fits.
+/// Returns the layout of a value, or `None` if it is not a valid tree.
 fn laid(alloc: Global, made: Made) -> Option<Result<Vec<u8>, LayoutFault>> {
     match tree(made) {
         Ok(tree) => {
             let laid = layout(alloc, &tree);
-            // One call is cheaper to check than fields that are dropped one by one.
+            // One call of `drop` is cheaper for the prover than fields that are dropped one by one.
             drop(tree);
             Some(laid)
         }
@@ -27,7 +27,7 @@ fn is_laid(alloc: Global, made: Made, want: &[u64]) -> bool {
     }
 }
 
-/// Tests whether a value has no layout, since `index` is that of its first capability.
+/// Tests whether a value has no layout because of a capability, the first of which has the index `index`.
 fn is_refused(alloc: Global, made: Made, index: u32) -> bool {
     matches!(laid(alloc, made), Some(Err(LayoutFault::Capability(first))) if first == index)
 }
@@ -38,11 +38,11 @@ fn structs(rt: HostRuntime) {
     assert!(rt; is_laid(alloc, data(alloc, &[]), &[0xffff_fffc]));
     assert!(rt; is_laid(alloc, data(alloc, &[5]), &[0x1_0000_0000, 5]));
     assert!(rt; is_laid(alloc, data(alloc, &[5, 0]), &[0x1_0000_0000, 5]));
-    // A slot that leads to an empty struct is kept, and one that is null is cut.
+    // A slot that points to an empty struct is kept, and a trailing null slot is cut.
     let empty = holder(alloc, data(alloc, &[]));
     assert!(rt; is_laid(alloc, empty, &[0x1_0000_0000_0000, 0xffff_fffc]));
     assert!(rt; is_laid(alloc, holder(alloc, Ok(Value::Nil)), &[0xffff_fffc]));
-    // Each of two equal structs is laid out by itself.
+    // Two equal structs are laid out separately.
     let equal = pair(alloc, data(alloc, &[9]), data(alloc, &[9]));
     let want = [0x2_0000_0000_0000, 0x1_0000_0004, 0x1_0000_0004, 9, 9];
     assert!(rt; is_laid(alloc, equal, &want));
@@ -51,7 +51,7 @@ fn structs(rt: HostRuntime) {
 #[test]
 fn rows(rt: HostRuntime) {
     let alloc = rt.alloc();
-    // Rows of which the last is zero, rows that are all zero, and none.
+    // Two rows of which the last is zero, two rows of zeros, and a list without rows.
     let some = holder(alloc, two_rows(alloc, &[7], &[0]));
     let want = [0x1_0000_0000_0000, 0x17_0000_0001, 0x1_0000_0008, 7, 0];
     assert!(rt; is_laid(alloc, some, &want));
@@ -76,13 +76,13 @@ fn lists(rt: HostRuntime) {
     assert!(rt; is_laid(alloc, ten, &[0x1_0000_0000_0000, 0x51_0000_0001, 0x3ff]));
     let nulls = holder(alloc, links(alloc, Ok(Value::Nil), Ok(Value::Nil)));
     assert!(rt; is_laid(alloc, nulls, &[0x1_0000_0000_0000, 0x16_0000_0001, 0, 0]));
-    // An empty list of bytes points to where the next object is.
+    // An empty list of bytes points to the place of the next object.
     let before = pair(alloc, text(alloc, &[]), data(alloc, &[9]));
     let want = [0x2_0000_0000_0000, 0x2_0000_0005, 0x1_0000_0000, 9];
     assert!(rt; is_laid(alloc, before, &want));
 }
 
-/// The words of a struct with a slot of each kind, of which the list of pointers has two nulls.
+/// The words of a struct with a slot of each kind. Its list of pointers has two nulls.
 const ONE_OF_EACH: [u64; 23] = [
     0xc_0001_0000_0000,
     0xab_cdef,
@@ -116,7 +116,7 @@ fn each_kind(rt: HostRuntime) {
     assert!(rt; is_refused(alloc, one_of_each(alloc, Value::Cap(2)), 2));
 }
 
-/// The first in preorder is reported, and not the one of the nearer slot.
+/// The first capability in preorder is reported, even if another is in a nearer slot.
 #[test]
 fn capabilities(rt: HostRuntime) {
     let alloc = rt.alloc();

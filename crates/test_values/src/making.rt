@@ -1,10 +1,9 @@
-//! Handmade values.
-//! Each call takes what others gave, so that running out of memory is reported at the end.
+//! Calls that make values by hand. Each takes the results of others, so that refused memory is reported at the end.
 
 use capn_value::{Body, Items, Misfit, Tree, Value};
 use std::alloc::{AllocError, Global};
 
-/// A value, unless memory ran out.
+/// A value, or the error that memory ran out.
 pub(crate) type Made = Result<Value, AllocError>;
 
 /// Returns a body of the data `words` and the `slots`.
@@ -15,36 +14,33 @@ pub(crate) fn body(alloc: Global, words: &[u64], slots: Vec<Value>) -> Result<Bo
     })
 }
 
-/// A struct of data words alone.
+/// Returns a struct with the data `words` and no slots.
 pub(crate) fn data(alloc: Global, words: &[u64]) -> Made {
     Ok(Value::Node(body(alloc, words, Vec::new(alloc))?))
 }
 
-/// A struct of one slot.
 pub(crate) fn holder(alloc: Global, slot: Made) -> Made {
     let slots = with(Ok(Vec::new(alloc)), slot)?;
     Ok(Value::Node(body(alloc, &[], slots)?))
 }
 
-/// A struct of two slots.
 pub(crate) fn pair(alloc: Global, first: Made, second: Made) -> Made {
     let slots = with(with(Ok(Vec::new(alloc)), first), second)?;
     Ok(Value::Node(body(alloc, &[], slots)?))
 }
 
-/// A list of one element.
+/// Returns a list of one pointer.
 pub(crate) fn link(alloc: Global, element: Made) -> Made {
     let elements = with(Ok(Vec::new(alloc)), element)?;
     Ok(Value::Links(Items::from_vec(elements)))
 }
 
-/// A list of two elements.
+/// Returns a list of two pointers.
 pub(crate) fn links(alloc: Global, first: Made, second: Made) -> Made {
     let elements = with(with(Ok(Vec::new(alloc)), first), second)?;
     Ok(Value::Links(Items::from_vec(elements)))
 }
 
-/// Two bodies as rows.
 pub(crate) fn two_bodies(
     alloc: Global,
     first: Result<Body, AllocError>,
@@ -54,7 +50,7 @@ pub(crate) fn two_bodies(
     row(rows, second)
 }
 
-/// Rows with one more after them.
+/// Returns `rows` with `body` appended.
 fn row(
     rows: Result<Items<Body>, AllocError>,
     body: Result<Body, AllocError>,
@@ -71,42 +67,38 @@ pub(crate) fn two_rows(alloc: Global, first: &[u64], second: &[u64]) -> Made {
     Ok(Value::Rows(two_bodies(alloc, first, second)?))
 }
 
-/// Bytes.
 pub(crate) fn text(alloc: Global, bytes: &[u8]) -> Made {
     Ok(Value::Bytes(Items::from_slice(alloc, bytes)?))
 }
 
-/// Slots with one more after them. Lists of slots are made by such calls: a function with many `?` is dear to prove.
+/// Returns `slots` with `slot` appended. Lists of slots are made by such calls, because a function with many `?` is
+/// slow to prove.
 fn with(slots: Result<Vec<Value>, AllocError>, slot: Made) -> Result<Vec<Value>, AllocError> {
     let mut slots = slots?;
     slots.push(slot?)?;
     Ok(slots)
 }
 
-/// A list of bits.
 pub(crate) fn bits(alloc: Global, bits: &[bool]) -> Made {
     Ok(Value::Bits(Items::from_slice(alloc, bits)?))
 }
 
-/// A list of numbers of 16 bits.
 fn pairs(alloc: Global, numbers: &[u16]) -> Made {
     Ok(Value::Pairs(Items::from_slice(alloc, numbers)?))
 }
 
-/// A list of numbers of 32 bits.
 fn quads(alloc: Global, numbers: &[u32]) -> Made {
     Ok(Value::Quads(Items::from_slice(alloc, numbers)?))
 }
 
-/// A list of numbers of 64 bits.
 fn octs(alloc: Global, numbers: &[u64]) -> Made {
     Ok(Value::Octs(Items::from_slice(alloc, numbers)?))
 }
 
-/// Ten bits, of which the second is 0.
+/// Ten bits, all 1 except the second.
 const BITS: [bool; 10] = [true, false, true, true, true, true, true, true, true, true];
 
-/// Slots of null and of lists of plain elements.
+/// Returns slots that are null or have lists of plain elements.
 fn plain_slots(alloc: Global) -> Result<Vec<Value>, AllocError> {
     let slots = with(Ok(Vec::new(alloc)), Ok(Value::Nil));
     let slots = with(slots, Ok(Value::Voids(3)));
@@ -122,7 +114,7 @@ fn plain_slots(alloc: Global) -> Result<Vec<Value>, AllocError> {
     )
 }
 
-/// Returns a struct with a slot of each kind, of which the list of pointers has `element` and null.
+/// Returns a struct with a slot of each kind, whose list of pointers has `element` and null.
 pub(crate) fn one_of_each(alloc: Global, element: Value) -> Made {
     let slots = plain_slots(alloc);
     let slots = with(slots, links(alloc, Ok(element), Ok(Value::Nil)));
@@ -131,7 +123,7 @@ pub(crate) fn one_of_each(alloc: Global, element: Value) -> Made {
     Ok(Value::Node(body(alloc, &[0xab_cdef], slots)?))
 }
 
-/// A tree, unless the value is a misfit.
+/// Returns the value as a tree. The error is its misfit, or `None` if memory ran out.
 pub(crate) fn tree(made: Made) -> Result<Tree, Option<Misfit>> {
     match made {
         Ok(value) => match Tree::new(value) {

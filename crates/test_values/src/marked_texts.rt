@@ -1,4 +1,4 @@
-//! Texts of messages with marks before their lines.
+//! Tests of the texts of messages with marks before their lines.
 
 use crate::words::bytes_of;
 use capn_marks::{Marks, show_marked};
@@ -7,7 +7,7 @@ use capn_words::{Bare, Watched};
 use std::alloc::Global;
 use std::test::Fail;
 
-/// A struct of a word and two slots: a list of three numbers, and a list of one row of a word and a slot that is null.
+/// A struct of a word and two slots: a list of three numbers, and a list of one row with a word and a null slot.
 const STRUCT: [u64; 8] = [
     0x2_0001_0000_0000,
     5,
@@ -19,7 +19,7 @@ const STRUCT: [u64; 8] = [
     0,
 ];
 
-/// Its lines, with the offset and the path of each.
+/// The lines of `STRUCT`, each with its offset and path.
 const LINES: &str = "0\troot\tstruct 1 2
 8\troot\t  word 0000000000000005
 16\t0\t  u16 3
@@ -32,13 +32,13 @@ const LINES: &str = "0\troot\tstruct 1 2
 56\t1.0.0\t      null
 ";
 
-/// The lines of its row, in a stream in which its words begin at byte 8.
+/// The lines of the row of `STRUCT`, each with its offset, in a stream in which the message's words begin at byte 8.
 const ROW: &str = "56\tstruct 1 1
 56\t  word 0000000000000006
 64\t  null
 ";
 
-/// Tests whether this is the text of what is at a path.
+/// Tests whether the text at the path `numbers` is `want`.
 fn is_shown(alloc: Global, marks: Marks, numbers: &[u64], want: &str) -> Result<bool, Fail> {
     let bytes = bytes_of(alloc, &STRUCT)?;
     let Ok(space) = Bare::new(&bytes) else {
@@ -88,7 +88,7 @@ fn offsets_of_a_row(rt: HostRuntime) -> Result<(), Fail> {
     Ok(())
 }
 
-/// The lines of the null in its row, in a stream in which it begins near the greatest offset.
+/// The line of the null slot of the row, in a message that begins near the greatest offset.
 const FAR: &str = "18446744073709551687\t1.0.0\tnull
 ";
 

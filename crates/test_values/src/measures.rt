@@ -1,4 +1,4 @@
-//! Measures of messages, canonical or not.
+//! Tests of the measures of messages, canonical or not.
 
 use crate::words::bytes_of;
 use capn_canon::{MeasuredBare, SurveyedBare, measure, own_canonical};
@@ -7,8 +7,8 @@ use capn_walk::{Fault, Limits, Stopped};
 use std::alloc::Global;
 use std::test::Fail;
 
-/// Returns the measure of the frame of these `words` within the usual limits; and if its own bytes are canonical, and
-/// all that is behind the table, the words that they pay.
+/// Returns the measure of the frame of `words` within the default limits. If its own bytes are canonical, and are all
+/// that follows the table, also returns the words that they pay.
 fn told(
     alloc: Global,
     words: &[u64],
@@ -31,7 +31,7 @@ fn told(
     Ok((measure(alloc, &message, limits), own))
 }
 
-/// Returns a measure of these numbers.
+/// Returns a measure with these figures.
 fn measured(
     paid: u32,
     visits: u32,
@@ -50,7 +50,7 @@ fn measured(
     }
 }
 
-/// A struct of one word: its bytes are its own canonical form.
+/// A message of a struct of one word is canonical.
 #[test]
 fn a_canonical_message(rt: HostRuntime) -> Result<(), Fail> {
     let (found, own) = told(rt.alloc(), &[0x2_0000_0000, 0x1_0000_0000, 5])?;
@@ -59,7 +59,8 @@ fn a_canonical_message(rt: HostRuntime) -> Result<(), Fail> {
     Ok(())
 }
 
-/// A zero word at the end of a struct, a word after the value, a capability, two segments: none is its own form.
+/// A message is not canonical because of a zero word at the end of a struct, a word after the value, a capability, or a
+/// second segment.
 #[test]
 fn messages_that_are_not_canonical(rt: HostRuntime) -> Result<(), Fail> {
     let (found, own) = told(rt.alloc(), &[0x3_0000_0000, 0x2_0000_0000, 5, 0])?;
@@ -77,7 +78,7 @@ fn messages_that_are_not_canonical(rt: HostRuntime) -> Result<(), Fail> {
     Ok(())
 }
 
-/// A struct whose slot leads to the struct itself is refused as its walk is.
+/// A message is refused if its walk is: here a slot points to its own struct.
 #[test]
 fn a_message_that_is_refused(rt: HostRuntime) -> Result<(), Fail> {
     let (found, own) = told(rt.alloc(), &[0x1_0000_0000, 0x1_0000_ffff_fffc])?;

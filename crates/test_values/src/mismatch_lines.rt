@@ -1,4 +1,4 @@
-//! Lines about canonical form, and measures of surveyed messages.
+//! Tests of the lines about canonical form, and of the measures of surveyed messages.
 
 use crate::words::bytes_of;
 use capn_canon::{MeasuredBare, SurveyedBare, measure};
@@ -8,8 +8,7 @@ use capn_words::Bare;
 use std::alloc::Global;
 use std::test::Fail;
 
-/// Tests whether the lines of a message that is read bare are these, where a table of `table` words stands before its
-/// words.
+/// Tests whether a bare message has the lines `lines`, if a table of `table` words stands before its words.
 fn reads(alloc: Global, words: &[u64], table: u32, lines: &str) -> Result<bool, Fail> {
     let bytes = bytes_of(alloc, words)?;
     let Ok(bare) = Bare::new(bytes.as_slice()) else {
@@ -27,8 +26,9 @@ fn reads(alloc: Global, words: &[u64], table: u32, lines: &str) -> Result<bool, 
     Ok(text.as_str() == lines)
 }
 
-/// The lines of each kind: a zero word at the end of the root, which makes its canonical bytes shorter; a tag with
-/// sizes and no rows; a byte behind three; a word behind the value; a capability; and a message that is canonical.
+/// There are lines of each kind. The messages have a zero word at the end of the root, which makes the canonical bytes
+/// shorter, a tag word with sizes and no rows, a byte of padding after three, a word after the value, and a capability.
+/// The last message is canonical.
 #[test]
 fn lines_of_each_kind(rt: HostRuntime) -> Result<(), Fail> {
     let alloc = rt.alloc();
@@ -54,8 +54,7 @@ fn lines_of_each_kind(rt: HostRuntime) -> Result<(), Fail> {
     Ok(())
 }
 
-/// Tests whether the lines of a bare message that is measured are these, where a table of `table` words stands before
-/// it.
+/// Tests whether a bare message that was measured has the lines `lines`, if a table of `table` words stands before it.
 fn measured_reads(alloc: Global, words: &[u64], table: u32, lines: &str) -> Result<bool, Fail> {
     let bytes = bytes_of(alloc, words)?;
     let Ok(bare) = Bare::new(bytes.as_slice()) else {
@@ -72,7 +71,7 @@ fn measured_reads(alloc: Global, words: &[u64], table: u32, lines: &str) -> Resu
     Ok(text.as_str() == lines)
 }
 
-/// A word behind the value, behind a table of one word.
+/// A measured message with a word after the value, behind a table of one word, has its lines.
 #[test]
 fn lines_of_a_measured_message(rt: HostRuntime) -> Result<(), Fail> {
     let lines = "canonical: no: at byte 40: 0700000000000000, canonical nothing, after the value\n\
@@ -81,8 +80,8 @@ fn lines_of_a_measured_message(rt: HostRuntime) -> Result<(), Fail> {
     Ok(())
 }
 
-/// Tests whether this is the measure of a bare message that is surveyed: its price, its visits, the first capability of
-/// its value, whether it is canonical, and its depth.
+/// Tests whether a surveyed bare message has this measure: price and visits, first capability, canonical or not, and
+/// depth.
 fn is_measured(
     alloc: Global,
     words: &[u64],
@@ -111,7 +110,7 @@ fn is_measured(
     Ok(measure_surveyed(&bare, Limits::usual(), surveyed) == want)
 }
 
-/// A struct of one word, the same before another word, and a capability.
+/// The messages are a struct of one word, that with another word after it, and a capability.
 #[test]
 fn measures_of_surveyed_messages(rt: HostRuntime) -> Result<(), Fail> {
     let alloc = rt.alloc();

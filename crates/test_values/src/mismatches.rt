@@ -1,4 +1,4 @@
-//! The mismatches of messages with their canonical bytes.
+//! Tests of the mismatches of messages with their canonical bytes.
 
 use crate::words::bytes_of;
 use capn_canon::Refusal;
@@ -9,18 +9,18 @@ use capn_words::Bare;
 use std::alloc::Global;
 use std::test::Fail;
 
-/// Of whom a word is.
+/// The part of a message to which a word belongs.
 #[derive(Clone, Copy, PartialEq, Eq)]
 enum Owner {
     /// The pointer of a slot.
     Pointer,
-    /// The tag of a list of structs.
+    /// The tag word of a list of structs.
     Tag,
     /// The last word of a list.
     LastWord,
 }
 
-/// Returns the mismatch of the only segment of these words with its canonical bytes within the usual limits.
+/// Returns the mismatch of the bare message `words` with its canonical bytes, within the default limits.
 fn told(alloc: Global, words: &[u64]) -> Result<Mismatch, Fail> {
     let bytes = bytes_of(alloc, words)?;
     let Ok(bare) = Bare::new(bytes.as_slice()) else {
@@ -32,7 +32,8 @@ fn told(alloc: Global, words: &[u64]) -> Result<Mismatch, Fail> {
     }
 }
 
-/// Tests whether a message leaves its canonical bytes at this word, with this one and that one, which is this owner's.
+/// Tests whether a message first differs from its canonical bytes in the word `at`. `both` has its word and the
+/// canonical one, which belongs to `owner` at `path`.
 fn leaves(
     alloc: Global,
     words: &[u64],
@@ -60,7 +61,7 @@ fn leaves(
     }
 }
 
-/// A struct of one word, and a root that is null.
+/// A struct of one word and a null root are canonical.
 #[test]
 fn canonical_messages(rt: HostRuntime) -> Result<(), Fail> {
     let found = told(rt.alloc(), &[0x1_0000_0000, 5])?;
@@ -70,7 +71,7 @@ fn canonical_messages(rt: HostRuntime) -> Result<(), Fail> {
     Ok(())
 }
 
-/// A word that a builder left over behind the value.
+/// A word that a builder left after the value is found.
 #[test]
 fn a_word_after_the_value(rt: HostRuntime) -> Result<(), Fail> {
     let found = told(rt.alloc(), &[0x1_0000_0000, 5, 7, 8])?;
@@ -78,8 +79,8 @@ fn a_word_after_the_value(rt: HostRuntime) -> Result<(), Fail> {
     Ok(())
 }
 
-/// A zero word at the end of the root; slots whose objects lie the other way round; an empty struct that isn't at its
-/// own slot; rows that share an object.
+/// Pointers differ because of a zero word at the end of the root, objects in another order than their slots, an empty
+/// struct that is not at its own slot, and rows that share an object.
 #[test]
 fn pointers_that_differ(rt: HostRuntime) -> Result<(), Fail> {
     let zero = [0x2_0000_0000, 5, 0];
@@ -112,7 +113,7 @@ fn pointers_that_differ(rt: HostRuntime) -> Result<(), Fail> {
     Ok(())
 }
 
-/// A list without rows whose tag has sizes.
+/// The tag word of a list without rows differs if it has sizes.
 #[test]
 fn a_tag_that_differs(rt: HostRuntime) -> Result<(), Fail> {
     let words = [0x1_0000_0000_0000, 0x7_0000_0001, 0x1_0000_0000];
@@ -120,7 +121,8 @@ fn a_tag_that_differs(rt: HostRuntime) -> Result<(), Fail> {
     Ok(())
 }
 
-/// A list of three bytes, and a list of one `u16` below a later slot: the bytes after their elements aren't zero.
+/// The last words of lists differ if the padding after their elements is not zero. The lists are one of three bytes,
+/// and one of a `u16` below a later slot.
 #[test]
 fn last_words_that_differ(rt: HostRuntime) -> Result<(), Fail> {
     let bytes = [0x1_0000_0000_0000, 0x1a_0000_0001, 0x403_0201];
@@ -147,7 +149,7 @@ fn last_words_that_differ(rt: HostRuntime) -> Result<(), Fail> {
     Ok(())
 }
 
-/// A capability in the first slot of a struct; and one below the first slot, with another in the second.
+/// The first capability is found: in the first slot of a struct, and below the first slot with another in the second.
 #[test]
 fn capabilities(rt: HostRuntime) -> Result<(), Fail> {
     let found = told(
@@ -171,7 +173,7 @@ fn capabilities(rt: HostRuntime) -> Result<(), Fail> {
     Ok(())
 }
 
-/// A struct of one word, with an empty segment after its own.
+/// A second segment is reported, even if it is empty.
 #[test]
 fn two_segments(rt: HostRuntime) -> Result<(), Fail> {
     let bytes = bytes_of(rt.alloc(), &[0x2_0000_0001, 0, 0x1_0000_0000, 5])?;
@@ -197,8 +199,8 @@ fn no_root(rt: HostRuntime) -> Result<(), Fail> {
     Ok(())
 }
 
-/// A pointer below a slot between an empty list and an empty struct, and a list of bytes below the second of two rows,
-/// the first of which has a null slot.
+/// The word that differs is found below a later slot. In one message it is a pointer between an empty list and an empty
+/// struct. In the other it is in a list of bytes below the second of two rows, the first of which has a null slot.
 #[test]
 fn words_below_later_slots(rt: HostRuntime) -> Result<(), Fail> {
     let between = [

@@ -1,4 +1,4 @@
-//! Paths to slots of messages, visited or refused.
+//! Tests of the paths to slots of messages: the one at which a walk stops, or the one of a visit.
 
 use crate::words::bytes_of;
 use capn_path::{path_of_refusal, path_of_stop, path_of_visit};
@@ -7,7 +7,7 @@ use capn_words::{Bare, Place};
 use std::alloc::Global;
 use std::test::Fail;
 
-/// A struct whose second slot has two rows of a word and a slot, of which the last leads out of its segment.
+/// A struct whose second slot has two rows of a word and a slot. The last of these slots points out of its segment.
 const ROWS: [u64; 8] = [
     0x2_0000_0000_0000,
     0,
@@ -19,13 +19,13 @@ const ROWS: [u64; 8] = [
     0x1_0000_0014,
 ];
 
-/// A struct whose slot has three pointers, of which the last is reserved.
+/// A struct whose slot has three pointers, the last of which is reserved.
 const LINKS: [u64; 5] = [0x1_0000_0000_0000, 0x1e_0000_0001, 0, 0, 7];
 
-/// A struct whose only slot leads back to it.
+/// A struct whose only slot points to the struct itself.
 const CIRCLE: [u64; 1] = [0x1_0000_ffff_fffc];
 
-/// A struct whose two slots lead to the same struct, whose slot leads to a word.
+/// A struct whose two slots point to the same struct, whose slot points to a struct of one word.
 const SHARED: [u64; 5] = [
     0x2_0000_0000_0000,
     0x1_0000_0000_0004,
@@ -34,15 +34,16 @@ const SHARED: [u64; 5] = [
     9,
 ];
 
-/// A capability.
+/// A capability at the root.
 const CAPABILITY: [u64; 1] = [0x7_0000_0003];
 
-/// Returns the place of `word` of the first segment.
+/// Returns the place of `word` in the first segment.
 fn at(word: u32) -> Place {
     Place { segment: 0, word }
 }
 
-/// Tests whether the walk of a message stops with this fault, at this word, as this visit, and this is the path there.
+/// Tests whether the walk of a message stops with the fault, at the word and after the visits of `want`, and `path`
+/// leads to that word.
 fn is_refused(
     alloc: Global,
     words: &[u64],
@@ -90,7 +91,7 @@ fn no_refusal(rt: HostRuntime) -> Result<(), Fail> {
     Ok(())
 }
 
-/// Tests whether this is the way to the slot at which the walk of a message stops.
+/// Tests whether `path` leads to the slot at which the walk of a message stops.
 fn leads_to_stop(alloc: Global, words: &[u64], path: &[u32]) -> Result<bool, Fail> {
     let bytes = bytes_of(alloc, words)?;
     let Ok(bare) = Bare::new(bytes.as_slice()) else {
@@ -105,7 +106,7 @@ fn leads_to_stop(alloc: Global, words: &[u64], path: &[u32]) -> Result<bool, Fai
     }
 }
 
-/// A slot of a row, and a message without a root.
+/// The path is found to a slot of a row, and is empty for a message without a root.
 #[test]
 fn the_path_to_a_stop(rt: HostRuntime) -> Result<(), Fail> {
     let alloc = rt.alloc();
@@ -114,8 +115,8 @@ fn the_path_to_a_stop(rt: HostRuntime) -> Result<(), Fail> {
     Ok(())
 }
 
-/// Tests whether the walk of a message makes a visit after `number` others, of the slot at this word, to which the path
-/// leads.
+/// Tests whether the walk of a message visits the slot at `word` after `number` other visits, and `path` leads to that
+/// slot.
 fn is_visited(
     alloc: Global,
     words: &[u64],

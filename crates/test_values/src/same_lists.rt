@@ -1,9 +1,9 @@
-//! Comparisons of messages that hold lists.
+//! Tests of comparisons of messages that hold lists.
 
 use crate::comparisons::{expect, list, node};
 use std::test::Fail;
 
-/// Rows are compared whatever their sizes, each to the last.
+/// Rows are compared whatever their sizes, each up to its end.
 #[test]
 fn rows_of_different_sizes(rt: HostRuntime) -> Result<(), Fail> {
     let alloc = rt.alloc();
@@ -44,7 +44,7 @@ fn rows_of_different_sizes(rt: HostRuntime) -> Result<(), Fail> {
         &[5 << 32, list(0, 7, 3), node(3, 1, 0), 5, 6, 0],
         false,
     );
-    // Rows without words: as many of them, and no more.
+    // Lists of rows without words are the same only if they have the same number of rows.
     expect(
         &rt,
         alloc,
@@ -76,7 +76,7 @@ fn rows_of_different_sizes(rt: HostRuntime) -> Result<(), Fail> {
     Ok(())
 }
 
-/// Values below the slots of rows.
+/// Values below the slots of rows are compared.
 #[test]
 fn rows_with_slots(rt: HostRuntime) -> Result<(), Fail> {
     let alloc = rt.alloc();
@@ -116,7 +116,7 @@ fn rows_with_slots(rt: HostRuntime) -> Result<(), Fail> {
     Ok(())
 }
 
-/// Lists of plain elements: kinds and lengths stay apart, and each element counts.
+/// Lists of plain elements differ if their kinds, their lengths or any elements differ.
 #[test]
 fn lists_of_numbers(rt: HostRuntime) -> Result<(), Fail> {
     let alloc = rt.alloc();
@@ -143,7 +143,7 @@ fn lists_of_numbers(rt: HostRuntime) -> Result<(), Fail> {
         &[2 << 32, list(0, 3, 2), 0x0063_6261],
         false,
     );
-    // Padding behind the last element counts for nothing.
+    // Padding after the last element is ignored.
     expect(
         &rt,
         alloc,
@@ -200,7 +200,7 @@ fn lists_of_numbers(rt: HostRuntime) -> Result<(), Fail> {
         &[1 << 32, list(0, 0, 4)],
         false,
     );
-    // Empty lists of two kinds.
+    // Empty lists of different kinds differ.
     expect(
         &rt,
         alloc,
@@ -218,7 +218,7 @@ fn lists_of_numbers(rt: HostRuntime) -> Result<(), Fail> {
     Ok(())
 }
 
-/// Lists of pointers: each counts, null ones at the end too.
+/// In lists of pointers each element counts, even a null one at the end.
 #[test]
 fn lists_of_pointers(rt: HostRuntime) -> Result<(), Fail> {
     let alloc = rt.alloc();

@@ -1,4 +1,4 @@
-//! Comparisons of messages that hold structs, and their refusals.
+//! Tests of comparisons of messages that hold structs, and of their refusals.
 
 use crate::comparisons::{compared, expect, list, node};
 use capn_canon::{Refusal, SameRefusal, Side};
@@ -6,7 +6,7 @@ use capn_walk::{Fault, Limits};
 use std::alloc::{AllocError, Global};
 use std::test::Fail;
 
-/// Structs of different sizes are the same if what one has more is zero or null.
+/// Structs of different sizes are the same if the further words of the longer one are zero and its further slots null.
 #[test]
 fn structs_of_different_sizes(rt: HostRuntime) -> Result<(), Fail> {
     let alloc = rt.alloc();
@@ -47,7 +47,7 @@ fn structs_of_different_sizes(rt: HostRuntime) -> Result<(), Fail> {
     Ok(())
 }
 
-/// Null is no empty struct, at the root or in a slot.
+/// Null differs from an empty struct, at the root and in a slot.
 #[test]
 fn null_and_empty(rt: HostRuntime) -> Result<(), Fail> {
     let alloc = rt.alloc();
@@ -71,12 +71,12 @@ fn null_and_empty(rt: HostRuntime) -> Result<(), Fail> {
     Ok(())
 }
 
-/// A value is the same behind far pointers.
+/// Far pointers do not change a value.
 #[test]
 fn far_and_near(rt: HostRuntime) -> Result<(), Fail> {
     let alloc = rt.alloc();
     let near = [2 << 32, node(0, 1, 0), 5];
-    // The root leads to the second segment, whose first word is the landing pad.
+    // The root is a far pointer to the second segment, whose first word is the landing pad.
     expect(
         &rt,
         alloc,
@@ -91,7 +91,7 @@ fn far_and_near(rt: HostRuntime) -> Result<(), Fail> {
         &[0x1_0000_0001, 2, 0x1_0000_0002, node(0, 1, 0), 6],
         false,
     );
-    // A pad of two words in the second segment leads to the first.
+    // A landing pad of two words in the second segment leads back to the first.
     let behind_two = [
         0x2_0000_0001,
         2,
@@ -104,7 +104,7 @@ fn far_and_near(rt: HostRuntime) -> Result<(), Fail> {
     Ok(())
 }
 
-/// The first refusal is told, and whose it is.
+/// The first refusal is reported, with the message that has it.
 #[test]
 fn refusals(rt: HostRuntime) -> Result<(), Fail> {
     let alloc = rt.alloc();
@@ -131,7 +131,7 @@ fn refusals(rt: HostRuntime) -> Result<(), Fail> {
     Ok(())
 }
 
-/// Tests whether a message was refused for content that isn't inside it.
+/// Tests whether the message on `side` was refused for content that is not inside its segment.
 fn is_range(refusal: SameRefusal, side: Side) -> bool {
     match refusal.refusal {
         Refusal::Walk(stopped) => refusal.side == side && stopped.fault == Fault::Range,
@@ -139,7 +139,7 @@ fn is_range(refusal: SameRefusal, side: Side) -> bool {
     }
 }
 
-/// Messages of one segment of three words: roots of several kinds, and below them words, pointers and tags.
+/// Returns messages of one segment of three words: roots of several kinds, followed by words, pointers and tags.
 fn messages(alloc: Global) -> Result<Vec<[u64; 4]>, AllocError> {
     let mut messages = Vec::new(alloc);
     let lists = [list(0, 6, 2), list(0, 6, 1), list(0, 2, 9), list(0, 7, 1)];
@@ -160,8 +160,7 @@ fn messages(alloc: Global) -> Result<Vec<[u64; 4]>, AllocError> {
     Ok(messages)
 }
 
-/// Each two of many messages are the same exactly where comparing their canonical bytes says so, and refused as these
-/// are.
+/// Each pair of many messages is the same if and only if their canonical bytes are equal, and refused as these are.
 #[test]
 fn each_two_of_many(rt: HostRuntime) -> Result<(), Fail> {
     let alloc = rt.alloc();
@@ -178,7 +177,7 @@ fn each_two_of_many(rt: HostRuntime) -> Result<(), Fail> {
             }
         }
     }
-    // Some are stored differently and have one value.
+    // Some messages are stored differently but have the same value.
     assert!(rt; same as usize > messages.len());
     assert!(rt; apart > same);
     Ok(())

@@ -1,4 +1,4 @@
-//! Canonical bytes of each form, with words of scratch that just suffice, and with one word fewer.
+//! Tests of canonical bytes in each form, with just enough words of scratch, and with one fewer.
 
 ghost use Rattle.std.specs.Prelude.{◌≤◌};
 
@@ -9,10 +9,10 @@ use capn_walk::Limits;
 use std::alloc::Global;
 use std::test::Fail;
 
-/// The most words that a test lends.
+/// The greatest number of words of scratch that a test lends.
 const MOST: usize = 192;
 
-/// A frame of `last + 1` segments. The root is behind a landing pad in the last one, and has one word.
+/// Returns a frame of `last + 1` segments. Its root has one word, and is behind a landing pad in the last segment.
 fn frame(alloc: Global, last: u8) -> Result<Vec<u8>, Fail> {
     let mut bytes = Vec::new(alloc);
     bytes.extend_from_slice(&(last as u32).to_le_bytes())?;
@@ -31,7 +31,7 @@ fn frame(alloc: Global, last: u8) -> Result<Vec<u8>, Fail> {
     Ok(bytes)
 }
 
-/// The answer of a call with `lent` words of scratch and `room` bytes: the length, with what was written.
+/// Returns the result of a call with `lent` words of scratch and a buffer of `room` bytes: the length, and the buffer.
 fn answer(
     form: Form,
     bytes: &[u8],
@@ -48,12 +48,12 @@ fn answer(
     Ok((written.length, out))
 }
 
-/// The canonical bytes of each frame, and what was in the buffer behind them.
+/// The canonical bytes of each frame, followed by the former content of the buffer.
 const WRITTEN: [u8; 24] = [
     0, 0, 0, 0, 1, 0, 0, 0, 7, 0, 0, 0, 0, 0, 0, 0, 0xbb, 0xbb, 0xbb, 0xbb, 0xbb, 0xbb, 0xbb, 0xbb,
 ];
 
-/// Frames of 2, 64, 65 and 66 segments, with the words that their tables take.
+/// The last segments of frames with 2, 64, 65 and 66 segments, each with the words that the table takes.
 const FRAMES: [(u8, usize); 4] = [(1, 0), (63, 0), (64, 64), (65, 65)];
 
 #[test]
@@ -120,12 +120,12 @@ fn bare_words_take_none(rt: HostRuntime) {
 /// A capability at the root.
 const CAPABILITY: [u8; 8] = [3, 0, 0, 0, 5, 0, 0, 0];
 
-/// A frame of one segment, of the word of a capability, and 8 bytes that follow it.
+/// A frame of one segment with a capability, and 8 bytes after it.
 const TRAILED: [u8; 24] = [
     0, 0, 0, 0, 1, 0, 0, 0, 3, 0, 0, 0, 5, 0, 0, 0, 0, 0, 0, 0, 0, 0, 0, 0,
 ];
 
-/// Packed texts: cut in a word; of 2,304 zero words.
+/// Packed bytes: those of a word that is cut, and of 2,304 zero words.
 const PACKED: [&[u8]; 2] = [
     &[0x51, 8, 3],
     &[
@@ -133,7 +133,7 @@ const PACKED: [&[u8]; 2] = [
     ],
 ];
 
-/// The refusals of a call are those of `canonicalise`, and leave the buffer as it was.
+/// The call refuses what `canonicalise` refuses, and leaves the buffer unchanged.
 #[test]
 fn refusals_are_those_of_other_calls(rt: HostRuntime) {
     let limits = Limits::usual();
@@ -168,7 +168,7 @@ fn refusals_are_those_of_other_calls(rt: HostRuntime) {
     }
 }
 
-/// A fault of the packing is told before a want of scratch, and that before a fault of the frame.
+/// A fault of the packing is reported before too little scratch, and too little scratch before a fault of the frame.
 #[test]
 fn refusals_come_in_order(rt: HostRuntime) {
     let limits = Limits::usual();

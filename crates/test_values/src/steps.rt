@@ -1,4 +1,4 @@
-//! Steps of views, and reports of surveys and checks.
+//! Tests of the steps of views, and of the reports of surveys and checks.
 
 use crate::words::bytes_of;
 use capn_canon::{Refusal, SurveyedBare, survey, survey_bare, survey_canonical};
@@ -9,13 +9,14 @@ use capn_words::{Bare, MOST_MESSAGE_WORDS, Place, Space};
 use std::alloc::Global;
 use std::test::Fail;
 
-/// A struct whose two slots lead to the same struct.
+/// A struct whose two slots point to the same struct.
 const SHARED: [u64; 4] = [0x2_0000_0000_0000, 0x1_0000_0004, 0x1_0000_0000, 9];
 
-/// A stream whose root has a slot, which is in segment 1.
+/// A stream whose root is in segment 1 and has a slot.
 const FAR: [u64; 5] = [0x1_0000_0001, 0x2, 0x1_0000_0002, 0x1_0000_0000_0000, 0];
 
-/// Returns the words that a meter has left after the root and after its slot at `index`, and the place of that.
+/// Returns the words that `meter` has left after the root, those left after its slot at `index`, and the place of that
+/// slot.
 fn stepped<S: Space>(space: &S, meter: &mut Meter, index: u32) -> Option<(u32, u32, Place)> {
     let root = View::root(space, meter, 64).ok()?;
     let left = meter.left();
@@ -26,7 +27,8 @@ fn stepped<S: Space>(space: &S, meter: &mut Meter, index: u32) -> Option<(u32, u
     Some((left, meter.left(), root.slot_place(index)))
 }
 
-/// Returns the words that a meter has left after the root and after its second slot.
+/// Returns the words that `meter` has left after the root of `SHARED`, those left after its second slot, and the place
+/// of that slot.
 fn left_of_shared(alloc: Global, mut meter: Meter) -> Option<(u32, u32, Place)> {
     let bytes = bytes_of(alloc, &SHARED).ok()?;
     let bare = Bare::new(bytes.as_slice()).ok()?;
@@ -45,7 +47,7 @@ fn meters(rt: HostRuntime) {
     };
     assert!(rt; left_of_shared(rt.alloc(), meter) == Some((3, 1, second)));
     assert!(rt; left_of_shared(rt.alloc(), plain) == Some((4, 3, second)));
-    // A step that can't be paid pays nothing.
+    // A step that exceeds the budget pays nothing.
     assert!(rt; left_of_shared(rt.alloc(), Meter::new(4)) == Some((1, 1, second)));
 }
 
@@ -64,12 +66,12 @@ fn a_slot_of_another_segment(rt: HostRuntime) -> Result<(), Fail> {
     Ok(())
 }
 
-/// A struct with a capability, and one with a word that is reserved.
+/// A struct with a capability in its slot.
 const CAPABILITY: [u64; 2] = [0x1_0000_0000_0000, 0x2_0000_0003];
 
 const RESERVED: [u64; 2] = [0x1_0000_0000_0000, 7];
 
-/// Returns the answers of a survey and of a check of a message that is read bare.
+/// Returns the results of a survey and of a check of a bare message.
 fn told(
     alloc: Global,
     words: &[u64],
@@ -80,8 +82,8 @@ fn told(
     Some((surveyed, survey_bare(alloc, &bare, Limits::usual())))
 }
 
-/// Tests whether both report this price, this number of visits and this first capability, and the check whether the
-/// bytes are canonical.
+/// Tests whether the survey and the check report this price, these visits and this first capability, and the check
+/// whether the bytes are canonical.
 fn are_told(
     alloc: Global,
     words: &[u64],
@@ -98,7 +100,7 @@ fn are_told(
     }
 }
 
-/// Bytes that are canonical, bytes that aren't, and a capability, of which no bytes are.
+/// The messages are canonical, not canonical, and with a capability, which is never canonical.
 #[test]
 fn what_a_message_holds(rt: HostRuntime) {
     assert!(rt; are_told(rt.alloc(), &[0x1_0000_0000, 5], (2, 1, None), true));
@@ -107,7 +109,7 @@ fn what_a_message_holds(rt: HostRuntime) {
     assert!(rt; are_told(rt.alloc(), &CAPABILITY, (2, 2, Some(2)), false));
 }
 
-/// Returns the report of one pass over a message that is read bare.
+/// Returns the report of one pass over a bare message.
 fn passed(alloc: Global, words: &[u64]) -> Option<SurveyedBare> {
     let bytes = bytes_of(alloc, words).ok()?;
     let bare = Bare::new(bytes.as_slice()).ok()?;

@@ -1,4 +1,4 @@
-//! Targets of pointers, and the steps to them.
+//! Tests of the targets of pointers, and of the steps to them.
 
 use crate::words::bytes_of;
 use capn_target::{
@@ -7,22 +7,22 @@ use capn_target::{
 use capn_words::{Bare, Pointer, Width};
 use std::alloc::Global;
 
-/// A pointer to a struct of one word after it, and that word.
+/// A pointer to a struct of one word, which follows.
 const STRUCT: [u64; 2] = [0x1_0000_0000, 9];
 
-/// That struct by a landing pad of one word.
+/// A pointer to that struct by a landing pad of one word.
 const BY_PAD: [u64; 3] = [0xa, 0x1_0000_0000, 9];
 
-/// A landing pad that is a far pointer.
+/// A pointer to a landing pad that is a far pointer.
 const BY_TWO_PADS: [u64; 2] = [0xa, 0x1a];
 
-/// A pointer to a struct of two words, of which there is one.
+/// A pointer to a struct of two words, only one of which exists.
 const TOO_SHORT: [u64; 2] = [0x2_0000_0000, 9];
 
-/// A pointer to eight bytes after it, and these.
+/// A pointer to eight bytes, which follow.
 const BYTES: [u64; 2] = [0x42_0000_0001, 9];
 
-/// A pointer to nine bytes, of which there are eight.
+/// A pointer to nine bytes, only eight of which exist.
 const TOO_MANY: [u64; 2] = [0x4a_0000_0001, 9];
 
 /// Returns the target of the first word of a segment.
@@ -35,7 +35,7 @@ fn root_of(alloc: Global, words: &[u64]) -> Option<Result<Target, Fault>> {
     Some(resolve(&bare, place(0, 0)))
 }
 
-/// The pointer that the first word of a segment is.
+/// Returns the first word of a segment, as a pointer.
 fn first_pointer_of(alloc: Global, words: &[u64]) -> Option<Pointer> {
     let bytes = bytes_of(alloc, words).ok()?;
     let bare = Bare::new(bytes.as_slice()).ok()?;
@@ -45,14 +45,14 @@ fn first_pointer_of(alloc: Global, words: &[u64]) -> Option<Pointer> {
     Some(pointer_at(&bare, 0, 0))
 }
 
-/// The words of segment 0, and of segment 1, which isn't there.
+/// Returns the lengths of segment 0 and of segment 1, which does not exist.
 fn sizes_of(alloc: Global, words: &[u64]) -> Option<[u32; 2]> {
     let bytes = bytes_of(alloc, words).ok()?;
     let bare = Bare::new(bytes.as_slice()).ok()?;
     Some([segment_length(&bare, 0), segment_length(&bare, 1)])
 }
 
-/// Content of a shape from a word on, with a landing pad of some words.
+/// Returns the content of `shape` that starts at word `start` of segment 0, behind a landing pad of `pads` words.
 fn content(start: u32, shape: Shape, pads: u8) -> Result<Target, Fault> {
     Ok(Target::Content {
         segment: 0,

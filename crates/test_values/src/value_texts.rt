@@ -1,11 +1,11 @@
-//! Texts of trees, trimmed trees and copies.
+//! Tests of the texts of trees, of trimmed trees and of copies.
 
 use crate::making::*;
 use capn_value::{Memory, Tariff, Tree, Value, copy, cost, same, show, trim};
 use std::alloc::Global;
 use std::process::Abort;
 
-/// Tests whether a tree has this cost and text.
+/// Tests whether `tree` costs `words` and has the text `want`.
 fn has_text(alloc: Global, tree: &Tree, words: u32, want: &str) -> bool {
     match show(alloc, tree) {
         Ok(text) => cost(tree, Tariff::Strict) == words && text.as_bytes() == want.as_bytes(),
@@ -13,7 +13,7 @@ fn has_text(alloc: Global, tree: &Tree, words: u32, want: &str) -> bool {
     }
 }
 
-/// Tests whether the value that was `made` of a tree is the same value, with this cost and text.
+/// Tests whether `made`, which was made from `tree`, is the same value, costs `words`, and has the text `want`.
 fn is_made(alloc: Global, tree: &Tree, made: Result<Tree, Memory>, words: u32, want: &str) -> bool {
     match made {
         Ok(made) => {
@@ -25,7 +25,8 @@ fn is_made(alloc: Global, tree: &Tree, made: Result<Tree, Memory>, words: u32, w
     }
 }
 
-/// Expects that the value, its trimmed form and its copy have this cost and these texts, and are the same.
+/// Checks that a value, its trimmed form and its copy are the same, cost `words`, and have the texts `want`, `cut` and
+/// `want`.
 fn expect_texts(rt: &impl Abort, alloc: Global, made: Made, words: u32, want: &str, cut: &str) {
     match tree(made) {
         Ok(tree) => {
@@ -56,13 +57,14 @@ const EACH: &str =
 #[test]
 fn texts(rt: HostRuntime) {
     let alloc = rt.alloc();
-    // Rows that are all zero are cut to two of no words, which cost a word each; of others none is cut.
+    // If all rows are zero, they are cut to rows without words, which cost a word each. If one is not zero, none is
+    // cut.
     let zero = holder(alloc, two_rows(alloc, &[0], &[0]));
     expect_texts(&rt, alloc, zero, 6, ZERO_ROWS, EMPTY_ROWS);
     let rows = holder(alloc, two_rows(alloc, &[7], &[0]));
     expect_texts(&rt, alloc, rows, 6, ROWS, ROWS);
-    // 1 + 1 + 12 for the struct; 4, 2, 1, 2, 1, 2, 2 and 3 for the plain lists, 3 for the pointers, 2 for the rows and
-    // 1 for the empty struct.
+    // The struct costs 1 + 1 + 12. The plain lists cost 4, 2, 1, 2, 1, 2, 2 and 3, the pointers 3, the rows 2, and the
+    // empty struct 1.
     let each = one_of_each(alloc, Value::Cap(2));
     expect_texts(&rt, alloc, each, 37, EACH, EACH);
 }

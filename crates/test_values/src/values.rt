@@ -1,4 +1,4 @@
-//! Misfits and sameness of values, and their kept parts.
+//! Tests of the misfits and the sameness of values, and of the parts that trimming keeps.
 
 use crate::making::*;
 use capn_value::{
@@ -8,11 +8,11 @@ use capn_value::{
 use std::alloc::{AllocError, Global};
 use std::process::Abort;
 
-/// Expects that the value fits, or is the misfit `want`.
+/// Checks that a value fits into a tree, or is the misfit `want`.
 fn expect(rt: &impl Abort, made: Made, want: Option<Misfit>) {
     match tree(made) {
         Ok(tree) => {
-            // One call is cheaper to check than fields that are dropped one by one.
+            // One call of `drop` is cheaper for the prover than fields that are dropped one by one.
             drop(tree);
             assert!(rt; want.is_none());
         }
@@ -20,7 +20,7 @@ fn expect(rt: &impl Abort, made: Made, want: Option<Misfit>) {
     }
 }
 
-/// Expects that the value fits, and has a height of `levels` and a cost of `words`.
+/// Checks that a value fits into a tree, and has a height of `levels` and a cost of `words`.
 fn expect_sizes(rt: &impl Abort, made: Made, levels: u32, words: u32) {
     match tree(made) {
         Ok(tree) => {
@@ -32,7 +32,7 @@ fn expect_sizes(rt: &impl Abort, made: Made, levels: u32, words: u32) {
     }
 }
 
-/// Tests whether two values are the same, asked both ways.
+/// Checks that a comparison of two values, in both orders, gives `want`.
 fn expect_same(rt: &impl Abort, one: Made, other: Made, want: bool) {
     match (one, other) {
         (Ok(one), Ok(other)) => {
@@ -45,13 +45,11 @@ fn expect_same(rt: &impl Abort, one: Made, other: Made, want: bool) {
     }
 }
 
-/// A struct of `count` data words.
 fn of_words(alloc: Global, count: usize) -> Made {
     let words = vec![in alloc; 0; count]?;
     data(alloc, words.as_slice())
 }
 
-/// `count` nulls.
 fn nulls(alloc: Global, count: u32) -> Result<Vec<Value>, AllocError> {
     let mut slots = Vec::new(alloc);
     for _ in 0..count {
@@ -60,12 +58,11 @@ fn nulls(alloc: Global, count: u32) -> Result<Vec<Value>, AllocError> {
     Ok(slots)
 }
 
-/// A struct of `count` null slots.
 fn of_slots(alloc: Global, count: u32) -> Made {
     Ok(Value::Node(body(alloc, &[], nulls(alloc, count)?)?))
 }
 
-/// `count` structs, each but the last with the next as its one slot.
+/// Returns a chain of `count` structs, each in the only slot of the one before.
 fn nested(alloc: Global, count: u32) -> Made {
     let mut value = data(alloc, &[])?;
     for _ in 1..count {
@@ -74,7 +71,7 @@ fn nested(alloc: Global, count: u32) -> Made {
     Ok(value)
 }
 
-/// Two rows of which the first has a slot.
+/// Returns two rows, only the first of which has a slot.
 fn slots_in_one_row(alloc: Global) -> Made {
     let slot = nulls(alloc, 1)?;
     let rows = two_bodies(
@@ -101,7 +98,7 @@ fn wide_and_ragged(rt: HostRuntime) {
     );
 }
 
-/// Expects that the value fits, and costs `words` by the plain tariff.
+/// Checks that a value fits into a tree, and costs `words` by the plain tariff.
 fn expect_plain(rt: &impl Abort, made: Made, words: u32) {
     match tree(made) {
         Ok(tree) => {
@@ -113,7 +110,7 @@ fn expect_plain(rt: &impl Abort, made: Made, words: u32) {
     }
 }
 
-/// A struct with a list of `count` voids.
+/// Returns a struct with a list of `count` elements without bits.
 fn voids(alloc: Global, count: u32) -> Made {
     holder(alloc, Ok(Value::Voids(count)))
 }
@@ -135,7 +132,7 @@ fn long_costly_and_tall(rt: HostRuntime) {
         expect_plain(&rt, voids(alloc, count), count + 1);
     }
     expect(&rt, nested(alloc, 257), Some(Misfit::Tall));
-    // 256 structs, of which 255 have a slot.
+    // 256 structs, all but the last with a slot.
     expect_sizes(&rt, nested(alloc, 256), 256, 511);
 }
 
@@ -155,7 +152,7 @@ fn roots(rt: HostRuntime) {
     }
 }
 
-/// A struct with a word, a trailing zero word and a trailing null.
+/// Returns a struct with a word, a trailing zero word and a trailing null slot.
 fn trailing(alloc: Global) -> Made {
     Ok(Value::Node(body(alloc, &[5, 0], nulls(alloc, 1)?)?))
 }
@@ -173,7 +170,7 @@ fn sameness(rt: HostRuntime) {
     expect_same(&rt, Ok(Value::Voids(0)), text(alloc, &[]), false);
 }
 
-/// Expects that the first capability of the value is `want`.
+/// Checks that the first capability of a value is `want`.
 fn expect_capability(rt: &impl Abort, made: Made, want: Option<u32>) {
     match made {
         Ok(value) => {
@@ -194,7 +191,7 @@ fn first_capability(rt: HostRuntime) {
     expect_capability(&rt, one_of_each(alloc, Value::Cap(2)), Some(2));
 }
 
-/// Rows, of which one has a zero word after a word, and the other a null after a capability.
+/// Returns two rows: one with a zero word after a word, and one with a null slot after a capability.
 fn kept_rows(alloc: Global) -> Result<Items<Body>, AllocError> {
     let mut slots = nulls(alloc, 1)?;
     slots.push(Value::Cap(3))?;
@@ -203,7 +200,7 @@ fn kept_rows(alloc: Global) -> Result<Items<Body>, AllocError> {
     two_bodies(alloc, first, body(alloc, &[1], slots))
 }
 
-/// Tests whether these rows keep two words and two slots each.
+/// Tests whether `rows` keep two words and two slots each.
 fn are_kept(rows: &[Body]) -> bool {
     match rows {
         [_, last] => kept_slots(last.slots.as_slice()) == 2
@@ -238,7 +235,6 @@ fn nulls_are_not_kept(rt: HostRuntime) {
     }
 }
 
-/// Two items.
 fn seven_and_eight(alloc: Global) -> Result<Items<u16>, AllocError> {
     let mut items = Items::new(alloc);
     items.push(7)?;

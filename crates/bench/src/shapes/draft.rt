@@ -1,4 +1,4 @@
-//! A message in the making: words are appended, and a pointer is written once its object has a place.
+//! `Draft`: a message that is being written. Words are appended, and a pointer is written once its object has a place.
 
 ghost use Rattle.std.specs.Prelude.{◌<◌};
 
@@ -6,32 +6,32 @@ use crate::shapes::random::{Content, Random};
 use crate::shapes::slot::Slot;
 use std::alloc::{AllocError, Global};
 
-/// The pointer to a struct without words and slots, which is not null.
+/// The pointer to an empty struct, which is not null.
 const EMPTY: u64 = 0xffff_fffc;
 
 /// The route from a pointer to its object.
 enum Route {
     /// By an offset.
     Near,
-    /// By a pad of one word.
+    /// By a landing pad of one word.
     Far,
-    /// By a pad of two words.
+    /// By a landing pad of two words.
     DoubleFar,
 }
 
 /// The segments of a message.
 #[derive(Clone, Copy)]
 pub(crate) enum Segments {
-    /// One.
+    /// One segment.
     One,
-    /// Segments of about this number of words, with pointers of all routes.
+    /// Segments of about this number of words, with near, far and double-far pointers.
     Scattered(usize),
-    /// Segments of about this number of words, filled one after the other as builders fill them: an object is near,
-    /// unless its pointer is in another segment.
+    /// Segments of about this number of words, filled one after the other as builders fill them. A pointer is near,
+    /// unless its object is in another segment.
     Filled(usize),
 }
 
-/// A message in the making. Objects are in the order in which they are made.
+/// A message that is being written. Its objects are in the order in which they are made.
 #[derive(Drop)]
 pub(crate) struct Draft {
     words: Vec<u64>,
@@ -41,13 +41,13 @@ pub(crate) struct Draft {
     random: Random,
 }
 
-/// The number, as far as it fits.
+/// Returns `number`, or the greatest `u32` if it does not fit.
 fn narrow(number: usize) -> u32 {
     u32::try_from(number).unwrap_or(u32::MAX)
 }
 
 impl Draft {
-    /// Returns a draft with the pointer to the root alone, in such `segments`.
+    /// Returns a draft that has only the root pointer, in `segments`.
     pub(crate) fn new(alloc: Global, segments: Segments) -> Result<Draft, AllocError> {
         let mut words = Vec::new(alloc);
         words.push(0)?;
@@ -68,7 +68,7 @@ impl Draft {
         self.random.below(bound)
     }
 
-    /// Returns the slot of the word that is next.
+    /// Returns the place of the next word.
     fn here(&self) -> Slot {
         Slot {
             segment: self.sizes.len(),
@@ -96,12 +96,12 @@ impl Draft {
         }
     }
 
-    /// Returns the far pointer to the word that is next.
+    /// Returns the far pointer to the next word.
     fn far(&self) -> u64 {
         2 | (self.len() as u64) << 3 | (self.sizes.len() as u64) << 32
     }
 
-    /// Chooses the route from the pointer of `slot` to the object that is next.
+    /// Chooses the route from the pointer of `slot` to the next object.
     fn route(&mut self, slot: Slot) -> Result<Route, AllocError> {
         let (most, scattered) = match self.segments {
             Segments::One => return Ok(Route::Near),
@@ -120,7 +120,7 @@ impl Draft {
         Ok(Route::Near)
     }
 
-    /// Tests whether seven eighths of the words that the last segment may have are there.
+    /// Tests whether the last segment is filled to seven eighths of its greatest size.
     fn is_nearly_full(&self) -> bool {
         match self.segments {
             Segments::One => false,
@@ -128,7 +128,8 @@ impl Draft {
         }
     }
 
-    /// Writes `pointer` to the object that is next after a pad of two words, which ends a nearly full segment.
+    /// Writes `pointer` to the next object behind a landing pad of two words. If the segment is then nearly full, it is
+    /// ended after the pad.
     fn place_double_far(&mut self, slot: Slot, pointer: u64) -> Result<(), AllocError> {
         let far = self.far();
         self.point(slot, far | 4);
@@ -143,7 +144,7 @@ impl Draft {
         Ok(())
     }
 
-    /// Writes `pointer`, all but its offset, as the pointer of `slot` to the object that is next.
+    /// Writes `pointer`, which lacks its offset, as the pointer of `slot` to the next object.
     fn place(&mut self, slot: Slot, pointer: u64) -> Result<(), AllocError> {
         match self.route(slot)? {
             Route::Near => {
@@ -165,7 +166,7 @@ impl Draft {
         Ok(())
     }
 
-    /// Appends so many `words` of `content`.
+    /// Appends `words` words of `content`.
     pub(crate) fn fill(&mut self, content: Content, words: u32) -> Result<(), AllocError> {
         for _ in 0..words {
             let word = self.random.word(content);
@@ -174,7 +175,7 @@ impl Draft {
         Ok(())
     }
 
-    /// Appends a struct, whose slots are null so far; returns the first slot.
+    /// Appends a struct, whose slots are null until they are written. Returns the first slot.
     pub(crate) fn node(
         &mut self,
         slot: Slot,
@@ -206,7 +207,7 @@ impl Draft {
         Ok(())
     }
 
-    /// Appends a list of 32-bit numbers, `pairs` pairs of them.
+    /// Appends a list of 32-bit numbers, which has `pairs` pairs of them.
     pub(crate) fn pairs(
         &mut self,
         slot: Slot,
@@ -228,7 +229,7 @@ impl Draft {
         self.fill(content, count)
     }
 
-    /// Appends a list of `count` pointers, which are null so far; returns the first.
+    /// Appends a list of `count` pointers, which are null until they are written. Returns the first.
     pub(crate) fn pointers(&mut self, slot: Slot, count: u32) -> Result<Slot, AllocError> {
         self.place(slot, 1 | 6 << 32 | u64::from(count) << 35)?;
         let first = self.here();
@@ -236,7 +237,8 @@ impl Draft {
         Ok(first)
     }
 
-    /// Appends a list of `count` structs, whose slots are null so far; returns the first word of the first.
+    /// Appends a list of `count` structs, whose slots are null until they are written. Returns the place of its first
+    /// row.
     pub(crate) fn rows(
         &mut self,
         slot: Slot,
@@ -258,8 +260,8 @@ impl Draft {
         Ok(first)
     }
 
-    /// Appends a root with a list of pointers, as many as `bytes` bytes have groups of `words` words; returns the first
-    /// pointer and their number.
+    /// Appends a root with a list of pointers, one for every `words` words of `bytes` bytes. Returns the first pointer
+    /// and their number.
     pub(crate) fn groups(&mut self, bytes: u32, words: u32) -> Result<(Slot, u32), AllocError>
         requires { 0 < words }
     {
@@ -290,7 +292,7 @@ impl Draft {
     /// Returns the framed message.
     pub(crate) fn into_frame(mut self, alloc: Global) -> Result<Vec<u8>, AllocError> {
         let framed = self.framed(alloc);
-        // One call is cheaper to check than fields that are dropped one by one.
+        // One call of `drop` is cheaper for the prover than fields that are dropped one by one.
         drop(self);
         framed
     }

@@ -5,7 +5,7 @@ use crate::shapes::random::Content;
 use crate::shapes::slot::Slot;
 use std::alloc::{AllocError, Global};
 
-/// Structs of 16 to 128 data words.
+/// Returns a message of structs of 16 to 128 data words.
 pub(crate) fn wide(alloc: Global, bytes: u32) -> Result<Vec<u8>, AllocError> {
     let mut draft = Draft::new(alloc, Segments::One)?;
     let (first, count) = draft.groups(bytes, 73)?;
@@ -16,7 +16,7 @@ pub(crate) fn wide(alloc: Global, bytes: u32) -> Result<Vec<u8>, AllocError> {
     draft.into_frame(alloc)
 }
 
-/// One list of 64-bit numbers.
+/// Returns a message of one list of 64-bit numbers.
 pub(crate) fn numbers(alloc: Global, bytes: u32) -> Result<Vec<u8>, AllocError> {
     let mut draft = Draft::new(alloc, Segments::One)?;
     let slot = draft.node(Slot::ROOT, Content::Zeros, 0, 1)?;
@@ -24,7 +24,7 @@ pub(crate) fn numbers(alloc: Global, bytes: u32) -> Result<Vec<u8>, AllocError> 
     draft.into_frame(alloc)
 }
 
-/// One list of random bytes.
+/// Returns a message of one list of random bytes.
 pub(crate) fn noise(alloc: Global, bytes: u32) -> Result<Vec<u8>, AllocError> {
     let mut draft = Draft::new(alloc, Segments::One)?;
     let slot = draft.node(Slot::ROOT, Content::Zeros, 0, 1)?;
@@ -32,7 +32,7 @@ pub(crate) fn noise(alloc: Global, bytes: u32) -> Result<Vec<u8>, AllocError> {
     draft.into_frame(alloc)
 }
 
-/// A struct whose data words are mostly zero, or a list of zeros.
+/// Appends a struct whose data words are mostly zero, or a list of zeros.
 fn sparse(draft: &mut Draft, slot: Slot) -> Result<(), AllocError> {
     let words = 8 + draft.below(57);
     match draft.below(4) {
@@ -45,7 +45,7 @@ fn sparse(draft: &mut Draft, slot: Slot) -> Result<(), AllocError> {
     }
 }
 
-/// Structs and lists of 8 to 64 words that are mostly zero.
+/// Returns a message of structs and lists of 8 to 64 words that are mostly zero.
 pub(crate) fn zeros(alloc: Global, bytes: u32) -> Result<Vec<u8>, AllocError> {
     let mut draft = Draft::new(alloc, Segments::One)?;
     let (first, count) = draft.groups(bytes, 37)?;

@@ -1,11 +1,11 @@
-//! A bit of everything.
+//! Shapes that mix structs, lists and texts.
 
 use crate::shapes::draft::{Draft, Segments};
 use crate::shapes::random::Content;
 use crate::shapes::slot::Slot;
 use std::alloc::{AllocError, Global};
 
-/// Null, a text, a small struct or a list of numbers.
+/// Appends a text, a small struct or a list of numbers, or leaves the slot null.
 fn field(draft: &mut Draft, slot: Slot) -> Result<(), AllocError> {
     match draft.below(4) {
         0 => Ok(()),
@@ -25,7 +25,7 @@ fn field(draft: &mut Draft, slot: Slot) -> Result<(), AllocError> {
     }
 }
 
-/// A struct with fields in its slots.
+/// Appends a struct with fields in its slots.
 fn record(draft: &mut Draft, slot: Slot) -> Result<(), AllocError> {
     let words = draft.below(9);
     let slots = draft.below(5);
@@ -36,7 +36,7 @@ fn record(draft: &mut Draft, slot: Slot) -> Result<(), AllocError> {
     Ok(())
 }
 
-/// Texts in most of the slots.
+/// Appends texts to most of the `slots` slots from `first` on.
 fn texts(draft: &mut Draft, first: Slot, slots: u32) -> Result<(), AllocError> {
     for i in 0..slots {
         if draft.below(10) < 7 {
@@ -47,7 +47,7 @@ fn texts(draft: &mut Draft, first: Slot, slots: u32) -> Result<(), AllocError> {
     Ok(())
 }
 
-/// A list of structs with texts in their slots.
+/// Appends a list of structs with texts in their slots.
 fn table(draft: &mut Draft, slot: Slot) -> Result<(), AllocError> {
     let count = draft.below(9);
     let words = draft.below(4);
@@ -61,7 +61,7 @@ fn table(draft: &mut Draft, slot: Slot) -> Result<(), AllocError> {
     Ok(())
 }
 
-/// A list of pointers, most of them to structs with a null slot.
+/// Appends a list of pointers, most of them to structs with a null slot.
 fn list(draft: &mut Draft, slot: Slot) -> Result<(), AllocError> {
     let count = 1 + draft.below(8);
     let first = draft.pointers(slot, count)?;
@@ -73,7 +73,7 @@ fn list(draft: &mut Draft, slot: Slot) -> Result<(), AllocError> {
     Ok(())
 }
 
-/// One of these, a long text or null.
+/// Appends a record, a table, a list or a long text, or leaves the slot null.
 fn group(draft: &mut Draft, slot: Slot) -> Result<(), AllocError> {
     match draft.below(8) {
         0 | 1 | 2 => record(draft, slot),
@@ -87,7 +87,7 @@ fn group(draft: &mut Draft, slot: Slot) -> Result<(), AllocError> {
     }
 }
 
-/// All of these in one segment.
+/// Returns a message of groups of all kinds, in one segment.
 pub(crate) fn mixed(alloc: Global, bytes: u32) -> Result<Vec<u8>, AllocError> {
     let mut draft = Draft::new(alloc, Segments::One)?;
     let (first, count) = draft.groups(bytes, 12)?;
@@ -97,7 +97,7 @@ pub(crate) fn mixed(alloc: Global, bytes: u32) -> Result<Vec<u8>, AllocError> {
     draft.into_frame(alloc)
 }
 
-/// All of these in some 400 segments, or in segments of 16 words.
+/// Returns a message of groups of all kinds, in about 400 segments, or in segments of 16 words.
 pub(crate) fn segments(alloc: Global, bytes: u32) -> Result<Vec<u8>, AllocError> {
     let most = (bytes / 8 / 400).max(16) as usize;
     let mut draft = Draft::new(alloc, Segments::Scattered(most))?;
@@ -108,8 +108,8 @@ pub(crate) fn segments(alloc: Global, bytes: u32) -> Result<Vec<u8>, AllocError>
     draft.into_frame(alloc)
 }
 
-/// Lists of structs with texts, and lists of pointers to structs, in some 64 segments that are filled one after the
-/// other. Three of four objects are near.
+/// Returns a message of lists of structs with texts, and of lists of pointers to structs, in about 64 segments that are
+/// filled one after the other. Three of four objects are in the segment of their pointer.
 pub(crate) fn builder(alloc: Global, bytes: u32) -> Result<Vec<u8>, AllocError> {
     let most = (bytes / 8 / 64).max(16) as usize;
     let mut draft = Draft::new(alloc, Segments::Filled(most))?;

@@ -5,7 +5,7 @@ use crate::shapes::random::Content;
 use crate::shapes::slot::Slot;
 use std::alloc::{AllocError, Global};
 
-/// From 10 to 50 structs, each in the last slot of the one above.
+/// Appends 10 to 50 structs, each in the last slot of the one above.
 fn nest(draft: &mut Draft, slot: Slot) -> Result<(), AllocError> {
     let height = 10 + draft.below(41);
     let mut slot = slot;
@@ -18,7 +18,7 @@ fn nest(draft: &mut Draft, slot: Slot) -> Result<(), AllocError> {
     Ok(())
 }
 
-/// Nests of small structs.
+/// Returns a message of nests of small structs.
 pub(crate) fn deep(alloc: Global, bytes: u32) -> Result<Vec<u8>, AllocError> {
     let mut draft = Draft::new(alloc, Segments::One)?;
     let (first, count) = draft.groups(bytes, 91)?;
@@ -28,7 +28,7 @@ pub(crate) fn deep(alloc: Global, bytes: u32) -> Result<Vec<u8>, AllocError> {
     draft.into_frame(alloc)
 }
 
-/// A struct with two texts of 1 to 200 bytes.
+/// Appends a struct with two texts of 1 to 200 bytes.
 fn pair(draft: &mut Draft, slot: Slot) -> Result<(), AllocError> {
     let first = draft.node(slot, Content::Numbers, 1, 2)?;
     let len = 1 + draft.below(200);
@@ -37,7 +37,7 @@ fn pair(draft: &mut Draft, slot: Slot) -> Result<(), AllocError> {
     draft.bytes(first.after(1), Content::Letters, len)
 }
 
-/// Structs with two texts each.
+/// Returns a message of structs with two texts each.
 pub(crate) fn texts(alloc: Global, bytes: u32) -> Result<Vec<u8>, AllocError> {
     let mut draft = Draft::new(alloc, Segments::One)?;
     let (first, count) = draft.groups(bytes, 30)?;

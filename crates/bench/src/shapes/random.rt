@@ -1,8 +1,8 @@
-//! Words without order.
+//! `Random`: pseudo-random words for the contents of messages.
 
 ghost use Rattle.std.specs.Prelude.{◌<◌};
 
-/// The content of words that are no pointers.
+/// The kind of words that are not pointers.
 #[derive(Clone, Copy)]
 pub(crate) enum Content {
     /// Zero words.
@@ -19,14 +19,14 @@ pub(crate) enum Content {
     Noise,
 }
 
-/// Numbers without order, by shifts and exclusive ors; the same ones from each beginning.
+/// A generator of pseudo-random numbers, by shifts and exclusive ors. Each run gives the same numbers.
 #[derive(Drop)]
 pub(crate) struct Random {
     state: u64,
 }
 
 impl Random {
-    /// Returns the numbers from the beginning.
+    /// Returns the generator in its first state.
     pub(crate) fn new() -> Random {
         Random {
             state: 88_172_645_463_325_252,
@@ -61,7 +61,7 @@ impl Random {
         self.next() >> (64 - 8 * bytes) | 1
     }
 
-    /// Returns a word of this `content`.
+    /// Returns a word of the kind `content`.
     pub(crate) fn word(&mut self, content: Content) -> u64 {
         match content {
             Content::Zeros => 0,

@@ -3,9 +3,9 @@
 /// A word of a draft.
 #[derive(Clone, Copy)]
 pub(crate) struct Slot {
-    /// The segments before its own.
+    /// The number of segments before its own.
     pub segment: usize,
-    /// The words before it, in all segments.
+    /// The number of words before it, in all segments.
     pub at: usize,
 }
 
@@ -13,7 +13,7 @@ impl Slot {
     /// The place of the root pointer.
     pub(crate) const ROOT: Slot = Slot { segment: 0, at: 0 };
 
-    /// Returns the slot that is `words` words after it.
+    /// Returns the slot that is `words` words further.
     pub(crate) fn after(self, words: u32) -> Slot {
         Slot {
             segment: self.segment,
