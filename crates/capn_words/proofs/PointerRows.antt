@@ -1,4 +1,4 @@
--- Worked pointer words, as 8 bytes each: the definitions give the pointers that one reads off the page's layouts.
+-- Worked examples of pointer words, as 8 bytes each. The definitions give the pointers that the page's layouts give.
 use Rattle.std.proofs.Common.{◌≡◌, ℕ, List, [], ◌∷◌, true, false, pos, negsuc, refl}
 use Rattle.capn_words.specs.Message.{word_number}
 use Rattle.capn_words.specs.Pointers.{word_of, pointer_of}
@@ -6,7 +6,7 @@ use Rattle.capn_words.specs.declared.pointer.Pointer.{Pointer}
 use Rattle.capn_words.specs.declared.pointer.Pointer.TheVariants.{Nil, Node, Many, Far, Cap, Reserved}
 use Rattle.capn_words.specs.declared.pointer.Width.TheVariants.{W0, W1, W8, W16, W32, W64, Link, Rows}
 
--- the 8 bytes `bs` stand for the pointer `p`, and the word of `p` has these bytes
+-- the 8 bytes `bs` stand for the pointer `p`, and the word of `p` has the bytes `bs`
 abbrev Says : List ℕ → Pointer → Type 0
 Says bs p = (pointer_of (word_number bs) ≡ p) × (word_of p ≡ word_number bs)
 
@@ -28,17 +28,17 @@ struct_of_two_slots : Says (0 ∷ 0 ∷ 0 ∷ 0 ∷ 0 ∷ 0 ∷ 2 ∷ 0 ∷ []) 
 unfolding pointer_of word_number
 struct_of_two_slots = (refl, refl)
 
--- the least offset, and the greatest sections
+-- a struct pointer with the least offset and the greatest sections
 farthest_struct_back : Says (0 ∷ 0 ∷ 0 ∷ 128 ∷ 255 ∷ 255 ∷ 255 ∷ 255 ∷ []) (Node (negsuc 536870911) 65535 65535)
 unfolding pointer_of word_number
 farthest_struct_back = (refl, refl)
 
--- the greatest offset
+-- a struct pointer with the greatest offset
 farthest_struct_on : Says (252 ∷ 255 ∷ 255 ∷ 127 ∷ 0 ∷ 0 ∷ 0 ∷ 0 ∷ []) (Node (pos 536870911) 0 0)
 unfolding pointer_of word_number
 farthest_struct_on = (refl, refl)
 
--- the greatest count
+-- a list pointer with the greatest count
 longest_list_of_voids : Says (1 ∷ 0 ∷ 0 ∷ 0 ∷ 248 ∷ 255 ∷ 255 ∷ 255 ∷ []) (Many (pos 0) W0 536870911)
 unfolding pointer_of word_number
 longest_list_of_voids = (refl, refl)
@@ -71,7 +71,7 @@ rows_of_two_words : Says (1 ∷ 0 ∷ 0 ∷ 0 ∷ 23 ∷ 0 ∷ 0 ∷ 0 ∷ []) (
 unfolding pointer_of word_number
 rows_of_two_words = (refl, refl)
 
--- a list whose content is before its pointer
+-- a pointer to a list whose content is before the pointer
 list_back : Says (249 ∷ 255 ∷ 255 ∷ 255 ∷ 5 ∷ 0 ∷ 0 ∷ 0 ∷ []) (Many (negsuc 1) W64 0)
 unfolding pointer_of word_number
 list_back = (refl, refl)

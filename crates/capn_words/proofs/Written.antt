@@ -1,4 +1,4 @@
--- Lemma for `write_all`: one more write after those before.
+-- Lemma for `write_all`: one more write appends the next bytes of `text`.
 use Rattle.std.proofs.Common.{ℕ, ◌+◌, ◌-◌, List, length, take, drop, Option}
 use Rattle.std.proofs.Math.Seq.{take-add}
 use Rattle.std.proofs.lemmas.List.{take_rest}

@@ -3,14 +3,14 @@ use Rattle.std.specs.Prelude.{◌≡◌, ℕ, List, Err}
 use Rattle.capn_words.specs.Message.{IsBare, ReadsBare}
 use Rattle.capn_words.specs.declared.bare.BareFault.{BareFault}
 
--- bytes are those of at most one list of words
+-- any bytes are those of at most one list of words
 abbrev pub OneBareReading : Type 0
 OneBareReading = (bs vs ws : List ℕ) → IsBare bs vs → IsBare bs ws → vs ≡ ws
 
--- bytes are refused for at most one reason
+-- any bytes are refused for at most one reason
 abbrev pub OneBareRefusal : Type 0
 OneBareRefusal = (bs : List ℕ) (e f : BareFault) → ReadsBare bs (Err e) → ReadsBare bs (Err f) → e ≡ f
 
--- bytes that are those of words are not refused
+-- the bytes of a list of words are not refused
 abbrev pub BareAreNotRefused : Type 0
 BareAreNotRefused = (bs ws : List ℕ) (e : BareFault) → IsBare bs ws → ReadsBare bs (Err e) → ⊥

@@ -8,11 +8,11 @@ use Rattle.capn_words.specs.declared.bare.BareFault.{BareFault}
 use Rattle.capn_words.specs.declared.bare.BareFault.TheVariants.{NotWhole, TooLong}
 use Rattle.capn_words.specs.declared.space.Place.{Place}
 
--- a word as its 8 bytes, the least significant first
+-- the 8 bytes of the word `w`, the least significant first
 unfoldable pub word_bytes : ℕ → List ℕ
 word_bytes w = little_bytes 8 w
 
--- the bytes of words, joined in order
+-- the bytes of the words `ws`, joined in order
 abbrev pub bytes : List ℕ → List ℕ
 bytes ws = flat_map word_bytes ws
 
@@ -22,18 +22,18 @@ segment_at message s = slice_index_or message s []
 
 -- ---- read to here for the theorem
 
--- ---- the limits on the size of a message. (Own.)
+-- ---- the limits on the size of a message. (Our own.)
 
--- the most segments that a message has
+-- the greatest number of segments of a message
 abbrev pub most_segments : ℕ
 most_segments = 4096
 
--- the most words that a caller may allow for a framed message
+-- the greatest number of words that a caller may allow for a framed message
 abbrev pub most_message_words : ℕ
 most_message_words = 2 ^ 28
 
--- the most words that any message has in all its segments together: its root pointer, and the words that one may pay
--- for
+-- The greatest number of words of any message, in all its segments together: the root pointer, and as many words as a
+-- caller may allow.
 abbrev pub most_words : ℕ
 most_words = most_message_words + 1
 
@@ -51,18 +51,18 @@ AreWords ws = (k : ℕ) → slice_index ws k < 2 ^ 64
 unfoldable pub word_number : List ℕ → ℕ
 word_number bs = little_number 8 bs
 
--- the first `n` words of the bytes `bs`
+-- the first `n` words in the bytes `bs`
 unfoldable pub words_in : ℕ → List ℕ → List ℕ
 words_in zero bs = []
 words_in (suc n) bs = word_number bs ∷ words_in n (drop 8 bs)
 
--- `bs` are the bytes of the words `ws`, which are no more than a message may have (Own.)
+-- `bs` are the bytes of the words `ws`, and `ws` are not more words than a message may have. (Our own.)
 pub record IsBare (bs ws : List ℕ) : Type 0 where
   pub same : bs ≡ bytes ws
   pub each : AreWords ws
   pub room : length ws ≤ most_words
 
--- reading `bs` as one segment gives its words, or the first of the two refusals (Own.)
+-- `bs`, read as one segment, are the given words, or are refused for the given reason. (Our own.)
 abbrev pub ReadsBare : List ℕ → Result (List ℕ) BareFault → Type 0
 ReadsBare bs (Ok ws) = IsBare bs ws
 ReadsBare bs (Err (NotWhole n)) = (n ≡ length bs) × (length bs % 8 ≢ 0)
@@ -74,7 +74,7 @@ ReadsBare bs (Err (TooLong n)) = (8 * n ≡ length bs) × (most_words < n)
 abbrev pub total : List (List ℕ) → ℕ
 total message = sum_by length message
 
--- `message` has a segment, not too many segments or words, and only numbers that are words (own: the limits)
+-- `message` has a segment, not too many segments or words, and only numbers that are words. (Our own: the limits.)
 pub record IsMessage (message : List (List ℕ)) : Type 0 where
   pub some : 0 < length message
   pub few : length message ≤ most_segments
@@ -85,15 +85,15 @@ pub record IsMessage (message : List (List ℕ)) : Type 0 where
 abbrev pub words_of : List (List ℕ) → ℕ → Option ℕ
 words_of message s = if nat_lt s (length message) then Some (length (segment_at message s)) else None
 
--- `at` is in range: its segment exists and its word is below that segment's length
+-- `at` is in range: segment `at.segment` exists, and `at.word` is below the segment's length
 abbrev pub IsPlace : List (List ℕ) → Place → Type 0
 IsPlace message at = at.word < length (segment_at message at.segment)
 
--- the word at a place
+-- the word at the place `at`
 abbrev pub word_at : List (List ℕ) → Place → ℕ
 word_at message at = slice_index (segment_at message at.segment) at.word
 
--- `len` bytes from the start of the word at `at` on stay within its segment, which exists
+-- segment `at.segment` exists, and `len` bytes from the start of the word `at.word` on stay within the segment
 abbrev pub IsRange : List (List ℕ) → Place → ℕ → Type 0
 IsRange message at len = (at.segment < length message)
     × (8 * at.word + len ≤ 8 * length (segment_at message at.segment))

@@ -1,5 +1,5 @@
--- The pointer that a word stands for, and the word of a pointer. If the fields fit, `split` and `join` lead from one to
--- the other. (Page: structs, lists, inter-segment pointers, capabilities.)
+-- The pointer that a word stands for, and the word of a pointer. If the fields fit, `split` and `join` are inverse to
+-- each other. (Page: structs, lists, inter-segment pointers, capabilities.)
 use Rattle.std.specs.Prelude.{ℕ, suc, ◌-◌, ◌/◌, ◌%◌, ◌^◌, nat_lt, ◌==◌, ℤ, pos, negsuc, [], ◌∷◌, slice_index_or}
 use Rattle.std.specs.Prelude.{if◌then◌else◌, ◌≡◌, ◌+◌, ◌*◌, ◌<◌, ⊤}
 use Rattle.capn_words.specs.declared.pointer.Pointer.{Pointer}
@@ -15,11 +15,11 @@ use Rattle.std.specs.Int.{from_bool}
 abbrev pub field : ℕ → ℕ → ℕ → ℕ
 field from n w = w / 2 ^ from % 2 ^ n
 
--- the offset that the 30 bits of `n` stand for: numbers from 2^29 on stand for themselves less 2^30
+-- the signed offset with the 30 bits `n`: `n` if it is below 2^29, otherwise `n` - 2^30
 abbrev pub signed : ℕ → ℤ
 signed n = if nat_lt n (2 ^ 29) then pos n else negsuc (2 ^ 30 - suc n)
 
--- the width that the 3 bits of `c` stand for
+-- the width with the 3 bits `c`
 abbrev pub width_of : ℕ → Width
 width_of c = slice_index_or (W0 ∷ W1 ∷ W8 ∷ W16 ∷ W32 ∷ W64 ∷ Link ∷ Rows ∷ []) c Rows
 
@@ -30,7 +30,7 @@ other_pointer w =
     else if field 2 30 w == 0 then Cap (field 32 32 w)
     else Reserved w
 
--- the pointer of the word `w`: null for 0, otherwise as bits 0 to 1 say
+-- the pointer of the word `w`: null for 0, otherwise of the kind in bits 0 to 1
 unfoldable pub pointer_of : ℕ → Pointer
 pointer_of w =
     if w == 0 then Nil
@@ -57,7 +57,7 @@ abbrev pub offset_field : ℤ → ℕ
 offset_field (pos n) = n
 offset_field (negsuc n) = 2 ^ 30 - suc n
 
--- the word of a pointer: its kind in bits 0 to 1, and its fields above
+-- the word of a pointer: the kind in bits 0 to 1, and the fields above
 abbrev pub word_of : Pointer → ℕ
 word_of Nil = 0
 word_of (Node o w s) = 4 * offset_field o + 2 ^ 32 * w + 2 ^ 48 * s
@@ -68,13 +68,13 @@ word_of (Reserved n) = n
 
 -- ---- read to here for the theorem
 
--- an offset has 30 bits with its sign: it is from -2^29 to 2^29 - 1
+-- the offset fits into 30 bits with its sign: it is from -2^29 to 2^29 - 1
 abbrev pub FitsOffset : ℤ → Type 0
 FitsOffset (pos n) = n < 2 ^ 29
 FitsOffset (negsuc n) = n < 2 ^ 29
 
--- Each field is in the range of its bits. A struct pointer isn't all zeros, which is null. A reserved word has bits 0
--- to 1 equal to 3 and isn't a capability.
+-- Each field of the pointer fits its bits. A struct pointer is not all zeros, since the word 0 is null. A reserved word
+-- has 64 bits, has bits 0 to 1 equal to 3, and is no capability.
 abbrev pub FitsFields : Pointer → Type 0
 FitsFields Nil = ⊤
 FitsFields (Node o w s) = FitsOffset o × (w < 2 ^ 16) × (s < 2 ^ 16) × (0 < offset_field o + w + s)

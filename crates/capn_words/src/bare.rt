@@ -10,12 +10,12 @@ use std::error::Error;
 use std::fmt;
 use std::marker::Model;
 
-/// The reason why bytes are not one segment. The variants are in the order of the tests.
+/// The reason why bytes are not the words of one segment. The variants are in the order of the tests.
 #[derive(Clone, Copy, Debug, PartialEq, Eq)]
 pub enum BareFault {
-    /// The number of bytes, which is no multiple of 8.
+    /// The number of bytes, if it is no multiple of 8.
     NotWhole(u64),
-    /// The number of words, which is above 2^28 + 1.
+    /// The number of words, if it is above 2^28 + 1.
     TooLong(u64),
 }
 
@@ -52,7 +52,7 @@ fn part(bytes: &[u8], start: usize, len: usize) -> &[u8]
     &bytes[start..start + len]
 }
 
-/// A message of one segment over borrowed bytes. Contracts see it as the list of its words.
+/// A message of one segment over borrowed bytes. Contracts see the message as the list of its words.
 #[derive(Debug, Drop)]
 pub struct Bare<'a> {
     bytes: &'a [u8],
@@ -76,9 +76,9 @@ impl<'a> Bare<'a> {
     /// Reads `bytes` as the words of one segment, which may be empty. Nothing is copied.
     ///
     /// Refusals: `NotWhole` with the number of bytes, if that is no multiple of 8. Otherwise `TooLong` with the number
-    /// of words, if that is above 2^28 + 1. (Own: the limit.)
+    /// of words, if that is above 2^28 + 1. (Our own: the limit.)
     pub fn new(bytes: &'a [u8]) -> Result<Bare<'a>, BareFault>
-        // Each `result` means what `ReadsBare` says. If the bytes are those of a list of words, that list is returned.
+        // `ReadsBare` says what each `result` means. If the bytes are those of a list of words, that list is returned.
         ensures exact { ReadsBare bytes.now result }
         ensures only { (ws : List ℕ) → IsBare bytes.now ws → result ≡ Ok ws }
     {
@@ -98,7 +98,7 @@ impl<'a> Space for Bare<'a> {
     ghost message = { λ words. words ∷ [] };
 
     fn segments(&self) -> u32 {
-        // The read of a field gives the proof the type's invariant, which bounds the number and the range of the words.
+        // Reading a field gives the prover the type's invariant, which bounds the number and the range of the words.
         let _bytes = &self.bytes;
         1
     }

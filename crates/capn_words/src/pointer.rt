@@ -32,38 +32,38 @@ pub enum Width {
 /// `w + 1 + offset`.
 #[derive(Clone, Copy, Debug, PartialEq, Eq)]
 pub enum Pointer {
-    /// The null pointer: the word 0 alone.
+    /// The null pointer, which is the word 0 only.
     Nil,
     /// A struct.
     Node {
-        /// The offset of its data section, from -2^29 to 2^29 - 1.
+        /// The offset of the struct's data section, from -2^29 to 2^29 - 1.
         offset: i32,
-        /// The number of words of its data section.
+        /// The number of words of the data section.
         words: u16,
-        /// The number of pointers of its pointer section, which follows the data section at once.
+        /// The number of pointers of the pointer section, which directly follows the data section.
         slots: u16,
     },
     /// A list.
     Many {
-        /// The offset of its content, from -2^29 to 2^29 - 1.
+        /// The offset of the list's content, from -2^29 to 2^29 - 1.
         offset: i32,
-        /// The kind of its elements.
+        /// The kind of the list's elements.
         width: Width,
-        /// The number of its elements, or for `Rows` the number of its words without the tag word. It is below 2^29.
+        /// The number of elements, or for `Rows` the number of words without the tag word. It is below 2^29.
         count: u32,
     },
-    /// A far pointer, to a landing pad in a segment.
+    /// A far pointer, which refers to a landing pad in a segment.
     Far {
-        /// `true` if the pad is two words, `false` if it is one.
+        /// `true` if the pad has two words, `false` if it has one.
         double: bool,
-        /// The index of the pad's first word in its segment, below 2^29.
+        /// The index of the pad's first word in the segment of the pad, below 2^29.
         word: u32,
-        /// The number of the pad's segment.
+        /// The number of the segment that has the pad.
         segment: u32,
     },
     /// A capability, by its index in the table of capabilities.
     Cap(u32),
-    /// The whole of a word that is no kind of pointer: bits 0 to 1 are 3, and one of bits 2 to 31 is set.
+    /// A whole word that is a pointer of no known kind: bits 0 to 1 are 3, and one of bits 2 to 31 is set.
     Reserved(u64),
 }
 
@@ -100,7 +100,7 @@ fn code_of(width: Width) -> u64
     }
 }
 
-/// Returns the offset in bits 2 to 31 of `word`. Bit 31 is its sign.
+/// Returns the signed offset in bits 2 to 31 of `word`. The sign is bit 31.
 fn offset_of(word: u64) -> i32
     ensures fits { FitsOffset result }
     ensures field { offset_field result ≡ word / 4 % 2 ^ 30 }
@@ -125,7 +125,7 @@ fn field_of(offset: i32) -> u64
     }
 }
 
-/// Reads the fields of `word`, as its bits 0 to 1 ask.
+/// Reads the fields of `word`, by the kind in its bits 0 to 1.
 fn fields_of(word: u64) -> Pointer
     ensures { Fields word result }
 {
@@ -156,17 +156,18 @@ fn fields_of(word: u64) -> Pointer
     }
 }
 
-/// Reads `word` as a pointer. It is the one pointer whose fields fit and add up to `word`.
+/// Reads `word` as a pointer. The result is the one pointer whose fields fit and add up to `word`.
 ///
-/// Every word is a pointer: `Nil` is the word 0 alone, and a word of no known kind is `Reserved`. `join` gives the word
-/// back. (Page: structs, lists, inter-segment pointers, capabilities.)
+/// Every word is a pointer: only the word 0 is `Nil`, and a word of no known kind is `Reserved`. `join` of the result
+/// returns `word`. (Page: structs, lists, inter-segment pointers, capabilities.)
 #[inline(always)]
 pub fn split(word: u64) -> Pointer
-    // `result` is exactly what the fields of `word` say. They are stated in two forms: as a sum, and by division.
+    // `result` is the only pointer with the fields of `word`. The fields are stated in two forms: as a sum, and by
+    // division.
     ensures fields { (p : Pointer) → Fields word p ↔ (result ≡ p) }
     ensures read { result ≡ pointer_of word }
 
-    // `join` accepts `result`, and returns `word` for it.
+    // `join` accepts `result`, and returns `word` for `result`.
     ensures fits { FitsFields result }
     ensures joined { word_of result ≡ word }
 {
@@ -200,11 +201,11 @@ fn sum_of(pointer: Pointer) -> u64
     }
 }
 
-/// Returns the word of `pointer`: the sum of its fields, each shifted to its bits.
+/// Returns the word of `pointer`, which is the sum of the pointer's fields, each shifted to its bits.
 ///
-/// The fields have to fit their bits. A struct pointer may not be all zeros, since that word is null. A reserved word
-/// has to be one that `split` gives as `Reserved`. `split` gives the pointer back. (Page: structs, lists, inter-segment
-/// pointers, capabilities.)
+/// The fields have to fit their bits. A struct pointer may not be all zeros, since the word 0 is null. A reserved word
+/// has to be one that `split` returns as `Reserved`. `split` of the result returns `pointer`. (Page: structs, lists,
+/// inter-segment pointers, capabilities.)
 pub fn join(pointer: Pointer) -> u64
     requires { FitsFields pointer }
     ensures word { result ≡ word_of pointer }

@@ -3,9 +3,10 @@
 ghost use Rattle.std.specs.Prelude.{◌≡◌, ℕ, ◌<◌, ◌≤◌, List, length};
 ghost use Rattle.capn_words.specs.Message.{IsMessage, IsPlace, IsRange, bytes_at, word_at, words_of};
 
-/// The position of a word in a message: its segment and its index there, both from 0.
+/// The position of a word in a message: the number of the segment, and the index of the word in the segment, both from
+/// 0.
 ///
-/// A place is in range of a message if the segment exists and the word is below its length.
+/// A place is in range of a message if the segment exists and the index is below the segment's length.
 #[derive(Clone, Copy, Debug, PartialEq, Eq, PartialOrd, Ord, Hash)]
 pub struct Place {
     /// The number of the segment.
@@ -24,10 +25,10 @@ impl Place {
 
 /// A message whose words and bytes can be read in place. No call takes memory. (Page: messages.)
 ///
-/// A function over any `Space` that needs the bounds of the message calls `segments`. The prover then knows them for
-/// every later call on the same value.
+/// A function over any `Space` that needs the bounds of the message calls `segments`. The prover then knows the bounds
+/// for every later call on the same value.
 pub trait Space {
-    /// The segments, each the list of its words.
+    /// The segments of the message, each as the list of its words.
     ghost message: { Self → List (List ℕ) };
 
     /// Returns the number of segments: 1 to 4,096, with at most 2^28 + 1 words in all.
@@ -44,10 +45,10 @@ pub trait Space {
         requires { IsPlace (message self.now) at }
         ensures { result ≡ word_at (message self.now) at };
 
-    /// Returns `len` bytes from the start of the word at `at` on. They are the bytes of the segment's words, the least
-    /// significant byte of each word first.
+    /// Returns the `len` bytes from the start of the word at `at` on. The bytes of a word are in the order from the
+    /// least significant to the most significant.
     ///
-    /// The segment has to exist. The word may be the end of the segment. The bytes have to stay within the segment.
+    /// The segment has to exist, and the bytes have to stay within it. `at` may be the end of the segment.
     fn bytes(&self, at: Place, len: usize) -> &[u8]
         requires { IsRange (message self.now) at len }
         ensures { result.now ≡ bytes_at (message self.now) at len };

@@ -7,11 +7,11 @@ ghost use Rattle.capn_words.specs.Watched.{HasBegun, has_failed, inner_of, write
 
 use std::io::{ErrorKind, Read, Result, Write};
 
-/// A reader or a writer, with a flag that says whether a call on it has failed. (Own.)
+/// A reader or a writer, with a flag that says whether a call on it has failed. (Our own.)
 ///
 /// The flag is set by the first call that returns an error, and by the first write that takes no byte of a `buf` that
-/// has some. `Interrupted` counts as an error, and so does the error of a flush. Every call is passed on, also after a
-/// failure.
+/// is not empty. `Interrupted` counts as an error, and so does the error of a flush. Every call is passed on, also
+/// after a failure.
 #[derive(Debug, Drop)]
 pub struct Watched<T> {
     inner: T,
@@ -19,7 +19,7 @@ pub struct Watched<T> {
 }
 
 impl<T> Watched<T> {
-    /// Wraps `inner`, with no failed call on record.
+    /// Wraps `inner`, with the flag not set.
     pub fn new(inner: T) -> Watched<T>
         ensures inner { inner_of result ≡ inner }
         ensures failed { has_failed result ≡ false }
@@ -30,14 +30,14 @@ impl<T> Watched<T> {
         }
     }
 
-    /// Tests whether a call has returned an error, or a write has taken no byte of a `buf` that has some.
+    /// Tests whether a call has returned an error, or a write has taken no byte of a `buf` that is not empty.
     pub fn failed(&self) -> bool
         ensures { result ≡ has_failed self.now }
     {
         self.failed
     }
 
-    /// Returns the reader or writer itself.
+    /// Returns the reader or writer that was wrapped.
     pub fn into_inner(self) -> T
         ensures { result ≡ inner_of self }
     {
@@ -47,8 +47,8 @@ impl<T> Watched<T> {
 }
 
 impl<R: Read> Watched<R> {
-    /// Reads into `buf` with the inner reader and returns its result: the number of bytes now at the front of `buf`. An
-    /// error sets the flag.
+    /// Reads into `buf` with the inner reader and returns the inner result: the number of bytes now at the front of
+    /// `buf`. An error sets the flag.
     pub fn read(&mut self, buf: &mut [u8]) -> Result<usize>
         ensures bound { ReadsAtMost result buf.new }
         ensures bytes { ReadConsumes (R.remaining (inner_of self.old)) (R.remaining (inner_of self.new))
@@ -62,8 +62,8 @@ impl<R: Read> Watched<R> {
 }
 
 impl<W: Write> Watched<W> {
-    /// Writes `buf` with the inner writer and returns its result: the number of bytes of `buf` that it took. The flag
-    /// is set by an error, and by 0 for a `buf` that has bytes.
+    /// Writes `buf` with the inner writer and returns the inner result: the number of bytes of `buf` that were taken.
+    /// The flag is set by an error, and by 0 for a `buf` that is not empty.
     pub fn write(&mut self, buf: &[u8]) -> Result<usize>
         ensures bound { WritesAtMost result buf.now }
         ensures bytes { WriteAppends (W.contents (inner_of self.old)) (W.contents (inner_of self.new))
@@ -97,7 +97,7 @@ impl<W: Write> Watched<W> {
         Ok(())
     }
 
-    /// Flushes the inner writer and returns its result. An error sets the flag.
+    /// Flushes the inner writer and returns the inner result. An error sets the flag.
     pub fn flush(&mut self) -> Result<()>
         ensures kept { Keeps (W.contents (inner_of self.old)) (W.contents (inner_of self.new)) }
         ensures failed { has_failed self.new ≡ (has_failed self.old || is_err result) }

@@ -1,5 +1,5 @@
--- Lemmas for `FieldBits`, `Pointers`, capn_canon, capn_mismatch and other crates: an `if` by a test takes the one
--- branch or the other. The library of the toolchain has no such lemmas.
+-- Lemmas for `FieldBits`, `Pointers`, capn_canon, capn_mismatch and other crates: an `if` takes one branch or the
+-- other, as its test says. The library of the toolchain has no such lemmas.
 use Rattle.std.proofs.Common.{◌≡◌, ◌≢◌, ℕ, ◌<◌, ◌≤◌, ◌==◌, nat_lt, Bool, true, false, refl, arith, if◌then◌else◌}
 use Rattle.std.proofs.lemmas.Bool.Decides.{nat_tests}
 
@@ -27,10 +27,10 @@ same-yes a b e = grind (arith, nat_tests)
 pub same-no : (a b : ℕ) → a ≢ b → (a == b) ≡ false
 same-no a b e = grind (arith, nat_tests)
 
--- `nat_lt a b` is true if `a` is smaller
+-- if `a` is smaller than `b`, `nat_lt a b` is true
 pub less-yes : (a b : ℕ) → a < b → nat_lt a b ≡ true
 less-yes a b e = grind (arith, nat_tests)
 
--- `nat_lt a b` is false if `a` is not smaller
+-- if `a` is not smaller than `b`, `nat_lt a b` is false
 pub less-no : (a b : ℕ) → b ≤ a → nat_lt a b ≡ false
 less-no a b e = grind (arith, nat_tests)

@@ -1,4 +1,4 @@
--- Lemmas for `Pointers`: each field of a pointer fits its bits in the word, and is read back from them.
+-- Lemmas for `Pointers`: each field of a pointer fits its bits in the word, and can be read back from the word.
 use Rattle.std.proofs.Common.{◌≡◌, ℕ, suc, ◌-◌, ◌^◌, ◌<◌, ◌≤◌, ◌==◌, nat_lt, Bool, true, false, ℤ, pos}
 use Rattle.std.proofs.Common.{negsuc, refl, ap, ◌∙◌, arith}
 use Rattle.std.specs.Int.{from_bool}
@@ -9,7 +9,7 @@ use Rattle.capn_words.proofs.shared.Choices.{if-yes, if-no, less-yes, less-no}
 
 -- ---- offsets
 
--- an offset takes 30 bits
+-- the field of an offset has 30 bits
 pub offset_field-lt : (o : ℤ) → FitsOffset o → offset_field o < 2 ^ 30
 offset_field-lt (pos n) h = omega arith
 offset_field-lt (negsuc n) h = omega arith

@@ -9,7 +9,7 @@ use Rattle.capn_words.specs.declared.bare.BareFault.TheVariants.{NotWhole, TooLo
 use Rattle.capn_words.proofs.shared.Words.{length-words_in, word_in, words_below, bytes_of_words, length-bytes}
 use Rattle.capn_words.proofs.shared.Words.{words_of_bytes}
 
--- whole words that are not too many are a segment
+-- bytes that are a whole number of words, and not too many, are a segment
 pub bare_is : (bs : List ℕ) → AreBytes bs → length bs % 8 ≡ 0 → length bs / 8 ≤ most_words
     → IsBare bs (words_in (length bs / 8) bs)
 bare_is bs h whole room = record {
@@ -28,11 +28,11 @@ bare_only bs ws h =
     let n : length bs / 8 ≡ length ws = omega (arith, bare_length bs ws h) in
     rw (n, h.same) (words_of_bytes ws h.each)
 
--- bytes are read in one way
+-- bytes are read as one list of words only
 pub one_bare : (bs vs ws : List ℕ) → IsBare bs vs → IsBare bs ws → vs ≡ ws
 one_bare bs vs ws h k = sym (bare_only bs vs h) ∙ bare_only bs ws k
 
--- bytes are refused for one reason
+-- bytes are refused for one reason only
 pub one_bare_fault : (bs : List ℕ) (e f : BareFault) → ReadsBare bs (Err e) → ReadsBare bs (Err f) → e ≡ f
 one_bare_fault bs (NotWhole m) (NotWhole n) r s = ap (λ (k : ℕ). NotWhole k) (r.0 ∙ sym s.0)
 one_bare_fault bs (NotWhole m) (TooLong n) r s = let l = s.0 in absurd (r.1 (omega arith))
@@ -77,11 +77,11 @@ one_segment ws s h = omega arith
 
 -- facts about `ws`, the words in the bytes `bs`
 module _ (bs ws : List ℕ) (is : words_in (length bs / 8) bs ≡ ws) where
-  -- there is a word for each 8 bytes
+  -- there are as many words as `bs` has groups of 8 bytes
   pub seen_length : length ws ≡ length bs / 8
   seen_length = ap length (sym is) ∙ length-words_in (length bs / 8) bs
 
-  -- word k is read from its 8 bytes
+  -- word `k` is read from the 8 bytes at `8 * k`
   pub seen_word : (k : ℕ) → k < length ws → slice_index ws k ≡ word_number (drop (8 * k) bs)
   seen_word k h = ap (λ (xs : List ℕ). slice_index xs k) (sym is)
       ∙ word_in (length bs / 8) k bs (omega (arith, seen_length))

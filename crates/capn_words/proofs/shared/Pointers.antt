@@ -1,5 +1,5 @@
 -- Lemmas for `join` and `split`, capn_canon and capn_mismatch: `pointer_of` reads a pointer back from its word, and no
--- other pointer has that word.
+-- other pointer has the same word.
 use Rattle.std.proofs.Common.{◌≡◌, ◌≢◌, ℕ, ◌+◌, ◌*◌, ◌/◌, ◌%◌, ◌^◌, ◌<◌, ◌==◌, Bool, ℤ, refl, ap, ◌∙◌, arith}
 use Rattle.std.specs.Int.{from_bool}
 use Rattle.capn_words.specs.Pointers.{Fields, FitsFields, FitsOffset, offset_field, width_code, word_of, field, signed}
@@ -11,7 +11,7 @@ use Rattle.capn_words.proofs.shared.Choices.{if-yes, if-no, same-yes, same-no}
 use Rattle.capn_words.proofs.shared.FieldBits.{offset_field-lt, signed-again}
 use Rattle.capn_words.proofs.shared.FieldBits.{width_code-lt, width_of-width_code, from_bool-le, bool-again}
 
--- ---- `pointer_of` reads the fields of which a word is the sum
+-- ---- `pointer_of` reads back the fields that a word is the sum of
 
 struct-again : (w : ℕ) (o : ℤ) (a b : ℕ) → w ≡ 4 * offset_field o + 2 ^ 32 * a + 2 ^ 48 * b → FitsOffset o → a < 2 ^ 16
     → b < 2 ^ 16 → 0 < offset_field o + a + b → pointer_of w ≡ Node o a b
@@ -38,7 +38,7 @@ list-again w o k c e ho hc =
     if-no (w == 0) _ _ (same-no w 0 (omega arith)) ∙ if-no (w % 4 == 0) _ _ (same-no (w % 4) 0 (omega arith))
     ∙ if-yes (w % 4 == 1) _ _ (same-yes (w % 4) 1 (omega arith)) ∙ cc
 
--- a word that is neither null nor a struct nor a list pointer
+-- a word that is neither null nor a struct pointer nor a list pointer is read by `other_pointer`
 other-again : (w : ℕ) → w % 4 ≢ 0 → w % 4 ≢ 1 → pointer_of w ≡ other_pointer w
 unfolding pointer_of
 other-again w h l =
@@ -72,7 +72,7 @@ null-again : pointer_of 0 ≡ Nil
 unfolding pointer_of
 null-again = refl
 
--- `pointer_of` of a pointer's word is that pointer
+-- `pointer_of` applied to a pointer's word returns the pointer
 pub pointer_of-word_of : (p : Pointer) → FitsFields p → pointer_of (word_of p) ≡ p
 pointer_of-word_of Nil h = null-again
 pointer_of-word_of (Node o w s) h = struct-again (word_of (Node o w s)) o w s refl h.0 h.1 h.2 h.3
@@ -90,6 +90,6 @@ word_of-lt (Far d w s) h = let l = from_bool-le d in omega (arith, h.0, h.1)
 word_of-lt (Cap i) h = omega arith
 word_of-lt (Reserved n) h = h.0
 
--- if `p` has the fields of the word `w`, it is the pointer that `pointer_of` reads
+-- if the fields of `p` fit and add up to `w`, then `p` is `pointer_of w`
 pub Fields-only : (w : ℕ) (p : Pointer) → Fields w p → pointer_of w ≡ p
 Fields-only w p h = ap pointer_of h.1 ∙ pointer_of-word_of p h.0
