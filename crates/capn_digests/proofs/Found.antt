@@ -1,4 +1,4 @@
--- Lemmas for `add`, `contains` and `double`: digests that the table finds are still found after each change.
+-- Lemmas for `add`, `contains` and `double`: after each change the table still finds every digest.
 use Rattle.std.proofs.Common.{◌≡◌, ℕ, ◌+◌, ◌-◌, ◌*◌, ◌/◌, ◌%◌, ◌<◌, ◌≤◌, ◌≢◌, inl, inr, ◌⊎◌, List, [], ◌∷◌, ◌++◌}
 use Rattle.std.proofs.Common.{length, get_or, set, true, false, nat_eq, arith, ap, sym, ◌∙◌, subst, refl, length-append}
 use Rattle.std.specs.BTreeSet.{insert_key}
@@ -20,7 +20,7 @@ use Rattle.capn_digests.specs.Tag.{tag}
 use Rattle.capn_digests.specs.Buckets.{IsMarked, IsHeld, IsHeldAt, IsOverflowed, IsFound}
 use Rattle.capn_digests.specs.Buckets.{slot_of, no_slot, no_head}
 
--- `heads` and `table` are changed only at index `at`, and each slot that was held there is held afterwards
+-- `heads` and `table` change only at index `at`, and each slot that the bucket at `at` held is still held
 pub record IsChangedAt (at : ℕ) (heads : List Head) (table : List (List Slot)) (new_heads : List Head)
     (new_table : List (List Slot)) : Type 0 where
   pub headed : length new_heads ≡ length heads
@@ -75,7 +75,7 @@ module _ (at : ℕ) (heads : List Head) (table : List (List Slot)) (new_heads : 
             (λ d. overflowed_at f.buckets (tag d)) rest f.others;
       }
 
--- a digest that is pushed to the list is found there, if its bucket holds the slot for that index
+-- a digest that is pushed to the list is found there, if its bucket holds the slot with the new index
 pub found_more : (list : List (List ℕ)) (heads : List Head) (table : List (List Slot)) (rest : List (List ℕ))
     (d : List ℕ) → IsFound list heads table rest → IsHeldAt (length heads) heads table (slot_of d (length list))
     → IsFound (list ++ d ∷ []) heads table rest
@@ -118,7 +118,7 @@ module _ (at : ℕ) (heads : List Head) (table : List (List Slot)) (head : Head)
   over : (get_or heads at no_head).overflowed ≡ true → (get_or (set heads at head) at no_head).overflowed ≡ true
   over e = ap (λ (h : Head). h.overflowed) (get_or-set_same heads at head no_head inside) ∙ overflowed e
 
-  -- the head and the bucket at one index are changed together
+  -- if the head and the bucket at index `at` are set, `IsChangedAt` holds
   pub changed_both : (bucket : List Slot) → length table ≡ length heads → ((s : Slot) → s.tag % length heads ≡ at
       → IsHeld (get_or heads at no_head) (get_or table at []) s → IsHeld head bucket s)
       → IsChangedAt at heads table (set heads at head) (set table at bucket)
@@ -134,7 +134,7 @@ module _ (at : ℕ) (heads : List Head) (table : List (List Slot)) (head : Head)
         overflowed = over;
       }
 
-  -- only the head at one index is changed
+  -- if only the head at index `at` is set, `IsChangedAt` holds
   pub changed_head : ((s : Slot) → IsHeld (get_or heads at no_head) (get_or table at []) s
       → IsHeld head (get_or table at []) s) → IsChangedAt at heads table (set heads at head) table
   changed_head held =
@@ -148,7 +148,7 @@ module _ (at : ℕ) (heads : List Head) (table : List (List Slot)) (head : Head)
         overflowed = over;
       }
 
--- with twice as many buckets, the bucket of a tag is its old one or that in the second half
+-- with twice as many buckets, the bucket of a tag is the old one or its copy in the second half
 twice : (n t : ℕ) → 0 < n → t % (n + n) < n + n → ((t % (n + n) < n) × (t % n ≡ t % (n + n)))
     ⊎ ((n ≤ t % (n + n)) × (t % n ≡ t % (n + n) - n))
 twice n t some below =
@@ -167,13 +167,13 @@ twice n t some below =
 
 module _ (list : List (List ℕ)) (heads : List Head) (table : List (List Slot)) (rest : List (List ℕ))
     (q : List ℕ) (f : IsFound list heads table rest) where
-  -- the bucket of a digest in the list holds its slot
+  -- the bucket of a digest in the list holds the digest's slot
   pub held_of : (i : ℕ) → i < length list → get_or list i [] ≡ q → IsHeldAt (length heads) heads table (slot_of q i)
   held_of i below is =
       subst (λ (n : ℕ). IsHeldAt n heads table (slot_of q i)) (sym f.headed)
       (subst (λ (d : List ℕ). IsHeldAt f.buckets heads table (slot_of d i)) is (f.listed i below))
 
-  -- the bucket of a digest of the tree has overflowed
+  -- the bucket of a digest in the tree has overflowed
   pub over_of : (i : ℕ) → i < length rest → get_or rest i [] ≡ q → IsOverflowed (length heads) heads (tag q)
   over_of i below is =
       subst (λ (n : ℕ). IsOverflowed n heads (tag q)) (sym f.headed)
@@ -190,7 +190,7 @@ module _ (list : List (List ℕ)) (heads : List Head) (table : List (List Slot))
       let less : tag q % length heads < length heads = (over_of i below is).0 in
       omega arith
 
-  -- a digest is not in the list if the head of its bucket lacks a mark of it
+  -- a digest is not in the list if the head of its bucket lacks a mark of its tag
   pub unmarked_listed : (head : Head) → head ≡ get_or heads (tag q % length heads) no_head
       → (IsMarked head (tag q) → ⊥) → (i : ℕ) → i < length list → get_or list i [] ≡ q → ⊥
   unmarked_listed head same not i below is =
@@ -201,7 +201,7 @@ module _ (list : List (List ℕ)) (heads : List Head) (table : List (List Slot))
       → (head.overflowed ≡ true → ⊥) → (i : ℕ) → i < length rest → get_or rest i [] ≡ q → ⊥
   unmarked_other head same not i below is = not (ap (λ (h : Head). h.overflowed) same ∙ (over_of i below is).1)
 
-  -- a digest is not in the list if no slot of its bucket leads to it
+  -- a digest is not in the list if no slot of its bucket has an index at which the list has the digest
   pub unled : (bucket : List Slot) → bucket ≡ get_or table (tag q % length heads) []
       → ((k : ℕ) → k < length bucket → (get_or bucket k no_slot).tag ≡ tag q
       → (get_or bucket k no_slot).at < length list → get_or list ((get_or bucket k no_slot).at) [] ≡ q → ⊥)
@@ -214,7 +214,7 @@ module _ (list : List (List ℕ)) (heads : List Head) (table : List (List Slot))
       (subst (λ (n : ℕ). n < length list) (sym (ap (λ (s : Slot). s.at) e)) below)
       (ap (λ (s : Slot). get_or list s.at []) e ∙ is)
 
--- if a list is repeated twice, its item for a tag is the same as before
+-- if a list is appended to itself, the item for a tag is the same as before
 pub same_twice : {X : Type 0} (xs : List X) (d : X) (n t : ℕ) → length xs ≡ n → t % n < n
     → (t % (n + n) < n + n) × (get_or (xs ++ xs) (t % (n + n)) d ≡ get_or xs (t % n) d)
 same_twice xs d n t same below =
@@ -242,7 +242,7 @@ twice_over : (heads : List Head) (n : ℕ) → length heads ≡ n → (t : ℕ) 
 twice_over heads n a t (below, is) =
     let h = same_twice heads no_head n t a below in (h.0, ap (λ (x : Head). x.overflowed) h.1 ∙ is)
 
--- if heads and buckets are repeated twice, every digest is still found
+-- if heads and buckets are appended to themselves, every digest is still found
 pub found_twice : (list : List (List ℕ)) (heads : List Head) (table : List (List Slot)) (rest : List (List ℕ))
     → IsFound list heads table rest → IsFound list (heads ++ heads) (table ++ table) rest
 found_twice list heads table rest f =
@@ -257,7 +257,7 @@ found_twice list heads table rest f =
       others = λ i d below. twice_over heads f.buckets f.headed (tag (get_or rest i d)) (f.others i d below);
     }
 
--- a slot that a bucket holds is also held with a head that is marked as overflowed
+-- a slot that a bucket holds is still held after the head is marked as overflowed
 flagged : (head : Head) (bucket : List Slot) (s : Slot) → IsHeld head bucket s → IsHeld (record {
   marks = head.marks;
   more = head.more;
@@ -348,7 +348,7 @@ some_of n e =
       | inr other ↦ omega arith
     ]
 
--- the item read at the index of a digest's bucket is that of the digest's tag
+-- an item read with the same tag and the same number of buckets is the item of the digest's bucket
 pub read_at_home : {X : Type 0} (xs : List X) (d : X) (q : List ℕ) (heads t n : ℕ) (x : X) → t ≡ tag q → n ≡ heads
     → 0 < n → length xs ≡ heads → x ≡ get_or xs (t % n) x → x ≡ get_or xs (tag q % heads) d
 read_at_home xs d q heads t n x tagged count some long is =

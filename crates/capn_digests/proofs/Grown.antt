@@ -1,4 +1,4 @@
--- Lemmas for `add` and `double`: how much a set of digests grows by one digest.
+-- Lemmas for `add` and `double`: a bound on the growth of a set by one digest.
 use Rattle.std.proofs.Common.{◌≡◌, ℕ, ◌+◌, ◌*◌, ◌-◌, ◌^◌, ◌<◌, ◌≤◌, ◌/◌, ◌%◌, List, ◌++◌, length, get_or}
 use Rattle.std.proofs.Common.{inl, inr, arith, ap, sym, ◌∙◌, subst, refl}
 use Rattle.std.proofs.Math.Nat.{mod-lt}
@@ -22,7 +22,7 @@ fewer_twice heads new some long fewer t =
     subst (λ (m : ℕ). (get_or new (t % m) no_head).count ≤ (get_or heads (t % n) no_head).count) (sym long)
     (subst (λ (x : Head). (get_or new (t % (n + n)) no_head).count ≤ x.count) h.1 (fewer (t % (n + n))))
 
--- the number of slots that are taken in the bucket of a digest, by the set and by its heads
+-- the set and its heads give the same number of taken slots for the bucket of `digest`
 pub taken_is : (heads : List Head) (s : Digests) → counts heads ≡ s.taken → (digest : List ℕ)
     → taken_for s digest ≡ count_of heads (tag digest)
 taken_is heads s is digest =
@@ -30,7 +30,7 @@ taken_is heads s is digest =
     ∙ (ap (λ (n : ℕ). get_or (counts heads) (tag digest % n) 0) (length-map heads (λ (h : Head). h.count))
     ∙ get_or-map (λ (h : Head). h.count) heads (tag digest % length heads) no_head)
 
--- the set has grown as `HasGrown` says: list and table have, and the digest is in the list or found no slot
+-- `HasGrown` holds if the list and the table have grown as needed, and the digest is in the list or found no slot
 pub grown : (old new : Digests) (digest : List ℕ) (heads more : List Head) (listed room : ℕ) → listed ≡ old.listed
     → room ≡ old.room → counts heads ≡ old.taken → length new.taken ≡ length more → room ≤ new.room
     → (room ≤ listed → listed + (listed / 8 + 16) ≤ new.room) → (listed / 8 < length heads → more ≡ heads)

@@ -1,4 +1,4 @@
--- Lemmas for `kept` and `double`: a bucket with one slot more, and the slots that are kept of a bucket.
+-- Lemmas for `kept` and `double`: a bucket that gets one more slot, and the slots of a bucket that are kept.
 use Rattle.std.proofs.Common.{◌≡◌, ℕ, ◌+◌, ◌<◌, ◌≢◌, List, length, get_or, set, ◌%◌, ◌++◌, take, drop, arith, ap, sym}
 use Rattle.std.proofs.Common.{◌∙◌, subst, below_more}
 use Rattle.std.specs.Prelude.{slice_range}
@@ -9,7 +9,7 @@ use Rattle.capn_digests.specs.declared.slot.Slot.{Slot}
 use Rattle.capn_digests.specs.declared.slot.Head.{Head}
 use Rattle.capn_digests.specs.Buckets.{IsMarked, IsHeld, no_slot}
 
--- `new` has one slot more than `old`, and all its marks
+-- `new` has one more slot taken than `old`, and all marks of `old`
 pub record IsOneMore (old new : Head) : Type 0 where
   pub count : new.count ≡ old.count + 1
   pub kept : (t : ℕ) → IsMarked old t → IsMarked new t
@@ -41,14 +41,14 @@ module _ (old new : Head) (bucket : List Slot) (slot : Slot) (more : IsOneMore o
         marked = marked;
       }
 
--- slot `k` of `bucket` is held by the new bucket, if it is taken and its tag belongs there
+-- if slot `k` of `bucket` is taken and its tag belongs to bucket `at`, the new bucket holds it
 abbrev pub IsKept : Head → List Slot → ℕ → ℕ → Head → List Slot → ℕ → Type 0
 IsKept head bucket buckets at new kept k =
     k < head.count → (get_or bucket k no_slot).tag % buckets ≡ at → IsHeld new kept (get_or bucket k no_slot)
 
 module _ (head : Head) (bucket : List Slot) (buckets at j : ℕ) (new : Head) (kept : List Slot)
     (held : (k : ℕ) → k < j → IsKept head bucket buckets at new kept k) where
-  -- slot `j` is kept
+  -- after slot `j` is put into the new bucket, `IsKept` holds of the slots up to `j`
   pub kept_one : (more : Head) → IsOneMore new more → new.count < length kept
       → IsMarked more (get_or bucket j no_slot).tag → (k : ℕ) → k < j + 1
       → IsKept head bucket buckets at more (set kept new.count (get_or bucket j no_slot)) k
@@ -57,13 +57,13 @@ module _ (head : Head) (bucket : List Slot) (buckets at j : ℕ) (new : Head) (k
       (λ k below taken own. held_still new more kept (get_or bucket j no_slot) one (get_or bucket k no_slot)
       (held k below taken own)) (λ taken own. held_one new more kept (get_or bucket j no_slot) one within marked)
 
-  -- slot `j` is dropped
+  -- if slot `j` does not belong to the new bucket, `IsKept` holds of the slots up to `j` without a change
   pub kept_none : (j < head.count → (get_or bucket j no_slot).tag % buckets ≡ at → ⊥) → (k : ℕ) → k < j + 1
       → IsKept head bucket buckets at new kept k
   kept_none not =
       below_more (λ (k : ℕ). IsKept head bucket buckets at new kept k) j held (λ taken own. absurd (not taken own))
 
--- a list that is written over all of another of its length
+-- writing a list over another of the same length gives the first list
 pub written : {X : Type 0} (xs ys : List X) (n : ℕ) → n ≡ length ys → length xs ≡ length ys
     → take n (xs ++ drop (length xs) ys) ≡ xs
 written xs ys n whole same =

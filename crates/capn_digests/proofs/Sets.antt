@@ -1,4 +1,4 @@
--- Lemmas for `add`, `contains`, `insert` and `new`: the digests of a list and of a tree, as a set.
+-- Lemmas for `add`, `contains`, `insert` and `new`: the digests of a list and a tree, seen as one set.
 use Rattle.std.proofs.Common.{◌≡◌, ℕ, ◌+◌, ◌<◌, List, [], ◌∷◌, ◌++◌, Bool, true, false, cond, not, ◌||◌}
 use Rattle.std.proofs.Common.{length, get_or, suc, inl, inr, arith, ap, sym, ◌∙◌, refl, length-append}
 use Rattle.std.specs.List.{list_any}
@@ -23,7 +23,7 @@ use Rattle.capn_digests.specs.declared.slot.Head.{Head}
 use Rattle.capn_digests.specs.Tag.{tag}
 use Rattle.capn_digests.specs.Buckets.{digests_of, IsIndexed, IsFound, IsOverflowed}
 
--- true if `q` is among the digests `ds`
+-- true if the digest `q` is among the digests `ds`
 abbrev pub has : List (List ℕ) → List ℕ → Bool
 has ds q = list_any (eq_by_cmp (slice_cmp nat_cmp) q) ds
 
@@ -34,7 +34,7 @@ contains_parts list rest q =
     set.contains-from_list nat_list_cmp_total (list ++ rest) q
     ∙ list_any-append (eq_by_cmp (slice_cmp nat_cmp) q) list rest
 
--- the empty parts are a valid index
+-- empty parts satisfy `IsIndexed`
 pub indexed_none : (list : List (List ℕ)) (heads : List Head) (table : List (List Slot)) (rest : List (List ℕ))
     → list ≡ [] → heads ≡ [] → table ≡ [] → rest ≡ [] → IsIndexed list heads table rest
 indexed_none list heads table rest a b c d =
@@ -66,11 +66,11 @@ or_again true true c e = refl
 or_again false b c e = refl
 or_again true false c e = absurd (cc)
 
--- only the same digests compare as equal
+-- digests that compare as equal are equal
 pub same_digest : (a b : List ℕ) → slice_cmp nat_cmp a b ≡ Equal → a ≡ b
 same_digest = slice_cmp-IsAntisymmetric nat_cmp-IsAntisymmetric
 
--- the keys after an insertion have the inserted digest and those before
+-- after `k` is inserted, the keys have `q` if `q` is `k` or was among the keys before
 pub has-insert_key : (q k : List ℕ) (ks : List (List ℕ))
     → has (insert_key (slice_cmp nat_cmp) ks k) q ≡ (eq_by_cmp (slice_cmp nat_cmp) q k || has ks q)
 has-insert_key q k [] = refl
@@ -162,7 +162,7 @@ other_set list rest d =
     ∙ sym (set.contains-insert nat_list_cmp_total (digests_of list rest) d q
     ∙ ap (λ (b : Bool). eq_by_cmp (slice_cmp nat_cmp) q d || b) (contains_parts list rest q)))))
 
--- the set has one digest more after the insertion of a digest that it lacked
+-- inserting a digest that the set lacks makes the set larger by one
 pub len_more : (s : set.FinSet (slice_cmp nat_cmp)) (d : List ℕ) → set.contains s d ≡ false
     → set.len (set.insert s d) ≡ set.len s + 1
 len_more s d e =
@@ -170,7 +170,7 @@ len_more s d e =
 
 module _ (list : List (List ℕ)) (heads : List Head) (table : List (List Slot)) (rest : List (List ℕ)) (d : List ℕ)
     (indexed : IsIndexed list heads table rest) (lacks : set.contains (digests_of list rest) d ≡ false) where
-  -- the parts are a valid index after the digest was pushed to the list
+  -- after a push to the list of a digest that the set lacked, the parts satisfy `IsIndexed`
   pub indexed_listed : (new_heads : List Head) (new_table : List (List Slot))
       → IsFound (list ++ d ∷ []) new_heads new_table rest → IsIndexed (list ++ d ∷ []) new_heads new_table rest
   indexed_listed new_heads new_table found =
@@ -182,7 +182,7 @@ module _ (list : List (List ℕ)) (heads : List Head) (table : List (List Slot))
             ∙ (len_more (digests_of list rest) d lacks ∙ omega arith);
       }
 
-  -- the parts are a valid index after the digest was inserted into the tree
+  -- after an insertion into the tree of a digest that the set lacked, the parts satisfy `IsIndexed`
   pub indexed_other : (new_heads : List Head) (new_table : List (List Slot)) (keys : List (List ℕ))
       → keys ≡ insert_key (slice_cmp nat_cmp) rest d → length keys ≡ length rest + 1
       → IsFound list new_heads new_table (insert_key (slice_cmp nat_cmp) rest d)

@@ -1,4 +1,4 @@
--- The table of buckets, by which a digest is found in the list or known to be in the tree.
+-- The table of buckets, which shows where in the list a digest may be, or that the tree may have it.
 use Rattle.std.specs.Prelude.{◌≡◌, ℕ, ◌+◌, ◌<◌, ◌%◌, List, length, [], ◌++◌, true, false}
 use Rattle.std.specs.Prelude.{slice_index_or, bit_and}
 use Rattle.std.specs.List.{All}
@@ -15,7 +15,7 @@ no_slot = record { tag = 0; at = 0 }
 abbrev pub no_head : Head
 no_head = record { marks = 0; more = 0; count = 0; overflowed = false }
 
--- `head` has the marks of the tag `t`
+-- `head` has all marks of the tag `t`
 abbrev pub IsMarked : Head → ℕ → Type 0
 IsMarked head t = (bit_and head.marks (marks t) ≡ marks t) × (bit_and head.more (more t) ≡ more t)
 
@@ -27,22 +27,22 @@ pub record IsHeld (head : Head) (bucket : List Slot) (slot : Slot) : Type 0 wher
   pub is : slice_index_or bucket place no_slot ≡ slot
   pub marked : IsMarked head slot.tag
 
--- `slot` is held by the bucket of its tag in a table of `buckets` buckets
+-- in a table of `buckets` buckets, the bucket of the tag of `slot` holds `slot`
 abbrev pub IsHeldAt : ℕ → List Head → List (List Slot) → Slot → Type 0
 IsHeldAt buckets heads table slot =
     (slot.tag % buckets < buckets)
     × IsHeld (slice_index_or heads (slot.tag % buckets) no_head) (slice_index_or table (slot.tag % buckets) []) slot
 
--- the bucket of the tag `t` has overflowed, in a table of `buckets` buckets
+-- in a table of `buckets` buckets, the bucket of the tag `t` has overflowed
 abbrev pub IsOverflowed : ℕ → List Head → ℕ → Type 0
 IsOverflowed buckets heads t =
     (t % buckets < buckets) × ((slice_index_or heads (t % buckets) no_head).overflowed ≡ true)
 
--- the slot of `digest`, which is at index `at` of the list
+-- the slot for `digest` at index `at` of the list
 abbrev pub slot_of : List ℕ → ℕ → Slot
 slot_of digest at = record { tag = tag digest; at = at }
 
--- The bucket of each digest in `list` holds its slot, and the bucket of each digest in the tree, `rest`, has
+-- The bucket of each digest in `list` holds the digest's slot. The bucket of each digest in the tree, `rest`, has
 -- overflowed.
 pub record IsFound (list : List (List ℕ)) (heads : List Head) (table : List (List Slot)) (rest : List (List ℕ))
     : Type 0 where
@@ -52,11 +52,11 @@ pub record IsFound (list : List (List ℕ)) (heads : List Head) (table : List (L
   pub listed : (i : ℕ) → i < length list → IsHeldAt buckets heads table (slot_of (slice_index_or list i []) i)
   pub others : All (λ (d : List ℕ). IsOverflowed buckets heads (tag d)) rest
 
--- the digests of a list and of a tree, as a set
+-- the set of the digests in `list` and in the tree `rest`
 abbrev pub digests_of : List (List ℕ) → List (List ℕ) → set.FinSet (slice_cmp nat_cmp)
 digests_of list rest = set.from_list (list ++ rest)
 
--- Each digest is found by the table, and no digest is there twice.
+-- Each digest is found through the table, and no digest is twice in `list` and `rest`.
 pub record IsIndexed (list : List (List ℕ)) (heads : List Head) (table : List (List Slot)) (rest : List (List ℕ))
     : Type 0 where
   pub found : IsFound list heads table rest

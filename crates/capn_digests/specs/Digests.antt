@@ -1,4 +1,4 @@
--- The set of digests as contracts see it, and when one more digest may need memory.
+-- The set of digests as contracts see it, and the condition under which one more digest may need memory.
 use Rattle.std.specs.Prelude.{◌≡◌, ℕ, ◌+◌, ◌*◌, ◌-◌, ◌<◌, ◌≤◌, ◌/◌, ◌%◌, ◌^◌, ◌⊎◌, List, length, [], map}
 use Rattle.std.specs.Prelude.{slice_index_or}
 use Rattle.std.specs.FinSet as set
@@ -8,19 +8,19 @@ use Rattle.capn_digests.specs.declared.slot.Head.{Head}
 use Rattle.capn_digests.specs.Tag.{tag}
 use Rattle.capn_digests.specs.Buckets.{no_head}
 
--- The digests of a set, the number of them that are in its list, the number for which the list has room, and for each
--- bucket of its table the number of its sixteen slots that are taken.
+-- `seen` is the set of the digests, `listed` is the number of digests in the list, and `room` is the list's capacity.
+-- `taken` has, for each bucket of the table, the number of its sixteen slots that are taken.
 pub record Digests : Type 0 where
   pub seen : set.FinSet (slice_cmp nat_cmp)
   pub listed : ℕ
   pub room : ℕ
   pub taken : List ℕ
 
--- the set without digests, which has no room for one
+-- the empty set, with no capacity and no buckets
 abbrev pub no_digests : Digests
 no_digests = record { seen = set.empty; listed = 0; room = 0; taken = [] }
 
--- the number of slots that are taken, for each bucket
+-- for each of `heads`, the number of slots that are taken
 abbrev pub counts : List Head → List ℕ
 counts heads = map (λ (h : Head). h.count) heads
 
@@ -28,7 +28,8 @@ counts heads = map (λ (h : Head). h.count) heads
 abbrev pub count_of : List Head → ℕ → ℕ
 count_of heads t = (slice_index_or heads (t % length heads) no_head).count
 
--- one more digest makes the list or the table grow: the list is full, or each bucket of the table has eight digests
+-- either the list is full and has to grow, or it has at least eight digests for each bucket, so that the table has to
+-- grow
 abbrev pub HasToGrow : ℕ → ℕ → ℕ → Type 0
 HasToGrow count capacity buckets = (capacity ≤ count) ⊎ (buckets ≤ count / 8)
 
@@ -36,15 +37,15 @@ HasToGrow count capacity buckets = (capacity ≤ count) ⊎ (buckets ≤ count /
 abbrev pub taken_for : Digests → List ℕ → ℕ
 taken_for s digest = slice_index_or s.taken (tag digest % length s.taken) 0
 
--- One more digest may need memory. Either the list or the table has to grow; or the tree has to, since each slot of the
--- digest's bucket is taken, or since the list is too long for a slot to hold an index in it.
+-- Inserting `digest` may need memory. Either the list or the table has to grow. Or the digest goes into the tree, since
+-- each slot of its bucket is taken, or since the list is too long for a 32-bit index.
 abbrev pub MayGrow : Digests → List ℕ → Type 0
 MayGrow s digest =
     HasToGrow s.listed s.room (length s.taken) ⊎ ((16 ≤ taken_for s digest) ⊎ (2 ^ 32 - 1 ≤ s.listed))
 
--- A bound on how often the set grows. If the list had to grow, it then has room for an eighth more digests, and 16. If
--- the table had to grow, it then has twice as many buckets, or the first one. The digest is put into the list, and not
--- into the tree, unless its bucket was full or the list too long.
+-- A bound on how often the set grows. If the list was full, it then has room for an eighth more digests, and 16. If the
+-- table had to grow, it then has at least twice as many buckets, and at least one. The digest is put into the list, and
+-- not into the tree, unless its bucket was full or the list was too long.
 pub record HasGrown (old new : Digests) (digest : List ℕ) : Type 0 where
   pub room : old.room ≤ new.room
   pub list : old.room ≤ old.listed → old.listed + (old.listed / 8 + 16) ≤ new.room

@@ -1,4 +1,4 @@
-//! The set of digests: its list, its table of slots and its tree, and the calls on it.
+//! The set of digests: a list, a table of slots and a tree, and the calls on the set.
 
 ghost use Rattle.std.specs.Prelude.{◌≡◌, true, false, OnOk, OnErr, IfOk};
 ghost use Rattle.std.specs.FinSet as set;
@@ -14,8 +14,8 @@ use std::marker::Model;
 /// A set of digests that grows.
 ///
 /// The list takes 32 to 36 bytes for each digest and grows by an eighth. The table takes 17 to 34 bytes for each
-/// digest: a bucket has sixteen slots, and the table doubles in place so that there are at most eight digests for each
-/// bucket. A digest in the tree takes up to 72 bytes instead.
+/// digest. A bucket of the table has sixteen slots, and the table doubles in place so that there are at most eight
+/// digests for each bucket. A digest in the tree takes up to 72 bytes instead.
 #[derive(Drop)]
 pub struct DigestSet<A: Allocator> {
     list: Vec<[u8; 32], A>,
@@ -48,7 +48,7 @@ impl<A: Allocator> Model for DigestSet<A> {
 }
 
 impl<A: Allocator + Copy> DigestSet<A> {
-    /// Returns the empty set. It takes no memory.
+    /// Returns the empty set, which takes no memory.
     pub fn new(alloc: A) -> DigestSet<A>
         ensures { result ≡ no_digests }
     {
@@ -60,11 +60,11 @@ impl<A: Allocator + Copy> DigestSet<A> {
         }
     }
 
-    /// Inserts `digest`, and returns whether the set had it already.
+    /// Inserts `digest`, and returns whether the set already had `digest`.
     ///
-    /// `AllocError` is returned only for a digest that the set lacks, and only if a growth was refused: that of the
-    /// list, if it was full; that of the table, if it had at least eight digests for each bucket; or that of the tree,
-    /// if the bucket of `digest` was full or the list had 2^32 - 1 digests. The set then has the digests that it had.
+    /// `AllocError` is returned only if the set lacks `digest` and an allocation was refused. The list allocates if it
+    /// is full, the table if there were at least eight digests for each bucket, and the tree if the bucket of `digest`
+    /// was full or the list had 2^32 - 1 digests. After a refusal the set has the digests that it had before.
     pub fn insert(&mut self, digest: [u8; 32]) -> Result<bool, AllocError>
         ensures answer { IfOk result (λ was. was ≡ set.contains self.old.seen digest) }
         ensures inserted { OnOk result (self.new.seen ≡ set.insert self.old.seen digest) }
@@ -81,7 +81,7 @@ impl<A: Allocator + Copy> DigestSet<A> {
         Ok(false)
     }
 
-    /// Adds `digest`, which the set does not have. If memory is refused, the set has the digests that it had.
+    /// Adds `digest`, which the set lacks. If an allocation is refused, the set has the digests that it had before.
     #[inline(always)]
     fn add(&mut self, digest: [u8; 32]) -> Result<(), AllocError>
         requires { set.contains self.old.seen digest ≡ false }
@@ -112,7 +112,7 @@ impl<A: Allocator + Copy> DigestSet<A> {
 }
 
 impl<A: Allocator> DigestSet<A> {
-    /// Returns the number of digests.
+    /// Returns the number of digests in the set.
     pub fn len(&self) -> usize
         ensures { result ≡ set.len self.now.seen }
     {
@@ -141,7 +141,7 @@ mod tests {
     use super::*;
     use std::test::Fail;
 
-    /// Returns a digest that begins with the bytes of `number`; `last` fills the others.
+    /// Returns a digest that begins with the bytes of `number`. Each other byte is `last`.
     fn digest(number: u32, last: u8) -> [u8; 32] {
         let mut digest = [last; 32];
         digest[..4].copy_from_slice(&number.to_le_bytes());
@@ -165,8 +165,8 @@ mod tests {
         Ok(())
     }
 
-    /// Tests that none of 1,000,001 digests is refused with ample memory. No clause can say that memory is there, so a
-    /// body that gives up instead of growing would keep every clause.
+    /// Tests that none of 1,000,001 digests is refused with ample memory. No clause can say that memory suffices, so a
+    /// body that refuses instead of allocating would satisfy every clause.
     #[test]
     fn more_than_a_million_digests(rt: HostRuntime) -> Result<(), Fail> {
         let mut digests = DigestSet::new(rt.alloc());

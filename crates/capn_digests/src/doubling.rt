@@ -1,4 +1,4 @@
-//! The growth of the list and of the table: doubled buckets, each with the slots that belong to it.
+//! The growth of the list and of the table. When the table doubles, each bucket keeps only the slots that belong to it.
 
 ghost use Rattle.std.specs.Prelude.{◌≡◌, ℕ, ◌+◌, ◌*◌, ◌<◌, ◌≤◌, ◌/◌, ◌%◌, List, length, vec_capacity, OnOk};
 ghost use Rattle.std.specs.Prelude.{OnErr, slice_index_or};
@@ -9,7 +9,7 @@ ghost use Rattle.capn_digests.specs.Digests.{HasToGrow, count_of};
 use crate::slot::{Head, NO_HEAD, NO_SLOT, SLOTS, Slot};
 use std::alloc::{AllocError, Allocator};
 
-/// Returns `head` and `bucket` without the slots whose tags belong to another bucket than number `at` of `buckets`.
+/// Returns `head` and `bucket` without the slots whose tags do not belong to bucket `at` of `buckets` buckets.
 fn kept(head: Head, bucket: &[Slot; SLOTS], at: usize, buckets: usize) -> (Head, [Slot; SLOTS])
     requires { 0 < buckets }
     ensures held { (s : SlotValue) → s.tag % buckets ≡ at → IsHeld head bucket.now s → IsHeld result.0 result.1 s }
@@ -56,8 +56,8 @@ fn keep_each_own(heads: &mut [Head], table: &mut [[Slot; SLOTS]])
     }
 }
 
-/// Doubles the number of buckets, or makes the first bucket. If memory is refused, `heads` and `table` hold what they
-/// held.
+/// Doubles the number of buckets, or makes the first bucket. If an allocation is refused, `heads` and `table` have the
+/// same items as before.
 #[inline(never)]
 fn double<A: Allocator>(
     heads: &mut Vec<Head, A>,
@@ -84,11 +84,11 @@ fn double<A: Allocator>(
     Ok(())
 }
 
-/// Makes room for one more digest. The list grows by an eighth, and the table doubles when it has eight digests for
-/// each bucket.
+/// Makes room for one more digest. A full list grows by an eighth and 16, and the table doubles if the list has eight
+/// digests for each bucket.
 ///
-/// `AllocError` is returned only if a growth was refused, and only if the list is full or each bucket has eight digests
-/// already. Every digest that could be found before is still found then.
+/// `AllocError` is returned only if an allocation was refused, and only if the list is full or has at least eight
+/// digests for each bucket. After a refusal every digest is still found.
 #[inline(always)]
 pub(crate) fn make_room<A: Allocator>(
     list: &mut Vec<[u8; 32], A>,

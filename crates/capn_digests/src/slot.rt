@@ -7,7 +7,7 @@ ghost use Rattle.capn_digests.specs.Buckets.{IsMarked};
 /// The number of slots of a bucket.
 pub(crate) const SLOTS: usize = 16;
 
-/// The entry of one digest in a bucket: its tag, and its index in the list.
+/// The entry of one digest in a bucket: the tag of the digest, and its index in the list.
 #[derive(Clone, Copy)]
 pub(crate) struct Slot {
     pub(crate) tag: u32,
@@ -16,8 +16,8 @@ pub(crate) struct Slot {
 
 pub(crate) const NO_SLOT: Slot = Slot { tag: 0, at: 0 };
 
-/// The head of a bucket: marks of the tags in its slots, the number of slots that are taken, and whether a digest of
-/// the bucket is in the tree.
+/// The head of a bucket: marks of the tags in its slots, the number of slots that are taken, and a flag. The flag is
+/// set if the tree has a digest of the bucket.
 #[derive(Clone, Copy)]
 pub(crate) struct Head {
     pub(crate) marks: u32,
@@ -62,7 +62,8 @@ pub(crate) fn more_of(tag: u32) -> u16
 }
 
 impl Head {
-    /// Tests whether a digest with this `tag` may be in the bucket or in the tree. `false` shows that there is none.
+    /// Tests whether a digest with the tag `tag` may be in the bucket or in the tree. If `false`, there is no such
+    /// digest.
     #[inline(always)]
     pub(crate) fn may_have(self, tag: u32) -> bool
         ensures marked { IsMarked self tag → result ≡ true }
