@@ -1,5 +1,5 @@
--- Lemmas for `gather_table.rt`, `lanes.rt`, `pack_block.rt` and others: the tables keep their rules, and a vector
--- shuffled by one of their rows is the word or the group's text.
+-- Lemmas for `gather_table.rt`, `lanes.rt`, `pack_block.rt` and others: the tables satisfy their rules, and a vector
+-- that is shuffled by a row is the word or the text of the group.
 use Rattle.std.proofs.Common.{◌≡◌, ℕ, zero, suc, ◌+◌, ◌*◌, ◌/◌, ◌%◌, ◌^◌, ◌<◌, ◌≤◌, Bool, true, false, cond, eqb, ltb}
 use Rattle.std.proofs.Common.{leb, ◌&&◌, ◌||◌, T, inl, inr, List, [], ◌∷◌, ◌++◌, map, length, take, drop, get_or}
 use Rattle.std.proofs.Common.{replicate, refl, sym, ap, ◌∙◌, subst, arith, append_assoc, take_all, w8}
@@ -21,7 +21,7 @@ use Rattle.capn_pack.specs.declared.spread_table.TheConstants.{SPREADS}
 use Rattle.capn_pack.specs.declared.gather_table.TheConstants.{GATHERS}
 use Rattle.capn_pack.proofs.shared.SpreadLemmas.{ones_half, no_ones, parity, named_one, named_none}
 
--- ---- each table is its rule at each tag
+-- ---- each row of a table is given by the table's rule
 
 spreads_are : SPREADS ≡ map spread_row (range_with_len 0 256)
 spreads_are = refl
@@ -37,7 +37,7 @@ pub gather_entry : (tag : ℕ) (none : List ℕ) → tag < 256 → get_or GATHER
 gather_entry tag none h = ap (λ t. get_or t tag none) gathers_are
     ∙ get_or-map-range_with_len gather_row 0 256 tag tag none h (omega arith)
 
--- ---- each row may shuffle a vector of 16
+-- ---- each row may shuffle a vector of 16 lanes
 
 abbrev is_lanes : List ℕ → Bool
 is_lanes [] = true
@@ -84,7 +84,7 @@ some_ones tag e = omega (arith, ones_half tag, e)
 none_ones : (tag : ℕ) → tag % 2 ≡ 0 → count_ones tag ≡ count_ones (tag / 2)
 none_ones tag e = omega (arith, ones_half tag, e)
 
--- ---- a word from the bytes that its tag names
+-- ---- the word that has the bytes named by its tag
 
 spread_odd : (n tag next : ℕ) → tag % 2 ≡ 1
     → spread_places (suc n) tag next ≡ next ∷ spread_places n (tag / 2) (next + 1)
@@ -223,7 +223,7 @@ gather_all tag word xs row h long from e =
     (ap (λ l. tag ∷ l) (gather_lanes xs 8 tag 0 1 (replicate 7 128) all (omega arith) (omega arith) (omega arith)
     ∙ ap (named_bytes tag) back))
 
--- the text after all lanes are appended and the surplus is cut off
+-- the text after all lanes are appended and the surplus lanes are cut off
 pub pushed : (old lanes all new text : List ℕ) (end count : ℕ) → end ≡ length old + (1 + count) → all ≡ old ++ lanes
     → new ≡ take end all → take (1 + count) lanes ≡ text → new ≡ old ++ text
 pushed old lanes all new text end count at grown cut e = cut ∙ (λ i. take (at i) (grown i))
@@ -239,7 +239,7 @@ few_ones (suc n) tag h = omega (arith, ones_half tag, few_ones n (tag / 2) (omeg
 pub eight_ones : (tag : ℕ) → tag < 256 → count_ones tag ≤ 8
 eight_ones tag h = few_ones 8 tag (omega arith)
 
--- the front of a block after a store, if only a prefix of the stored bytes counts
+-- the front of a block after a store, if only the first `n` bytes of the store are kept
 pub stored : (old add new text : List ℕ) (at all n end : ℕ) → end ≡ at + n → at ≤ length old → n ≤ all
     → take (at + all) new ≡ take at old ++ add → take n add ≡ text → take end new ≡ take at old ++ text
 stored old add new text at all n end e inside few written is =

@@ -1,14 +1,14 @@
--- Worked words and their packed texts from the encoding page: the definitions give what one reads there.
+-- Worked words and their packed texts from the encoding page: the definitions give the page's texts.
 use Rattle.std.proofs.Common.{◌≡◌, ℕ, List, [], ◌∷◌, ◌++◌, get_or, replicate, refl, ap, arith}
 use Rattle.capn_pack.specs.Packed.Group.{Named, Raw, Zeros}
 use Rattle.capn_pack.specs.Chosen.{Chosen}
 use Rattle.capn_pack.specs.Packed.{IsNamedBy, tag_of}
 
--- 08 00 00 00 03 00 02 00
+-- the bytes 08 00 00 00 03 00 02 00
 first_word : List ℕ
 first_word = 8 ∷ 0 ∷ 0 ∷ 0 ∷ 3 ∷ 0 ∷ 2 ∷ 0 ∷ []
 
--- 19 00 00 00 aa 01 00 00
+-- the bytes 19 00 00 00 aa 01 00 00
 second_word : List ℕ
 second_word = 25 ∷ 0 ∷ 0 ∷ 0 ∷ 170 ∷ 1 ∷ 0 ∷ 0 ∷ []
 
@@ -17,7 +17,7 @@ first_tag : tag_of first_word ≡ 81
 unfolding first_word
 first_tag = refl
 
--- a byte that the tag names may be any
+-- if the tag names a byte, the condition that unnamed bytes are zero holds of that byte
 odd : (x : ℕ) → ◌≡◌ {A = ℕ} 1 0 → x ≡ 0
 odd x e = absurd (omega (arith, e))
 
@@ -29,7 +29,7 @@ second_named : IsNamedBy 49 second_word
 unfolding second_word
 second_named = (odd 25, (λ _. refl, (λ _. refl, (λ _. refl, (odd 170, (odd 1, (λ _. refl, (λ _. refl, tt))))))))
 
--- two words that tags name: 51 08 03 02 31 19 aa 01
+-- two words that are written with tags: 51 08 03 02 31 19 aa 01
 two_words : Chosen (81 ∷ 8 ∷ 3 ∷ 2 ∷ 49 ∷ 25 ∷ 170 ∷ 1 ∷ []) (first_word ++ second_word)
 unfolding first_word second_word
 two_words = record {
@@ -43,7 +43,7 @@ two_words = record {
   content = refl;
 }
 
--- four zero words, then four words of bytes 8a: 00 03 ff, eight times 8a, 03, 24 times 8a
+-- four zero words, then four words of bytes 8a: the text is 00 03 ff, eight times 8a, 03, 24 times 8a
 zeros_then_raw : Chosen (0 ∷ 3 ∷ 255 ∷ replicate 8 138 ++ 3 ∷ replicate 24 138) (replicate 32 0 ++ replicate 32 138)
 zeros_then_raw = record {
   groups = Zeros 3 ∷ Raw (replicate 8 138) 3 (replicate 24 138) ∷ [];

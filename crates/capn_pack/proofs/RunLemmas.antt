@@ -12,12 +12,12 @@ use Rattle.capn_pack.specs.Chosen.{zero_count, IsDense, AllDense}
 use Rattle.capn_pack.specs.inner.Steps.{IsZeroRun, IsDenseRun}
 use Rattle.capn_pack.proofs.shared.SpreadLemmas.{ones_half, no_ones}
 
--- ---- what a tag of zero or of all ones says
+-- ---- what a tag of zero, or a tag with all bits set, says of the bytes
 
 nonzero : (x : ℕ) → (eqb (suc x) 0 ≡ false) × (ltb 0 (suc x) ≡ true)
 nonzero x = (ne_eqb (suc x) 0 (λ e. absurd (omega arith)), lt-ltb 0 (suc x) (omega arith))
 
--- the tag of a word that begins with a zero byte, or with another
+-- the tag of bytes that begin with a zero byte, or with another byte
 tag_none : (xs : List ℕ) → (tag_of (0 ∷ xs) % 2 ≡ 0) × (tag_of (0 ∷ xs) / 2 ≡ tag_of xs)
 tag_none xs = (omega arith, omega arith)
 
@@ -29,7 +29,7 @@ tag_zero [] h = refl
 tag_zero (zero ∷ xs) h = ap (λ l. 0 ∷ l) (tag_zero xs (omega arith))
 tag_zero (suc x ∷ xs) h = absurd (omega (arith, tag_some x xs))
 
--- the set bits of the tag and the zero bytes are together as many as the bytes
+-- the number of set bits of the tag plus the number of zero bytes is the number of bytes
 pub ones_tag : (xs : List ℕ) → count_ones (tag_of xs) + zero_count xs ≡ length xs
 ones_tag [] = omega (arith, no_ones)
 ones_tag (zero ∷ xs) =
@@ -41,7 +41,7 @@ ones_tag (suc x ∷ xs) =
     let low : (1 + 2 * t) / 2 ≡ t = omega arith in
     rw (tag_some x xs, (nonzero x).0) (omega (arith, ones_half (1 + 2 * t), odd, ap count_ones low, ones_tag xs))
 
--- the bytes that aren't zero
+-- the bytes that are not zero
 abbrev pub some : List ℕ → List ℕ
 some xs = filter (λ x. ltb 0 x) xs
 
@@ -103,7 +103,7 @@ dense_join (suc n) m bs cs h long d =
 one_dense : (w : List ℕ) → IsDense w → AllDense 1 w
 one_dense w d = (subst IsDense (sym (take_all 8 w (omega (arith, d.0)))) d, drop_all 8 w (omega (arith, d.0)))
 
--- a run of dense words that continues with another run
+-- a run of dense words and a run that follows it are a run
 pub dense_steps : (bytes : List ℕ) (start limit count step : ℕ) → IsDenseRun bytes start limit count
     → IsDenseRun bytes (start + 8 * count) (limit - count) step → IsDenseRun bytes start limit (count + step)
 dense_steps bytes start limit count step d more =
@@ -125,7 +125,7 @@ dense_steps bytes start limit count step d more =
       dense = subst (AllDense (count + step)) (sym grown) (dense_join count step bs cs d.dense size more.dense);
     }
 
--- a run of dense words that continues with one word
+-- a run of dense words and one dense word that follows it are a run
 pub dense_more : (bytes : List ℕ) (start limit count : ℕ) → IsDenseRun bytes start limit count → count < limit
     → start + 8 * count + 8 ≤ length bytes → 7 ≤ count_ones (tag_of (take 8 (drop (start + 8 * count) bytes)))
     → IsDenseRun bytes start limit (count + 1)
@@ -173,14 +173,14 @@ four_dense bytes at room h =
     let none : zero_count xs ≡ 0 = full_tag 32 xs long (omega (arith, h)) in
     subst (AllDense 4) (sym (ap (λ n. take n (drop at bytes)) size)) (full_dense 4 xs long none)
 
--- the word after a run of no words is the first
+-- if a run has no words, the word after it is the first word
 pub none_at : (bytes : List ℕ) (at n : ℕ) → n ≡ 0 → IsDense (take 8 (drop at bytes))
     → IsDense (take 8 (drop (at + 8 * n) bytes))
 none_at bytes at n none d =
     let here : at ≡ at + 8 * n = omega arith in
     subst (λ k. IsDense (take 8 (drop k bytes))) here d
 
--- ---- the bytes that are named
+-- ---- the named bytes, and the end of the bytes
 
 -- if fewer than eight bytes are left, there is no further word
 pub no_word : (bytes : List ℕ) (p : ℕ) → p ≤ length bytes → length bytes < p + 8 → length (take 8 (drop p bytes)) < 8

@@ -1,5 +1,5 @@
--- Lemmas for the refusals of memory in `text_piece.rt`, `unpack_block.rt`, `unpack_group.rt` and `unpacked_words.rt`:
--- the text begins with a whole group.
+-- Lemmas for the refusals of memory in `text_piece.rt`, `unpack_block.rt`, `unpack_group.rt` and `unpacked_words.rt`: a
+-- text that needs memory begins with a whole group.
 use Rattle.std.proofs.Common.{◌≡◌, inl, inr, ℕ, ◌*◌, ◌<◌, ◌≤◌, List, [], ◌∷◌, ◌++◌, length, take, drop}
 use Rattle.std.proofs.Common.{slice_range, sym, ap, ◌∙◌, arith, append_assoc, length-take}
 use Rattle.std.proofs.Common.{take-append-drop, Result, IsErrAnd}
@@ -19,7 +19,7 @@ use Rattle.capn_pack.specs.declared.unpack_group.Taken.{Taken}
 use Rattle.capn_pack.proofs.shared.GroupLemmas.{length_contents, rest_is}
 use Rattle.capn_pack.proofs.RowLemmas.{Unpacked}
 
--- the result `Memory` is justified if the first `n` bytes are the text of a group within the room
+-- if the first `n` bytes are the text of a group of at most `room` words, the result may be `Memory`
 pub memory_gives : (rest : List ℕ) (n room : ℕ) (g : Group) (old new : List ℕ) (r : Result Taken Stop) → IsGroup g
     → take n rest ≡ group_text g → group_words g ≤ room → new ≡ old → IsErrAnd r (λ (e : Stop). e ≡ Memory)
     → TakeGives rest room old r new
@@ -34,7 +34,7 @@ memory_gives rest n room g old new r is e fits same refused =
     } in
     rw (error.1, error.2) (first, same)
 
--- bytes that begin with groups that have words begin with a group within the room
+-- if `bytes` begin with groups of some words, at most `room`, they begin with a group of at most `room` words
 first_of : (bytes : List ℕ) (at room : ℕ) (gs : List Group) → AllByRecursion IsGroup gs → take at bytes ≡ texts gs
     → 0 < word_count gs → word_count gs ≤ room → StartsWithin bytes room
 first_of bytes at room [] each e some fits = absurd (omega arith)
@@ -49,7 +49,7 @@ first_of bytes at room (g ∷ gs) each e some fits = record {
   fits = omega (arith, fits);
 }
 
--- bytes from which a row with words was taken begin with a group within the room
+-- if a row of some words, at most `room`, was read from `bytes`, they begin with a group of at most `room` words
 pub row_starts : (bytes : List ℕ) (at room : ℕ) (out : List ℕ) → TakesRow bytes at [] out → 0 < length out
     → length out ≤ 8 * room
     → StartsWithin bytes room
@@ -66,7 +66,7 @@ no_groups bytes at (Zeros more ∷ gs) within e none = absurd (omega (arith, non
 no_groups bytes at (Named tag word ∷ gs) within e none = absurd (omega (arith, none))
 no_groups bytes at (Raw word count more ∷ gs) within e none = absurd (omega (arith, none))
 
--- if a group within the room follows the groups so far, the text begins with a group within the maximum
+-- if a group of at most `room` words follows the groups so far, the text begins with a group within the maximum
 pub unpacked_starts : (bytes : List ℕ) (at : ℕ) (out : List ℕ) (room max : ℕ) → Unpacked bytes at out room max
     → StartsWithin (slice_range bytes at (length bytes)) room → StartsWithin bytes max
 unpacked_starts bytes at out room max u s = elim (cases_lt 0 (length out)) [
@@ -84,7 +84,7 @@ unpacked_starts bytes at out room max u s = elim (cases_lt 0 (length out)) [
       })
 ]
 
--- ---- and so not none
+-- ---- and so a group is first in the text
 
 row_open : (bytes : List ℕ) (at : ℕ) (gs : List Group) → AllByRecursion IsGroup gs → at ≤ length bytes
     → take at bytes ≡ texts gs

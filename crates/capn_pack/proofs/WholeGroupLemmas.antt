@@ -1,4 +1,4 @@
--- Lemmas for `unpack_some`: whole groups at the front of some bytes, whose words were appended under a maximum.
+-- Lemmas for `unpack_some`: whole groups at the front of some bytes, whose words were appended, up to a maximum.
 use Rattle.std.proofs.Common.{◌≡◌, ℕ, ◌+◌, ◌-◌, ◌*◌, ◌<◌, ◌≤◌, List, [], ◌∷◌, ◌++◌, length, take, drop, slice_range}
 use Rattle.std.proofs.Common.{refl, sym, ap, ◌∙◌, subst, arith, append_assoc, length-append, take-append-drop}
 use Rattle.std.proofs.Common.{length-take}
@@ -13,19 +13,19 @@ use Rattle.capn_pack.specs.declared.whole_groups.Next.TheVariants as nexts
 use Rattle.capn_pack.proofs.shared.GroupLemmas.{length_content, length_contents, rest_is}
 use Rattle.capn_pack.proofs.RowLemmas.{row_join, row_more}
 
--- up to `at` the bytes are groups, their words were appended, and `room` words are left of the maximum
+-- the first `at` bytes are groups, their words were appended to `old`, and `room` words are left of the maximum
 pub record Appended (bytes : List ℕ) (at : ℕ) (old out : List ℕ) (room max : ℕ) : Type 0 where
   pub row : TakesRow bytes at old out
   pub counted : length out + 8 * room ≡ length old + 8 * max
 
--- nothing was appended
+-- before the first group, nothing was appended
 pub appended_none : (bytes old : List ℕ) (max : ℕ) → Appended bytes 0 old old max max
 appended_none bytes old max = record {
   row = record { groups = []; each = tt; within = omega arith; text = refl; content = sym (append-nil old) };
   counted = refl;
 }
 
--- one group more is appended
+-- `Appended` holds after one more group
 pub appended_more : (bytes : List ℕ) (at : ℕ) (old out : List ℕ) (room max taken count : ℕ) (new : List ℕ)
     → Appended bytes at old out room max → Takes (slice_range bytes at (length bytes)) room taken count out new
     → Appended bytes (at + taken) old new (room - count) max
@@ -42,7 +42,7 @@ appended_more bytes at old out room max taken count new u t = record {
   );
 }
 
--- a row of groups more is appended
+-- `Appended` holds after one more row of groups
 pub appended_row : (bytes : List ℕ) (at : ℕ) (old out : List ℕ) (room max taken count : ℕ) (new : List ℕ)
     → Appended bytes at old out room max → TakesRow (slice_range bytes at (length bytes)) taken out new
     → length new ≡ length out + 8 * count → count ≤ room → Appended bytes (at + taken) old new (room - count) max
@@ -57,7 +57,7 @@ pub appended_room : (bytes : List ℕ) (at : ℕ) (old out : List ℕ) (room max
 appended_room bytes at old out room max u =
     omega (arith, u.counted, ap length u.row.content, length-append old (contents u.row.groups))
 
--- the progress after the groups so far, if `StandsNext` holds of what follows
+-- if `StandsNext` holds of what follows the groups so far, `UnpacksSome` holds of them
 pub some_next : (bytes : List ℕ) (at : ℕ) (old out : List ℕ) (room max taken words : ℕ) (next is : Next)
     → Appended bytes at old out room max → taken ≡ at → words + room ≡ max → next ≡ is
     → StandsNext is room (drop at bytes) → UnpacksSome bytes max old out taken words next
@@ -82,7 +82,7 @@ some_next bytes at old out room max taken words next is u here sum same stops = 
       (subst (λ (n : ℕ). StandsNext is room (drop n bytes)) (sym here) stops);
 }
 
--- the progress before a group that is cut
+-- if a group that is cut follows the groups so far, `UnpacksSome` holds of them
 pub cut_next : (bytes : List ℕ) (at : ℕ) (old out : List ℕ) (room max taken words : ℕ) (next : Next)
     → Appended bytes at old out room max → taken ≡ at → words + room ≡ max → next ≡ nexts.Cut
     → IsCut room (slice_range bytes at (length bytes)) × (length (slice_range bytes at (length bytes)) < most_group)
@@ -91,7 +91,7 @@ cut_next bytes at old out room max taken words next u here sum same cut =
     some_next bytes at old out room max taken words next nexts.Cut u here sum same
     (subst (λ (rest : List ℕ). IsCut room rest × (length rest < most_group)) (rest_is bytes at) cut)
 
--- the progress before a group with more words than `room`
+-- if a group with more than `room` words follows the groups so far, `UnpacksSome` holds of them
 pub long_next : (bytes : List ℕ) (at : ℕ) (old out : List ℕ) (room max taken words : ℕ) (next : Next)
     → Appended bytes at old out room max → taken ≡ at → words + room ≡ max → next ≡ nexts.TooLong
     → IsTooLong room (slice_range bytes at (length bytes)) → UnpacksSome bytes max old out taken words next
@@ -99,7 +99,7 @@ long_next bytes at old out room max taken words next u here sum same long =
     some_next bytes at old out room max taken words next nexts.TooLong u here sum same
     (subst (λ (rest : List ℕ). IsTooLong room rest) (rest_is bytes at) long)
 
--- the words of the groups so far are some of those within the maximum
+-- `AppendsSome` holds of the groups so far
 pub some_appended : (bytes : List ℕ) (at : ℕ) (old out : List ℕ) (room max : ℕ) → Appended bytes at old out room max
     → AppendsSome bytes max old out
 some_appended bytes at old out room max u = record {
@@ -117,7 +117,8 @@ some_appended bytes at old out room max u = record {
   );
 }
 
--- bytes begin with a group if one follows some groups at their front, and within the maximum if both are
+-- if a group of at most `room` words follows groups at the front of `bytes`, `bytes` begin with a group within the
+-- maximum
 starts_from : (bytes : List ℕ) (at : ℕ) (gs : List Group) (room max : ℕ) → AllByRecursion IsGroup gs
     → at ≤ length bytes → take at bytes ≡ texts gs → word_count gs + room ≡ max
     → StartsWithin (slice_range bytes at (length bytes)) room → StartsWithin bytes max
@@ -141,7 +142,7 @@ starts_from bytes at (g ∷ gs) room max each within e size s = record {
   fits = omega (arith, size);
 }
 
--- the text begins with a whole group if the rest after the groups so far does
+-- if a group of at most `room` words follows the groups so far, the text begins with a group within the maximum
 pub some_starts : (bytes : List ℕ) (at : ℕ) (old out : List ℕ) (room max : ℕ) → Appended bytes at old out room max
     → StartsWithin (slice_range bytes at (length bytes)) room → StartsWithin bytes max
 some_starts bytes at old out room max u s =

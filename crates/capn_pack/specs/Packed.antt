@@ -4,14 +4,14 @@ use Rattle.std.specs.Prelude.{replicate, ⊤}
 use Rattle.std.specs.List.{flat_map, AllByRecursion}
 
 -- ---- the tag of a word, one bit for each of its eight bytes, and the three kinds of group. A word is its eight bytes,
--- the least first. (Page: packing.)
+-- the least significant first. (Page: packing.)
 
--- The tag of some bytes: bit i is 1 exactly if byte i isn't zero.
+-- The tag of some bytes. Bit i of the tag is 1 exactly if byte i is not zero.
 abbrev pub tag_of : List ℕ → ℕ
 tag_of [] = 0
 tag_of (x ∷ xs) = (if x == 0 then 0 else 1) + 2 * tag_of xs
 
--- The bytes that `tag` names: those whose bit is 1.
+-- The bytes that `tag` names, which are those whose bit in `tag` is 1.
 abbrev pub named_bytes : ℕ → List ℕ → List ℕ
 named_bytes tag [] = []
 named_bytes tag (x ∷ xs) = if tag % 2 == 1 then x ∷ named_bytes (tag / 2) xs else named_bytes (tag / 2) xs
@@ -25,25 +25,25 @@ IsNamedBy tag (x ∷ xs) = (tag % 2 ≡ 0 → x ≡ 0) × IsNamedBy (tag / 2) xs
 pub data Group : Type 0 where
   -- a word of zeros, and `more` words of zeros after it
   Zeros : (more : ℕ) → Group
-  -- one word, written as the bytes of it that the tag names
+  -- one word, written as those of its bytes that the tag names
   Named : (tag : ℕ) (word : List ℕ) → Group
-  -- one word written whole, and `count` words after it, copied
+  -- one word written in full, and `count` words after it, copied
   Raw : (word : List ℕ) (count : ℕ) (more : List ℕ) → Group
 
--- The numbers of a group fit: counts are bytes, words have eight bytes, and bytes that the tag does not name are zero.
--- A tag may name bytes that are zero, and a run may end early. (Own: both.)
+-- The numbers of the group fit: counts are bytes, words have eight bytes, and bytes that the tag does not name are
+-- zero. A tag may name bytes that are zero, and a run may end early. (Our own: both.)
 abbrev pub IsGroup : Group → Type 0
 IsGroup (Zeros more) = more < 256
 IsGroup (Named tag word) = (0 < tag) × (tag < 255) × (length word ≡ 8) × IsNamedBy tag word
 IsGroup (Raw word count more) = (length word ≡ 8) × (count < 256) × (length more ≡ 8 * count)
 
--- The text of a group: its tag, then the bytes that follow a tag of its kind.
+-- The text of a group: the tag, then the bytes that follow a tag of its kind.
 abbrev pub group_text : Group → List ℕ
 group_text (Zeros more) = 0 ∷ more ∷ []
 group_text (Named tag word) = tag ∷ named_bytes tag word
 group_text (Raw word count more) = 255 ∷ word ++ count ∷ more
 
--- The bytes of a group's words.
+-- The bytes of the words of a group.
 abbrev pub group_bytes : Group → List ℕ
 group_bytes (Zeros more) = replicate (8 * (1 + more)) 0
 group_bytes (Named tag word) = word
@@ -70,7 +70,7 @@ abbrev pub word_count : List Group → ℕ
 word_count [] = 0
 word_count (g ∷ gs) = group_words g + word_count gs
 
--- The text `b` packs the words whose bytes are `bs`: it is a row of groups, and `bs` are the bytes of their words.
+-- The text `b` packs the words whose bytes are `bs`: `b` is a row of groups, and `bs` are the bytes of their words.
 pub record Packs (b bs : List ℕ) : Type 0 where
   pub groups : List Group
   pub each : AllByRecursion IsGroup groups

@@ -1,4 +1,4 @@
--- The whole groups at the front of some bytes, under a maximum of words. (Own.)
+-- The whole groups at the front of some bytes, up to a maximum of words. (Our own.)
 use Rattle.std.specs.Prelude.{ℕ, ◌≡◌, ◌+◌, ◌<◌, ◌≤◌, ◌++◌, List, [], length, take, drop}
 use Rattle.std.specs.List.{AllByRecursion}
 use Rattle.capn_pack.specs.Packed.{Group, IsGroup, texts, contents, word_count}
@@ -6,18 +6,18 @@ use Rattle.capn_pack.specs.UnpackRefusal.{IsCut, IsTooLong}
 use Rattle.capn_pack.specs.declared.whole_groups.Next.{Next}
 use Rattle.capn_pack.specs.declared.whole_groups.Next.TheVariants as nexts
 
--- the most bytes of a group: a tag, a word, a count and 255 words
+-- the greatest number of bytes of a group: a tag, a word, a count and 255 words
 abbrev pub most_group : ℕ
 most_group = 2050
 
--- `rest` follows the groups, with `room` words left: it is empty, a group that is cut, or a group with more words
+-- what follows the groups is `rest`, with `room` words left: the end, a group that is cut, or a group with more words
 abbrev pub StandsNext : Next → ℕ → List ℕ → Type 0
 StandsNext nexts.End room rest = rest ≡ []
 StandsNext nexts.Cut room rest = IsCut room rest × (length rest < most_group)
 StandsNext nexts.TooLong room rest = IsTooLong room rest
 
--- The first `taken` bytes are whole groups of `words` words within the maximum `max`, and their words were appended.
--- What `next` says follows them, under the rest of the maximum.
+-- The first `taken` bytes are whole groups of `words` words, at most `max`. Their words, appended to `old`, give `new`.
+-- `next` says what follows the groups, given the number of words that are left of `max`.
 pub record UnpacksSome (bytes : List ℕ) (max : ℕ) (old new : List ℕ) (taken words : ℕ) (next : Next) : Type 0 where
   pub groups : List Group
   pub each : AllByRecursion IsGroup groups
@@ -29,7 +29,7 @@ pub record UnpacksSome (bytes : List ℕ) (max : ℕ) (old new : List ℕ) (take
   pub fits : words + left ≡ max
   pub stops : StandsNext next left (drop taken bytes)
 
--- The words of some of the first groups of `bytes` were appended, and they are within the maximum.
+-- `new` is `old` and then the words of some whole groups at the front of `bytes`, which are at most `max` words.
 pub record AppendsSome (bytes : List ℕ) (max : ℕ) (old new : List ℕ) : Type 0 where
   pub groups : List Group
   pub rest : List ℕ

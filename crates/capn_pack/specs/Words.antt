@@ -3,15 +3,15 @@ use Rattle.std.specs.Prelude.{ℕ, ◌≡◌, ◌^◌, ◌<◌, List, slice_inde
 use Rattle.std.specs.List.{flat_map, AllByRecursion}
 use Rattle.std.specs.Int.{w64, to_le_bytes}
 
--- The words `ws` as eight bytes each, the least significant first, joined.
+-- The bytes of the words `ws`, eight for each, the least significant first.
 abbrev pub bytes : List ℕ → List ℕ
 bytes ws = flat_map (to_le_bytes w64) ws
 
--- Each number fits a word.
+-- Each number of `ws` fits a word.
 abbrev pub AreWords : List ℕ → Type 0
 AreWords ws = AllByRecursion (λ w. w < 2 ^ 64) ws
 
--- Each number fits a byte.
+-- Each number of `bs` fits a byte.
 abbrev pub AreBytes : List ℕ → Type 0
 AreBytes bs = (i : ℕ) → slice_index bs i < 2 ^ 8
 

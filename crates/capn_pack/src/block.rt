@@ -1,10 +1,10 @@
-//! The progress of filling a block, and a copy of bytes into it.
+//! The progress of filling a block, and the copying of bytes into a block.
 ghost use Rattle.std.specs.Prelude.{◌≡◌, ◌+◌, ◌≤◌, ◌++◌, length, take};
 
-/// The progress of filling a block: how much of the input was taken, and how much of the block is filled.
+/// The progress of filling a block: how much of the input was read, and how much of the block is filled.
 #[derive(Clone, Copy)]
 pub(crate) struct Block {
-    /// The offset in the input of the first byte that was not taken.
+    /// The offset in the input of the first byte that was not read.
     pub at: usize,
     /// The number of bytes of the block that are filled.
     pub fill: usize,

@@ -5,12 +5,12 @@ use std::alloc::AllocError;
 use std::error::Error;
 use std::fmt;
 
-/// The reason why bytes aren't packed.
+/// The reason why bytes are not packed.
 #[derive(Clone, Copy, Debug, PartialEq, Eq)]
 pub enum PackFault {
-    /// A growth was refused.
+    /// An allocation was refused.
     Memory,
-    /// The bytes aren't whole words. The number of bytes, which is no multiple of eight, is given.
+    /// The bytes are not whole words. The fault has the number of bytes, which is no multiple of eight.
     NotWhole(u64),
 }
 
@@ -40,17 +40,17 @@ impl fmt::Display for PackFault {
 
 impl Error for PackFault {}
 
-/// The reason why a packed text isn't unpacked. Offsets are in bytes of the text.
+/// The reason why a packed text is not unpacked. Offsets are in bytes of the text.
 #[derive(Clone, Copy, Debug, PartialEq, Eq)]
 pub enum UnpackFault {
-    /// A growth was refused.
+    /// An allocation was refused.
     Memory,
     /// The text ends within the group at `at`.
     Cut {
         /// The offset of the group's tag.
         at: u64,
     },
-    /// The group at `at` has more words than the maximum leaves.
+    /// The group at `at` has more words than are left of the maximum.
     TooLong {
         /// The offset of the group's tag.
         at: u64,

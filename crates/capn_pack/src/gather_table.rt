@@ -266,8 +266,8 @@ static GATHERS: [[u8; 16]; 256] = [
     [128, 0, 1, 2, 3, 4, 5, 6, 7, 128, 128, 128, 128, 128, 128, 128],
 ];
 
-/// Returns the lanes of a word that hold the bytes named by `tag`, for the lanes from 1 on. Lane 0 and the lanes after
-/// those bytes get zero.
+/// Returns, for each lane of a shuffle, the lane of the word to read. From lane 1 on, the lanes get the bytes that
+/// `tag` names. Lane 0, and the lanes after those bytes, get zero.
 #[inline(always)]
 pub(crate) fn gather_places(tag: u8) -> u8x16
     ensures { result ≡ gather_row tag }

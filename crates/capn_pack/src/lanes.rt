@@ -1,4 +1,4 @@
-//! One word and its tag, in eight or sixteen lanes of a vector.
+//! Shuffles between a word and the bytes that its tag names, in eight or sixteen lanes of a vector.
 ghost use Rattle.std.specs.Prelude.{◌≡◌, ◌+◌, ◌≤◌, ◌∷◌, ◌++◌, length, take, replicate, count_ones, ℕ};
 ghost use Rattle.capn_pack.specs.Packed.{tag_of, named_bytes, IsNamedBy};
 
@@ -6,9 +6,9 @@ use crate::gather_table::gather_places;
 use crate::spread_table::spread_places;
 use std::simd::prelude::*;
 
-/// Returns the tag of the word `bytes`: bit i is 1 if and only if byte i isn't zero. (Page: packing.)
+/// Returns the tag of the word `bytes`. Bit i of the tag is 1 if and only if byte i is not zero. (Page: packing.)
 ///
-/// The tag is the sum of the weights of the lanes that aren't zero. Takes no memory.
+/// The tag is the sum of the weights of the lanes that are not zero. Takes no memory.
 #[inline(always)]
 pub fn tag(bytes: &[u8; 8]) -> u8
     ensures { result ≡ tag_of bytes.now }
@@ -53,7 +53,8 @@ pub(crate) fn spread(tag: u8, bytes: &[u8]) -> [u8; 8]
     spread_lanes(tag, window(bytes))
 }
 
-/// Returns what [`spread`] returns, without a copy of `bytes`, which are sixteen or more.
+/// Returns the word in which the bytes named by `tag` are the first of `bytes`, in order, and all others are zero.
+/// `bytes` has at least sixteen bytes, so they are read in place. [`spread`] copies fewer than sixteen bytes first.
 #[inline(always)]
 pub(crate) fn spread_far(tag: u8, bytes: &[u8]) -> [u8; 8]
     requires { 16 ≤ length bytes.now }
@@ -73,7 +74,7 @@ fn widened(word: [u8; 8]) -> u8x16
     )
 }
 
-/// Returns `tag`, then the bytes of `word` that it names. The bytes after them are not specified.
+/// Returns `tag`, then the bytes of `word` that `tag` names, and then unspecified bytes.
 #[inline(always)]
 pub(crate) fn gather(word: [u8; 8], tag: u8) -> [u8; 16]
     ensures { take (1 + count_ones tag) result ≡ tag ∷ named_bytes tag word }

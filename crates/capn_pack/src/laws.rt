@@ -1,8 +1,8 @@
 //! The laws of packed texts, as empty functions.
 ghost use Rattle.capn_pack.specs.Laws.{EachSplits, OneReading, OneRefusal, OneSplit, PackedAreNotRefused};
 
-/// States that a text packs at most one list of words. Under a maximum, a text is read or refused for at most one
-/// reason, and never both.
+/// States that a text packs at most one list of words. For a given maximum of words, a text is refused for at most one
+/// reason other than `Memory`. A text that packs words within the maximum is not refused for such a reason.
 pub fn reading()
     ensures one { OneReading }
     ensures refusal { OneRefusal }

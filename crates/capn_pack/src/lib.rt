@@ -1,9 +1,9 @@
 //! The packing of Cap'n Proto, which writes words as groups that leave out their zero bytes.
 //!
 //! [`pack`] writes whole words as the one text that this packer chooses. [`unpack`] reads any packed text, up to a
-//! maximum of words, and gives back the words that [`pack`] was given. [`Unpacker`] reads a text piece by piece, and
-//! [`tag`] returns the tag of one word. (Page: packing. What the page leaves open is our own: where a run ends, what an
-//! unpacker accepts, the order of refusals.)
+//! maximum of words. From a text that [`pack`] wrote, [`unpack`] returns the words that were packed. [`Unpacker`] reads
+//! a text piece by piece, and [`tag`] returns the tag of one word. (Page: packing. What the page leaves open is our
+//! own: where a run ends, what an unpacker accepts, the order of refusals.)
 //!
 //! ```text
 //! let text = pack(alloc, &[8, 0, 0, 0, 3, 0, 2, 0])?;   // 51 08 03 02 in hexadecimal

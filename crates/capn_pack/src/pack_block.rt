@@ -1,4 +1,4 @@
-//! The packing of small groups into a block, which is then appended at once.
+//! The packing of small groups into a block that is then appended as a whole.
 ghost use Rattle.std.specs.Prelude.{◌≡◌, ◌+◌, ◌≤◌, ◌∷◌, ◌++◌, [], length, take, drop, IfSome, IfNone};
 ghost use Rattle.capn_pack.specs.Packed.{named_bytes, tag_of};
 ghost use Rattle.capn_pack.specs.inner.Steps.{Puts, PutsRow};
@@ -8,11 +8,11 @@ use crate::lanes::gather;
 use crate::runs::{raw_run, word_at, zero_run};
 use crate::signs::tag;
 
-/// The number of bytes that one store writes after the head of a raw group: the words after the first, of which there
-/// are at most seven, and any bytes that follow them.
+/// The number of bytes that one store writes after the head of a raw group. The first of them are the words after the
+/// group's first word, at most seven.
 const SPAN: usize = 64;
 
-/// The most bytes of a block that one group needs. The head of a raw group has ten.
+/// The greatest number of bytes of a block that one group needs. The head of a raw group has ten.
 pub(crate) const ROOM: usize = 10 + SPAN;
 
 #[inline(always)]
@@ -31,8 +31,9 @@ fn store_pair(block: &mut [u8], at: usize, pair: [u8; 2])
     block[at..at + 2].copy_from_slice(&pair);
 }
 
-/// Writes the raw group of the words from byte `at` of `bytes` on to `block` from offset `fill` on. Returns `None` if
-/// the group has more than eight words, or if fewer than [`SPAN`] bytes follow its first word.
+/// Packs the word at byte `at` of `bytes`, and the words after it that have at most one zero byte each, as a raw group.
+/// Writes the group to `block` at offset `fill`. Returns `None` if the group has more than eight words, or if fewer
+/// than [`SPAN`] bytes follow its first word.
 #[inline(always)]
 fn store_raw(bytes: &[u8], at: usize, block: &mut [u8], fill: usize) -> Option<Block>
     requires inside { at + 8 ≤ length bytes.now }
@@ -50,7 +51,7 @@ fn store_raw(bytes: &[u8], at: usize, block: &mut [u8], fill: usize) -> Option<B
     if more == 8 {
         return None;
     }
-    // The word stays in its lanes, as it does in a group of one word.
+    // The word stays in vector lanes, as in a group of one word.
     let word = word_at(bytes, at);
     store(block, fill, gather(word, 255));
     store_bytes(block, fill + 9, &[more as u8]);
@@ -61,8 +62,8 @@ fn store_raw(bytes: &[u8], at: usize, block: &mut [u8], fill: usize) -> Option<B
     })
 }
 
-/// Writes `tag` and the bytes of `word` that it names to `block` from offset `fill` on, and returns the offset after
-/// them.
+/// Writes `tag`, and the bytes of `word` that `tag` names, to `block` at offset `fill`. Returns the offset after the
+/// written bytes.
 #[inline(always)]
 fn store_named(block: &mut [u8], fill: usize, word: [u8; 8], tag: u8) -> usize
     requires { fill + 16 ≤ length block.old }
@@ -73,8 +74,8 @@ fn store_named(block: &mut [u8], fill: usize, word: [u8; 8], tag: u8) -> usize
     fill + 1 + tag.count_ones() as usize
 }
 
-/// Writes the group of the zero word at byte `at` of `bytes`, and of the zero words that follow it, up to 255, to
-/// `block` from offset `fill` on.
+/// Packs the zero word at byte `at` of `bytes`, and up to 255 zero words after it, as one group. Writes the group to
+/// `block` at offset `fill`.
 #[inline(always)]
 fn store_zeros(bytes: &[u8], at: usize, block: &mut [u8], fill: usize) -> Block
     requires inside { at + 8 ≤ length bytes.now }
@@ -91,8 +92,8 @@ fn store_zeros(bytes: &[u8], at: usize, block: &mut [u8], fill: usize) -> Block
     }
 }
 
-/// Writes the group that the packer chooses for the words from byte `at` of `bytes` on to `block` from offset `fill`
-/// on. Returns `None` for a raw group that is long, or near the end of `bytes`.
+/// Packs the words at byte `at` of `bytes` as the group that the packer chooses. Writes the group to `block` at offset
+/// `fill`. Returns `None` for a raw group that is long, or near the end of `bytes`.
 #[inline(always)]
 fn store_group(bytes: &[u8], at: usize, block: &mut [u8], fill: usize) -> Option<Block>
     requires inside { at + 8 ≤ length bytes.now }
@@ -113,8 +114,8 @@ fn store_group(bytes: &[u8], at: usize, block: &mut [u8], fill: usize) -> Option
     }
 }
 
-/// Writes the groups that the packer chooses for the words from byte `start` of `bytes` on to `block`, until it is
-/// full. Stops before a raw group that is long, or near the end of `bytes`.
+/// Packs the words from byte `start` of `bytes` on as the groups that the packer chooses. Writes the groups to `block`,
+/// until `block` is full. Stops before a raw group that is long, or near the end of `bytes`.
 pub(crate) fn store_groups(bytes: &[u8], start: usize, block: &mut [u8]) -> Block
     requires inside { start ≤ length bytes.now }
     requires room { ROOM ≤ length block.old }

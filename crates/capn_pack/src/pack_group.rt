@@ -1,4 +1,4 @@
-//! The packing of one group of any length, appended to the text.
+//! The packing of one group of any length, which is appended to the text.
 ghost use Rattle.std.specs.Prelude.{◌≡◌, ◌+◌, ◌<◌, ◌≤◌, ◌∷◌, ◌++◌, length, take, drop, IfOk, OnOk};
 ghost use Rattle.capn_pack.specs.Packed.{tag_of, named_bytes};
 ghost use Rattle.capn_pack.specs.inner.Steps.{Puts};
@@ -9,7 +9,7 @@ use crate::runs::{long_run, word_at, zero_run};
 use crate::signs::tag;
 use std::alloc::{AllocError, Allocator};
 
-/// Appends `tag` and the bytes of `word` that it names to `out`.
+/// Appends `tag` and the bytes of `word` that `tag` names to `out`.
 #[inline(always)]
 fn push_named<A: Allocator>(word: &[u8; 8], tag: u8, out: &mut Vec<u8, A>) -> Result<(), AllocError>
     ensures ok { OnOk result (out.new.items ≡ out.old.items ++ tag ∷ named_bytes tag word.now) }
@@ -20,7 +20,7 @@ fn push_named<A: Allocator>(word: &[u8; 8], tag: u8, out: &mut Vec<u8, A>) -> Re
     Ok(())
 }
 
-/// Appends the group of the zero word at byte `at` of `bytes`, and of the zero words that follow it, up to 255, to
+/// Packs the zero word at byte `at` of `bytes`, and up to 255 zero words after it, as one group. Appends the group to
 /// `out`. Returns the offset of the next word.
 #[inline(always)]
 fn put_zeros<A: Allocator>(
@@ -37,8 +37,9 @@ fn put_zeros<A: Allocator>(
     Ok(at + 8 + 8 * more)
 }
 
-/// Appends the raw group of the word at byte `at` of `bytes`, which has no zero byte, to `out`. Up to 255 words that
-/// follow are part of the group, as long as each has at most one zero byte. Returns the offset of the next word.
+/// Packs the word at byte `at` of `bytes`, which has no zero byte, as a raw group. Up to 255 words after it are part of
+/// the group, as long as each has at most one zero byte. Appends the group to `out`. Returns the offset of the next
+/// word.
 #[inline(always)]
 fn put_raw<A: Allocator>(bytes: &[u8], at: usize, out: &mut Vec<u8, A>) -> Result<usize, AllocError>
     requires inside { at + 8 ≤ length bytes.now }
@@ -57,8 +58,8 @@ fn put_raw<A: Allocator>(bytes: &[u8], at: usize, out: &mut Vec<u8, A>) -> Resul
     Ok(end)
 }
 
-/// Appends the group of the word at byte `at` of `bytes`, which has zero and other bytes, to `out`. Returns the offset
-/// of the next word.
+/// Packs the word at byte `at` of `bytes`, which has both zero and other bytes, as a group with the tag `tag`. Appends
+/// the group to `out`. Returns the offset of the next word.
 #[inline(always)]
 fn put_named<A: Allocator>(
     bytes: &[u8],
@@ -76,8 +77,8 @@ fn put_named<A: Allocator>(
     Ok(at + 8)
 }
 
-/// Appends the group that the packer chooses for the words from byte `at` of `bytes` on to `out`. Returns the offset in
-/// `bytes` at which the next group begins.
+/// Packs the words at byte `at` of `bytes` as the group that the packer chooses. Appends the group to `out`. Returns
+/// the offset in `bytes` at which the next group begins.
 pub(crate) fn put_group<A: Allocator>(
     bytes: &[u8],
     at: usize,

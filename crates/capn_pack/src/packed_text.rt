@@ -1,4 +1,4 @@
-//! The call `pack`: whole words to the packed text that this packer chooses.
+//! The call `pack`, which packs whole words into the packed text that this packer chooses.
 ghost use Rattle.std.specs.Prelude.{◌≡◌, ◌≢◌, ◌+◌, ◌%◌, ◌<◌, ◌≤◌, ◌∷◌, ◌++◌, ◌↔◌, length, take, IfOk, IsErrOf, OnErr};
 ghost use Rattle.std.specs.Prelude.{MatchResult, ℕ, List};
 ghost use Rattle.capn_pack.specs.Packed.{Packs};
@@ -10,10 +10,11 @@ use crate::pack_group::put_group;
 use crate::room::text_room;
 use std::alloc::{AllocError, Allocator};
 
-/// The length of the block that groups are written into, with the room for the last one.
+/// The length of the block that groups are written into, including the room for the last group.
 const BLOCK: usize = 4096 + ROOM;
 
-/// Packs `bytes`, which are whole words. Small groups go through a block, long ones are appended one by one.
+/// Packs `bytes`, which are whole words. Small groups are gathered in a block first, and long ones are appended one by
+/// one.
 fn pack_words<A: Allocator + Copy>(alloc: A, bytes: &[u8]) -> Result<Vec<u8, A>, AllocError>
     requires { length bytes.now % 8 ≡ 0 }
     ensures chosen { IfOk result (λ v. Chosen v.items bytes.now) }
@@ -38,22 +39,22 @@ fn pack_words<A: Allocator + Copy>(alloc: A, bytes: &[u8]) -> Result<Vec<u8, A>,
 /// Packs whole words and returns the one text that this packer chooses. (Page: packing. Where runs end is our own.)
 ///
 /// `bytes` are the bytes of the words, the least significant byte of each first. The text grows on `alloc` a
-/// logarithmic number of times. A growth makes room for the text of the remaining words, as if they packed like those
-/// before, but for no more than 64 times the text so far; or it doubles the room.
+/// logarithmic number of times. A growth makes room for the text of the remaining words, as if they packed like the
+/// words before, but for at most 64 times the text so far. Or the growth doubles the capacity.
 ///
-/// Refusals: `NotWhole` with the number of bytes, if that is no multiple of eight, before any growth. `Memory` if a
-/// growth was refused, which can happen only if there are bytes.
+/// Refusals: `NotWhole` with the number of bytes, if that is no multiple of eight, before any allocation. `Memory` if
+/// an allocation was refused, which can happen only if `bytes` is not empty.
 pub fn pack<A: Allocator + Copy>(alloc: A, bytes: &[u8]) -> Result<Vec<u8, A>, PackFault>
-    // If `result` is `Ok`, it is the packer's text of the words, and so a packed text of them.
+    // If `result` is `Ok`, it is the packer's text of the words, and therefore a packed text of the words.
     ensures packed { IfOk result (λ v. Chosen v.items bytes.now) }
     ensures packs { IfOk result (λ v. Packs v.items bytes.now) }
-    // The packer has one text for the words. It is returned, unless memory runs out.
+    // The packer has one text for the words. That text is returned, unless an allocation is refused.
     ensures only { (b : List ℕ) → Chosen b bytes.now
         → MatchResult result (λ v. v.items ≡ b) (λ e. e ≡ PackFault.Memory) }
-    // Two of the packer's texts are equal if and only if their words are.
+    // Two of the packer's texts are equal if and only if they pack the same words.
     ensures unique { (a b vs ws : List ℕ) → Chosen a vs → Chosen b ws
         → ((a ≡ b) ↔ (vs ≡ ws)) }
-    // Memory is needed only if there are bytes.
+    // `Memory` is returned only if `bytes` is not empty.
     ensures memory { IsErrOf result PackFault.Memory → 0 < length bytes.now }
     ensures whole { length bytes.now % 8 ≡ 0 → OnErr result (result ≡ Err PackFault.Memory) }
     ensures not_whole { length bytes.now % 8 ≢ 0 → result ≡ Err (PackFault.NotWhole (length bytes.now)) }

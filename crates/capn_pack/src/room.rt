@@ -1,14 +1,14 @@
-//! The room that is reserved at once for a long text or for many words, so that they are seldom moved as they grow.
+//! The room that is reserved ahead for a long text or for many words, so that the bytes are seldom moved.
 ghost use Rattle.std.specs.Prelude.{◌≤◌, ◌+◌, ◌*◌, max, length};
 
 use std::alloc::Allocator;
 
-/// The limit of one growth of a text: this many times the text so far.
+/// The limit of one growth of a text, as a multiple of the text so far.
 const TIMES: usize = 64;
 
-/// Returns the room to reserve in `out` for `count` more bytes of text, which pack the words up to byte `at` of `all`
-/// bytes. If `out` has room for them, that is `count`. Otherwise the text of the words after byte `at` is added, as if
-/// they packed like the words before, but no more than [`TIMES`] times the text so far.
+/// Returns the number of bytes to reserve in `out` for `count` more bytes of text. With them, the text packs the first
+/// `at` of `all` bytes. If `out` has room for `count` bytes, returns `count`. Otherwise adds an estimate for the words
+/// after byte `at`, as if they packed like the words before, but at most [`TIMES`] times the text so far.
 #[inline(always)]
 pub(crate) fn text_room<A: Allocator>(
     out: &Vec<u8, A>,
@@ -27,9 +27,9 @@ pub(crate) fn text_room<A: Allocator>(
     count.saturating_add(text.saturating_mul(times))
 }
 
-/// Returns the room to reserve in `out` for `count` more bytes, the words of the first groups of `rest`. If `out` has
-/// room for them, that is `count`. Otherwise it is twice the bytes of `rest`, but no more than `room` words, which are
-/// left of the maximum, and at least `count`. Ten bytes of groups have at least eight bytes of words.
+/// Returns the number of bytes to reserve in `out` for `count` more bytes, which are words of the first groups of
+/// `rest`. If `out` has room for `count` bytes, returns `count`. Otherwise returns twice the length of `rest`, but at
+/// most the bytes of `room` words and at least `count`. Ten bytes of groups pack at least eight bytes of words.
 #[inline(always)]
 pub(crate) fn words_room<A: Allocator>(
     out: &Vec<u8, A>,

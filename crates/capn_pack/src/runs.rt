@@ -1,4 +1,4 @@
-//! The lengths of runs of zero words and of dense words, which have at most one zero byte.
+//! The lengths of runs of zero words and of dense words, which are words with at most one zero byte.
 ghost use Rattle.std.specs.Prelude.{◌≡◌, ◌+◌, ◌*◌, ◌<◌, ◌≤◌, length, take, drop, replicate};
 ghost use Rattle.capn_pack.specs.Chosen.{IsDense};
 ghost use Rattle.capn_pack.specs.inner.Steps.{IsZeroRun, IsDenseRun};
@@ -16,7 +16,7 @@ pub(crate) fn word_at(bytes: &[u8], at: usize) -> [u8; 8]
     word
 }
 
-/// Counts the zero words from byte `start` of `bytes` on, up to 255.
+/// Counts how many words in a row, from byte `start` of `bytes` on, are zero, up to 255.
 #[inline(always)]
 pub(crate) fn zero_run(bytes: &[u8], start: usize) -> usize
     requires { start ≤ length bytes.now }
@@ -33,7 +33,7 @@ pub(crate) fn zero_run(bytes: &[u8], start: usize) -> usize
     count
 }
 
-/// Counts the words from byte `start` of `bytes` on that have at most one zero byte, up to `limit`.
+/// Counts how many words in a row, from byte `start` of `bytes` on, have at most one zero byte, up to `limit`.
 #[inline(always)]
 pub(crate) fn raw_run(bytes: &[u8], start: usize, limit: usize) -> usize
     requires inside { start ≤ length bytes.now }
@@ -61,8 +61,8 @@ fn four_at(bytes: &[u8], at: usize) -> [u8; 32]
     words
 }
 
-/// Counts the words from byte `at` of `bytes` on that have at most one zero byte, up to four and up to `limit`. Four
-/// words without a zero byte are found by one test.
+/// Counts how many words in a row, from byte `at` of `bytes` on, have at most one zero byte, up to four and up to
+/// `limit`. One test suffices for four words without a zero byte.
 #[inline(always)]
 fn raw_step(bytes: &[u8], at: usize, limit: usize) -> usize
     requires inside { at ≤ length bytes.now }
@@ -76,8 +76,8 @@ fn raw_step(bytes: &[u8], at: usize, limit: usize) -> usize
     4
 }
 
-/// Counts the words from byte `start` of `bytes` on that have at most one zero byte, up to 255. Four words without a
-/// zero byte are found by one test.
+/// Counts how many words in a row, from byte `start` of `bytes` on, have at most one zero byte, up to 255. One test
+/// suffices for four words without a zero byte.
 #[inline(always)]
 pub(crate) fn long_run(bytes: &[u8], start: usize) -> usize
     requires { start ≤ length bytes.now }

@@ -1,13 +1,13 @@
-//! The tags of one word, and of four words, by the sign bits of their lanes.
+//! The tags of one word, and of four words, read from the sign bits of vector lanes.
 ghost use Rattle.std.specs.Prelude.{◌≡◌};
 ghost use Rattle.capn_pack.specs.Packed.{tag_of};
 
 use std::simd::prelude::*;
 
-/// Returns the tag of the word `bytes`, read from the sign bits of its lanes.
+/// Returns the tag of the word `bytes`, read from the sign bits of the word's lanes.
 ///
-/// The result equals that of [`tag`](crate::tag). Here a test of it for zero becomes one comparison of the whole word,
-/// so long runs of zero words are found faster.
+/// The result equals that of [`tag`](crate::tag). Here a test whether the tag is zero becomes one comparison of the
+/// whole word, so long runs of zero words are found faster.
 #[inline(always)]
 pub(crate) fn tag(bytes: &[u8; 8]) -> u8
     ensures { result ≡ tag_of bytes.now }

@@ -266,7 +266,7 @@ static SPREADS: [[u8; 16]; 256] = [
     [0, 1, 2, 3, 4, 5, 6, 7, 128, 128, 128, 128, 128, 128, 128, 128],
 ];
 
-/// Returns the lane from which each byte of a word with this `tag` is taken.
+/// Returns, for each byte of a word with the tag `tag`, the lane to read.
 #[inline(always)]
 pub(crate) fn spread_places(tag: u8) -> u8x16
     ensures { result ≡ spread_row tag }

@@ -1,4 +1,4 @@
-//! The unpacking of one piece of a text, with the bytes of an unfinished group that were held before it.
+//! The unpacking of one piece of a text, together with the bytes of an unfinished group from earlier pieces.
 ghost use Rattle.std.specs.Prelude.{◌≡◌, ◌+◌, ◌<◌, ◌≤◌, ◌++◌, length, take, drop, IfOk, OnErr};
 ghost use Rattle.capn_pack.specs.PackedPieces.{Splits, Begins, NoGroupFirst};
 ghost use Rattle.capn_pack.specs.inner.Joins.{FeedGives, IsHeld, Joins};
@@ -7,11 +7,11 @@ use crate::unpack_block::{SLACK, take_block};
 use crate::unpack_group::{GROUP, Stop, WORDS, take_group};
 use std::alloc::{AllocError, Allocator};
 
-/// The room for an unfinished group and for the bytes after it that may complete it.
+/// The length of the buffer for an unfinished group and for the bytes of the next piece that may complete the group.
 pub(crate) const HELD: usize = 4099;
 
-/// Appends the words of the whole groups at the front of `bytes` to `out`, and returns the number of bytes that those
-/// groups take. `block` is overwritten.
+/// Appends the words of the whole groups at the front of `bytes` to `out`, and returns the number of bytes of those
+/// groups. `block` is overwritten.
 fn take_groups<A: Allocator>(
     bytes: &[u8],
     block: &mut [u8],
@@ -43,15 +43,15 @@ fn take_groups<A: Allocator>(
     Ok(at)
 }
 
-/// The state of an unfinished group after more bytes: `Open` with the number of bytes that it has now, or `Whole` with
-/// the number of bytes of the piece that it took.
+/// The state of an unfinished group after more bytes: `Open` with the number of bytes that the group has now, or
+/// `Whole` with the number of bytes of the piece that completed the group.
 #[derive(Clone, Copy)]
 pub(crate) enum Joined {
     Open(usize),
     Whole(usize),
 }
 
-/// Copies `piece` to `held`, after its first `len` bytes.
+/// Copies `piece` into `held`, after the first `len` bytes of `held`.
 fn fill(held: &mut [u8], len: usize, piece: &[u8])
     requires { len + length piece.now ≤ length held.old }
     ensures front { take len held.new ≡ take len held.old }
@@ -61,8 +61,8 @@ fn fill(held: &mut [u8], len: usize, piece: &[u8])
     held[len..end].copy_from_slice(piece);
 }
 
-/// Joins the unfinished group, the first `len` bytes of `held`, with the front of `piece`. If the group is then whole,
-/// appends its words to `out`.
+/// Joins the unfinished group, which is the first `len` bytes of `held`, with the front of `piece`. If the group is
+/// then whole, appends its words to `out`.
 fn join_first<A: Allocator>(
     held: &mut [u8],
     len: usize,
@@ -88,15 +88,15 @@ fn join_first<A: Allocator>(
     }
 }
 
-/// The outcome of a piece: the number `len` of bytes that are held for the next group, and the number `taken` of bytes
-/// that the groups before it took.
+/// The outcome of a piece: `len` is the number of bytes of the unfinished group, which are held, and `taken` is the
+/// number of bytes of the groups before it.
 #[derive(Clone, Copy)]
 pub(crate) struct Fed {
     pub len: usize,
     pub taken: usize,
 }
 
-/// Takes `piece` if nothing is held. Appends the words of its whole groups to `out`, and copies the rest to `held`.
+/// Unpacks `piece` if no bytes are held. Appends the words of the whole groups to `out`, and copies the rest to `held`.
 fn feed_fresh<A: Allocator>(
     held: &mut [u8],
     piece: &[u8],
@@ -115,8 +115,8 @@ fn feed_fresh<A: Allocator>(
     })
 }
 
-/// Takes `piece` if the first part of a group is held, which is the first `len` bytes of `held`. Appends the words of
-/// the groups that are then whole to `out`, and holds the rest.
+/// Unpacks `piece` after the first `len` bytes of `held`, which are the first part of a group. Appends the words of the
+/// groups that are then whole to `out`, and keeps the rest in `held`.
 fn feed_begun<A: Allocator>(
     held: &mut [u8],
     len: usize,
@@ -141,8 +141,8 @@ fn feed_begun<A: Allocator>(
     }
 }
 
-/// Takes `piece` after the first `len` bytes of `held`, of which there may be none. Appends the words of the groups
-/// that are then whole to `out`, and holds the rest.
+/// Unpacks `piece` after the first `len` bytes of `held`. `len` may be 0. Appends the words of the groups that are then
+/// whole to `out`, and keeps the rest in `held`.
 pub(crate) fn feed_held<A: Allocator>(
     held: &mut [u8],
     len: usize,

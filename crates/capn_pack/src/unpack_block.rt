@@ -1,4 +1,4 @@
-//! The unpacking of small groups into a block, which is then appended at once.
+//! The unpacking of small groups into a block that is then appended as a whole.
 ghost use Rattle.std.specs.Prelude.{◌≡◌, ◌+◌, ◌*◌, ◌<◌, ◌≤◌, ◌++◌, [], length, take, slice_index, slice_range};
 ghost use Rattle.std.specs.Prelude.{replicate, IfSome, IfOk, OnErr};
 ghost use Rattle.capn_pack.specs.UnpackRefusal.{StartsWithin};
@@ -10,7 +10,7 @@ use crate::room::words_room;
 use crate::unpack_group::Taken;
 use std::alloc::{AllocError, Allocator};
 
-/// The number of bytes that a block has after its limit. One store of this size writes up to eight words, zero or raw.
+/// The number of bytes that a block has after its limit. One store of this length writes up to eight zero or raw words.
 pub(crate) const SLACK: usize = 64;
 
 /// The number of bytes of text that one step may read: the head of a raw group and the words after it.
@@ -32,8 +32,8 @@ fn store_zeros(block: &mut [u8], at: usize)
     block[at..at + SLACK].copy_from_slice(&[0; SLACK]);
 }
 
-/// Writes the zero words of the group at byte `at` of `text` to `block` from offset `fill` on. Returns `None` if they
-/// are more than eight.
+/// Writes the zero words of the group at byte `at` of `text` to `block` from offset `fill` on. Returns `None` if the
+/// group has more than eight words.
 #[inline(always)]
 fn fill_zeros(text: &[u8], at: usize, block: &mut [u8], fill: usize) -> Option<Block>
     requires far { at + 17 ≤ length text.now }
@@ -54,8 +54,8 @@ fn fill_zeros(text: &[u8], at: usize, block: &mut [u8], fill: usize) -> Option<B
     })
 }
 
-/// Writes the words of the raw group at byte `at` of `text` to `block` from offset `fill` on. Returns `None` if they
-/// are more than eight.
+/// Writes the words of the raw group at byte `at` of `text` to `block` from offset `fill` on. Returns `None` if the
+/// group has more than eight words.
 #[inline(always)]
 fn fill_raw(text: &[u8], at: usize, block: &mut [u8], fill: usize) -> Option<Block>
     requires far { at + REACH ≤ length text.now }
@@ -92,15 +92,15 @@ fn fill_named(text: &[u8], at: usize, block: &mut [u8], fill: usize) -> Block
     let tag = rest[0];
     let word = spread_far(tag, &rest[1..]);
     store_word(block, fill, word);
-    // The next tag depends on this sum, so it is one step from the count of bits to the offset.
+    // The load of the next tag waits for this sum, so only one step leads from the count of bits to the offset.
     Block {
         at: at + 1 + tag.count_ones() as usize,
         fill: fill + 8,
     }
 }
 
-/// Writes the words of the group at byte `at` of `text` to `block` from offset `fill` on. Returns `None` if they are
-/// more than eight.
+/// Writes the words of the group at byte `at` of `text` to `block` from offset `fill` on. Returns `None` if the group
+/// has more than eight words.
 #[inline(always)]
 fn fill_group(text: &[u8], at: usize, block: &mut [u8], fill: usize) -> Option<Block>
     requires far { at + REACH ≤ length text.now }
@@ -109,7 +109,7 @@ fn fill_group(text: &[u8], at: usize, block: &mut [u8], fill: usize) -> Option<B
     ensures gives { FillGives text.now at fill block.old block.new result }
 {
     let rest = &text[at..];
-    // Most groups pass by this one test.
+    // Most groups need only this one test.
     match rest[0] {
         1..=254 => Some(fill_named(text, at, block, fill)),
         0 => fill_zeros(text, at, block, fill),
@@ -117,8 +117,9 @@ fn fill_group(text: &[u8], at: usize, block: &mut [u8], fill: usize) -> Option<B
     }
 }
 
-/// Does what [`fill_group`] does, near the end of the text or of the block. Returns `None` also for a raw group, and
-/// for zero words if fewer than [`SLACK`] bytes are left up to `limit`.
+/// Writes the words of the group at byte `at` of `text` to `block` from offset `fill` on, near the end of the text or
+/// of the block. Returns `None` for a raw group and for more than eight zero words, and also for zero words if fewer
+/// than [`SLACK`] bytes are left up to `limit`.
 #[inline(always)]
 fn fill_last(text: &[u8], at: usize, block: &mut [u8], fill: usize, limit: usize) -> Option<Block>
     requires far { at + 17 ≤ length text.now }
@@ -146,7 +147,7 @@ struct Stretch {
     left: usize,
 }
 
-/// Fills `block` with the words of the next `steps` groups of `text`, or of those before a group of more than eight
+/// Fills `block` with the words of the next `steps` groups of `text`, but stops before a group of more than eight
 /// words. The requirements give each group its bytes and its room, so that only the kind of a group is tested.
 #[inline(always)]
 fn fill_steps(text: &[u8], from: Block, block: &mut [u8], steps: usize) -> Stretch
@@ -179,8 +180,8 @@ fn fill_steps(text: &[u8], from: Block, block: &mut [u8], steps: usize) -> Stret
     }
 }
 
-/// Returns a number of groups of at most eight words for which there are surely bytes and room. The text has `len`
-/// bytes, the block has room up to `limit`, and `from` is the progress so far.
+/// Returns a number of groups of at most eight words for which the text surely has the bytes and the block the room.
+/// The text has `len` bytes, the block has room up to `limit`, and `from` is the progress so far.
 #[inline(always)]
 fn sure_steps(len: usize, limit: usize, from: Block) -> usize
     requires inside { from.at ≤ len }
@@ -237,8 +238,8 @@ fn fill_block(text: &[u8], block: &mut [u8], limit: usize) -> Block
     fill_rest(text, from, block, limit)
 }
 
-/// Appends the words of the first groups of `rest` to `out`, as long as they fit into `block` and are at most `room`
-/// words. There may be none.
+/// Appends the words of the first groups of `rest` to `out`, at most `room` words and as many as fit into `block`.
+/// There may be no such groups.
 pub(crate) fn take_block<A: Allocator>(
     rest: &[u8],
     room: usize,
@@ -255,7 +256,7 @@ pub(crate) fn take_block<A: Allocator>(
 {
     let limit = (8 * room).min(block.len() - SLACK);
     let filled = fill_block(rest, block, limit);
-    // Without this test, every long group would cost the call of an empty copy.
+    // Without this test, every long group would cost a call that copies nothing.
     if filled.fill == 0 {
         return Ok(Taken {
             bytes: filled.at,

@@ -6,16 +6,16 @@ use crate::lanes::spread;
 use crate::room::words_room;
 use std::alloc::{AllocError, Allocator};
 
-/// The most bytes of a group: a tag, a word, a count and 255 words. An unfinished group has fewer.
+/// The greatest number of bytes of a group: a tag, a word, a count and 255 words. An unfinished group has fewer.
 pub(crate) const GROUP: usize = 2050;
 
-/// The most words of a group.
+/// The greatest number of words of a group.
 pub(crate) const WORDS: usize = 256;
 
-/// The reason why one group isn't read.
+/// The reason why a group is not read.
 #[derive(Clone, Copy)]
 pub(crate) enum Stop {
-    /// A growth was refused.
+    /// An allocation was refused.
     Memory,
     /// The bytes end within the group.
     Cut,
@@ -33,16 +33,16 @@ impl From<AllocError> for Stop {
     }
 }
 
-/// A group that was read.
+/// The size of a group that was read.
 #[derive(Clone, Copy)]
 pub(crate) struct Taken {
-    /// The number of bytes that it took.
+    /// The number of bytes of the group.
     pub bytes: usize,
-    /// The number of words that it has.
+    /// The number of words of the group.
     pub words: usize,
 }
 
-/// Reads the group of zero words at the front of `rest`, and appends its words to `out` if they are at most `room`.
+/// Reads the group of zero words at the front of `rest`. If the group has at most `room` words, appends them to `out`.
 #[inline(always)]
 fn take_zeros<A: Allocator>(rest: &[u8], room: usize, out: &mut Vec<u8, A>) -> Result<Taken, Stop>
     requires some { 0 < length rest.now }
@@ -61,8 +61,8 @@ fn take_zeros<A: Allocator>(rest: &[u8], room: usize, out: &mut Vec<u8, A>) -> R
     Ok(Taken { bytes: 2, words })
 }
 
-/// Reads the group at the front of `rest` if its tag names one to seven bytes, and appends its word to `out` if `room`
-/// is at least 1.
+/// Reads the group at the front of `rest`, whose tag names one to seven bytes. If `room` is at least 1, appends the
+/// group's word to `out`.
 fn take_named<A: Allocator>(rest: &[u8], room: usize, out: &mut Vec<u8, A>) -> Result<Taken, Stop>
     requires some { 0 < length rest.now }
     requires above { 0 < slice_index rest.now 0 }
@@ -85,7 +85,7 @@ fn take_named<A: Allocator>(rest: &[u8], room: usize, out: &mut Vec<u8, A>) -> R
     })
 }
 
-/// Reads the raw group at the front of `rest`, and appends its words to `out` if they are at most `room`.
+/// Reads the raw group at the front of `rest`. If the group has at most `room` words, appends them to `out`.
 #[inline(always)]
 fn take_raw<A: Allocator>(rest: &[u8], room: usize, out: &mut Vec<u8, A>) -> Result<Taken, Stop>
     requires some { 0 < length rest.now }
@@ -113,7 +113,7 @@ fn take_raw<A: Allocator>(rest: &[u8], room: usize, out: &mut Vec<u8, A>) -> Res
     })
 }
 
-/// Reads the group at the front of `rest`, and appends its words to `out` if they are at most `room`.
+/// Reads the group at the front of `rest`. If the group has at most `room` words, appends them to `out`.
 pub(crate) fn take_group<A: Allocator>(
     rest: &[u8],
     room: usize,

@@ -1,4 +1,4 @@
-//! The call `unpack`: a whole packed text to the bytes of its words, under a maximum.
+//! The call `unpack`, which unpacks a whole packed text of at most a given number of words.
 ghost use Rattle.std.specs.Prelude.{◌≡◌, ◌*◌, ◌≤◌, length, IfOk, IfErr, IsErrOf, MatchResult, List, ℕ};
 ghost use Rattle.capn_pack.specs.Packed.{Packs};
 ghost use Rattle.capn_pack.specs.UnpackRefusal.{IsUnpackRefused, StartsWithin};
@@ -9,10 +9,11 @@ use crate::unpack_block::{SLACK, take_block};
 use crate::unpack_group::{Stop, take_group};
 use std::alloc::Allocator;
 
-/// The length of the block that groups are read into, with its slack.
+/// The length of the block that groups are read into, including its slack.
 const BLOCK: usize = 4096 + SLACK;
 
-/// Unpacks `bytes` to at most `max_words` words. Small groups go through a block, long ones are appended one by one.
+/// Unpacks `bytes` to at most `max_words` words. Small groups are gathered in a block first, and long ones are appended
+/// one by one.
 fn unpack_groups<A: Allocator + Copy>(
     alloc: A,
     bytes: &[u8],
@@ -49,29 +50,30 @@ fn unpack_groups<A: Allocator + Copy>(
 /// Unpacks the packed text `bytes` and returns the bytes of its words. (Page: packing.)
 ///
 /// Texts that the packer would not write are read too: tag bits that are set for zero bytes, short runs, any raw words.
-/// (Own.) The empty text packs no words. The result grows on `alloc` a logarithmic number of times, and only for the
-/// words of whole groups within the maximum. A growth makes room for these words, and for up to twice the bytes that
-/// are left of the text, within the maximum; or it doubles the room.
+/// (Our own.) The empty text packs no words. The result grows on `alloc` a logarithmic number of times, and only for
+/// the words of whole groups within the maximum. A growth makes room for those words, and for at most twice the number
+/// of bytes that are left of the text, within the maximum. Or the growth doubles the capacity.
 ///
-/// Refusals, with the offset of the group's tag: `Cut` if the head of the group is cut. Otherwise `TooLong` if its
-/// words would exceed `max_words` with those before. Otherwise `Cut` if its raw words are cut. `Memory` if a growth was
-/// refused, for which the text has to begin with a whole group within the maximum. `Failed` is never returned.
+/// Refusals, with the offset of the group's tag: `Cut` if the head of the group is cut. Otherwise `TooLong` if the
+/// group and the groups before it have more than `max_words` words. Otherwise `Cut` if the group's raw words are cut.
+/// `Memory` if an allocation was refused, which can happen only if the text begins with a whole group within the
+/// maximum. `Failed` is never returned.
 pub fn unpack<A: Allocator + Copy>(
     alloc: A,
     bytes: &[u8],
     max_words: u32,
 ) -> Result<Vec<u8, A>, UnpackFault>
-    // If `result` is `Ok`, it is what `bytes` pack, within the maximum.
+    // If `result` is `Ok`, `bytes` pack the returned words, which are within the maximum.
     ensures found { IfOk result (λ v. Packs bytes.now v.items) }
     ensures within { IfOk result (λ v. length v.items ≤ 8 * max_words) }
-    // If `result` is `Ok`, it has whole words.
+    // If `result` is `Ok`, it is the bytes of whole words.
     ensures words { IfOk result (λ v. HasWords v.items) }
-    // If `bytes` pack something within the maximum, that is returned, unless memory runs out.
+    // If `bytes` pack words within the maximum, those words are returned, unless an allocation is refused.
     ensures only { (bs : List ℕ) → Packs bytes.now bs → length bs ≤ 8 * max_words
         → MatchResult result (λ v. v.items ≡ bs) (λ e. e ≡ UnpackFault.Memory) }
-    // If `result` is an `Err`, `IsUnpackRefused` says what `bytes` have at the offset of the refusal.
+    // If `result` is an `Err`, `IsUnpackRefused` says what the text has at the offset of the refusal.
     ensures refused { IfErr result (λ e. IsUnpackRefused bytes.now max_words e) }
-    // Memory is needed only if `bytes` begin with a whole group within the maximum.
+    // `Memory` is returned only if `bytes` begin with a whole group within the maximum.
     ensures memory { IsErrOf result UnpackFault.Memory → StartsWithin bytes.now max_words }
 {
     match unpack_groups(alloc, bytes, max_words) {

@@ -7,11 +7,11 @@ use crate::text_piece::{HELD, feed_held};
 use std::alloc::Allocator;
 use std::marker::Model;
 
-/// An unpacker of a text that is given in pieces, cut anywhere. (Own.)
+/// An unpacker of a text that is given in pieces, cut anywhere. (Our own.)
 ///
-/// It keeps the bytes of the unfinished group, at most 2,049, and the offset of that group's tag in the text. Their
-/// room is inside it, so memory is taken only for the words of a piece. After any refusal each later call returns
-/// `Failed` and changes nothing.
+/// An unpacker keeps the bytes of the unfinished group, at most 2,049, and the offset of that group's tag in the text.
+/// The buffer for those bytes is part of the unpacker, so memory is taken only for the words of a piece. After any
+/// refusal each later call returns `Failed` and changes nothing.
 #[derive(Debug, Drop)]
 pub struct Unpacker {
     held: [u8; HELD],
@@ -42,7 +42,7 @@ impl Default for Unpacker {
 }
 
 impl Unpacker {
-    /// Returns an unpacker at the beginning of a text. It takes no memory.
+    /// Returns an unpacker at the beginning of a text. The call takes no memory.
     pub fn new() -> Unpacker
         ensures { result ≡ record { rest = []; offset = 0; failed = false } }
     {
@@ -54,14 +54,13 @@ impl Unpacker {
         }
     }
 
-    /// Takes the next `piece` of the text, and appends to `out` the bytes of the words of each group that is whole by
-    /// now.
+    /// Takes the next `piece` of the text. Appends to `out` the words of each group that becomes whole.
     ///
-    /// All of `piece` is taken: the bytes of a group that is not whole yet are held. There is no maximum of words,
-    /// since the lengths of the pieces bound them.
+    /// All of `piece` is taken, and the bytes of a group that is not whole yet are kept. There is no maximum of words,
+    /// since the length of the pieces bounds the number of words.
     ///
-    /// Refusals: `Memory` if a growth of `out` was refused. A prefix of the words was appended then. A piece that makes
-    /// no group whole takes no memory. `Failed` after an earlier refusal, and `out` is as it was.
+    /// Refusals: `Memory` if an allocation for `out` was refused. A prefix of the words was appended then. A piece that
+    /// makes no group whole takes no memory. `Failed` after an earlier refusal, and `out` is as it was.
     pub fn feed<A: Allocator>(
         &mut self,
         piece: &[u8],
@@ -70,16 +69,16 @@ impl Unpacker {
         // If `result` is `Ok`, the bytes held before and `piece` are whole groups and then the bytes held now. The
         // words of those groups were appended.
         ensures fed { OnOk result (Feeds self.old piece.now out.old.items out.new.items self.new) }
-        // If memory was refused, a prefix of the words was appended, and the text can't be continued.
+        // If an allocation was refused, a prefix of the words was appended, and the text cannot be continued.
         ensures begun { IsErrOf result UnpackFault.Memory
             → Begins (self.old.rest ++ piece.now) out.old.items out.new.items
             × (self.new.failed ≡ true) }
-        // Memory is needed only if a group became whole.
+        // An allocation can be refused only if a group became whole.
         ensures memory { IsErrOf result UnpackFault.Memory → NoGroupFirst (self.old.rest ++ piece.now) → ⊥ }
-        // After a refusal nothing changes any more.
+        // After a refusal, each later call changes nothing.
         ensures failed { self.old.failed ≡ true → (result ≡ Err UnpackFault.Failed)
             × (out.new.items ≡ out.old.items) × (self.new ≡ self.old) }
-        // Before a refusal, only memory can be refused.
+        // Without an earlier refusal, the only refusal is `Memory`.
         ensures kinds { self.old.failed ≡ false → IfErr result (λ e. e ≡ UnpackFault.Memory) }
     {
         if self.failed {
@@ -99,7 +98,7 @@ impl Unpacker {
         }
     }
 
-    /// Returns the bytes of the unfinished group from its tag on, also after `Cut`. They are empty if no group has
+    /// Returns the bytes of the unfinished group from its tag on, also after `Cut`. The result is empty if no group has
     /// begun.
     pub fn held(&self) -> &[u8]
         ensures { result.now ≡ self.now.rest }
@@ -116,7 +115,7 @@ impl Unpacker {
         ensures cut { self.old.failed ≡ false → self.old.rest ≢ []
             → (result ≡ Err (UnpackFault.Cut self.old.offset)) × (self.new.failed ≡ true) }
         ensures failed { self.old.failed ≡ true → (result ≡ Err UnpackFault.Failed) × (self.new ≡ self.old) }
-        // The bytes that are held stay, whatever `result` is.
+        // Whatever `result` is, the bytes that are held stay.
         ensures kept { self.new.rest ≡ self.old.rest }
         ensures whole { self.old.failed ≡ false → self.old.rest ≡ [] → IsOk result }
     {

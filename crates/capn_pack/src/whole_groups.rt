@@ -8,32 +8,32 @@ use crate::unpack_block::{SLACK, take_block};
 use crate::unpack_group::{Stop, take_group};
 use std::alloc::{AllocError, Allocator};
 
-/// The length of the block that groups are read into, with its slack.
+/// The length of the block that groups are read into, including its slack.
 const BLOCK: usize = 4096 + SLACK;
 
-/// The reason why no more whole groups were unpacked: what follows them.
+/// The reason why no more whole groups were unpacked: what follows the unpacked groups.
 #[derive(Clone, Copy, Debug, PartialEq, Eq)]
 pub enum Next {
     /// The end of the bytes.
     End,
     /// The first part of a group, at most 2,049 bytes. The group may become whole with the bytes that follow.
     Cut,
-    /// A group with more words than are left of the maximum, by its head.
+    /// A group whose head gives it more words than are left of the maximum.
     TooLong,
 }
 
-/// The part of the given bytes that was unpacked, and what follows it.
+/// The part of the given bytes that was unpacked, and what follows that part.
 #[derive(Clone, Copy, Debug, PartialEq, Eq)]
 pub struct Progress {
-    /// The number of bytes that the groups took.
+    /// The number of bytes of the unpacked groups.
     pub bytes: usize,
-    /// The number of words that they have.
+    /// The number of words of the unpacked groups.
     pub words: u32,
-    /// What follows the groups.
+    /// What follows the unpacked groups.
     pub next: Next,
 }
 
-/// Returns the progress after `bytes` bytes, if `room` words are left of `max_words` and `next` follows.
+/// Returns the progress after `bytes` bytes, if `room` of `max_words` words are left and `next` follows.
 fn stopped(bytes: usize, max_words: u32, room: usize, next: Next) -> Progress
     requires { room ≤ max_words }
     ensures bytes { result.bytes ≡ bytes }
@@ -47,28 +47,28 @@ fn stopped(bytes: usize, max_words: u32, room: usize, next: Next) -> Progress
     }
 }
 
-/// Appends the words of the whole groups at the front of `bytes` to `out`, as long as their number is at most
-/// `max_words`. (Own.)
+/// Appends the words of the whole groups at the front of `bytes` to `out`, as long as there are at most `max_words`
+/// words in all. (Our own.)
 ///
-/// Repeated calls unpack a text in pieces under a maximum. Each call gets the bytes that the last call left and the
-/// next piece, and the maximum without the words that were unpacked. If a call returns `TooLong`,
+/// Repeated calls unpack a text in pieces with one maximum for all. Each call gets the bytes that the last call left
+/// and the next piece, and the maximum without the words that were unpacked. If a call returns `TooLong`,
 /// [`unpack`](crate::unpack) refuses the whole text with `TooLong`, at the group that follows. If the last call returns
-/// `Cut`, it refuses the text with `Cut` there.
+/// `Cut`, [`unpack`](crate::unpack) refuses the text with `Cut` there.
 ///
-/// Takes no memory except for the words in `out`. Refusal: `AllocError` if a growth of `out` was refused, for which
-/// `bytes` have to begin with a whole group within the maximum. A prefix of the words was appended then.
+/// Takes no memory except for the words in `out`. Refusal: `AllocError` if an allocation for `out` was refused, which
+/// can happen only if `bytes` begin with a whole group within the maximum. A prefix of the words was appended then.
 pub fn unpack_some<A: Allocator>(
     bytes: &[u8],
     max_words: u32,
     out: &mut Vec<u8, A>,
 ) -> Result<Progress, AllocError>
-    // If `result` is `Ok`, the words of the groups were appended, and no whole group within what is left of the maximum
+    // If `result` is `Ok`, the words of the groups were appended, and no whole group within the rest of the maximum
     // follows.
     ensures some { IfOk result (λ p. UnpacksSome bytes.now max_words out.old.items out.new.items p.bytes p.words
         p.next) }
-    // If memory was refused, a prefix of the words within the maximum was appended.
+    // If an allocation was refused, a prefix of the words within the maximum was appended.
     ensures begun { OnErr result (AppendsSome bytes.now max_words out.old.items out.new.items) }
-    // Memory is needed only if `bytes` begin with a whole group within the maximum.
+    // An allocation can be refused only if `bytes` begin with a whole group within the maximum.
     ensures memory { OnErr result (StartsWithin bytes.now max_words) }
 {
     let mut block = [0; BLOCK];

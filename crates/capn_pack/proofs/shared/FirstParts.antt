@@ -1,7 +1,8 @@
--- Lemma for `ChosenLaws`, `GroupLaws`, capn_commands and capn_serve: equal texts have equal first parts.
+-- Lemma for `ChosenLaws`, `GroupLaws`, capn_commands and capn_serve: equal texts have equal first parts of the same
+-- length.
 use Rattle.std.proofs.Common.{◌≡◌, ℕ, List, [], ◌∷◌, ◌++◌, length, refl, arith}
 
--- if `a ++ x` equals `b ++ y` and `a` is as long as `b`, the parts are equal
+-- if `a ++ x` equals `b ++ y` and `a` has the length of `b`, then `a` equals `b` and `x` equals `y`
 pub append_same : (a b x y : List ℕ) → length a ≡ length b → a ++ x ≡ b ++ y → (a ≡ b) × (x ≡ y)
 append_same [] [] x y long e = (refl, e)
 append_same [] (d ∷ b) x y long e = absurd (omega arith)

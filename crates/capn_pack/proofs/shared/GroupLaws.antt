@@ -1,5 +1,5 @@
 -- Lemmas for `reading`, `unpack`, capn_canon, capn_commands and other crates: bytes begin with at most one group, and a
--- packed text has one reading.
+-- packed text is read in only one way.
 use Rattle.std.proofs.Common.{◌≡◌, ℕ, zero, suc, ◌*◌, ◌/◌, ◌^◌, ◌<◌, ◌≤◌, inl, inr, false, eqb, List, [], ◌∷◌, ◌++◌}
 use Rattle.std.proofs.Common.{length, refl, sym, ap, ◌∙◌, subst, arith, append_assoc, length-append, pow-suc}
 use Rattle.std.proofs.lemmas.Bool.{ne_eqb}
@@ -18,7 +18,7 @@ use Rattle.capn_pack.proofs.shared.FirstParts.{append_same}
 use Rattle.capn_pack.proofs.shared.GroupLemmas.{length_contents, count_append, text_some}
 use Rattle.capn_pack.proofs.shared.SpreadLemmas.{ones_half, no_ones, parity, named_one, named_none}
 
--- a tag names as many bytes as it has bits
+-- a tag names as many bytes as it has set bits
 length_named : (n tag : ℕ) (word : List ℕ) → length word ≡ n → tag < 2 ^ n
     → length (named_bytes tag word) ≡ count_ones tag
 length_named n tag [] long less = let none : tag ≡ 0 = omega (arith, ap (λ k. 2 ^ k) long) in
@@ -32,11 +32,11 @@ length_named (suc n) tag (x ∷ xs) long less =
       | inr odd ↦ omega (arith, ap length (named_one tag x xs odd), ones_half tag, rest)
     ]
 
--- a tag that names some bytes and not all is neither 0 nor 255
+-- a tag between 0 and 255 is neither 0 nor 255
 middle : (tag : ℕ) → 0 < tag → tag < 255 → (eqb tag 0 ≡ false) × (eqb tag 255 ≡ false)
 middle tag above below = (ne_eqb tag 0 (λ e. absurd (omega arith)), ne_eqb tag 255 (λ e. absurd (omega arith)))
 
--- the bytes `b` begin with the head of the group `g`, which gives the length of its text and its number of words
+-- the bytes `b` begin with the head of `g`, which gives the length of the text of `g` and its number of words
 pub record HeadOf (g : Group) (b : List ℕ) : Type 0 where
   pub head : HasHead b
   pub long : len_at b ≡ length (group_text g)
@@ -119,7 +119,7 @@ group_same (Raw v m f) (Raw w n g) x y p q e =
     let z = append_same f g x y (p.2 ∙ ap (λ i. 8 * i) c.0 ∙ sym q.2) c.1 in
     ((λ i. Raw (r.0 i) (c.0 i) (z.0 i)), z.1)
 
--- the groups `gs` are the groups `hs` and then groups of `rest`
+-- `gs` are the groups `hs` and then groups with the text `rest`
 pub record GoesOn (gs hs : List Group) (rest : List ℕ) : Type 0 where
   pub more : List Group
   pub whole : gs ≡ hs ++ more
@@ -147,7 +147,7 @@ no_texts : (gs : List Group) → [] ≡ texts gs → gs ≡ []
 no_texts [] e = refl
 no_texts (g ∷ gs) e = absurd (omega (arith, text_some g, ap length e, length-append (group_text g) (texts gs)))
 
--- a packed text has one reading
+-- a packed text is read in only one way
 pub one_reading : (b cs bs : List ℕ) → Packs b cs → Packs b bs → cs ≡ bs
 one_reading b cs bs p q =
     let r = goes_on p.groups q.groups [] p.each q.each
@@ -155,7 +155,7 @@ one_reading b cs bs p q =
     p.are_bytes ∙ ap contents (r.whole ∙ ap (λ l. q.groups ++ l) (no_texts r.more r.text) ∙ append-nil q.groups)
     ∙ sym q.are_bytes
 
--- whole groups within the room are not cut
+-- whole groups are not cut
 not_cut : (room : ℕ) (rest : List ℕ) (more : List Group) → AllByRecursion IsGroup more → rest ≡ texts more
     → IsCut room rest → ⊥
 not_cut room rest [] p e cut = omega (arith, cut.0, ap length e)
@@ -168,7 +168,8 @@ not_long room rest (g ∷ more) p e fits long =
     let h = head_of g (texts more) p.0 in
     omega (arith, long.2, ap words_at e, h.count)
 
--- a fault that no whole groups within the room have is found in no text that is read within the maximum
+-- if whole groups within the room never have a fault, a text that packs words within the maximum does not have that
+-- fault
 pub not_refused : (Q : ℕ → List ℕ → Type 0)
     → ((room : ℕ) (rest : List ℕ) (more : List Group) → AllByRecursion IsGroup more → rest ≡ texts more
     → word_count more ≤ room → Q room rest → ⊥)
@@ -185,7 +186,7 @@ not_refused Q never b bs max at p fits s =
       s.counted,
     )) s.fault
 
--- a text that is read within the maximum is refused only if memory runs out
+-- a text that packs words within the maximum is refused only for `Memory`
 pub refused_only : (e : UnpackFault) (b bs : List ℕ) (max : ℕ) → IsUnpackRefused b max e → Packs b bs
     → length bs ≤ 8 * max
     → e ≡ fault.Memory

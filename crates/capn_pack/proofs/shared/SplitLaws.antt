@@ -15,9 +15,9 @@ use Rattle.capn_pack.proofs.shared.GroupLemmas.{raw_is_group, take_first, take_r
 use Rattle.capn_pack.proofs.shared.SpreadLemmas.{named_none, named_one, no_ones, ones_half, parity}
 use Rattle.capn_pack.proofs.shared.StreamLemmas.{nothing_first, splits_open}
 
--- ---- a word of which a tag names these bytes
+-- ---- a word with given named bytes
 
--- a word of `n` bytes in which the bytes named by `tag` are the first of `xs`
+-- `word` has `n` bytes, and the bytes named by `tag` are the first of `xs`
 record Word (n tag : ℕ) (xs : List ℕ) : Type 0 where
   word : List ℕ
   size : length word ≡ n
@@ -61,7 +61,7 @@ named_word (suc n) tag xs small room = elim (parity tag) [
   | inr odd ↦ named_odd n tag xs odd room (λ ys h. named_word n (tag / 2) ys (omega arith) h)
 ]
 
--- ---- a group comes first, or none does
+-- ---- bytes that begin with a group, and bytes that begin with none
 
 -- `bs` begin with the text of a group
 record First (bs : List ℕ) : Type 0 where
@@ -70,7 +70,7 @@ record First (bs : List ℕ) : Type 0 where
   is : IsGroup group
   text_is : bs ≡ group_text group ++ more
 
--- if the first `n` bytes are the text of a group, `bs` begin with one
+-- if the first `n` bytes are the text of a group, `bs` begin with a group
 first_of : (bs : List ℕ) (n : ℕ) (g : Group) → IsGroup g → take n bs ≡ group_text g → First bs
 first_of bs n g is e =
     record {
@@ -81,14 +81,14 @@ first_of bs n g is e =
           ∙ ap (λ (l : List ℕ). l ++ drop n bs) e;
     }
 
--- bytes that begin with the text of a group begin with its tag
+-- bytes that begin with the text of a group begin with the group's tag
 tag_of_first : (bs : List ℕ) (g : Group) (more : List ℕ) → bs ≡ group_text g ++ more
     → get_or bs 0 0 ≡ get_or (group_text g) 0 0
 tag_of_first bs (Zeros n) more e = ap (λ (l : List ℕ). get_or l 0 0) e
 tag_of_first bs (Named tag word) more e = ap (λ (l : List ℕ). get_or l 0 0) e
 tag_of_first bs (Raw word n further) more e = ap (λ (l : List ℕ). get_or l 0 0) e
 
--- no group has a tag, or a count, that is no byte
+-- bytes whose first number is no byte begin with no group
 no_tag : (bs : List ℕ) → 256 ≤ get_or bs 0 0 → NoGroupFirst bs
 no_tag bs great (Zeros n) more is e = let t = tag_of_first bs (Zeros n) more e in absurd (omega (arith, t, great))
 no_tag bs great (Named tag word) more is e = let t = tag_of_first bs (Named tag word) more e in
@@ -148,16 +148,16 @@ named_first bs some above below =
           (take_first (count_ones tag) bs some ∙ ap (λ (l : List ℕ). tag ∷ l) (sym w.bytes))))
     ]
 
--- ---- all of a text
+-- ---- each text is split
 
--- `bs` are some groups and a rest that begins with no group
+-- `bs` are split into some groups and a rest that begins with no group
 pub record Split (bs old : List ℕ) : Type 0 where
   pub rest : List ℕ
   pub new : List ℕ
   pub len : ℕ
   pub splits : Splits bs rest old new len
 
--- one more group in front of a text that is split
+-- if the bytes after a group are split, so are the group and those bytes
 split_more : (bs old : List ℕ) (g : Group) (more : List ℕ) → IsGroup g → bs ≡ group_text g ++ more
     → Split more (old ++ group_bytes g) → Split bs old
 split_more bs old g more is e s = record {
@@ -198,13 +198,13 @@ split_all (suc n) (b ∷ bs) old short = elim (first_or_none (b ∷ bs) (omega a
   | inr none ↦ split_open (b ∷ bs) old none
 ]
 
--- each text is whole groups and a rest
+-- each text is split into whole groups and a rest
 pub splits_all : (bs old : List ℕ) → Split bs old
 splits_all bs old = split_all (suc (length bs)) bs old (omega arith)
 
--- ---- in one way
+-- ---- only one way to split
 
--- a text has only one row of groups and rest that begins with no group
+-- a text has only one row of groups before a rest that begins with no group
 pub one_row : (gs hs : List Group) (r s : List ℕ) → AllByRecursion IsGroup gs → AllByRecursion IsGroup hs
     → NoGroupFirst r → NoGroupFirst s → texts gs ++ r ≡ texts hs ++ s → (gs ≡ hs) × (r ≡ s)
 one_row [] [] r s f g n m e = (refl, e)
@@ -217,7 +217,7 @@ one_row (g ∷ gs) (h ∷ hs) r s f k n m e =
     let ih = one_row gs hs r s f.1 k.1 n m same.1 in
     (rw (same.0, ih.0) refl, ih.1)
 
--- a text is split in one way
+-- a text is split in only one way
 pub one_split : (bs r s old new other : List ℕ) (len more : ℕ) → Splits bs r old new len → Splits bs s old other more
     → (r ≡ s) × ((new ≡ other) × (len ≡ more))
 one_split bs r s old new other len more f g =

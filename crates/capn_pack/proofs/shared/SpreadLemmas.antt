@@ -7,7 +7,7 @@ use Rattle.std.proofs.lemmas.Nat.{ones_cat}
 use Rattle.std.specs.Prelude.{count_ones}
 use Rattle.capn_pack.specs.Packed.{named_bytes}
 
--- the set bits of a number are those of its half and its last bit
+-- the number of set bits of `n` is the number of set bits of `n / 2` plus the last bit of `n`
 pub ones_half : (n : ℕ) → count_ones n ≡ n % 2 + count_ones (n / 2)
 unfolding lib.Count.ones
 ones_half n =
@@ -38,7 +38,7 @@ parity n = bit_cases (n % 2) (omega arith)
     bit_cases (suc zero) h = inr refl
     bit_cases (suc (suc r)) h = absurd (omega arith)
 
--- 0 has no bits
+-- 0 has no set bits
 pub no_ones : count_ones 0 ≡ 0
 unfolding lib.Count.ones
 no_ones = refl

@@ -16,7 +16,7 @@ use Rattle.capn_pack.specs.declared.text_piece.Joined.TheVariants as joins
 use Rattle.capn_pack.proofs.shared.GroupLemmas.{rest_is, each_append, text_some}
 use Rattle.capn_pack.proofs.shared.GroupLaws.{no_group}
 
--- if a row of groups was taken from `bytes`, `Begins` holds
+-- if a row of groups was read from `bytes`, `Begins` holds
 pub begins : (bytes : List ℕ) (at : ℕ) (old out : List ℕ) → TakesRow bytes at old out → Begins bytes old out
 begins bytes at old out u = record {
   groups = u.groups;
@@ -26,7 +26,7 @@ begins bytes at old out u = record {
   content = u.content;
 }
 
--- if a row of groups was taken from `bytes` and no group follows, `Splits` holds
+-- if a row of groups was read from `bytes` and no group follows, `Splits` holds
 pub splits : (bytes : List ℕ) (at : ℕ) (old out : List ℕ) → TakesRow bytes at old out → NoGroupFirst (drop at bytes)
     → Splits bytes (drop at bytes) old out at
 splits bytes at old out u none = record {
@@ -38,7 +38,8 @@ splits bytes at old out u none = record {
   open_rest = none;
 }
 
--- if `stream` splits and the words of a prefix of what follows are appended, `Begins` holds for all
+-- if `stream` splits, and a prefix of the words of its rest and `more` is appended, `Begins` holds for `stream` and
+-- `more`
 pub begins_then : (stream rest more words next : List ℕ) (len : ℕ) → Splits stream rest [] words len
     → Begins (rest ++ more) [] next → Begins (stream ++ more) [] (words ++ next)
 begins_then stream rest more words next len s b = record {
@@ -61,15 +62,15 @@ begins_then stream rest more words next len s b = record {
 pub nothing_first : NoGroupFirst []
 nothing_first g more is e = omega (arith, text_some g, ap length e, length-append (group_text g) more)
 
--- if a row of groups was taken from `bytes` and what follows is cut, `Splits` holds
+-- if a row of groups was read from `bytes` and a cut group follows, `Splits` holds
 pub splits_cut : (bytes : List ℕ) (at : ℕ) (old out : List ℕ) (room : ℕ) → TakesRow bytes at old out
     → IsCut room (slice_range bytes at (length bytes)) → Splits bytes (drop at bytes) old out at
 splits_cut bytes at old out room u cut =
     splits bytes at old out u (no_group room (drop at bytes) (subst (IsCut room) (rest_is bytes at) cut))
 
--- ---- an unfinished group and what comes
+-- ---- an unfinished group, and a piece that continues it
 
--- a group that takes no more bytes than were held would be a group among them
+-- a group that was read from the held bytes and more is longer than the held bytes, which begin with no group
 past_rest : (rest piece joined : List ℕ) (more room taken count : ℕ) (old new : List ℕ)
     → joined ≡ rest ++ take more piece → NoGroupFirst rest → Takes joined room taken count old new → length rest ≤ taken
 past_rest rest piece joined more room taken count old new e none t =
@@ -83,14 +84,14 @@ past_rest rest piece joined more room taken count old new e none t =
       | inr le ↦ le
     ]
 
--- a group that is taken from held bytes and more ends after the held bytes
+-- a group that was read from the first `len` bytes of `held` and more ends after those bytes
 pub join_past : (held piece joined : List ℕ) (len more room taken count : ℕ) (old new : List ℕ) → len ≤ length held
     → joined ≡ take len held ++ take more piece → NoGroupFirst (take len held) → Takes joined room taken count old new
     → len ≤ taken
 join_past held piece joined len more room taken count old new le e none t =
     omega (arith, past_rest (take len held) piece joined more room taken count old new e none t, length-take len held)
 
--- the group of the held bytes became whole by the bytes of a piece
+-- if the bytes of a piece make the held group whole, `Joins` holds
 pub join_whole : (held piece joined kept : List ℕ) (len more room taken count : ℕ) (old new : List ℕ)
     → len ≤ length held → more ≤ length piece → joined ≡ take len held ++ take more piece → NoGroupFirst (take len held)
     → Takes joined room taken count old new
@@ -108,7 +109,7 @@ join_whole held piece joined kept len more room taken count old new le short e n
     ∙ ap (λ n. take n (rest ++ take more piece)) (sym sum) ∙ ap (take taken) (sym e) ∙ t.text in
     (omega arith, t.group, t.is_group, text_is, t.content)
 
--- the group of the held bytes is still unfinished after the bytes of a piece
+-- if the held group is still unfinished after the bytes of a piece, `Joins` holds
 pub join_open : (held piece joined kept : List ℕ) (len more all room : ℕ) (old new : List ℕ) → 0 < len
     → len ≤ length held → (length piece ≤ more) ⊎ (2049 ≤ more) → more ≤ length piece
     → joined ≡ take len held ++ take more piece → all ≡ len + length (take more piece) → take all kept ≡ joined
@@ -130,9 +131,9 @@ join_open held piece joined kept len more all room old new some le enough within
       same,
     )
 
--- ---- what joined groups and a rest make
+-- ---- a group that a piece made whole, and what follows it
 
--- the held bytes and a piece split into the group that they made whole and the groups of the rest of the piece
+-- the held bytes and a piece split into the group that became whole and the groups of the rest of the piece
 pub splits_more : (rest piece held : List ℕ) (at : ℕ) (old mid new after : List ℕ) (taken : ℕ)
     → Joins rest piece held old mid (joins.Whole at) → Splits (slice_range piece at (length piece)) after mid new taken
     → Splits (rest ++ piece) after old new ((length rest + at) + taken)
@@ -158,7 +159,7 @@ splits_more rest piece held at old mid new after taken j s =
       open_rest = s.open_rest;
     }
 
--- the held bytes and a piece begin with the group that they made whole and a prefix of what follows
+-- the held bytes and a piece begin with the group that became whole and with a prefix of what follows
 pub begins_more : (rest piece held : List ℕ) (at : ℕ) (old mid new : List ℕ)
     → Joins rest piece held old mid (joins.Whole at) → Begins (slice_range piece at (length piece)) mid new
     → Begins (rest ++ piece) old new
@@ -175,12 +176,12 @@ begins_more rest piece held at old mid new j s =
       content = s.content ∙ ap (λ l. l ++ contents s.groups) j.4 ∙ append_assoc old (group_bytes g) (contents s.groups);
     }
 
--- a stream that begins with no group splits into nothing and itself
+-- a stream that begins with no group is split into no groups and the stream as the rest
 pub splits_open : (stream old new : List ℕ) → NoGroupFirst stream → new ≡ old → Splits stream stream old new 0
 splits_open stream old new none e =
     record { groups = []; each = tt; text = refl; content = e ∙ sym (append-nil old); size = refl; open_rest = none }
 
--- if a stream splits, and its rest with the next piece does, both pieces together split
+-- if a stream splits, and its rest with the next piece splits, then the stream with the next piece splits
 pub splits_then : (stream rest piece after : List ℕ) (old mid new : List ℕ) (len more : ℕ)
     → Splits stream rest old mid len → Splits (rest ++ piece) after mid new more
     → Splits (stream ++ piece) after old new (len + more)

@@ -1,18 +1,18 @@
--- The rules of the shuffle tables: for each lane of a vector the lane from which it is taken, or 128 if it is zero.
+-- The rules of the shuffle tables. For each lane of a vector, a rule gives the lane that is read, or 128 for a zero.
 use Rattle.std.specs.Prelude.{ℕ, ◌+◌, ◌/◌, ◌%◌, ◌==◌, if◌then◌else◌, List, [], ◌∷◌, ◌++◌, replicate, suc, zero}
 
--- For each of `n` bytes of a word: the next lane, from `next` on, if the tag names the byte, otherwise 128.
+-- For each of `n` bytes of a word: the next lane, counted from `next`, if the tag names the byte, otherwise 128.
 abbrev pub spread_places : ℕ → ℕ → ℕ → List ℕ
 spread_places zero tag next = []
 spread_places (suc n) tag next =
     if tag % 2 == 1 then next ∷ spread_places n (tag / 2) (next + 1) else 128 ∷ spread_places n (tag / 2) next
 
--- The row of a tag that moves the named bytes from the front to their places in the word.
+-- The row of a tag that moves the named bytes from the front to their positions in the word.
 abbrev pub spread_row : ℕ → List ℕ
 spread_row tag = spread_places 8 tag 0 ++ replicate 8 128
 
--- The lanes of the named bytes among `n` bytes of a word, which begin at lane `at`. Lanes of 128 follow them, up to
--- `n` in all.
+-- The lanes of those of `n` bytes that the tag names, if the first byte is in lane `at`. Lanes of 128 follow them, up
+-- to `n` in all.
 abbrev pub gather_places : ℕ → ℕ → ℕ → List ℕ
 gather_places zero tag at = []
 gather_places (suc n) tag at =

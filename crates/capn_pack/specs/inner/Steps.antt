@@ -1,4 +1,4 @@
--- The relations that single steps of packing and of unpacking keep.
+-- The relations between the input and the output of single steps of packing and unpacking.
 use Rattle.std.specs.Prelude.{ℕ, ◌≡◌, ◌+◌, ◌-◌, ◌*◌, ◌<◌, ◌≤◌, ◌++◌, List, length, take, drop, slice_range, replicate}
 use Rattle.std.specs.Prelude.{Option, Some, None, Result, Ok, Err}
 use Rattle.std.specs.List.{AllByRecursion}
@@ -12,7 +12,8 @@ use Rattle.capn_pack.specs.declared.unpack_group.Stop.{Stop}
 use Rattle.capn_pack.specs.declared.unpack_group.Stop.TheVariants.{Memory, Cut, TooLong}
 use Rattle.capn_pack.specs.declared.unpack_group.Taken.{Taken}
 
--- The group at the front of `rest` takes `taken` bytes and has `count` words, whose bytes were appended.
+-- The group at the front of `rest` has `taken` bytes and `count` words, at most `room`, whose bytes were appended to
+-- `old`.
 pub record Takes (rest : List ℕ) (room taken count : ℕ) (old new : List ℕ) : Type 0 where
   pub group : Group
   pub is_group : IsGroup group
@@ -22,28 +23,28 @@ pub record Takes (rest : List ℕ) (room taken count : ℕ) (old new : List ℕ)
   pub fits : count ≤ room
   pub content : new ≡ old ++ group_bytes group
 
--- The result of reading the group at the front of `rest`. It is what the group takes; otherwise nothing was appended.
--- Then memory was refused for a whole group of at most `room` words, or the group is cut and shorter than the longest,
--- or it has more words than `room`.
+-- The result of reading the group at the front of `rest`. If `Ok`, the group's words were appended. Otherwise nothing
+-- was. Then memory was refused for a whole group of at most `room` words, or the group is cut and shorter than the
+-- longest, or the group has more than `room` words.
 abbrev pub TakeGives : List ℕ → ℕ → List ℕ → Result Taken Stop → List ℕ → Type 0
 TakeGives rest room old (Ok taken) new = Takes rest room taken.bytes taken.words old new
 TakeGives rest room old (Err Memory) new = StartsWithin rest room × (new ≡ old)
 TakeGives rest room old (Err Cut) new = IsCut room rest × (length rest < GROUP) × (new ≡ old)
 TakeGives rest room old (Err TooLong) new = IsTooLong room rest × (new ≡ old)
 
--- The group at offset `at` of `text`, which has `count` words, was read up to `f.at`, and its words fill a block from
--- `fill` to `f.fill`.
+-- The group at offset `at` of `text` has `count` words, at most 8, and at most `REACH` bytes, and ends at `f.at`. Its
+-- words fill the block from `fill` to `f.fill`.
 pub record Fills (text : List ℕ) (at fill count : ℕ) (old new : List ℕ) (f : Block) : Type 0 where
   pub forward : at < f.at
   pub reach : f.at ≤ at + REACH
   pub takes : Takes (slice_range text at (length text)) 8 (f.at - at) count (take fill old) (take f.fill new)
 
--- The result of reading one group into a block: it filled some words, or left the block as it was.
+-- The result of reading one group into a block: the group's words fill some of the block, or the block is as it was.
 abbrev pub FillGives : List ℕ → ℕ → ℕ → List ℕ → List ℕ → Option Block → Type 0
 FillGives text at fill old new (Some f) = (count : ℕ) × Fills text at fill count old new f
 FillGives text at fill old new None = new ≡ old
 
--- The groups at the front of `rest` take `taken` bytes, and the bytes of their words were appended.
+-- The groups at the front of `rest` have `taken` bytes, and the bytes of their words were appended to `old`.
 pub record TakesRow (rest : List ℕ) (taken : ℕ) (old new : List ℕ) : Type 0 where
   pub groups : List Group
   pub each : AllByRecursion IsGroup groups
@@ -51,7 +52,7 @@ pub record TakesRow (rest : List ℕ) (taken : ℕ) (old new : List ℕ) : Type 
   pub text : take taken rest ≡ texts groups
   pub content : new ≡ old ++ contents groups
 
--- The group that the packer chooses for the words from offset `at` to `next` was appended.
+-- The group that the packer chooses for the words from offset `at` to `next` was appended to `old`.
 pub record Puts (bytes : List ℕ) (at next : ℕ) (old new : List ℕ) : Type 0 where
   pub group : Group
   pub is_group : IsGroup group
@@ -61,7 +62,7 @@ pub record Puts (bytes : List ℕ) (at next : ℕ) (old new : List ℕ) : Type 0
   pub content : drop at bytes ≡ group_bytes group ++ drop next bytes
   pub text : new ≡ old ++ group_text group
 
--- The groups that the packer chooses for the words from offset `at` to `next` were appended.
+-- The groups that the packer chooses for the words from offset `at` to `next` were appended to `old`.
 pub record PutsRow (bytes : List ℕ) (at next : ℕ) (old new : List ℕ) : Type 0 where
   pub groups : List Group
   pub chosen : (more : List Group) → contents more ≡ drop next bytes → IsChosenRow more → IsChosenRow (groups ++ more)
@@ -70,13 +71,13 @@ pub record PutsRow (bytes : List ℕ) (at next : ℕ) (old new : List ℕ) : Typ
   pub content : drop at bytes ≡ contents groups ++ drop next bytes
   pub text : new ≡ old ++ texts groups
 
--- The `count` words from offset `start` on are zero, and they are at most 255.
+-- The `count` words from offset `start` on are zero, and `count` is at most 255.
 pub record IsZeroRun (bytes : List ℕ) (start count : ℕ) : Type 0 where
   pub most : count ≤ 255
   pub inside : start + 8 * count ≤ length bytes
   pub zeros : drop start bytes ≡ replicate (8 * count) 0 ++ drop (start + 8 * count) bytes
 
--- The `count` words from offset `start` on are dense, and they are at most `limit`.
+-- The `count` words from offset `start` on are dense, and `count` is at most `limit`.
 pub record IsDenseRun (bytes : List ℕ) (start limit count : ℕ) : Type 0 where
   pub most : count ≤ limit
   pub inside : start + 8 * count ≤ length bytes
