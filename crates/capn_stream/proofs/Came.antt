@@ -1,18 +1,18 @@
--- Lemmas for `fill`: memory is needed only if a piece adds bytes to a frame.
+-- Lemmas for `fill`: an allocation is made only if a piece adds bytes to a frame.
 use Rattle.std.proofs.Common.{◌≡◌, ◌⊎◌, inl, inr, ℕ, ◌-◌, ◌<◌, ◌≤◌, List, length, take, drop, ap, sym, subst, ◌∙◌}
 use Rattle.std.proofs.Common.{arith, length-append, length-drop, length-take}
 use Rattle.capn_stream.specs.inner.Stages.{Extends, IsDone, Rests, need}
 use Rattle.capn_stream.specs.declared.stage.Stage.{Stage}
 
--- the piece has bytes, and the first part lacked some
+-- `piece` has bytes, and the part of the stage `first` lacked some
 abbrev pub Lacked : Stage → List ℕ → List ℕ → Type 0
 Lacked first old piece = (0 < length piece) × (length old < need first)
 
--- nothing has changed so far, or bytes of the piece were needed
+-- the stage and the bytes are still the first ones, or bytes of `piece` were needed
 abbrev pub Came : Stage → Stage → List ℕ → List ℕ → List ℕ → Type 0
 Came first stage old bytes piece = ((stage ≡ first) × (bytes ≡ old)) ⊎ Lacked first old piece
 
--- a part lacks bytes and gets some of the piece
+-- if a part lacks bytes and bytes of the piece are left, bytes of `piece` were needed
 pub lacked_now : (first stage : Stage) (old bytes piece : List ℕ) (at end : ℕ) → end ≡ need stage
     → Came first stage old bytes piece
     → (0 < length (take (length piece - at) (drop at piece))) × (length bytes < end) → Lacked first old piece
@@ -22,7 +22,7 @@ lacked_now first stage old bytes piece at end is (inl (same, text)) (some, short
 )
 lacked_now first stage old bytes piece at end is (inr lacked) wanted = lacked
 
--- a part that becomes complete, and is not the last, lacked bytes
+-- if a part becomes complete and is not the last one, bytes of `piece` were needed
 pub lacked_whole : (first stage : Stage) (old bytes piece new : List ℕ) (at n end : ℕ) → end ≡ need stage
     → Rests first old → Came first stage old bytes piece
     → Extends bytes (take (length piece - at) (drop at piece)) end n new → end ≤ length new

@@ -1,4 +1,4 @@
--- Lemmas for `fill`: one more part of a frame that is fed in pieces.
+-- Lemmas for `fill`: one more part of a frame is received.
 use Rattle.std.proofs.Common.{◌≡◌, inl, inr, ℕ, ◌+◌, ◌-◌, ◌<◌, ◌≤◌, List, ◌++◌, length, take, drop}
 use Rattle.std.proofs.Common.{refl, ap, sym, subst, ◌∙◌, arith, append_assoc, length-drop}
 use Rattle.std.proofs.Math.Seq.{take-add}
@@ -14,18 +14,18 @@ use Rattle.capn_stream.specs.declared.stage.Stage.{Stage}
 use Rattle.capn_stream.specs.declared.stage.Stage.TheVariants as stages
 use Rattle.capn_stream.proofs.shared.Longer.{IsStage-extends, IsStop-append}
 
--- the stage after `at` bytes of `piece` were taken, and the bytes of the frame so far
+-- `at` bytes of `piece` were taken, `new` are the bytes of the frame so far, and `stage` is their stage
 pub record Filled (stage : Stage) (old piece : List ℕ) (most at : ℕ) (new ends : List ℕ) : Type 0 where
   pub inside : at ≤ length piece
   pub text : new ≡ old ++ take at piece
   pub is : IsStage stage new most ends
 
--- too many segments are announced
+-- the result if too many segments are announced
 pub stop_count : (bs : List ℕ) (most : ℕ) (e : FrameFault) → length bs ≡ 4
     → (e ≡ TooManySegments (announced_segments bs)) × (most_segments < announced_segments bs) → IsHeadRefused bs most e
 stop_count bs most e here h = rw h.0 (omega arith, refl, h.1)
 
--- the stage after the count is the table
+-- the stage after the count is that of the table
 pub is_table : (stage : Stage) (old piece : List ℕ) (most at segments : ℕ) (new ends : List ℕ)
     → Filled stage old piece most at new ends → HasCount new × (segments ≡ announced_segments new) → length new ≡ 4
     → Filled (stages.Table segments) old piece most at new ends
@@ -39,7 +39,7 @@ is_table stage old piece most at segments new ends f counted here = record {
   };
 }
 
--- the stage after the table is the contents
+-- the stage after the table is that of the contents
 pub is_contents : (segments : ℕ) (old piece : List ℕ) (most at start end : ℕ) (new ends cuts : List ℕ)
     → Filled (stages.Table segments) old piece most at new ends → Tabled new most start end cuts
     → Filled (stages.Contents start end) old piece most at new cuts
@@ -69,7 +69,7 @@ module _ (stage : Stage) (old piece : List ℕ) (most at n end : ℕ) (mid new e
         is = IsStage-extends stage mid (drop at piece) most n new ends is part;
       }
 
-  -- the old bytes and the whole piece are the new bytes and what is left of the piece
+  -- the old bytes and the whole piece are the new bytes and the rest of the piece
   pub filled_all : old ++ piece ≡ new ++ drop (at + n) piece
   filled_all =
       ap (λ (xs : List ℕ). old ++ xs) (sym (take-append-drop (at + n) piece))
@@ -82,7 +82,7 @@ module _ (stage : Stage) (old piece : List ℕ) (most at n end : ℕ) (mid new e
       subst (λ (bs : List ℕ). IsHeadRefused bs most e) (sym filled_all)
       (IsStop-append new (drop (at + n) piece) most e h)
 
-  -- if a table announces too many words, all of the table is held
+  -- if a table announces too many words, the framer keeps all of the table
   pub filled_kept : (e : FrameFault) → IsHeadRefused new most e → KeepsHead old piece most new e
   filled_kept Memory h = tt
   filled_kept Empty h = tt
@@ -91,7 +91,7 @@ module _ (stage : Stage) (old piece : List ℕ) (most at n end : ℕ) (mid new e
   filled_kept Cut h = tt
   filled_kept Failed h = tt
 
-  -- the result if the piece ended
+  -- if the piece has ended, `Fills` holds
   pub filled_short : length new < end → Fills old piece most (at + n) new stage ends
   filled_short short =
       let part = rw (take_rest piece at, end_is) at more in
@@ -104,7 +104,7 @@ module _ (stage : Stage) (old piece : List ℕ) (most at n end : ℕ) (mid new e
         stops = inl (omega (arith, part.stops (omega (arith, short, end_is)), length-drop at piece, inside));
       }
 
-  -- the result if the frame is whole
+  -- if the frame is whole, `Fills` holds
   pub filled_done : IsDone stage new → Fills old piece most (at + n) new stage ends
   filled_done done =
       let f = filled in

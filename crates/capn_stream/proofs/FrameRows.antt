@@ -1,10 +1,10 @@
--- Worked frames as bytes: the definitions give what one reads off the page's layout.
+-- Worked examples of frames as bytes. The definitions give the bytes that the page's layout gives.
 use Rattle.std.proofs.Common.{◌≡◌, ℕ, List, [], ◌∷◌, refl}
 use Rattle.capn_words.specs.Message.{word_bytes}
 use Rattle.capn_stream.specs.Frames.{entry, frame_text}
 use Rattle.capn_stream.specs.FrameRefusal.{announced_segments, announced_words, entry_number, frame_length, head_length}
 
--- a struct of one word, whose value is 5
+-- the message of a struct of one word with the value 5
 struct_of_one_word : List (List ℕ)
 struct_of_one_word = (4294967296 ∷ 5 ∷ []) ∷ []
 
@@ -22,7 +22,7 @@ one_segment_announced : (announced_segments one_segment ≡ 1) × (announced_wor
 unfolding one_segment entry_number
 one_segment_announced = (refl, refl, refl)
 
--- the frame of a struct after a far pointer: two segments, of one word and of two, and 4 bytes of padding
+-- the frame of a struct behind a far pointer: two segments, of one word and of two, and 4 bytes of padding
 two_segments : frame_text ((4294967298 ∷ []) ∷ (4294967296 ∷ 5 ∷ []) ∷ [])
     ≡ 1 ∷ 0 ∷ 0 ∷ 0 ∷ 1 ∷ 0 ∷ 0 ∷ 0 ∷ 2 ∷ 0 ∷ 0 ∷ 0 ∷ 0 ∷ 0 ∷ 0 ∷ 0 ∷ 2 ∷ 0 ∷ 0 ∷ 0 ∷ 1 ∷ 0 ∷ 0 ∷ 0
     ∷ 0 ∷ 0 ∷ 0 ∷ 0 ∷ 1 ∷ 0 ∷ 0 ∷ 0 ∷ 5 ∷ 0 ∷ 0 ∷ 0 ∷ 0 ∷ 0 ∷ 0 ∷ 0 ∷ []

@@ -10,11 +10,11 @@ use Rattle.capn_words.specs.Message.{word_number, words_of, most_words}
 use Rattle.capn_words.proofs.shared.Words.{word_bytes-number, word_number-lt}
 use Rattle.capn_stream.specs.Segments.{IsHeld, IsWord, joined, message_of}
 
--- segments, as contracts see them
+-- the type of segments, as contracts see them
 abbrev pub Held : Type 0
 Held = List (Bor (List (List ℕ)))
 
--- the value that stands for a segment that doesn't exist
+-- the default value for a segment that does not exist
 abbrev pub none : Bor (List (List ℕ))
 none = record { ref_ptr = (0, 0); now = [] }
 
@@ -22,13 +22,13 @@ none = record { ref_ptr = (0, 0); now = [] }
 abbrev pub AreHeld : Held → Type 0
 AreHeld segments = All (λ segment. All IsWord segment.now) segments
 
--- words of 8 bytes stand for numbers below 2^64
+-- words of 8 bytes are numbers below 2^64
 numbers : (words : List (List ℕ)) → All IsWord words → AreWords (map word_number words)
 numbers [] h k = omega arith
 numbers (w ∷ ws) h zero = word_number-lt w (h 0 [] (omega arith)).1
 numbers (w ∷ ws) h (suc k) = numbers ws (λ i d l. h (suc i) d (omega (arith, l))) k
 
--- the bytes of the numbers are the words of 8 bytes, joined
+-- the bytes of the words' numbers are the words of 8 bytes, joined
 pub bytes_of_numbers : (words : List (List ℕ)) → All IsWord words → bytes (map word_number words) ≡ joined words
 bytes_of_numbers [] h = refl
 bytes_of_numbers (w ∷ ws) h =
@@ -56,11 +56,11 @@ pub segment_of : (segments : Held) (i : ℕ) (d : Bor (List (List ℕ))) → i <
     → segment_at (message_of segments) i ≡ map word_number (slice_index_or segments i d).now
 segment_of segments i d h = get_or-map (λ segment. map word_number segment.now) segments i d [] h
 
--- a segment that isn't there has no words
+-- a segment that does not exist has no words
 pub words_of-none : (message : List (List ℕ)) (s : ℕ) → length message ≤ s → words_of message s ≡ None
 words_of-none message s h = rw (le-ltb s (length message) h) refl
 
--- a segment that exists has the number of words that it holds
+-- a segment that exists has its number of words
 pub words_of-some : (message : List (List ℕ)) (s : ℕ) → s < length message
     → words_of message s ≡ Some (length (segment_at message s))
 words_of-some message s h = rw (lt-ltb s (length message) h) refl
@@ -82,7 +82,7 @@ pub held_message : (segments : Held) → IsHeld (message_of segments) most_words
     → IsMessage (message_of segments)
 held_message segments h w = record { some = h.some; few = h.few; room = h.room; each = below segments w }
 
--- facts about segment `i`, by its words of 8 bytes
+-- facts about segment `i` of the message, in terms of the words of 8 bytes that were given
 module _ (segments : Held) (message : List (List ℕ)) (is : message_of segments ≡ message) (i : ℕ)
     (d : Bor (List (List ℕ))) where
   abbrev words : List (List ℕ)
@@ -99,7 +99,7 @@ module _ (segments : Held) (message : List (List ℕ)) (is : message_of segments
   pub seen_count : i < length message → i < length segments
   seen_count h = omega (arith, h, ap length is, count_of segments)
 
-  -- its number of words
+  -- segment `i` has as many words as were given
   pub seen_length : i < length segments → length (segment_at message i) ≡ length words
   seen_length h = ap length (seen_segment h) ∙ length-map words word_number
 
@@ -108,7 +108,7 @@ module _ (segments : Held) (message : List (List ℕ)) (is : message_of segments
       let here : i < length message = omega (arith, h, ap length is, count_of segments) in
       ap Some (sym (seen_length h)) ∙ sym (words_of-some message i here)
 
-  -- its number of words is below 2^32, as that of all is
+  -- segment `i` has fewer than 2^32 words, since all segments together do
   pub seen_room : IsHeld (message_of segments) most_words → i < length segments → length words < 2 ^ 32
   seen_room h here =
       let there : i < length (message_of segments) = omega (arith, here, count_of segments) in
@@ -116,7 +116,7 @@ module _ (segments : Held) (message : List (List ℕ)) (is : message_of segments
       let long = ap length (segment_of segments i d here) ∙ length-map words word_number in
       omega (arith, part, long, h.room)
 
-  -- one word of it
+  -- one word of segment `i` is the number of the given 8 bytes
   pub seen_word : (k : ℕ) → k < length (segment_at message i)
       → word_number (slice_index_or words k []) ≡ slice_index (segment_at message i) k
   seen_word k h =
@@ -125,7 +125,7 @@ module _ (segments : Held) (message : List (List ℕ)) (is : message_of segments
       sym (get_or-map word_number words k [] 0 inside)
       ∙ ap (λ (ws : List ℕ). slice_index ws k) (sym (seen_segment here))
 
-  -- some of its bytes
+  -- a range of bytes of segment `i` is a range of the given bytes
   pub seen_bytes : AreHeld segments → (start len : ℕ) → i < length message
       → take len (drop (8 * start) (joined words)) ≡ take len (drop (8 * start) (bytes (segment_at message i)))
   seen_bytes h start len there =
@@ -136,7 +136,7 @@ module _ (segments : Held) (message : List (List ℕ)) (is : message_of segments
 min_again : (a b m : ℕ) → min (min a m + b) m ≡ min (a + b) m
 min_again a b m = omega arith
 
--- the capped sum of the lengths so far, with one length more
+-- adding the length of segment `i` to the capped sum of the lengths before it gives the capped sum with it
 pub counted_more : (segments : Held) (i : ℕ) (d : Bor (List (List ℕ))) → i < length segments → (old one new : ℕ)
     → old ≡ min (sum_by (λ segment. length segment.now) (take i segments)) (2 ^ 64 - 1)
     → one ≡ length (slice_index_or segments i d).now → new ≡ min (old + one) (2 ^ 64 - 1)

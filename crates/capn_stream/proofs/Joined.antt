@@ -1,4 +1,4 @@
--- Lemmas for `bytes_of`: words of 8 bytes each, joined.
+-- Lemmas for `bytes_of`: the joined bytes of words of 8 bytes each.
 use Rattle.std.proofs.Common.{◌≡◌, ℕ, zero, suc, ◌*◌, ◌<◌, List, [], ◌∷◌, ◌++◌, length}
 use Rattle.std.proofs.Common.{slice_index_or, All, refl, arith, length-append}
 use Rattle.capn_words.specs.Message.{AreBytes}
@@ -8,7 +8,7 @@ use Rattle.capn_stream.specs.Segments.{IsWord, joined}
 abbrev pub HaveEight : List (List ℕ) → Type 0
 HaveEight words = (i : ℕ) → i < length words → length (slice_index_or words i []) ≡ 8
 
--- words of 8 bytes have 8 bytes each in all
+-- the joined bytes of words are 8 for each word
 pub length-joined : (words : List (List ℕ)) → HaveEight words → 8 * length words ≡ length (joined words)
 length-joined [] h = refl
 length-joined (w ∷ ws) h =
@@ -22,12 +22,12 @@ AreBytes-front [] ys h i = omega arith
 AreBytes-front (x ∷ xs) ys h zero = h 0
 AreBytes-front (x ∷ xs) ys h (suc i) = AreBytes-front xs ys (λ j. h (suc j)) i
 
--- what follows a prefix of bytes is bytes
+-- the items after a prefix of bytes are bytes
 AreBytes-back : (xs ys : List ℕ) → AreBytes (xs ++ ys) → AreBytes ys
 AreBytes-back [] ys h = h
 AreBytes-back (x ∷ xs) ys h = AreBytes-back xs ys (λ j. h (suc j))
 
--- words of 8 numbers each are words if the numbers are bytes
+-- lists of 8 numbers are words if all the numbers are bytes
 pub all_words : (words : List (List ℕ)) → HaveEight words → AreBytes (joined words) → All IsWord words
 all_words [] h bs k d l = absurd (omega (arith, l))
 all_words (w ∷ ws) h bs zero d l = (h 0 (omega arith), AreBytes-front w (joined ws) bs)

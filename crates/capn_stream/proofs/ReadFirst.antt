@@ -1,4 +1,4 @@
--- Lemmas for `read_message`: its result, for all that the reader had to give.
+-- Lemmas for `read_message`: the result for the whole rest of the input.
 use Rattle.std.proofs.Common.{◌≡◌, inl, inr, ℕ, ◌<◌, ◌≤◌, List, [], ◌++◌, length, take, Bool, IsErrOf}
 use Rattle.std.proofs.Common.{Option, Some, None, IfSome, Result, Ok, Err, refl, ap, sym, subst, ◌∙◌, arith, append-nil}
 use Rattle.std.proofs.Common.{length-append}
@@ -70,7 +70,7 @@ pub read_gives : (old new : Option (List ℕ)) (failed : Bool) (most : ℕ) (r :
     → StopsInside old new failed most r → ReadGives old new failed most r
 read_gives old new failed most r (bytes, received, place) = (bytes, received)
 
--- memory is needed only if the reader has bytes
+-- `Memory` is returned only if the input is not at its end
 pub wants_first : (old new : Option (List ℕ)) (failed : Bool) (most : ℕ)
     (r : Result (Option (List (List ℕ))) ReadFault)
     → StopsInside old new failed most r → IfSome old (λ input. IsErrOf r faults.Memory → 0 < length input)

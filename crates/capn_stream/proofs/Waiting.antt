@@ -1,4 +1,4 @@
--- Lemmas for `feed`, `finish` and `take`: a frame that was fed in pieces is whole or not.
+-- Lemmas for `feed`, `finish` and `take`: a frame that is fed in pieces is whole or unfinished.
 use Rattle.std.proofs.Common.{◌≡◌, ◌⊎◌, inl, inr, ℕ, ◌*◌, ◌/◌, ◌^◌, ◌<◌, ◌≤◌, List, [], ◌∷◌, ◌++◌}
 use Rattle.std.proofs.Common.{length, take, drop, Bool, false, Some, Result, Ok, Err, IfOk, IfErr, is_err}
 use Rattle.std.proofs.Common.{refl, ap, sym, subst, ◌∙◌, arith, length-drop}
@@ -18,7 +18,7 @@ use Rattle.capn_stream.specs.declared.stage.Stage.TheVariants as stages
 use Rattle.capn_stream.proofs.shared.FrameLaws.{frames_all}
 use Rattle.capn_stream.proofs.shared.WholeFrames.{ends_are, stands}
 
--- the words from byte `start` on
+-- the words of `bs` from byte `start` on
 abbrev pub tail : ℕ → List ℕ → List ℕ
 tail start bs = words_in (length (drop start bs) / 8) (drop start bs)
 
@@ -60,7 +60,7 @@ module _ (bs : List ℕ) (most start end : ℕ) (ends : List ℕ) (small : most 
   pub waiting_room : total (cut 0 ends (tail start bs)) ≤ most
   waiting_room = waiting_stands.room
 
--- bytes that reach the end of their last stage are a frame
+-- bytes that reach the end of the last stage are a frame
 pub frame_done : (stage : Stage) (bs : List ℕ) (most : ℕ) (ends : List ℕ) → most ≤ 2 ^ 28 → IsStage stage bs most ends
     → IsDone stage bs → IsFrame bs most
 frame_done stages.Count bs most ends small is done = absurd done
@@ -71,7 +71,7 @@ frame_done (stages.Contents start end) bs most ends small is done = (
   waiting_room bs most start end ends small is done,
 )
 
--- bytes are unfinished if they are cut whenever there are any
+-- `bs` are unfinished if they are so whenever they are not empty
 cut_or_empty : (bs : List ℕ) (most : ℕ) → (0 < length bs → IsUnfinished bs most) → IsUnfinished bs most
 cut_or_empty [] most h = inl refl
 cut_or_empty (b ∷ bs) most h = h (omega arith)
@@ -101,7 +101,7 @@ pub frame_held : (stage : Stage) (bs : List ℕ) (most : ℕ) (ends : List ℕ) 
 frame_held stage bs most ends small is (inr done) = inl (frame_done stage bs most ends small is done)
 frame_held stage bs most ends small is (inl short) = inr (unfinished_stage stage bs most ends is short)
 
--- the result of a feed, by what became of the fields
+-- the new fields of the framer give the result of `feed`
 pub feed_gives : (rest piece : List ℕ) (most : ℕ) (r : Result ℕ FrameFault) (stage : Stage) (new ends : List ℕ)
     (before after : Bool) → most ≤ 2 ^ 28 → before ≡ false → after ≡ is_err r
     → IfOk r (λ n. Fills rest piece most n new stage ends) → IfErr r (λ e. IsHeadRefused (rest ++ piece) most e)
@@ -126,7 +126,7 @@ feed_gives rest piece most (Err (TooManyWords n)) stage new ends before after sm
 feed_gives rest piece most (Err Cut) stage new ends before after small fine is_failed fills stop = stop
 feed_gives rest piece most (Err Failed) stage new ends before after small fine is_failed fills stop = absurd stop
 
--- the result of a take if the frame is whole
+-- if the frame is whole, `TakeGives` holds of the message
 pub take_gives : (bs : List ℕ) (most start end : ℕ) (ends : List ℕ) (failed : Bool) (message : List (List ℕ))
     → most ≤ 2 ^ 28 → IsStage (stages.Contents start end) bs most ends → length bs ≡ end → failed ≡ false
     → message ≡ cut 0 ends (tail start bs)

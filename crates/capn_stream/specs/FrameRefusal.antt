@@ -1,5 +1,5 @@
 -- The numbers that the table of a frame announces, and the reason why bytes are no frame. (Page: serialization over a
--- stream; the order of the tests is our own.)
+-- stream. The order of the tests is our own.)
 use Rattle.std.specs.Prelude.{◌≡◌, ◌⊎◌, ℕ, zero, suc, ◌+◌, ◌*◌, ◌<◌, ◌≤◌, List, [], ◌∷◌, length, drop, sum, ⊤, refl}
 use Rattle.byteorder.specs.Endian.{little_number}
 use Rattle.capn_words.specs.Message.{most_segments}
@@ -8,36 +8,36 @@ use Rattle.capn_stream.specs.declared.fault.FrameFault.{FrameFault}
 use Rattle.capn_stream.specs.declared.fault.FrameFault.TheVariants.{Memory, Empty, TooManySegments, TooManyWords, Cut}
 use Rattle.capn_stream.specs.declared.fault.FrameFault.TheVariants.{Failed}
 
--- the number in the first 4 bytes, the least significant first
+-- the number in the first 4 bytes of `bs`, the least significant byte first
 unfoldable pub entry_number : List ℕ → ℕ
 entry_number bs = little_number 4 bs
 
--- the first `n` numbers of 4 bytes each
+-- the first `n` numbers in `bs`, of 4 bytes each
 abbrev pub entries : ℕ → List ℕ → List ℕ
 entries zero bs = []
 entries (suc n) bs = entry_number bs ∷ entries n (drop 4 bs)
 
--- the number of segments that are announced
+-- the number of segments that the table at the front of `bs` announces
 abbrev pub announced_segments : List ℕ → ℕ
 announced_segments bs = entry_number bs + 1
 
--- the number of words that are announced: the sum of the sizes after the count
+-- the number of words that the table at the front of `bs` announces, which is the sum of the sizes after the count
 abbrev pub announced_words : List ℕ → ℕ
 announced_words bs = sum (entries (announced_segments bs) (drop 4 bs))
 
--- the length in bytes of the table of `count` segments with its padding
+-- the length in bytes of the table of `count` segments, including its padding
 abbrev pub head_length : ℕ → ℕ
 head_length count = 4 + 4 * count + padding count
 
--- the length in bytes of the announced frame
+-- the length in bytes of the frame that the table at the front of `bs` announces
 abbrev pub frame_length : List ℕ → ℕ
 frame_length bs = head_length (announced_segments bs) + 8 * announced_words bs
 
--- `bs` have the whole count, which announces no more segments than are allowed
+-- `bs` have the whole count, which announces at most 4,096 segments
 abbrev pub HasCount : List ℕ → Type 0
 HasCount bs = (4 ≤ length bs) × (announced_segments bs ≤ most_segments)
 
--- `bs` have the whole table with its padding
+-- `bs` have the whole table and its padding, and the count announces at most 4,096 segments
 abbrev pub HasHead : List ℕ → Type 0
 HasHead bs = HasCount bs × (head_length (announced_segments bs) ≤ length bs)
 
@@ -45,44 +45,44 @@ HasHead bs = HasCount bs × (head_length (announced_segments bs) ≤ length bs)
 abbrev pub IsWhole : List ℕ → ℕ → Type 0
 IsWhole bs most = HasHead bs × (announced_words bs ≤ most) × (frame_length bs ≤ length bs)
 
--- the most segments of a message that is read without memory (own)
+-- the greatest number of segments of a message that is read without memory (our own)
 abbrev pub most_few : ℕ
 most_few = 64
 
--- `bs` have the whole announced frame, which is allowed, and its table has more than `most_few` segments, so that
--- memory is needed for their ends
+-- `bs` have the whole announced frame, with at most `most` words, and the table announces more than 64 segments, so
+-- that memory is needed for their ends
 abbrev pub HasTable : List ℕ → ℕ → Type 0
 HasTable bs most = IsWhole bs most × (most_few < announced_segments bs)
 
--- the count 63 announces the most segments that are read without memory
+-- the count 63 announces the greatest number of segments that are read without memory
 no_more : announced_segments (63 ∷ 0 ∷ 0 ∷ 0 ∷ []) ≡ most_few
 unfolding entry_number
 no_more = refl
 
--- the count 64 announces one segment more
+-- the count 64 announces one segment more than are read without memory
 one_more : announced_segments (64 ∷ 0 ∷ 0 ∷ 0 ∷ []) ≡ most_few + 1
 unfolding entry_number
 one_more = refl
 
--- `bs` are cut within a frame. Either the count is cut; or the announced segments are allowed, and the table or its
--- padding is cut; or the announced words are allowed too, and the contents are cut.
+-- `bs` are cut within a frame. Either the count is cut. Or at most 4,096 segments are announced, and the table or its
+-- padding is cut. Or at most `most` words are announced too, and the contents are cut.
 abbrev pub IsCut : List ℕ → ℕ → Type 0
 IsCut bs most =
     ((0 < length bs) × (length bs < 4))
     ⊎ (HasCount bs × (length bs < head_length (announced_segments bs)))
     ⊎ (HasHead bs × (announced_words bs ≤ most) × (length bs < frame_length bs))
 
--- `bs` do not go beyond the part of the frame that is needed next. They end with the count or before; or, if the
--- announced segments are allowed, with the table and its padding or before; or, if the announced words are allowed too,
--- with the contents or before.
+-- `bs` do not go beyond the part of the frame that is needed next. Either `bs` end with the count or before. Or at most
+-- 4,096 segments are announced, and `bs` end with the table and its padding or before. Or at most `most` words are
+-- announced too, and `bs` end with the contents or before.
 abbrev pub EndsWithin : List ℕ → ℕ → Type 0
 EndsWithin bs most =
     (length bs ≤ 4)
     ⊎ (HasCount bs × (length bs ≤ head_length (announced_segments bs)))
     ⊎ (HasHead bs × (announced_words bs ≤ most) × (length bs ≤ frame_length bs))
 
--- `bs` are refused with the given fault if at most `most` words are allowed. Each test is made after those before it
--- have passed. Running out of memory says nothing of the bytes.
+-- `bs` are refused with the given fault if at most `most` words are allowed. Each test requires that the tests before
+-- it passed. `Memory` says nothing of the bytes, and `Failed` is never the fault.
 abbrev pub IsFrameRefused : List ℕ → ℕ → FrameFault → Type 0
 IsFrameRefused bs most Memory = ⊤
 IsFrameRefused bs most Empty = length bs ≡ 0

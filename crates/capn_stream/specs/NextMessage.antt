@@ -1,4 +1,4 @@
--- The next message of a reader. (Own.)
+-- The next message of a reader. (Our own.)
 use Rattle.std.specs.Prelude.{◌≡◌, ◌≢◌, ◌⊎◌, ⊤, ℕ, ◌+◌, ◌*◌, ◌<◌, ◌≤◌, List, [], ◌++◌, length, Bool, true}
 use Rattle.std.specs.Prelude.{false, Result, Ok, Err, Option, Some, None}
 use Rattle.std.specs.Io.KnownBytes.{Consumes, IsAtEnd}
@@ -11,11 +11,12 @@ use Rattle.capn_stream.specs.declared.fault.FrameFault.TheVariants as frames
 use Rattle.capn_stream.specs.declared.fault.ReadFault.{ReadFault}
 use Rattle.capn_stream.specs.declared.fault.ReadFault.TheVariants as faults
 
--- the most bytes of a frame of `most` words: those of the longest table, and those of the words
+-- the greatest length in bytes of a frame with at most `most` words: the longest table, and then the words
 abbrev pub most_bytes : ℕ → ℕ
 most_bytes most = 8 * (most_table_words + most)
 
--- `bs`, which a reader gave, are no frame for the given fault, and no more bytes were read
+-- `bs`, which were read, are no frame for the given fault, which is `TooManySegments`, `TooManyWords` or `Cut`; after
+-- `Cut` the reader is at its end
 abbrev pub IsUnread : List ℕ → ℕ → Option (List ℕ) → FrameFault → Type 0
 IsUnread bs most new frames.Memory = ⊥
 IsUnread bs most new frames.Empty = ⊥
@@ -24,7 +25,7 @@ IsUnread bs most new (frames.TooManyWords n) = IsFrameRefused bs most (frames.To
 IsUnread bs most new frames.Cut = IsFrameRefused bs most frames.Cut × IsAtEnd new
 IsUnread bs most new frames.Failed = ⊥
 
--- `bs`, which a reader gave, lead to the given result of a read
+-- reading `bs` leads to the given result, if `new` is what the reader has left and `failed` says whether it failed
 abbrev pub ReadAnswers : List ℕ → ℕ → Option (List ℕ) → Bool → Result (Option (List (List ℕ))) ReadFault → Type 0
 ReadAnswers bs most new failed (Ok (Some message)) = Frames bs message × (total message ≤ most) × (failed ≡ false)
 ReadAnswers bs most new failed (Ok None) = (bs ≡ []) × IsAtEnd new × (failed ≡ false)
@@ -32,20 +33,20 @@ ReadAnswers bs most new failed (Err faults.Memory) = failed ≡ false
 ReadAnswers bs most new failed (Err faults.Io) = IsUnfinished bs most × (failed ≡ true)
 ReadAnswers bs most new failed (Err (faults.Frame e)) = IsUnread bs most new e × (failed ≡ false)
 
--- a reader gave `bytes`, which are no more than a frame can have, and they lead to `result`
+-- the reader gave `bytes`, which are no longer than the longest frame of `most` words, and they lead to `result`
 pub record Received (old new : Option (List ℕ)) (failed : Bool) (most : ℕ)
     (result : Result (Option (List (List ℕ))) ReadFault) (bytes : List ℕ) : Type 0 where
   pub read : Consumes old new bytes
   pub bounded : length bytes ≤ most_bytes most
   pub answer : ReadAnswers bytes most new failed result
 
--- a reader gave some bytes, and they lead to `result`
+-- the reader gave some bytes, which lead to `result`
 abbrev pub ReadGives : Option (List ℕ) → Option (List ℕ) → Bool → ℕ → Result (Option (List (List ℕ))) ReadFault → Type 0
 ReadGives old new failed most result = (bytes : List ℕ) × Received old new failed most result bytes
 
--- The place of the reader after a read that took `bs`. After a refusal it is inside the message: exactly after the
--- count if that announces too many segments, after the table and its padding if they announce too many words, and at
--- the end of the input if the message is cut. Memory is needed only after a first byte, and not beyond the message.
+-- The place of the reader after a read that took `bs`. After a refusal the reader is inside the message: exactly after
+-- the count if that announces too many segments, after the table and its padding if they announce too many words, and
+-- at the end of the input if the message is cut. `Memory` requires that at least one byte was read.
 abbrev pub StandsInside : List ℕ → ℕ → Option (List ℕ) → Result (Option (List (List ℕ))) ReadFault → Type 0
 StandsInside bs most new (Ok answer) = ⊤
 StandsInside bs most new (Err faults.Memory) = (0 < length bs) × EndsWithin bs most
@@ -57,13 +58,13 @@ StandsInside bs most new (Err (faults.Frame (frames.TooManyWords n))) = length b
 StandsInside bs most new (Err (faults.Frame frames.Cut)) = IsAtEnd new
 StandsInside bs most new (Err (faults.Frame frames.Failed)) = ⊥
 
--- a reader gave some bytes, they lead to `result`, and a refusal leaves the reader inside the message
+-- the reader gave some bytes, which lead to `result`, and after a refusal the reader is inside the message
 abbrev pub StopsInside : Option (List ℕ) → Option (List ℕ) → Bool → ℕ → Result (Option (List (List ℕ))) ReadFault
     → Type 0
 StopsInside old new failed most result = (bytes : List ℕ) × Received old new failed most result bytes
     × StandsInside bytes most new result
 
--- all bytes of `piece` were taken by a framer: they make a message whole, or leave it unfinished, or are refused
+-- a framer took `piece`, after which a message is whole, or the frame is unfinished, or the frame is refused
 abbrev pub TakesIn : Framing → List ℕ → Result (Option (List (List ℕ))) ReadFault → Framing → Type 0
 TakesIn before piece (Ok (Some message)) after = Frames (before.rest ++ piece) message × (total message ≤ before.most)
 TakesIn before piece (Ok None) after =
@@ -80,7 +81,7 @@ TakesIn before piece (Err (faults.Frame (frames.TooManyWords n))) after =
 TakesIn before piece (Err (faults.Frame frames.Cut)) after = ⊥
 TakesIn before piece (Err (faults.Frame frames.Failed)) after = ⊥
 
--- the result of a read at the end of the input: no message has begun, or the message is cut
+-- the result at the end of the input, if `rest` was read: no message has begun, or the message is cut
 abbrev pub EndGives : List ℕ → ℕ → Result (Option (List (List ℕ))) ReadFault → Type 0
 EndGives rest most (Ok (Some message)) = ⊥
 EndGives rest most (Ok None) = rest ≡ []
@@ -93,8 +94,8 @@ EndGives rest most (Err (faults.Frame (frames.TooManyWords n))) = ⊥
 EndGives rest most (Err (faults.Frame frames.Cut)) = IsFrameRefused rest most frames.Cut
 EndGives rest most (Err (faults.Frame frames.Failed)) = ⊥
 
--- The result of a read, for all of `input` that the reader had to give: the first message in it; no message, if it has
--- no bytes; or the reason why it begins with no message. Nothing is said if memory was refused or the reader failed.
+-- The result of a read, if `input` is all that the reader had to give. It is the first message in `input`, or no
+-- message if `input` is empty, or the reason why `input` begins with no message. For `Memory` and `Io` nothing is said.
 abbrev pub ReadsFirst : ℕ → Result (Option (List (List ℕ))) ReadFault → List ℕ → Type 0
 ReadsFirst most (Ok (Some message)) input = (taken : ℕ) × StandsFirst input most message taken
 ReadsFirst most (Ok None) input = input ≡ []
@@ -102,7 +103,7 @@ ReadsFirst most (Err faults.Memory) input = ⊤
 ReadsFirst most (Err faults.Io) input = ⊤
 ReadsFirst most (Err (faults.Frame e)) input = IsFrameRefused input most e × (e ≢ frames.Memory) × (e ≢ frames.Empty)
 
--- if `input` begins with a message, that is returned, unless memory runs out or the reader failed
+-- if `input` begins with a message, the result is that message, or `Memory`, or `Io`
 abbrev pub OnlyFirst : ℕ → Result (Option (List (List ℕ))) ReadFault → List ℕ → Type 0
 OnlyFirst most result input =
     (message : List (List ℕ)) (taken : ℕ) → StandsFirst input most message taken → (result ≡ Ok (Some message))

@@ -1,4 +1,4 @@
--- A message in segments that lie apart, each a list of words of 8 bytes. (Own.)
+-- A message in segments that lie apart, each a list of words of 8 bytes. (Our own.)
 use Rattle.std.specs.Prelude.{◌≡◌, ℕ, ◌-◌, ◌^◌, ◌<◌, ◌≤◌, List, length, map, min, Result, Ok, Err}
 use Rattle.std.specs.Borrow.{Bor}
 use Rattle.std.specs.List.{flat_map}
@@ -10,26 +10,25 @@ use Rattle.capn_stream.specs.declared.segments_fault.SegmentsFault.TheVariants.{
 abbrev pub message_of : List (Bor (List (List ℕ))) → List (List ℕ)
 message_of segments = map (λ segment. map word_number segment.now) segments
 
--- the bytes of `words`, one after another
+-- the bytes of `words`, one word after another
 abbrev pub joined : List (List ℕ) → List ℕ
 joined words = flat_map (λ word. word) words
 
--- a word is 8 bytes
+-- `word` is 8 bytes
 abbrev pub IsWord : List ℕ → Type 0
 IsWord word = (length word ≡ 8) × AreBytes word
 
--- `message` has a number of segments that is allowed, and at most `most` words
+-- `message` has 1 to 4,096 segments and at most `most` words
 pub record IsHeld (message : List (List ℕ)) (most : ℕ) : Type 0 where
   pub some : 0 < length message
   pub few : length message ≤ most_segments
   pub room : total message ≤ most
 
--- the number of words that is reported: that of `message`, or 2^64 - 1 if that is less, since segments that share their
--- words may have more in all
+-- the number of words of `message`, but at most 2^64 - 1, since segments that share their words can have more in all
 abbrev pub counted_words : List (List ℕ) → ℕ
 counted_words message = min (total message) (2 ^ 64 - 1)
 
--- segments are no message of at most `most` words, for the given fault; each test is made after those before it have
+-- the segments are no message of at most `most` words, for the given fault; each test requires that the tests before it
 -- passed
 abbrev pub IsUnheld : List (List ℕ) → ℕ → SegmentsFault → Type 0
 IsUnheld message most Empty = length message ≡ 0
@@ -37,7 +36,7 @@ IsUnheld message most (TooManySegments n) = (n ≡ length message) × (most_segm
 IsUnheld message most (TooManyWords n) = (0 < length message) × (length message ≤ most_segments)
     × (most < total message) × (n ≡ counted_words message)
 
--- reading segments, with at most `most` words, gives the message that they hold, or the first of the refusals
+-- the result of reading the segments of `message`: `message` if it is within the limits, otherwise the first refusal
 abbrev pub ReadsSegments : List (List ℕ) → ℕ → Result (List (List ℕ)) SegmentsFault → Type 0
 ReadsSegments message most (Ok read) = (read ≡ message) × IsHeld message most
 ReadsSegments message most (Err e) = IsUnheld message most e

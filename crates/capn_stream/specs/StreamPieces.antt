@@ -1,4 +1,4 @@
--- A stream of messages that is received in pieces. (Own.)
+-- A stream of messages that is received in pieces. (Our own.)
 use Rattle.std.specs.Prelude.{◌≡◌, ◌⊎◌, ℕ, ◌≤◌, List, [], ◌++◌, length, take, Bool, true, false, Result, Ok, Err}
 use Rattle.std.specs.Prelude.{⊤}
 use Rattle.std.specs.Prelude.{Option, Some, None}
@@ -11,8 +11,8 @@ use Rattle.capn_stream.specs.declared.fault.FrameFault.TheVariants.{Memory, Empt
 use Rattle.capn_stream.specs.declared.fault.FrameFault.TheVariants.{Failed}
 use Rattle.capn_stream.specs.declared.stage.Stage.{Stage}
 
--- the state of a framer: the bytes since the last message was taken, the most words of a message, and whether a call
--- has refused
+-- the state of a framer: the bytes since the last message was taken, the greatest number of words of a message, and
+-- whether a call has refused
 pub record Framing : Type 0 where
   pub rest : List ℕ
   pub most : ℕ
@@ -22,11 +22,12 @@ pub record Framing : Type 0 where
 abbrev pub IsFrame : List ℕ → ℕ → Type 0
 IsFrame bs most = (message : List (List ℕ)) × Frames bs message × (total message ≤ most)
 
--- no frame has begun in `bs`, or one has and is not whole
+-- `bs` are empty, or are cut within a frame
 abbrev pub IsUnfinished : List ℕ → ℕ → Type 0
 IsUnfinished bs most = IsFrameRefused bs most Empty ⊎ IsFrameRefused bs most Cut
 
--- `n` bytes of `piece` were taken: all of them, or those that make a message whole
+-- `n` bytes of `piece` were taken: all bytes, or those up to the end of a message; the frame is then whole or
+-- unfinished
 pub record Feeds (before : Framing) (piece : List ℕ) (n : ℕ) (after : Framing) : Type 0 where
   pub inside : n ≤ length piece
   pub rest : after.rest ≡ before.rest ++ take n piece
@@ -36,13 +37,13 @@ pub record Feeds (before : Framing) (piece : List ℕ) (n : ℕ) (after : Framin
   pub was_good : before.failed ≡ false
   pub is_good : after.failed ≡ false
 
--- a call has refused, and no call before it had
+-- a call has refused, and no earlier call had
 pub record Stops (before after : Framing) : Type 0 where
   pub was_good : before.failed ≡ false
   pub is_failed : after.failed ≡ true
 
--- The bytes that are held after `TooManyWords`: a prefix of `rest` and `piece` that has the whole table with its
--- padding, and is refused with that fault too. Nothing is said for other faults.
+-- The bytes `held` after `TooManyWords` are a prefix of `rest` and `piece`. They have the whole table with its padding,
+-- and are refused with the same fault. For other faults nothing is said.
 abbrev pub KeepsHead : List ℕ → List ℕ → ℕ → List ℕ → FrameFault → Type 0
 KeepsHead rest piece most held (TooManyWords n) =
     ((k : ℕ) × (held ≡ rest ++ take k piece)) × IsFrameRefused held most (TooManyWords n)
@@ -52,8 +53,7 @@ KeepsHead rest piece most held (TooManySegments n) = ⊤
 KeepsHead rest piece most held Cut = ⊤
 KeepsHead rest piece most held Failed = ⊤
 
--- The result of a feed: the number of bytes that it took, a first refusal of the bytes with the piece, or the report
--- that an earlier call has refused.
+-- The result of `feed`: the number of bytes that were taken, the first refusal, or `Failed` after an earlier refusal.
 abbrev pub FeedGives : Framing → List ℕ → Result ℕ FrameFault → Framing → Type 0
 FeedGives before piece (Ok n) after = Feeds before piece n after
 FeedGives before piece (Err Memory) after = Stops before after
@@ -65,16 +65,15 @@ FeedGives before piece (Err (TooManyWords n)) after = Stops before after
 FeedGives before piece (Err Cut) after = ⊥
 FeedGives before piece (Err Failed) after = (before.failed ≡ true) × (after ≡ before)
 
--- The result of a take. If the bytes are a whole frame, it is their message, and no bytes are left. Otherwise there is
--- none, and nothing changes.
+-- The result of `take`. If the bytes are a whole frame, the result is its message, and no bytes are left. Otherwise the
+-- result is `None`, and nothing changes.
 abbrev pub TakeGives : Framing → Option (List (List ℕ)) → Framing → Type 0
 TakeGives before (Some message) after =
     Frames before.rest message × (total message ≤ before.most) × (before.failed ≡ false)
     × (after ≡ record { rest = []; most = before.most; failed = false })
 TakeGives before None after = ((before.failed ≡ true) ⊎ IsUnfinished before.rest before.most) × (after ≡ before)
 
--- The result of the end of the stream: no bytes or a whole message are left, or a message is cut, or an earlier call
--- has refused.
+-- The result of `finish`: no bytes or a whole message are left, or a message is cut, or an earlier call has refused.
 abbrev pub FinishGives : Framing → Result (Unit {0}) FrameFault → Framing → Type 0
 FinishGives before (Ok u) after = (before.failed ≡ false) × ((before.rest ≡ []) ⊎ IsFrame before.rest before.most)
     × (after ≡ before)
@@ -85,7 +84,7 @@ FinishGives before (Err (TooManyWords n)) after = ⊥
 FinishGives before (Err Cut) after = Stops before after × IsFrameRefused before.rest before.most Cut
 FinishGives before (Err Failed) after = (before.failed ≡ true) × (after ≡ before)
 
--- the fields of a framer show how much of its frame was received, until a call has refused
+-- until a call refuses, the fields of the framer say how much of the frame was received
 pub record IsFramer (frame : List ℕ) (ends : List ℕ) (stage : Stage) (most : ℕ) (failed : Bool) : Type 0 where
   pub small : most ≤ most_message_words
   pub is : failed ≡ false → IsStage stage frame most ends

@@ -10,16 +10,16 @@ ghost use Rattle.capn_stream.specs.inner.KeptEnds.{AreKept, kept};
 use crate::table::{ends_of, entry_at, total_of};
 use std::alloc::{AllocError, Allocator};
 
-/// The most ends that are kept in place.
+/// The greatest number of ends that are kept in place.
 const MOST_KEPT: usize = 63;
 
-/// The ends of all segments of a message but the last: the first 63 in place, and the others in a list. The number of a
-/// segment alone decides which of the two has its end.
+/// The ends of all segments of a message but the last: the first 63 in place, and the others in a list. Only the number
+/// of a segment decides which of the two has the segment's end.
 #[derive(Debug, Drop)]
 pub(crate) struct Ends<A: Allocator> {
-    /// The number of all ends.
+    /// The number of ends in both parts.
     count: usize,
-    /// The first 63 ends. The places from `count` on are not used.
+    /// The first 63 ends. The items from index `count` on are not used.
     few: [u32; MOST_KEPT],
     /// The ends from number 63 on.
     rest: Vec<u32, A>,
@@ -51,8 +51,8 @@ impl<A: Allocator> Ends<A> {
         self.rest[segment - MOST_KEPT - 1]
     }
 
-    /// Returns the index of the word at which `segment` ends. The last segment ends where the message does, after
-    /// `words` words.
+    /// Returns the index of the word at which `segment` ends. The last segment ends with the message, which has `words`
+    /// words.
     #[inline]
     pub(crate) fn end_of(&self, words: u32, segment: usize) -> u32
         requires kept { AreKept self.now }
@@ -67,7 +67,7 @@ impl<A: Allocator> Ends<A> {
     }
 }
 
-/// Returns the ends of the first `count` segments of `sizes`, in words. The places from `count` on are 0.
+/// Returns the ends of the first `count` segments of `sizes`, in words. The items from index `count` on are 0.
 fn few_ends(sizes: &[u8], count: usize) -> [u32; MOST_KEPT]
     requires few { count ≤ 63 }
     requires inside { 4 * count ≤ length sizes.now }
@@ -104,7 +104,7 @@ fn rest_ends<A: Allocator>(
     ends_of(alloc, &sizes[4 * first..], count - first, from)
 }
 
-/// Returns the ends of the first `count` segments of `sizes`, in words. Takes memory only for more than 63.
+/// Returns the ends of the first `count` segments of `sizes`, in words. Takes memory only if `count` is above 63.
 pub(crate) fn read_ends<A: Allocator>(
     alloc: A,
     sizes: &[u8],

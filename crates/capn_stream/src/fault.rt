@@ -1,4 +1,4 @@
-//! Faults of frames, of reads and of writes.
+//! The faults of frames, of readers and of writers.
 
 use std::alloc::AllocError;
 use std::error::Error;
@@ -7,18 +7,19 @@ use std::{fmt, io};
 /// The reason why bytes are no frame.
 #[derive(Clone, Copy, Debug, PartialEq, Eq)]
 pub enum FrameFault {
-    /// A growth was refused.
+    /// An allocation was refused.
     Memory,
     /// There are no bytes.
     Empty,
-    /// The table announces more segments than a message may have. Their number is given, as soon as the count is read.
-    TooManySegments(u64),
-    /// The table announces more words than are allowed. Their number is given, as soon as the table and its padding are
+    /// The number of segments that the table announces, which is above 4,096. This fault is returned once the count is
     /// read.
+    TooManySegments(u64),
+    /// The number of words that the table announces, which is above the maximum. This fault is returned once the table
+    /// and its padding are read.
     TooManyWords(u64),
     /// The bytes end within the count, the table, its padding or the contents.
     Cut,
-    /// An earlier call was refused. Only a [`Framer`](crate::Framer) returns this.
+    /// An earlier call was refused. Only a [`Framer`](crate::Framer) returns this fault.
     Failed,
 }
 
@@ -36,7 +37,7 @@ impl From<AllocError> for FrameFault {
 /// The reason why no message was read.
 #[derive(Clone, Copy, Debug, PartialEq, Eq)]
 pub enum ReadFault {
-    /// A growth was refused.
+    /// An allocation was refused.
     Memory,
     /// The reader failed.
     Io,

@@ -40,7 +40,7 @@ fn put_padding<A: Allocator>(text: &mut Vec<u8, A>, segments: u32) -> Result<(),
     Ok(())
 }
 
-/// Returns the bytes of `segment` of the message `space`, which has `words` words.
+/// Returns the bytes of `segment`, which has `words` words, of the message `space`.
 pub(crate) fn bytes_of<S: Space>(space: &S, segment: u32, words: u32) -> &[u8]
     requires { words_of (S.message space.now) segment ≡ Some words }
     ensures { result.now ≡ bytes (segment_at (S.message space.now) segment) }
@@ -62,9 +62,9 @@ fn put_contents<S: Space, A: Allocator>(text: &mut Vec<u8, A>, space: &S) -> Res
 
 /// Returns the frame of the message `space`: its table, padding of zeros, and its contents.
 ///
-/// [`first`](crate::first) of the result gives the message back. Memory is taken from `alloc` once, for exactly the
-/// frame. `Memory` is returned only if that was refused. (Page: serialization over a stream. Zeros as padding are our
-/// own.)
+/// A call of [`first`](crate::first) with the result returns the message. Memory is taken from `alloc` once, for
+/// exactly the frame. `Memory` is returned only if that allocation was refused. (Page: serialization over a stream.
+/// Zeros as padding are our own.)
 pub fn frame<S: Space, A: Allocator + Copy>(alloc: A, space: &S) -> Result<Vec<u8, A>, Memory>
     ensures exact { IfOk result (λ text. text.items ≡ frame_text (S.message space.now)) }
     ensures frames { IfOk result (λ text. Frames text.items (S.message space.now)) }

@@ -1,4 +1,4 @@
-//! The call `write_message`, which writes the frame of a message to a writer without memory.
+//! The call `write_message`, which writes the frame of a message to a writer and takes no memory.
 
 ghost use Rattle.std.specs.Prelude.{◌≡◌, ◌↔◌, ◌+◌, ◌-◌, ◌*◌, ◌<◌, ◌≤◌, ◌++◌, length, take, true, false, OnOk, IsErr};
 ghost use Rattle.std.specs.Io.KnownBytes.{Appends};
@@ -12,14 +12,14 @@ use crate::table::MOST_TABLE_WORDS;
 use capn_words::{Space, Watched};
 use std::io::Write;
 
-/// The most segments for which the table is put together in the small buffer.
+/// The greatest number of segments for which the table is put together in the small buffer.
 const FEW_SEGMENTS: u32 = 62;
 
 const SMALL_HEAD: usize = 256;
 
 const MOST_HEAD: usize = 8 * MOST_TABLE_WORDS as usize;
 
-/// Copies `bytes` to `head`, from offset `at` on.
+/// Copies `bytes` into `head`, from offset `at` on.
 fn put(head: &mut [u8], at: usize, bytes: &[u8])
     requires { at + length bytes.now ≤ length head.old }
     ensures front { take at head.new ≡ take at head.old }
@@ -37,8 +37,8 @@ fn put_entry(head: &mut [u8], at: usize, number: u32)
     put(head, at, &number.to_le_bytes());
 }
 
-/// Writes the table of the message `space` and its padding of zeros to the front of `head`, and returns their length in
-/// bytes.
+/// Writes the table of the message `space`, and padding of zeros, to the front of `head`. Returns the number of bytes
+/// written.
 fn put_head<S: Space>(head: &mut [u8], space: &S) -> usize
     requires { 8 + 4 * length (S.message space.now) ≤ length head.old }
     ensures inside { result ≤ length head.old }
@@ -58,7 +58,7 @@ fn put_head<S: Space>(head: &mut [u8], space: &S) -> usize
     at
 }
 
-/// Writes the table of the message `space` and its padding to `writer`. They are put together in `head`, which has room
+/// Writes the table of the message `space` and its padding to `writer`. Both are put together in `head`, which has room
 /// for them.
 fn write_head<W: Write, S: Space>(
     writer: &mut Watched<W>,
@@ -79,7 +79,7 @@ fn write_head<W: Write, S: Space>(
 }
 
 /// Writes the table of the message `space` and its padding to `writer`. Most tables are short, and a small buffer is
-/// faster to clear.
+/// faster to fill with zeros.
 fn write_table<W: Write, S: Space>(writer: &mut Watched<W>, space: &S) -> Result<(), Io>
     requires { has_failed writer.old ≡ false }
     ensures ok { OnOk result (Appends (W.contents (inner_of writer.old)) (W.contents (inner_of writer.new))

@@ -14,11 +14,12 @@ use std::alloc::{Allocator, Global};
 use std::marker::Model;
 use std::mem;
 
-/// A reader of messages from a stream that is given in pieces, cut anywhere. (Own.)
+/// A reader of messages from a stream that is given in pieces, cut anywhere. (Our own.)
 ///
-/// It keeps the bytes that were fed since the last message was taken. It also keeps what their table says, so that no
-/// byte is looked at twice. It grows with the bytes that are fed, first by 64, and never by what a table announces.
-/// After any refusal each later `feed` and `finish` returns `Failed`, and `take` returns `None`.
+/// A framer keeps the bytes that were fed since the last message was taken. It also keeps what the table among those
+/// bytes announces, so that no byte is read twice. The buffer grows with the bytes that are fed, first by 64, and never
+/// by what a table announces. After any refusal each later `feed` and `finish` returns `Failed`, and `take` returns
+/// `None`.
 #[derive(Debug, Drop)]
 pub struct Framer<A: Allocator + Copy = Global> {
     alloc: A,
@@ -55,17 +56,17 @@ impl<A: Allocator + Copy> Framer<A> {
         }
     }
 
-    /// Takes bytes of `piece` until a message is whole or `piece` ends, and returns their number.
+    /// Takes bytes of `piece` until a message is whole or `piece` ends. Returns the number of bytes taken.
     ///
-    /// While a message waits to be taken, `feed` takes no bytes. Refusals: `TooManySegments` once the count is read,
-    /// `TooManyWords` once the table and its padding are read, `Memory` if a growth was refused, `Failed` after an
-    /// earlier refusal.
+    /// While a whole message waits to be taken, `feed` takes no bytes. Refusals: `TooManySegments` once the count is
+    /// read, `TooManyWords` once the table and its padding are read, `Memory` if an allocation was refused, `Failed`
+    /// after an earlier refusal.
     #[inline]
     pub fn feed(&mut self, piece: &[u8]) -> Result<usize, FrameFault>
         ensures gives { FeedGives self.old piece.now result self.new }
-        // If a table announces too many words, all of the table is held.
+        // If a table announces too many words, the framer keeps all of the table.
         ensures kept { IfErr result (λ e. KeepsHead self.old.rest piece.now self.old.most self.new.rest e) }
-        // Memory is needed only for bytes that are kept: `piece` has some, and no message waits.
+        // `Memory` is returned only if `piece` has bytes and no whole message waits.
         ensures memory { IsErrOf result FrameFault.Memory
             → (0 < length piece.now) × IsUnfinished self.old.rest self.old.most }
     {
@@ -84,8 +85,8 @@ impl<A: Allocator + Copy> Framer<A> {
         fed
     }
 
-    /// Returns the number of bytes that the current part of the frame still needs. No message is whole before they are
-    /// fed.
+    /// Returns the number of bytes that the current part of the frame still needs. No message is whole before that many
+    /// more bytes are fed.
     pub(crate) fn wanted(&self) -> usize
         requires { self.now.failed ≡ false }
         ensures least { (more : List ℕ) → IsFrame (self.now.rest ++ more) self.now.most → result ≤ length more }
@@ -96,7 +97,7 @@ impl<A: Allocator + Copy> Framer<A> {
         part_left(self.stage, &self.frame)
     }
 
-    /// Tests whether no byte is held, as none was fed after the last message was taken.
+    /// Tests whether no byte was fed since the last message was taken.
     #[inline]
     pub fn is_empty(&self) -> bool
         ensures { IsTrue result ↔ (self.now.rest ≡ []) }
@@ -105,8 +106,8 @@ impl<A: Allocator + Copy> Framer<A> {
     }
 
     /// Returns the bytes that were fed since the last message was taken: the whole frame of the message that waits, or
-    /// the first part of a frame. After a refusal with `TooManyWords` they are a prefix of the frame with its whole
-    /// table. After other refusals they are not specified.
+    /// the first part of a frame. After a refusal with `TooManyWords` the result is a prefix of the frame with the
+    /// whole table. After other refusals the result is not specified.
     #[inline]
     pub fn held(&self) -> &[u8]
         ensures { result.now ≡ self.now.rest }
@@ -114,7 +115,7 @@ impl<A: Allocator + Copy> Framer<A> {
         &self.frame
     }
 
-    /// Takes the message that waits, once, if there is one. Takes no memory, since the bytes are moved.
+    /// Takes the message that waits, if there is one. Takes no memory, since the buffer is moved.
     #[inline]
     pub fn take(&mut self) -> Option<Stored<A>>
         ensures { TakeGives self.old result self.new }

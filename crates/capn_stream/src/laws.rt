@@ -2,8 +2,8 @@
 
 ghost use Rattle.capn_stream.specs.Laws.{FramedAreNotRefused, OneFrame, OneRefusal};
 
-/// States that bytes begin with at most one message, are refused for at most one reason, and are never both read and
-/// refused.
+/// States that bytes begin with the frame of at most one message, and are refused for at most one reason other than
+/// `Memory`. Bytes that begin with a frame within the limit are not refused for such a reason.
 pub fn framing()
     ensures one { OneFrame }
     ensures refusal { OneRefusal }

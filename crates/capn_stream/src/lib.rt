@@ -1,19 +1,19 @@
 //! Messages in a stream, which are segment tables followed by segments: read, written, and received in pieces.
 //!
 //! [`first`] reads the first message in some bytes, as a [`Framed`] that borrows them. [`first_bare`] reads a message
-//! of one segment, as its words alone. [`frame`] writes a message as the bytes of its frame:
+//! of one segment, as a list of words without a table. [`frame`] writes a message as the bytes of its frame:
 //!
 //! ```text
 //! let (message, taken) = first(alloc, &input, 8_388_608)?;
 //! let text = frame(alloc, &message)?;
 //! ```
 //!
-//! Here `text` equals the first `taken` bytes of `input`, except for the padding of its table. Any bytes may be given.
-//! `first` returns a message if and only if a frame within the limits is first in them, and otherwise says why there is
-//! none. Memory is never allocated for what a table only announces. [`laws`] states what holds of frames apart from any
-//! call: at most one frame is first, and bytes are refused for one reason. [`table`] reads a table alone, for a caller
-//! that keeps the ends of the segments in its own way. [`Segments`] is a message whose segments lie apart, as a builder
-//! holds them. It reads like the frame of those segments, and takes no memory.
+//! Here `text` equals the first `taken` bytes of `input`, except for the padding of the table. Any bytes may be given.
+//! `first` returns a message if and only if the bytes begin with a frame within the limits, and otherwise the reason
+//! why they do not. Memory is never allocated for what a table only announces. [`laws`] states what holds of frames
+//! apart from any call: at most one frame is first, and bytes are refused for one reason. [`table`] reads only a table,
+//! for a caller that keeps the ends of the segments in its own way. [`Segments`] is a message whose segments lie apart,
+//! as a builder keeps them. A `Segments` reads like the frame of its segments, and takes no memory.
 #![tactic(auto)]
 
 mod ends;

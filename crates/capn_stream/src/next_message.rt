@@ -13,11 +13,10 @@ use capn_words::Watched;
 use std::alloc::Allocator;
 use std::io::Read;
 
-/// The most bytes that one call asks the reader for.
+/// The greatest number of bytes that are requested from the reader at once.
 const PIECE: usize = 16_384;
 
-/// Feeds `piece` to `framer`, and takes the message if it is then whole. All of `piece` belongs to the frame that is
-/// being read.
+/// Feeds `piece` to `framer`, and takes the message if it is then whole. All of `piece` belongs to the current frame.
 fn take_in<A: Allocator + Copy>(
     framer: &mut Framer<A>,
     piece: &[u8],
@@ -34,7 +33,7 @@ fn take_in<A: Allocator + Copy>(
     }
 }
 
-/// Returns the outcome at the end of the input: `None` between messages, otherwise `Cut`.
+/// Returns the outcome at the end of the input: `None` if no frame has begun, otherwise `Cut`.
 fn end_of<A: Allocator + Copy>(mut framer: Framer<A>) -> Result<Option<Stored<A>>, ReadFault>
     requires good { framer.failed ≡ false }
     requires part { IsUnfinished framer.rest framer.most }
@@ -74,16 +73,16 @@ fn receive<R: Read, A: Allocator + Copy>(
     }
 }
 
-/// Reads the next message of `reader`, which may have at most `max_words` words. Takes the bytes of that message and no
-/// others.
+/// Reads the next message, of at most `max_words` words, from `reader`. Takes the bytes of that message and no others.
 ///
-/// The reader is never asked for more than 16,384 bytes at once, nor for more than the current part of the message
-/// still needs. The message grows on `alloc` with the bytes that were read, never by what its table announces.
+/// No single read requests more than 16,384 bytes, nor more than the current part of the message still needs. The
+/// message grows on `alloc` with the bytes that were read, never by what its table announces.
 ///
-/// Returns `None` exactly if the input ends between messages. Refusals: `Memory` if a growth was refused, for which the
-/// reader must have a byte to give. `Io` exactly if the reader fails. `Frame` with `TooManySegments`, `TooManyWords` or
-/// `Cut`. After a refusal the reader is inside the message, and never beyond it. For `TooManySegments` it is after the
-/// 4 bytes of the count, for `TooManyWords` after the table and its padding, for `Cut` at the end of the input.
+/// Returns `None` exactly if the input ends between messages. Refusals: `Memory` if an allocation was refused, which
+/// can happen only if the input is not at its end. `Io` exactly if the reader fails. `Frame` with `TooManySegments`,
+/// `TooManyWords` or `Cut`. After a refusal the reader is inside the message, and never beyond it. For
+/// `TooManySegments` the reader is after the 4 bytes of the count, for `TooManyWords` after the table and its padding,
+/// for `Cut` at the end of the input.
 pub fn read_message<R: Read, A: Allocator + Copy>(
     alloc: A,
     reader: &mut Watched<R>,
@@ -91,19 +90,19 @@ pub fn read_message<R: Read, A: Allocator + Copy>(
 ) -> Result<Option<Stored<A>>, ReadFault>
     requires small { max_words ≤ most_message_words }
     requires fine { has_failed reader.old ≡ false }
-    // `result` is what `ReadsFirst` says of all the bytes that the reader had to give. If they begin with a message,
-    // that is returned, unless memory runs out or the reader fails.
+    // `ReadsFirst` says what `result` means for the whole rest of the input. If that rest begins with a message, the
+    // message is returned, unless an allocation is refused or the reader fails.
     ensures exact { IfSome (R.remaining (inner_of reader.old)) (ReadsFirst max_words result) }
     ensures only { IfSome (R.remaining (inner_of reader.old)) (OnlyFirst max_words result) }
-    // The bytes of that message are taken and no others. A reader that failed is reported.
+    // Only the bytes of that message are taken. A reader that failed is reported.
     ensures gives { ReadGives (R.remaining (inner_of reader.old)) (R.remaining (inner_of reader.new))
         (has_failed reader.new)
         max_words result }
-    // After a refusal the reader is inside the message, at exactly this place.
+    // After a refusal the reader is inside the message, at the place that `StopsInside` gives.
     ensures inside { StopsInside (R.remaining (inner_of reader.old)) (R.remaining (inner_of reader.new))
         (has_failed reader.new)
         max_words result }
-    // Memory is needed only if the reader has a byte to give.
+    // `Memory` is returned only if the input is not at its end.
     ensures memory { IfSome (R.remaining (inner_of reader.old))
         (λ input. IsErrOf result ReadFault.Memory → 0 < length input) }
 {

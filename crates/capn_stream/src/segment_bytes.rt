@@ -15,7 +15,7 @@ fn joined_bytes(words: &[[u8; 8]], count: usize) -> &[u8]
     unsafe { slice::from_raw_parts(words.as_ptr() as *const u8, count) }
 }
 
-/// Returns `bytes`; the clause tells the prover that each is below 256.
+/// Returns `bytes`. The clause tells the prover that each is below 256.
 fn as_bytes(bytes: &[u8]) -> &[u8]
     ensures same { result.now ≡ bytes.now }
     ensures each { AreBytes bytes.now }
@@ -23,7 +23,7 @@ fn as_bytes(bytes: &[u8]) -> &[u8]
     bytes
 }
 
-/// Returns the bytes of `words`. Nothing is copied.
+/// Returns the bytes of `words` without a copy.
 pub fn bytes_of(words: &[[u8; 8]]) -> &[u8]
     ensures value { result.now ≡ joined words.now }
     ensures count { length result.now ≡ 8 * length words.now }
@@ -32,7 +32,7 @@ pub fn bytes_of(words: &[[u8; 8]]) -> &[u8]
     as_bytes(joined_bytes(words, 8 * words.len()))
 }
 
-/// Returns `len` bytes from the start of word `start` of `words` on.
+/// Returns the `len` bytes from the start of word `start` of `words` on.
 pub fn part(words: &[[u8; 8]], start: usize, len: usize) -> &[u8]
     requires { 8 * start + len ≤ 8 * length words.now }
     ensures { result.now ≡ take len (drop (8 * start) (joined words.now)) }
@@ -41,7 +41,7 @@ pub fn part(words: &[[u8; 8]], start: usize, len: usize) -> &[u8]
     &bytes_of(words)[from..from + len]
 }
 
-/// Returns word `index` of `words` as a number.
+/// Returns word `index` of `words` as a number, the least significant byte first.
 #[tactic(auto, unfolding(capn_words::specs::Message::word_number))]
 pub fn word_at(words: &[[u8; 8]], index: usize) -> u64
     requires { index < length words.now }

@@ -18,7 +18,7 @@ fn length_of(segment: &[[u8; 8]]) -> u64
     segment.len() as u64
 }
 
-/// Returns the number of words in all `segments` together, or 2^64 - 1 if that is less.
+/// Returns the number of words in all `segments` together, but at most 2^64 - 1.
 fn words_in(segments: &[&[[u8; 8]]]) -> u64
     ensures count { result ≡ counted_words (message_of segments.now) }
     ensures each { All (λ segment. All IsWord segment.now) segments.now }
@@ -30,7 +30,7 @@ fn words_in(segments: &[&[[u8; 8]]]) -> u64
     words
 }
 
-/// A message over borrowed segments. Contracts see it as the list of their words.
+/// A message over borrowed segments. Contracts see the message as the list of its segments' words.
 ///
 /// No byte is copied, and each word is found in constant time.
 #[derive(Debug, Drop)]
@@ -55,11 +55,12 @@ impl<'a> Segments<'a> {
     /// Reads `segments` as a message. Each segment is a list of words of 8 bytes, the least significant byte first, and
     /// may be empty. Nothing is copied.
     ///
-    /// Refusals: `Empty` if there are no segments. `TooManySegments` with their number, if that is above 4,096.
-    /// `TooManyWords` with the number of their words together, if that is above `max_words`. (Own: the limits.)
+    /// Refusals: `Empty` if there are no segments. `TooManySegments` with the number of segments, if that is above
+    /// 4,096. `TooManyWords` with the number of words in all segments, if that is above `max_words`. (Our own: the
+    /// limits.)
     pub fn new(segments: &'a [&'a [[u8; 8]]], max_words: u32) -> Result<Segments<'a>, SegmentsFault>
         requires { max_words ≤ most_message_words }
-        // Each `result` means what `ReadsSegments` says. If `segments` are within the limits, their words are returned.
+        // `ReadsSegments` says what each `result` means. If `segments` are within the limits, their words are returned.
         ensures exact { ReadsSegments (message_of segments.now) max_words result }
         ensures only { IsHeld (message_of segments.now) max_words → result ≡ Ok (message_of segments.now) }
     {

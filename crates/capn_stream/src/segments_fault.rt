@@ -10,7 +10,8 @@ pub enum SegmentsFault {
     Empty,
     /// The number of segments, which is above 4,096.
     TooManySegments(u64),
-    /// The number of words in all segments, which is above the maximum. 2^64 - 1 stands also for any number above it.
+    /// The number of words in all segments, which is above the maximum. If there are more than 2^64 - 1 words, the
+    /// number is 2^64 - 1.
     TooManyWords(u64),
 }
 

@@ -1,4 +1,4 @@
-//! The stages of a frame that is received in pieces, and the call `fill`, which appends the next piece.
+//! The stages of a frame that is received in pieces, and the call `fill`, which appends the next piece to the frame.
 
 ghost use Rattle.std.specs.Prelude.{◌≡◌, ℕ, ◌+◌, ◌-◌, ◌*◌, ◌<◌, ◌≤◌, ◌++◌, length, drop, IfOk, IfErr, IsErrOf, OnErr};
 ghost use Rattle.std.specs.Prelude.{vec_capacity};
@@ -14,7 +14,7 @@ use crate::table::{ends_of, entry_at, head_of, total_of};
 use capn_words::MOST_SEGMENTS;
 use std::alloc::{AllocError, Allocator, Global};
 
-/// The part of a frame that is received next.
+/// The part of a frame that is being received.
 #[derive(Clone, Copy, Debug)]
 pub(crate) enum Stage {
     /// The count of segments.
@@ -25,7 +25,7 @@ pub(crate) enum Stage {
     Contents(usize, usize),
 }
 
-/// Returns the length of the frame up to the end of the part of `stage`, in bytes.
+/// Returns the length in bytes of the frame up to the end of the part that `stage` receives.
 #[inline]
 fn end_of(stage: Stage) -> usize
     requires { FitsStage stage }
@@ -38,7 +38,7 @@ fn end_of(stage: Stage) -> usize
     }
 }
 
-/// Returns the number of bytes that the part of `stage` still needs after `bytes`.
+/// Returns the number of bytes that the part of `stage` still lacks after `bytes`.
 pub(crate) fn part_left(stage: Stage, bytes: &[u8]) -> usize
     requires fits { FitsStage stage }
     requires within { length bytes.now ≤ spec.need stage }
@@ -47,11 +47,11 @@ pub(crate) fn part_left(stage: Stage, bytes: &[u8]) -> usize
     end_of(stage) - bytes.len()
 }
 
-/// The room that is reserved with the first bytes of a frame, so that a small frame takes memory once.
+/// The number of bytes that are reserved with the first bytes of a frame, so that a small frame allocates once.
 const FIRST_ROOM: usize = 64;
 
-/// Reserves the first room if `bytes` is empty and `count` bytes follow. Does nothing if `bytes` has some, so that it
-/// grows by its own rule from then on.
+/// Reserves [`FIRST_ROOM`] bytes if `bytes` is empty and `count` is above 0. Otherwise does nothing, so that `bytes`
+/// grows by the rule of vectors from then on.
 #[inline]
 fn make_room<A: Allocator>(bytes: &mut Vec<u8, A>, count: usize) -> Result<(), AllocError>
     ensures same { bytes.new.items ≡ bytes.old.items }
@@ -64,7 +64,8 @@ fn make_room<A: Allocator>(bytes: &mut Vec<u8, A>, count: usize) -> Result<(), A
     Ok(())
 }
 
-/// Appends bytes of `piece` to `bytes` until there are `end` bytes or `piece` ends, and returns how many were appended.
+/// Appends bytes of `piece` to `bytes` until there are `end` bytes or `piece` ends. Returns the number of bytes
+/// appended.
 #[inline]
 fn fill_to<A: Allocator>(
     bytes: &mut Vec<u8, A>,
@@ -82,7 +83,7 @@ fn fill_to<A: Allocator>(
     Ok(count)
 }
 
-/// Returns the number of segments that `bytes`, the count of a frame, announce.
+/// Reads `bytes`, which is the count of a frame, and returns the announced number of segments.
 fn read_count(bytes: &[u8]) -> Result<usize, FrameFault>
     requires { length bytes.now ≡ 4 }
     ensures counted { IfOk result (λ n. HasCount bytes.now × (n ≡ announced_segments bytes.now)) }
@@ -96,7 +97,7 @@ fn read_count(bytes: &[u8]) -> Result<usize, FrameFault>
     Ok(count as usize)
 }
 
-/// The outcome of a table: the offsets at which the contents begin and end, and the ends of the segments within them.
+/// What a table gives: the offsets in the frame at which the contents begin and end, and the ends of the segments.
 #[derive(Drop)]
 struct Bounds<A: Allocator = Global> {
     start: usize,
@@ -104,7 +105,7 @@ struct Bounds<A: Allocator = Global> {
     ends: Vec<u32, A>,
 }
 
-/// Reads the table of `segments` segments, which is `bytes`. It may announce at most `most` words.
+/// Reads `bytes`, the table of `segments` segments, which may announce at most `most` words.
 fn read_table<A: Allocator>(
     alloc: A,
     bytes: &[u8],
@@ -130,8 +131,8 @@ fn read_table<A: Allocator>(
     })
 }
 
-/// Appends bytes of `piece` to the frame `bytes` until the frame is whole or `piece` ends, and returns how many were
-/// appended. Brings `stage` and `ends` up to date. The message may have at most `most` words.
+/// Appends bytes of `piece` to the frame `bytes` until the frame is whole or `piece` ends. Returns the number of bytes
+/// appended. Updates `stage` and `ends`. The message may have at most `most` words.
 pub(crate) fn fill<A: Allocator + Copy>(
     alloc: A,
     bytes: &mut Vec<u8, A>,

@@ -11,7 +11,7 @@ use capn_words::{Place, Space};
 use std::alloc::{Allocator, Global};
 use std::marker::Model;
 
-/// The words of a frame after its table. The frame is owned.
+/// The words of a frame after its table. The value owns the whole frame.
 #[derive(Debug, Drop)]
 pub(crate) struct Words<A: Allocator = Global> {
     frame: Vec<u8, A>,
@@ -38,7 +38,7 @@ fn count_of(frame: &[u8], start: usize) -> usize
     (frame.len() - start) / 8
 }
 
-/// Returns the word at byte `8 * index` of what follows byte `start` of `frame`.
+/// Returns word `index` of the words that begin at byte `start` of `frame`.
 #[tactic(auto, unfolding(capn_words::specs::Message::word_number))]
 fn word_of(frame: &[u8], start: usize, index: usize) -> u64
     requires { start + (8 * index + 8) ≤ length frame.now }
@@ -48,7 +48,7 @@ fn word_of(frame: &[u8], start: usize, index: usize) -> u64
     LittleEndian::read_u64(&tail[8 * index..])
 }
 
-/// Returns `len` bytes from byte `from` on of what follows byte `start` of `frame`.
+/// Returns the `len` bytes from byte `start + from` of `frame` on.
 fn part(frame: &[u8], start: usize, from: usize, len: usize) -> &[u8]
     requires { start + (from + len) ≤ length frame.now }
     ensures { result.now ≡ take len (drop from (drop start frame.now)) }
@@ -73,7 +73,7 @@ impl<A: Allocator> Words<A> {
         word_of(&self.frame, self.start, index)
     }
 
-    /// Returns `len` bytes from the start of word `index` on.
+    /// Returns the `len` bytes from the start of word `index` on.
     fn bytes(&self, index: usize, len: usize) -> &[u8]
         requires { 8 * index + len ≤ 8 * length self.now }
         ensures { result.now ≡ take len (drop (8 * index) (bytes self.now)) }
@@ -90,7 +90,7 @@ fn start_of(ends: &[u32], segment: usize) -> u32
     if segment == 0 { 0 } else { ends[segment - 1] }
 }
 
-/// Returns the index of the word at which `segment` ends. The last segment ends where the message does, after `words`
+/// Returns the index of the word at which `segment` ends. The last segment ends with the message, which has `words`
 /// words.
 fn end_of(ends: &[u32], words: u32, segment: usize) -> u32
     requires { segment ≤ length ends.now }
@@ -105,8 +105,8 @@ fn end_of(ends: &[u32], words: u32, segment: usize) -> u32
 
 /// A message that owns its segments.
 ///
-/// [`Framer`](crate::Framer) and [`read_message`](crate::read_message) make it. It has the frame as it was received, in
-/// one buffer, and the ends of the segments, so that every segment is found in constant time.
+/// [`Framer`](crate::Framer) and [`read_message`](crate::read_message) return such messages. The value has the frame as
+/// it was received, in one buffer, and the ends of the segments, so that every segment is found in constant time.
 #[derive(Debug, Drop)]
 pub struct Stored<A: Allocator = Global> {
     words: Words<A>,
@@ -125,7 +125,7 @@ impl<A: Allocator> Model for Stored<A> {
 }
 
 impl<A: Allocator> Stored<A> {
-    /// Returns the message whose segments are the words of `frame` from byte `start` on, cut at `ends`.
+    /// Returns the message that the words of `frame` from byte `start` on are, cut into segments at `ends`.
     pub(crate) fn new(frame: Vec<u8, A>, start: usize, ends: Vec<u32, A>) -> Stored<A>
         requires tail { IsTail frame.items start }
         requires ends { AreEnds ends.items (words_in (length (drop start frame.items) / 8) (drop start frame.items)) }

@@ -1,4 +1,5 @@
-//! The segment table at the front of a frame: its numbers, its length, and all refusals of a frame.
+//! The segment table of a frame: its numbers and length, and the refusals of a frame whose bytes are all there. Frames
+//! received in pieces are refused in `stage.rt` and `framer.rt`.
 
 ghost use Rattle.std.specs.Prelude.{◌≡◌, ℕ, ◌+◌, ◌*◌, ◌^◌, ◌<◌, ◌≤◌, length, drop, sum, IfOk, IfErr, IsErrOf, OnErr};
 ghost use Rattle.std.specs.Prelude.{vec_capacity};
@@ -13,10 +14,10 @@ use byteorder::{ByteOrder, LittleEndian};
 use capn_words::MOST_SEGMENTS;
 use std::alloc::{AllocError, Allocator};
 
-/// The number of words of the longest segment table with its padding.
+/// The number of words of the longest segment table, including its padding.
 pub const MOST_TABLE_WORDS: u32 = MOST_SEGMENTS / 2 + 1;
 
-/// Returns the number in the 4 bytes from byte `4 * index` of `bytes` on. (Page: serialization over a stream.)
+/// Returns number `index` of `bytes`, which has 4 bytes for each number. (Page: serialization over a stream.)
 #[tactic(auto, unfolding(crate::specs::FrameRefusal::entry_number))]
 #[inline(always)]
 pub fn entry_at(bytes: &[u8], index: usize) -> u32
@@ -39,8 +40,8 @@ pub fn total_of(sizes: &[u8], count: usize) -> u64
     total
 }
 
-/// Returns the ends of the first `count` segments of `sizes`, in words, if the first segment begins at word `from`. The
-/// one growth is for exactly `count` ends, whose sizes are there to read.
+/// Returns the ends of the first `count` segments of `sizes`, in words, if the first segment begins at word `from`.
+/// Allocates once, for exactly `count` ends, and all their sizes are present in `sizes`.
 pub(crate) fn ends_of<A: Allocator>(
     alloc: A,
     sizes: &[u8],
@@ -63,7 +64,7 @@ pub(crate) fn ends_of<A: Allocator>(
     Ok(ends)
 }
 
-/// Returns the length in bytes of the table of `count` segments with its padding.
+/// Returns the length in bytes of the table of `count` segments, including its padding.
 #[inline(always)]
 pub fn head_of(count: usize) -> usize
     requires { count ≤ most_segments }
@@ -72,7 +73,7 @@ pub fn head_of(count: usize) -> usize
     8 * (count / 2 + 1)
 }
 
-/// The number of segments and of words that a table announces.
+/// The numbers of segments and of words that a table announces.
 #[derive(Clone, Copy)]
 pub struct Head {
     /// The number of segments.
@@ -81,10 +82,10 @@ pub struct Head {
     pub words: usize,
 }
 
-/// Reads the table at the front of `bytes`, if its frame is whole and has at most `max_words` words.
+/// Reads the table at the front of `bytes`, if the frame is whole and has at most `max_words` words.
 ///
-/// The refusals are those of [`first`](crate::first), by the same tests in the same order. `Memory` is not among them,
-/// since no memory is taken. (Page: serialization over a stream. The order of the tests is our own.)
+/// The refusals are those of [`first`](crate::first), by the same tests in the same order, except that `Memory` is
+/// never returned, since no memory is taken. (Page: serialization over a stream. The order of the tests is our own.)
 pub fn read_head(bytes: &[u8], max_words: u32) -> Result<Head, FrameFault>
     requires { max_words ≤ most_message_words }
     ensures whole { IfOk result (λ head. IsWhole bytes.now max_words) }

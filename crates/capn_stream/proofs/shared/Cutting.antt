@@ -11,7 +11,7 @@ use Rattle.capn_stream.specs.Cuts.{AreEnds, AreRising, cut}
 use Rattle.capn_stream.proofs.shared.Entries.{below-drop, below-take}
 use Rattle.capn_stream.proofs.shared.SegmentBytes.{bytes_of_part}
 
--- ---- a segment of words that are cut
+-- ---- one segment of the message that words are cut into
 
 pub length-cut : (from : ℕ) (ends ws : List ℕ) → length (cut from ends ws) ≡ length ends + 1
 length-cut from [] ws = refl
@@ -31,7 +31,7 @@ rising-le : (from : ℕ) (ends : List ℕ) (len : ℕ) → AreRising from ends l
 rising-le from [] len r = r
 rising-le from (end ∷ ends) len r = omega (arith, r.0, rising-le end ends len r.1)
 
--- a segment begins no later than it ends, and ends within the words
+-- a segment does not end before it begins, and ends within the words
 pub rising : (from : ℕ) (ends : List ℕ) (len s : ℕ) → s ≤ length ends → AreRising from ends len
     → (slice_index (from ∷ ends) s ≤ slice_index (ends ++ len ∷ []) s) × (slice_index (ends ++ len ∷ []) s ≤ len)
 rising from [] len zero h r = (r, omega arith)
@@ -39,7 +39,7 @@ rising from [] len (suc s) h r = absurd (omega arith)
 rising from (end ∷ ends) len zero h r = (r.0, rising-le end ends len r.1)
 rising from (end ∷ ends) len (suc s) h r = rising end ends len s (omega arith) r.1
 
--- ---- the message
+-- ---- the message that words are cut into
 
 each-cut : (from : ℕ) (ends ws : List ℕ) → AreWords ws → (s k : ℕ)
     → slice_index (segment_at (cut from ends ws) s) k < 2 ^ 64
@@ -49,7 +49,7 @@ each-cut from (end ∷ ends) ws each zero k =
     below-take (2 ^ 64) (end - from) (drop from ws) (omega arith) (below-drop (2 ^ 64) from ws each) k
 each-cut from (end ∷ ends) ws each (suc s) k = each-cut end ends ws each s k
 
--- the segments have all the words from index `from` on
+-- the segments have all words from index `from` on
 pub total-cut : (from : ℕ) (ends ws : List ℕ) → AreRising from ends (length ws)
     → total (cut from ends ws) + from ≡ length ws
 total-cut from [] ws r = omega (arith, length-drop from ws)
@@ -66,7 +66,7 @@ message-cut ends ws h = record {
   each = each-cut 0 ends ws h.each;
 }
 
--- ---- what the calls on a cut message read
+-- ---- what the calls on the message that words are cut into read
 
 -- a place in range is in a segment that exists
 pub place_segment : (message : List (List ℕ)) (s k : ℕ) → k < length (segment_at message s) → s < length message
@@ -122,7 +122,7 @@ module _ (ends ws : List ℕ) (is : AreEnds ends ws) (s : ℕ) (here : s < lengt
       sym (ap (λ (xs : List ℕ). take len (drop (8 * k) (bytes xs))) (segment-cut 0 ends ws s within)
       ∙ bytes_of_part start size k len ws room)
 
--- facts about the message into which the words `ws` are cut at `ends`
+-- facts about the message that the words `ws` are, cut at `ends`
 module _ (ends ws : List ℕ) (message : List (List ℕ)) (seen : cut 0 ends ws ≡ message) (is : AreEnds ends ws) where
   pub seen_message : IsMessage message
   seen_message = subst IsMessage seen (message-cut ends ws is)

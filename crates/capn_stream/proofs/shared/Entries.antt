@@ -1,4 +1,4 @@
--- Lemmas for `ends_of`, `few_ends`, `rest_ends`, `total_of` and capn_explain: numbers of 4 bytes, one and many.
+-- Lemmas for `ends_of`, `few_ends`, `rest_ends`, `total_of` and capn_explain: numbers that are stored in 4 bytes each.
 use Rattle.std.proofs.Common.{◌≡◌, ℕ, zero, suc, ◌+◌, ◌*◌, ◌^◌, ◌<◌, ◌≤◌, List, [], ◌∷◌, ◌++◌, length, take, drop, sum}
 use Rattle.std.proofs.Common.{slice_index, refl, ap, ◌∙◌, arith, append_assoc, length-append, length-drop}
 use Rattle.std.specs.Int.{w32, from_le_bytes}
@@ -15,14 +15,14 @@ use Rattle.capn_stream.specs.FrameRefusal.{entry_number, entries}
 
 -- ---- parts of lists
 
--- a prefix and a prefix of what follows it are a longer prefix
+-- a prefix and then a prefix of the rest are a longer prefix
 pub take_then : {A : Type 0} (m n : ℕ) (xs : List A) → take m xs ++ take n (drop m xs) ≡ take (m + n) xs
 take_then m n xs =
     let front = take-take m (m + n) xs (omega arith) in
     let rest = drop-take m n xs in
     rw (front, rest) at (take-append-drop m (take (m + n) xs))
 
--- the numbers of a prefix are below a bound if all are
+-- if all numbers are below a bound, so are those of a prefix
 pub below-take : (bound n : ℕ) (xs : List ℕ) → 0 < bound → ((i : ℕ) → slice_index xs i < bound) → (i : ℕ)
     → slice_index (take n xs) i < bound
 below-take bound zero xs p h i = p
@@ -30,7 +30,7 @@ below-take bound (suc n) [] p h i = p
 below-take bound (suc n) (x ∷ xs) p h zero = h 0
 below-take bound (suc n) (x ∷ xs) p h (suc i) = below-take bound n xs p (λ k. h (suc k)) i
 
--- the numbers after a prefix are below a bound if all are
+-- if all numbers are below a bound, so are those after a prefix
 pub below-drop : (bound n : ℕ) (xs : List ℕ) → ((i : ℕ) → slice_index xs i < bound) → (i : ℕ)
     → slice_index (drop n xs) i < bound
 below-drop bound n xs h i = rw (get_or-drop n xs i 0) (h (n + i))
@@ -42,12 +42,12 @@ pub length-entry : (n : ℕ) → length (entry n) ≡ 4
 unfolding entry
 length-entry n = refl
 
--- the entry of a number stands for that number
+-- the number that is read from the entry of `n` is `n`
 pub entry_number-entry : (n : ℕ) (rest : List ℕ) → n < 2 ^ 32 → entry_number (entry n ++ rest) ≡ n
 unfolding entry entry_number
 entry_number-entry n rest h = little_number-reads_back 4 n rest h
 
--- the number that 4 bytes stand for has those bytes as its entry
+-- the entry of the number that is read from 4 bytes is those bytes
 pub entry-entry_number : (bs : List ℕ) → AreBytes bs → 4 ≤ length bs → entry (entry_number bs) ≡ take 4 bs
 unfolding entry entry_number
 entry-entry_number bs h l =
@@ -57,12 +57,12 @@ entry-entry_number bs h l =
 
 -- ---- many numbers
 
--- `n` entries are read
+-- `entries n` has `n` numbers
 pub length-entries : (n : ℕ) (bs : List ℕ) → length (entries n bs) ≡ n
 length-entries zero bs = refl
 length-entries (suc n) bs = let e = length-entries n (drop 4 bs) in omega (arith, e)
 
--- the entries with one number more
+-- the first `n + 1` numbers are the first `n` and then one more, with the count written `suc n`
 pub entries-suc : (n : ℕ) (bs : List ℕ) → entries (suc n) bs ≡ entries n bs ++ entry_number (drop (4 * n) bs) ∷ []
 entries-suc zero bs = refl
 entries-suc (suc n) bs =
@@ -71,11 +71,11 @@ entries-suc (suc n) bs =
     ap (λ (ns : List ℕ). entry_number bs ∷ ns) (entries-suc n (drop 4 bs)
     ∙ ap (λ (xs : List ℕ). entries n (drop 4 bs) ++ entry_number xs ∷ []) at)
 
--- the entries with one number more, with the sum the other way round
+-- the first `n + 1` numbers are the first `n` and then one more, with the count written `n + 1`
 pub entries_more : (n : ℕ) (bs : List ℕ) → entries (n + 1) bs ≡ entries n bs ++ entry_number (drop (4 * n) bs) ∷ []
 entries_more n bs = let e : n + 1 ≡ suc n = omega arith in ap (λ (m : ℕ). entries m bs) e ∙ entries-suc n bs
 
--- the entries with `n` numbers more
+-- the first `m + n` numbers are the first `m` and then the `n` after them
 pub entries_then : (m n : ℕ) (bs : List ℕ) → entries (m + n) bs ≡ entries m bs ++ entries n (drop (4 * m) bs)
 entries_then zero n bs = let e : zero + n ≡ n = omega arith in ap (λ (k : ℕ). entries k bs) e
 entries_then (suc m) n bs =
@@ -86,13 +86,13 @@ entries_then (suc m) n bs =
     ∙ ap (λ (ns : List ℕ). entry_number bs ∷ ns) (entries_then m n (drop 4 bs)
     ∙ ap (λ (xs : List ℕ). entries m (drop 4 bs) ++ entries n xs) at)
 
--- the sum of the entries with one number more
+-- the sum of the first `n + 1` numbers is the sum of the first `n` plus one more
 pub sum-entries_more : (n : ℕ) (bs : List ℕ)
     → sum (entries (n + 1) bs) ≡ sum (entries n bs) + entry_number (drop (4 * n) bs)
 sum-entries_more n bs = ap sum (entries_more n bs)
     ∙ sum_by_push (λ x. x) (entries n bs) (entry_number (drop (4 * n) bs))
 
--- fewer numbers have a lesser sum
+-- the sum of fewer numbers is at most the sum of more
 pub sum-entries_le : (n m : ℕ) (bs : List ℕ) → sum (entries n bs) ≤ sum (entries (n + m) bs)
 sum-entries_le n zero bs = let e : n + zero ≡ n = omega arith in rw e (omega arith)
 sum-entries_le n (suc m) bs =
@@ -101,7 +101,7 @@ sum-entries_le n (suc m) bs =
     let ih = sum-entries_le n m bs in
     rw e (omega (arith, more, ih))
 
--- the entries of numbers are read as those numbers
+-- the numbers that are read from the entries of `ns` are `ns`
 pub entries-entry : (ns rest : List ℕ) → ((k : ℕ) → slice_index ns k < 2 ^ 32)
     → entries (length ns) (flat_map entry ns ++ rest) ≡ ns
 entries-entry [] rest h = refl
@@ -112,7 +112,7 @@ entries-entry (n ∷ ns) rest h =
     let ih = entries-entry ns rest (λ k. h (suc k)) in
     rw (split, first, left, ih) refl
 
--- the numbers that are read from bytes have those bytes as their entries
+-- the entries of the numbers that are read from bytes are those bytes
 pub entry-entries : (n : ℕ) (bs : List ℕ) → AreBytes bs → 4 * n ≤ length bs
     → flat_map entry (entries n bs) ≡ take (4 * n) bs
 entry-entries zero bs h l = refl
@@ -122,7 +122,7 @@ entry-entries (suc n) bs h l =
     let e : 4 + 4 * n ≡ 4 * suc n = omega arith in
     rw (first, ih) (take_then 4 (4 * n) bs ∙ ap (λ (j : ℕ). take j bs) e)
 
--- the entries of numbers have 4 bytes each
+-- the entries of numbers are 4 bytes for each number
 pub length-entry_all : (ns : List ℕ) → length (flat_map entry ns) ≡ 4 * length ns
 length-entry_all [] = refl
 length-entry_all (n ∷ ns) =

@@ -23,7 +23,7 @@ use Rattle.capn_stream.proofs.shared.Entries.{length-entry_all}
 
 -- ---- the parts of a frame
 
--- the table has the sizes as numbers
+-- the sizes in the table are the entries of the segments' lengths
 pub table_sizes : (message : List (List ℕ))
     → flat_map (λ ws. entry (length ws)) message ≡ flat_map entry (map length message)
 table_sizes [] = refl
@@ -46,7 +46,7 @@ length-contents (ws ∷ message) =
       sum_by-cons length ws message,
     )
 
--- the contents are the bytes of all words
+-- the bytes of all words are the bytes of the segments
 bytes-joined : (message : List (List ℕ)) → bytes (joined message) ≡ segment_bytes message
 bytes-joined [] = refl
 bytes-joined (ws ∷ message) = flat_map-append word_bytes ws (joined message)
@@ -67,7 +67,7 @@ size_le [] s = omega arith
 size_le (ws ∷ message) zero = omega (arith, sum_by-cons length ws message)
 size_le (ws ∷ message) (suc s) = omega (arith, size_le message s, sum_by-cons length ws message)
 
--- a table can announce every message
+-- a table can announce any message
 pub FitsTable-message : (message : List (List ℕ)) → IsMessage message → FitsTable message
 FitsTable-message message h = record {
   some = h.some;
@@ -76,9 +76,9 @@ FitsTable-message message h = record {
   each = h.each;
 }
 
--- ---- what a frame announces
+-- ---- the numbers that the table of a frame announces
 
--- `bs` announce the segments of `message`, their sizes and its words, and its contents follow the table
+-- `bs` announce the segments, sizes and words of `message`, and the contents of `message` follow the table
 pub record Announces (bs : List ℕ) (message : List (List ℕ)) (taken : ℕ) : Type 0 where
   pub count : announced_segments bs ≡ length message
   pub sizes : entries (announced_segments bs) (drop 4 bs) ≡ map length message
@@ -137,7 +137,7 @@ announces_parts message gap rest bs fits room e =
           ∙ take_at (segment_bytes message) rest (8 * announced_words bs) size;
     }
 
--- bytes that begin with a frame announce its message
+-- bytes that begin with a frame of `message` announce `message`
 pub announces : (bs : List ℕ) (most : ℕ) (message : List (List ℕ)) (taken : ℕ) → StandsFirst bs most message taken
     → Announces bs message taken
 announces bs most message taken h =
@@ -169,7 +169,7 @@ announces bs most message taken h =
     let P : ℕ → Type 0 = λ n. Announces bs message n in
     subst P (sym size) (announces_parts message f.gap rest bs f.fits f.gap_length split)
 
--- bytes that begin with a frame have it whole
+-- bytes that begin with a frame have the whole frame that they announce
 pub whole_of : (bs : List ℕ) (most : ℕ) (message : List (List ℕ)) (taken : ℕ) → StandsFirst bs most message taken
     → IsWhole bs most
 whole_of bs most message taken h =
@@ -182,7 +182,7 @@ whole_of bs most message taken h =
       omega (arith, a.length_is, h.inside),
     )
 
--- bytes that have a whole frame are refused only if memory runs out
+-- bytes that have a whole frame are refused only for `Memory`
 pub refused_whole : (bs : List ℕ) (most : ℕ) (e : FrameFault) → IsWhole bs most → IsFrameRefused bs most e → e ≡ Memory
 refused_whole bs most Memory w r = refl
 refused_whole bs most Empty w r = absurd (omega arith)
@@ -193,7 +193,7 @@ refused_whole bs most Failed w r = absurd r
 
 -- ---- one refusal
 
--- bytes are refused for one reason, unless memory runs out
+-- bytes are refused for only one reason other than `Memory`
 pub one_refusal : (bs : List ℕ) (most : ℕ) (e f : FrameFault) → IsFrameRefused bs most e → IsFrameRefused bs most f
     → (e ≡ Memory → ⊥) → (f ≡ Memory → ⊥) → e ≡ f
 one_refusal bs most Memory f r s other also = absurd (other refl)
@@ -243,14 +243,14 @@ one_frame bs most limit m n taken length f g =
       a.length_is ∙ sym b.length_is,
     )
 
--- ---- what is written
+-- ---- the frames that are written
 
 zeros_below : (n : ℕ) → AreBytes (replicate n 0)
 zeros_below zero i = omega arith
 zeros_below (suc n) zero = omega arith
 zeros_below (suc n) (suc i) = zeros_below n i
 
--- a frame is the first frame in its own bytes
+-- if `bs` are a frame, they begin with that frame
 pub stands_alone : (bs : List ℕ) (most : ℕ) (message : List (List ℕ)) → Frames bs message → total message ≤ most
     → StandsFirst bs most message (length bs)
 stands_alone bs most message h room = record {
@@ -260,7 +260,7 @@ stands_alone bs most message h room = record {
   room = room;
 }
 
--- if the first frame takes all of `bs`, then `bs` are a frame of its message
+-- if the first frame in `bs` is all of `bs`, then `bs` are a frame of its message
 pub frames_all : (bs : List ℕ) (most : ℕ) (message : List (List ℕ)) → StandsFirst bs most message (length bs)
     → Frames bs message
 frames_all bs most message h = let P : List ℕ → Type 0 = λ xs. Frames xs message in

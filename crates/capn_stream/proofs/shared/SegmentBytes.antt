@@ -1,11 +1,11 @@
--- Lemma for `Cutting`: the bytes of a part of words.
+-- Lemma for `Cutting`: a range of the bytes of some words is a range of the bytes of all words.
 use Rattle.std.proofs.Common.{◌≡◌, ℕ, ◌+◌, ◌-◌, ◌*◌, ◌≤◌, List, take, drop}
 use Rattle.std.proofs.Common.{refl, ap, sym, ◌∙◌, arith}
 use Rattle.std.proofs.lemmas.List.{drop-drop, drop-take, take-take}
 use Rattle.capn_words.specs.Message.{bytes}
 use Rattle.capn_words.proofs.shared.Words.{bytes-drop, bytes-take}
 
--- bytes within a part of the words are the same bytes of all words
+-- a range of the bytes of `size` words is a range of the bytes of all words
 pub bytes_of_part : (start size word len : ℕ) (ws : List ℕ) → 8 * word + len ≤ 8 * size
     → take len (drop (8 * word) (bytes (take size (drop start ws)))) ≡ take len (drop (8 * (start + word)) (bytes ws))
 bytes_of_part start size word len ws h =

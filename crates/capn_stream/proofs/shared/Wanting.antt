@@ -19,7 +19,7 @@ use Rattle.capn_stream.proofs.shared.Longer.{HasCount-append, HasHead-append, se
 padding_le : (count : ℕ) → padding count ≤ 4
 padding_le count = grind (arith, nat_tests)
 
--- a frame `IsWhole`
+-- a frame of at most `most` words satisfies `IsWhole`
 pub frame_whole : (bs : List ℕ) (most : ℕ) → IsFrame bs most → IsWhole bs most
 frame_whole bs most (message, frames, room) =
     whole_of bs most message (length bs) (stands_alone bs most message frames room)
@@ -29,7 +29,7 @@ pub unfinished_frame : (bs : List ℕ) (most : ℕ) → IsUnfinished bs most →
 unfinished_frame bs most (inl none) f = let w = frame_whole bs most f in absurd (omega (arith, w.0.0.0, none))
 unfinished_frame bs most (inr cut) f = let e = refused_whole bs most Cut (frame_whole bs most f) cut in cc
 
--- a frame that begins with `bs` is at least as long as the part of the stage
+-- a frame that begins with `bs` does not end before the part that `stage` receives
 pub need_least : (stage : Stage) (bs : List ℕ) (most : ℕ) (ends more : List ℕ) → IsStage stage bs most ends
     → IsFrame (bs ++ more) most → need stage ≤ length (bs ++ more)
 need_least stages.Count bs most ends more is f = (frame_whole (bs ++ more) most f).0.0.0
@@ -44,12 +44,12 @@ need_least (stages.Contents start end) bs most ends more is f =
     let words = words-append bs more head in
     omega (arith, w.2, is.knows.3, count, words)
 
--- a frame that begins with `bs` continues with at least the bytes that the part of the stage still needs
+-- a frame that begins with `bs` continues with at least the bytes that the part of `stage` still lacks
 pub least : (stage : Stage) (bs : List ℕ) (most : ℕ) (ends more : List ℕ) → IsStage stage bs most ends
     → IsFrame (bs ++ more) most → need stage - length bs ≤ length more
 least stage bs most ends more is f = omega (arith, need_least stage bs most ends more is f, length-append bs more)
 
--- the part of the stage ends within the greatest length of a frame
+-- the part that `stage` receives ends within the greatest length of a frame
 pub need_bound : (stage : Stage) (bs : List ℕ) (most : ℕ) (ends : List ℕ) → IsStage stage bs most ends
     → need stage ≤ most_bytes most
 need_bound stages.Count bs most ends is = omega arith
@@ -57,7 +57,7 @@ need_bound (stages.Table segments) bs most ends is = omega (arith, padding_le se
 need_bound (stages.Contents start end) bs most ends is =
     omega (arith, is.knows.3, is.knows.1, is.knows.0.0.1, padding_le (announced_segments bs))
 
--- `bs` and no more bytes than the part of the stage needs end within the message
+-- if no more bytes are added than the part of `stage` lacks, `EndsWithin` holds
 pub ends_within : (stage : Stage) (bs : List ℕ) (most : ℕ) (ends more : List ℕ) → IsStage stage bs most ends
     → length more ≤ need stage - length bs → EndsWithin (bs ++ more) most
 ends_within stages.Count bs most ends more is few = inl (omega (arith, length-append bs more, is.within, few))
@@ -75,14 +75,14 @@ ends_within (stages.Contents start end) bs most ends more is few =
       omega (arith, length-append bs more, is.within, few, is.knows.3, count, words),
     ))
 
--- unfinished bytes end within the message
+-- unfinished bytes satisfy `EndsWithin`
 pub unfinished_within : (bs : List ℕ) (most : ℕ) → IsUnfinished bs most → EndsWithin bs most
 unfinished_within bs most (inl none) = inl (omega (arith, none))
 unfinished_within bs most (inr (inl count)) = inl (omega (arith, count.1))
 unfinished_within bs most (inr (inr (inl table))) = inr (inl (table.0, omega (arith, table.1)))
 unfinished_within bs most (inr (inr (inr contents))) = inr (inr (contents.0, contents.1, omega (arith, contents.2)))
 
--- bytes that end within a message and are refused for too many segments are exactly the count
+-- bytes that satisfy `EndsWithin` and are refused for too many segments are exactly the count
 pub many_segments_end : (bs : List ℕ) (most n : ℕ) → EndsWithin bs most → IsFrameRefused bs most (TooManySegments n)
     → length bs ≡ 4
 many_segments_end bs most n (inl count) refused = omega (arith, count, refused.0)
@@ -90,14 +90,14 @@ many_segments_end bs most n (inr (inl table)) refused = absurd (omega (arith, ta
 many_segments_end bs most n (inr (inr contents)) refused =
     absurd (omega (arith, contents.0.0.1, refused.1, refused.2))
 
--- bytes that end within a message and are refused for too many words are exactly the table and its padding
+-- bytes that satisfy `EndsWithin` and are refused for too many words are exactly the table and its padding
 pub many_words_end : (bs : List ℕ) (most n : ℕ) → EndsWithin bs most → IsFrameRefused bs most (TooManyWords n)
     → length bs ≡ head_length (announced_segments bs)
 many_words_end bs most n (inl count) refused = absurd (omega (arith, count, refused.0.1))
 many_words_end bs most n (inr (inl table)) refused = omega (arith, table.1, refused.0.1)
 many_words_end bs most n (inr (inr contents)) refused = absurd (omega (arith, contents.1, refused.1, refused.2))
 
--- a piece of which a frame needs all bytes is taken whole
+-- if a frame needs all bytes of `piece`, all are taken
 pub taken_whole : (before : Framing) (piece : List ℕ) (n : ℕ) (after : Framing) → Feeds before piece n after
     → ((more : List ℕ) → IsFrame (before.rest ++ more) before.most → length piece ≤ length more)
     → after.rest ≡ before.rest ++ piece

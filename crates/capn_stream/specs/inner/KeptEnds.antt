@@ -3,10 +3,10 @@ use Rattle.std.specs.Prelude.{◌≡◌, ℕ, ◌-◌, List, ◌++◌, length, t
 use Rattle.capn_stream.specs.declared.ends.Ends.{Ends}
 
 module _ {A : Type 0} where
-  -- the ends that `ends` keep, in order
+  -- all ends that `ends` has, in order
   abbrev pub kept : Ends A → List ℕ
   kept ends = take ends.count ends.few ++ ends.rest.items
 
-  -- the first 63 ends are in place, and the list has the others
+  -- there are 63 places, and the list has the ends from number 63 on
   abbrev pub AreKept : Ends A → Type 0
   AreKept ends = (length ends.few ≡ 63) × (length ends.rest.items ≡ ends.count - 63)

@@ -1,4 +1,4 @@
--- The stages of a frame that is received in pieces, and what is known at each.
+-- The stages of a frame that is received in pieces, and what is known at each stage.
 use Rattle.std.specs.Prelude.{◌≡◌, ◌⊎◌, ℕ, ◌<◌, ◌≤◌, List, ◌++◌, length, take, drop, ⊤}
 use Rattle.capn_words.specs.Message.{most_segments, AreBytes}
 use Rattle.capn_stream.specs.Cuts.{ends_from}
@@ -11,17 +11,17 @@ use Rattle.capn_stream.specs.declared.fault.FrameFault.TheVariants.{Failed}
 use Rattle.capn_stream.specs.declared.stage.Stage.{Stage}
 use Rattle.capn_stream.specs.declared.stage.Stage.TheVariants as stages
 
--- the length of the frame up to the end of the part that is received at this stage
+-- the length in bytes of the frame up to the end of the part that `stage` receives
 abbrev pub need : Stage → ℕ
 need stages.Count = 4
 need (stages.Table segments) = head_length segments
 need (stages.Contents start end) = end
 
--- the ends of all announced segments but the last
+-- the ends that the table at the front of `bs` announces, for all segments but the last
 abbrev pub announced_ends : List ℕ → List ℕ
 announced_ends bs = ends_from 0 (entries (entry_number bs) (drop 4 bs))
 
--- the stage is the one that `bs` announce, `ends` are the announced ends once the table is read, and no part before was
+-- `stage` is the one that `bs` announce, `ends` are the announced ends once the table is read, and no earlier part was
 -- refused
 abbrev pub Knows : Stage → List ℕ → ℕ → List ℕ → Type 0
 Knows stages.Count bs most ends = ⊤
@@ -30,25 +30,25 @@ Knows (stages.Contents start end) bs most ends =
     HasHead bs × (announced_words bs ≤ most) × (start ≡ head_length (announced_segments bs)) × (end ≡ frame_length bs)
     × (ends ≡ announced_ends bs)
 
--- the number of segments is one that may be announced
+-- `stage` has at most 4,096 segments
 abbrev pub FitsStage : Stage → Type 0
 FitsStage stages.Count = ⊤
 FitsStage (stages.Table segments) = segments ≤ most_segments
 FitsStage (stages.Contents start end) = ⊤
 
--- the stage is the one that `bs` announce, and `bs` end with its part or before
+-- `stage` is the one that `bs` announce, and `bs` end with the part that `stage` receives or before
 pub record IsStage (stage : Stage) (bs : List ℕ) (most : ℕ) (ends : List ℕ) : Type 0 where
   pub below : AreBytes bs
   pub knows : Knows stage bs most ends
   pub within : length bs ≤ need stage
 
--- `bs` are the whole frame
+-- `stage` receives the contents, and `bs` are the whole frame
 abbrev pub IsDone : Stage → List ℕ → Type 0
 IsDone stages.Count bs = ⊥
 IsDone (stages.Table segments) bs = ⊥
 IsDone (stages.Contents start end) bs = length bs ≡ end
 
--- the part of this stage is not complete, unless it is the last part
+-- the part that `stage` receives is not complete, unless it is the last part
 abbrev pub Rests : Stage → List ℕ → Type 0
 Rests stage bs = (length bs < need stage) ⊎ IsDone stage bs
 
@@ -60,7 +60,7 @@ pub record Extends (old piece : List ℕ) (end n : ℕ) (new : List ℕ) : Type 
   pub below : AreBytes new
   pub stops : length new < end → n ≡ length piece
 
--- a frame is refused with the given fault before its contents are received
+-- a frame is refused with the given fault before its contents are received; the fault may also be `Memory`
 abbrev pub IsHeadRefused : List ℕ → ℕ → FrameFault → Type 0
 IsHeadRefused bs most Memory = ⊤
 IsHeadRefused bs most Empty = ⊥
@@ -69,13 +69,13 @@ IsHeadRefused bs most (TooManyWords n) = IsFrameRefused bs most (TooManyWords n)
 IsHeadRefused bs most Cut = ⊥
 IsHeadRefused bs most Failed = ⊥
 
--- the number of parts that follow the part of this stage
+-- the number of parts that follow the part that `stage` receives
 abbrev pub parts_left : Stage → ℕ
 parts_left stages.Count = 2
 parts_left (stages.Table segments) = 1
 parts_left (stages.Contents start end) = 0
 
--- the table with its padding is read, and the contents follow
+-- `bs` have the whole table and its padding, and the contents are from `start` to `end` with the ends `ends`
 pub record Tabled (bs : List ℕ) (most start end : ℕ) (ends : List ℕ) : Type 0 where
   pub head : HasHead bs
   pub room : announced_words bs ≤ most
@@ -83,7 +83,7 @@ pub record Tabled (bs : List ℕ) (most start end : ℕ) (ends : List ℕ) : Typ
   pub stops : end ≡ frame_length bs
   pub cuts : ends ≡ announced_ends bs
 
--- `n` bytes of `piece` were added to `old`: all, or those up to the end of the frame
+-- `n` bytes of `piece` were added to `old`: all bytes, or those up to the end of the frame
 pub record Fills (old piece : List ℕ) (most n : ℕ) (new : List ℕ) (stage : Stage) (ends : List ℕ) : Type 0 where
   pub inside : n ≤ length piece
   pub text : new ≡ old ++ take n piece

@@ -3,7 +3,7 @@ use Rattle.capn_stream.specs.Cuts.{ends_from}
 use Rattle.capn_stream.specs.FrameRefusal.{entries}
 use Rattle.capn_stream.proofs.ends.few_ends.Given as goal
 
--- the ends of the segments so far, and the last of them
+-- `ends` begins with the ends of the segments before `index`, and `end` is where segment `index` begins
 abbrev pub invariant-loop-index : goal.invariant-loop-index
 invariant-loop-index l = record {
   ends : take l.index l.ends ≡ ends_from 0 (entries l.index l.sizes);

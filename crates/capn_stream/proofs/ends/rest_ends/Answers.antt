@@ -1,4 +1,4 @@
--- The proof of `rest_ends`: the ends of the segments after the first ones.
+-- The proof of `rest_ends`: the ends of the segments from number `first` on.
 use Rattle.std.proofs.Common.{◌≡◌, ℕ, ◌+◌, ◌-◌, ◌*◌, ◌≤◌, List, ◌++◌, length, take, drop, sum, ap, sym, ◌∙◌, arith}
 use Rattle.std.proofs.lemmas.List.{take_rest}
 use Rattle.std.proofs.lemmas.List.Sums.{sum_by-append}
@@ -21,7 +21,7 @@ all_of first count sizes l =
     ap (λ (n : ℕ). entries n sizes) e ∙ entries_then first (count - first) sizes
     ∙ ap (λ (xs : List ℕ). entries first sizes ++ entries (count - first) xs) (sym (take_rest sizes (4 * first)))
 
--- the sum of all sizes is the sum of the first ones and of the others
+-- the sum of all sizes is the sum over the first segments and the sum over the others
 sums_of : (first count : ℕ) (sizes : List ℕ) → first ≤ count
     → sum (entries count sizes) ≡ sum (entries first sizes) + sum (left_of first count sizes)
 sums_of first count sizes l =

@@ -42,20 +42,20 @@ use Rattle.capn_stream.specs.contracts.segment_bytes.joined_bytes as F
 use Rattle.capn_stream.proofs.segment_bytes.joined_bytes.Statement as stated
 use Rattle.capn_stream.proofs.segment_bytes.joined_bytes.Code as code
 
--- lists joined
+-- the items of some lists, joined
 abbrev flat : {X : Type 0} → List (List X) → List X
 flat [] = []
 flat (w ∷ ws) = w ++ flat ws
 
--- ---- what a `&` to arrays holds, a `&` to all their elements holds
+-- ---- a borrow of arrays is a borrow of all their elements
 
 module _ {M : Type 1} {𝓤 : Ura M} (𝓛 : Logic 𝓤) {D : Type 0} (c : D → ℕ → ℕ → Lft → Fml) (n : ℕ) (κ : Lft)
     (b : ℕ) where
-  -- what is known of an array of `n` elements, each of size 1
+  -- what a borrow of an array of `n` elements says, if each element has size 1
   abbrev run_of : List D → ℕ → ℕ → Lft → Fml
   run_of ys b' o = beside (said (feq ℕ (length ys) n)) (each_shared ys c 1 b' o)
 
-  -- elements, and then more elements
+  -- a borrow of elements and a borrow of the elements after them are a borrow of all
   after : (xs ys : List D) (o : ℕ)
       → ent 𝓤 (sem 𝓛 (beside (each_shared xs c 1 b o) (each_shared ys c 1 b (at o 1 (length xs))) κ))
       (sem 𝓛 (each_shared (xs ++ ys) c 1 b o κ))
@@ -93,7 +93,7 @@ module _ {M : Type 1} {𝓤 : Ura M} (𝓛 : Logic 𝓤) (at_mem : Memory → SP
   abbrev clauses : Clauses 𝓤 F.ended
   clauses = F.clauses 𝓛 at_mem run
 
-  -- the words are lent for `κ` and are at offset `o` of the block `b`
+  -- facts about words that are borrowed for `κ` and begin at offset `o` of the block `b`
   module _ (C : Calls 𝓤 H) (Λ : Loops 𝓤 H) (κ : Lft) (q : Share) (b o : ℕ) (xs : List (List ℕ)) (m : ℕ) where
     abbrev words : Bor (List (List ℕ))
     words = record { ref_ptr = (b, o); now = xs }

@@ -3,7 +3,7 @@ use Rattle.capn_stream.specs.inner.Stages.{IsStage, parts_left}
 use Rattle.capn_stream.proofs.Came.{Came}
 use Rattle.capn_stream.proofs.stage.fill.Given as goal
 
--- the bytes of the piece so far follow the old bytes
+-- the first `at` bytes of `piece` were added to the old bytes, and the stage is that of the new bytes
 abbrev pub invariant-parts : goal.invariant-parts
 invariant-parts g l = record {
   inside : l.at ≤ length l.piece;

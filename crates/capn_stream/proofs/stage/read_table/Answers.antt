@@ -5,7 +5,7 @@ use Rattle.capn_stream.specs.FrameRefusal.{announced_words, announced_segments, 
 use Rattle.capn_stream.proofs.shared.WholeFrames.{sizes_read, sum-sizes_read}
 use Rattle.capn_stream.proofs.stage.read_table.Goals as goal
 
--- the sum of all sizes that were read
+-- the sum of the sizes that are read is the announced number of words
 all_words : (bs : List ℕ) (segments : ℕ) → segments ≡ announced_segments bs
     → sum (entries segments (take (length bs - 4) (drop 4 bs))) ≡ announced_words bs
 all_words bs segments count =

@@ -3,7 +3,7 @@ use Rattle.capn_stream.specs.Cuts.{ends_from}
 use Rattle.capn_stream.specs.FrameRefusal.{entries}
 use Rattle.capn_stream.proofs.table.ends_of.Given as goal
 
--- the ends of the segments so far, and the last of them
+-- `ends` has the ends of the segments before `index`, and `end` is where segment `index` begins
 abbrev pub invariant-loop-index : goal.invariant-loop-index
 invariant-loop-index g l =
     record {

@@ -1,4 +1,4 @@
--- The proof of `bytes` of `Segments`.
+-- The proof of `Segments::bytes`.
 use Rattle.std.proofs.Common.{◌∙◌, arith}
 use Rattle.capn_stream.proofs.Held.{none, seen_bytes, seen_count, seen_length}
 use Rattle.capn_stream.proofs.segments.SegmentsSpace.bytes.Goals as goal

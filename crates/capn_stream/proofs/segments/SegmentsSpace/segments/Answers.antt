@@ -1,4 +1,4 @@
--- The proof of `segments` of `Segments`: the segments are a message.
+-- The proof of `Segments::segments`: the segments are a message.
 use Rattle.std.proofs.Common.{subst}
 use Rattle.capn_words.specs.Message.{IsMessage}
 use Rattle.capn_stream.proofs.Held.{held_message}

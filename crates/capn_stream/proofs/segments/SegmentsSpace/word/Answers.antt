@@ -1,4 +1,4 @@
--- The proof of `word` of `Segments`.
+-- The proof of `Segments::word`.
 use Rattle.std.proofs.Common.{◌∙◌, arith}
 use Rattle.capn_stream.proofs.Held.{none, seen_here, seen_length, seen_word}
 use Rattle.capn_stream.proofs.segments.SegmentsSpace.word.Goals as goal

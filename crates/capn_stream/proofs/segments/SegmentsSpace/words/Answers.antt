@@ -1,4 +1,4 @@
--- The proof of `words` of `Segments`.
+-- The proof of `Segments::words`.
 use Rattle.std.proofs.Common.{ap, length, sym, arith}
 use Rattle.capn_stream.proofs.Held.{count_of, none, seen_room, seen_words, words_of-none}
 use Rattle.capn_stream.proofs.segments.SegmentsSpace.words.Goals as goal
