@@ -1,4 +1,4 @@
--- Lemmas for the cycle `flaws_of`: a test that holds anywhere in a value, from its parts.
+-- Lemmas for the cycle `flaws_of`: whether a test holds anywhere in a value follows from the parts of the value.
 use Rattle.std.proofs.Common.{◌≡◌, ℕ, suc, ◌+◌, ◌<◌, List, [], ◌∷◌, Bool, true, false, ◌||◌, ◌⊎◌, inl, inr, length}
 use Rattle.std.proofs.Common.{get_or, drop, refl, sym, ap, ap₂, ◌∙◌, add-one}
 use Rattle.std.proofs.Math.Seq.{drop-cons, drop-length}
@@ -11,12 +11,12 @@ use Rattle.capn_value.specs.declared.value.Value.{Value, Nil, Node, Voids, Bits,
 use Rattle.capn_value.specs.declared.value.Value.{Cap}
 use Rattle.capn_value.specs.declared.value.Body.{Body}
 
--- the items from index `i` on are the next item and those after it
+-- the items from index `i` on are item `i` and the items from `i + 1` on
 pub drop-next : {X : Type 0} (xs : List X) (i : ℕ) (x : X) → i < length xs → x ≡ get_or xs i x
     → drop i xs ≡ x ∷ drop (i + 1) xs
 drop-next xs i x h e = rw add-one (drop-cons xs i x h ∙ ap (λ y. y ∷ drop (suc i) xs) (sym e))
 
--- nothing is left at the end
+-- no items are left from the end of a list on
 pub drop-past : {X : Type 0} (xs : List X) (i : ℕ) → i ≡ length xs → drop i xs ≡ []
 drop-past xs i e = ap (λ n. drop n xs) e ∙ drop-length xs
 
@@ -52,7 +52,7 @@ module _ {A : Type 0} (test : Tree → Bool) where
           ∙ ap (λ cs. anywhere_in_rows test (rows_of cs)) f)
           ∙ sym (ap (anywhere test) (ap tree_of e ∙ tree_of-Rows bs))
 
-  -- the result of a loop over values: after one more, and after all of them
+  -- the result of a loop over values, after one more value and after all
   module _ (items : List (Value A)) (i : ℕ) (f : Bool) {all : Bool}
       (so_far : (f || anywhere_in test (trees_of (drop i items))) ≡ all) where
     pub each_joins : (v : Value A) {r n : Bool} → i < length items → v ≡ get_or items i v → n ≡ (f || r)
@@ -66,7 +66,7 @@ module _ {A : Type 0} (test : Tree → Bool) where
     pub each_joined : i ≡ length items → f ≡ all
     each_joined e = or_no_more f ∙ sym (ap (λ vs. f || anywhere_in test (trees_of vs)) (drop-past items i e)) ∙ so_far
 
-  -- the result of a loop over rows: after one more, and after all of them
+  -- the result of a loop over rows, after one more row and after all
   module _ (rows : List (Body A)) (i : ℕ) (f : Bool) {all : Bool}
       (so_far : (f || anywhere_in_rows test (rows_of (drop i rows))) ≡ all) where
     pub row_joins : (b : Body A) (s : List (Value A)) {r n : Bool} → i < length rows → b ≡ get_or rows i b → s ≡ b.slots

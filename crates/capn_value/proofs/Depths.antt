@@ -1,5 +1,5 @@
 -- Lemmas for `cost_and_height.rt`, `flaws.rt`, `sameness.rt` and others: the values below a value are less deep, so the
--- functions that call themselves on them end.
+-- functions that call themselves on those values terminate.
 use Rattle.std.proofs.Common.{◌≡◌, ℕ, ◌+◌, ◌*◌, ◌<◌, ◌≤◌, List, length, get_or, ap, arith, rules}
 use denote.Param.Weighed.{most, at_most}
 use Rattle.capn_value.specs.declared.value.Value.{Value, Node, Links, Rows, size-Value, the_lemmas}

@@ -1,4 +1,4 @@
--- Lemmas for the cycle `first_cap`: the first capability of a list, one element after another.
+-- Lemmas for the cycle `first_cap`: the first capability of a list is found by a loop over its elements.
 use Rattle.std.proofs.Common.{◌≡◌, ℕ, ◌+◌, ◌<◌, List, length, get_or, drop, Option, Some, None, sym, ap, ◌∙◌}
 use Rattle.std.specs.Option.{option_or}
 use Rattle.capn_value.specs.TreeOf.{tree_of, trees_of, rows_of}

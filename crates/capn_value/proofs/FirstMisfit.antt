@@ -1,4 +1,4 @@
--- Lemmas for `trimming`: the misfit of a value is the first of the six that it has.
+-- Lemmas for `trimming`: the misfit of a value is the first of the six that the value has.
 use Rattle.std.proofs.Common.{◌≡◌, ◌↔◌, Bool, true, false, cond, nat_lt, refl, Option, Some, None}
 use Rattle.capn_value.specs.Tree.{Tree}
 use Rattle.capn_value.specs.Cost.{height, base, cost, most_cost, most_height}
@@ -7,7 +7,7 @@ use Rattle.capn_value.specs.declared.tariff.Tariff.TheVariants.{Plain}
 use Rattle.capn_value.specs.declared.misfit.Misfit.{Misfit}
 use Rattle.capn_value.specs.declared.misfit.Misfit.TheVariants.{Wide, Long, Ragged, Costly, Tall, BadRoot}
 
--- the misfit of the first of six tests that holds
+-- the misfit that belongs to the first of six tests that is true
 abbrev choice : (a b c d e f : Bool) → Option Misfit
 choice a b c d e f =
     cond a (Some Wide)
@@ -77,7 +77,7 @@ choosing a b c d e f BadRoot h = rw (h.0, h.1, h.2, h.3, h.4, h.5) refl
 both : (a b c d e f : Bool) (k : Misfit) → (choice a b c d e f ≡ Some k) ↔ IsChoice k a b c d e f
 both a b c d e f k = (chosen a b c d e f k, choosing a b c d e f k)
 
--- the misfit of a value is `k` if and only if `k` is the first that it has
+-- the misfit of a value is `k` if and only if `k` is the first that the value has
 pub first_misfit : (t : Tree) (k : Misfit) → (misfit t ≡ Some k) ↔ IsFirst k t
 unfolding misfit
 first_misfit t Wide =

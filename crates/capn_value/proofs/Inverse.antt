@@ -1,4 +1,4 @@
--- Lemmas for `Apart`, `Cases` and `Copies`: a value is given back by its tree.
+-- Lemmas for `Apart`, `Cases` and `Copies`: a value can be recovered from its tree.
 use Rattle.std.proofs.Common.{◌≡◌, List, [], ◌∷◌, map, refl, sym, ap, ap₂, ◌∙◌, subst}
 use Rattle.capn_value.specs.TreeOf.{tree_of, trees_of, rows_of}
 use Rattle.capn_value.specs.Views.{tree_of-Nil, tree_of-Node, tree_of-Voids, tree_of-Bits, tree_of-Bytes, tree_of-Pairs}

@@ -1,5 +1,5 @@
--- Lemmas for `cost_and_height.rt`, `part_flaws.rt`, `sameness.rt` and others: the lists of numbers of the five kinds of
--- list, in the arms of a match.
+-- Lemmas for `cost_and_height.rt`, `part_flaws.rt`, `sameness.rt` and others: the numbers of a list of each of the five
+-- widths, in the arms of a match.
 use Rattle.std.proofs.Common.{◌≡◌, ℕ, List, [], ◌∷◌, Bool, true, false, map, refl, ap, ◌∙◌}
 use Rattle.std.specs.Prelude.{◌==◌}
 use Rattle.std.specs.Int.{from_bool}
@@ -28,7 +28,7 @@ module _ {A : Type 0} {v : Value A} where
     pub is_octs : v ≡ Octs xs → tree_of v ≡ numbers oct xs
     is_octs e = ap tree_of e ∙ tree_of-Octs A xs
 
--- two lists of bits are equal pair by pair exactly if they are as numbers
+-- two lists of bits are equal exactly if their numbers are
 pub bits_pointwise : (xs ys : List Bool) → pointwise beq xs ys ≡ pointwise ◌==◌ (map from_bool xs) (map from_bool ys)
 bits_pointwise [] [] = refl
 bits_pointwise [] (y ∷ ys) = refl

@@ -1,4 +1,4 @@
--- Lemmas for `reading` and `trimming`: a value is the same once it is trimmed.
+-- Lemmas for `reading` and `trimming`: a trimmed value is the same as the value.
 use Rattle.std.proofs.Common.{◌≡◌, ℕ, zero, suc, ◌≤◌, refl, arith}
 use Rattle.capn_value.specs.Tree.{Tree, nil, node, voids, numbers, links, rows, cap, Trees}
 use Rattle.capn_value.specs.Tree.{no_trees, tree, Bodies, no_bodies, body, front, tree_at, is_null}

@@ -1,4 +1,4 @@
--- Lemmas for the cycle `sameness` and `are_null`: a test of two lists, one pair after another, and a test of one list.
+-- Lemmas for the cycle `sameness` and `are_null`: loops over the pairs of two lists, and over one list.
 use Rattle.std.proofs.Common.{◌≡◌, ℕ, ◌+◌, ◌<◌, ◌≤◌, List, Bool, true, false, ◌&&◌, length, get_or, drop, min, arith}
 use Rattle.std.proofs.Common.{sym, ap, ap₂, ◌∙◌}
 use Rattle.capn_value.specs.TreeOf.{tree_of, trees_of, rows_of}
@@ -18,14 +18,14 @@ in_left s i m n e h = omega arith
 pub in_right : (s i m n : ℕ) → s ≡ min m n → i < s → i < n
 in_right s i m n e h = omega arith
 
--- the first of two tests fails, or holds
+-- the conjunction of two tests fails if the first fails
 pub fails : (b rest : Bool) {r all : Bool} → r ≡ b → r ≡ false → (b && rest) ≡ all → false ≡ all
 fails b rest e f so_far = ap (λ x. x && rest) (sym f ∙ e) ∙ so_far
 
 pub holds : (b rest : Bool) {r all : Bool} → r ≡ b → r ≡ true → (b && rest) ≡ all → rest ≡ all
 holds b rest e f so_far = ap (λ x. x && rest) (sym f ∙ e) ∙ so_far
 
--- the test of two bodies: their words, and then their slots
+-- the test of two bodies is the test of their words and then of their slots
 module _ {ws ys w v : List ℕ} (e : w ≡ ws) (f : v ≡ ys) {r : Bool} (same : r ≡ test_words w v) where
   here : r ≡ test_words ws ys
   here = same ∙ ap₂ test_words e f
@@ -94,7 +94,7 @@ module _ {A B : Type 0} (a : List (Body A)) (b : List (Body B)) (i : ℕ) {all :
   rows_tested e f = sym (ap₂ (λ us vs. test_rows (rows_of us) (rows_of vs)) (drop-past a i e) (drop-past b i f))
       ∙ so_far
 
--- the test of one list that each element is null
+-- the loop that tests whether each element of one list is null
 module _ {A : Type 0} (items : List (Value A)) (i : ℕ) {all : Bool} (so_far : are_null (trees_of (drop i items)) ≡ all)
   where
     module _ (v : Value A) (h : i < length items) (e : v ≡ get_or items i v) {r : Bool}

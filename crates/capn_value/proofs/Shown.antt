@@ -1,4 +1,4 @@
--- Lemmas for the cycle `show`: the text of a value from the texts of its parts, and the room for its levels.
+-- Lemmas for the cycle `show`: the text of a value is made of the texts of its parts, and levels stay below 2^32.
 use Rattle.std.proofs.Common.{◌≡◌, ℕ, ◌+◌, ◌*◌, ◌<◌, ◌≤◌, List, ◌++◌, length, codes, get_or, drop, max, sym, ap}
 use Rattle.std.proofs.Common.{ap₂, ◌∙◌, arith, append_assoc}
 use Rattle.std.proofs.lemmas.List.{append-nil}
@@ -16,17 +16,17 @@ use Rattle.capn_value.specs.declared.value.Value.{Value, Nil, Node, Voids, Links
 use Rattle.capn_value.specs.declared.value.Body.{Body}
 use Rattle.capn_value.proofs.Anywhere.{drop-next, drop-past}
 
--- a text that is appended may be written in another way
+-- an appended text may be replaced by an equal one
 pub appends : {T E : Type 0} (r : Result T E) (n o x y : List ℕ) → x ≡ y → OnOk r (n ≡ o ++ x) → OnOk r (n ≡ o ++ y)
 appends r n o x y e h = on_ok_weaker r (λ (f : n ≡ o ++ x). f ∙ ap (λ z. o ++ z) e) h
 
--- a text that is appended in two steps
+-- two appended texts are one appended text
 pub appends_both : {T E : Type 0} (r : Result T E) (n m o x y z : List ℕ) → m ≡ o ++ x → x ++ y ≡ z
     → OnOk r (n ≡ m ++ y) → OnOk r (n ≡ o ++ z)
 appends_both r n m o x y z e f h =
     on_ok_weaker r (λ (g : n ≡ m ++ y). g ∙ ap (λ k. k ++ y) e ∙ append_assoc o x y ∙ ap (λ k. o ++ k) f) h
 
--- the parameters `s` and `w` are slices of what the value holds
+-- `s` and `w` are slices of the parts of the value
 module _ {A : Type 0} (level : ℕ) (v : Value A) where
   pub nil_shown : v ≡ Nil → line level (codes "null") ≡ shown level (tree_of v)
   nil_shown e = sym (ap (shown level) (ap tree_of e ∙ tree_of-Nil A))
@@ -66,7 +66,7 @@ module _ {A : Type 0} (level : ℕ) (v : Value A) where
       (sym (count_rows-rows_of bs))
       ∙ sym (ap (shown level) (ap tree_of e ∙ tree_of-Rows bs))
 
--- the text of a body that is appended in three steps
+-- the text of a body is appended in three steps
 pub body_shown : {A T E : Type 0} (level : ℕ) (r : Result T E) (n m l o : List ℕ) {ws w : List ℕ}
     {ss s : List (Value A)} {k : ℕ} →
     k ≡ length ws → w ≡ ws → s ≡ ss → l ≡ o ++ body_line level k (length s) → m ≡ l ++ word_lines (level + 1) w →
@@ -86,7 +86,7 @@ body_shown level r n m l o {ws} {w} {ss} {s} {k} e f g h i =
     appends_both r n m o (first ++ words) slots _ (i ∙ ap (λ x. x ++ words) h
     ∙ append_assoc o first words) (append_assoc first words slots ∙ whole)
 
--- the text after a loop over elements: after one more, and after all of them
+-- the text after a loop over elements, after one more element and after all
 module _ {A : Type 0} (level : ℕ) (o : List ℕ) where
   module _ (items : List (Value A)) (i : ℕ) {all : List ℕ}
       (so_far : o ++ shown_each level (trees_of (drop i items)) ≡ all) where
@@ -125,7 +125,7 @@ module _ {A : Type 0} (level : ℕ) (o : List ℕ) where
     all_rows_shown e = sym (append-nil o) ∙ sym (ap (λ bs. o ++ shown_rows level (rows_of bs)) (drop-past bodies i e))
         ∙ so_far
 
--- the values below a value that has room for its levels have room for theirs
+-- if the levels of a value stay below `top`, so do those of the values below it
 module _ {A : Type 0} (level top : ℕ) (v : Value A) (room : level + 2 * height (tree_of v) < top) where
   list_room : height (tree_of v) ≡ 1 → level + 1 < top
   list_room e = omega arith
@@ -152,7 +152,7 @@ module _ {A : Type 0} (level top : ℕ) (v : Value A) (room : level + 2 * height
 lower : (whole part rest all : ℕ) → whole ≡ max part rest → whole ≤ all → (part ≤ all) × (rest ≤ all)
 lower whole part rest all e h = (omega arith, omega arith)
 
--- the rest of a list is no higher than all of it
+-- each element of a list, and the rest of the list, is no higher than the whole list
 module _ {A : Type 0} {all : ℕ} where
   pub each_low : (items : List (Value A)) (i : ℕ) → greatest (trees_of (drop i items)) ≤ all → (v : Value A)
       → i < length items → v ≡ get_or items i v →

@@ -1,4 +1,4 @@
--- Worked results of the getters, and what readers miss if they don't ask for the kind.
+-- Worked results of the getters, and the differences that readers miss if they do not ask for the kind.
 use Rattle.std.proofs.Common.{◌≡◌, ℕ, zero, suc, ◌+◌, List, [], ◌∷◌, refl, sym}
 use Rattle.capn_value.specs.Tree.{Tree, nil, node, voids, numbers, rows, cap, no_trees, tree, no_bodies, body}
 use Rattle.capn_value.specs.NumberWidth.{byte}
@@ -38,11 +38,11 @@ a_capability_in_a_row = refl
 past_the_end_of_null : (get worked (to_pointer 9 ∷ to_pointer 9 ∷ [])).kind ≡ null
 past_the_end_of_null = refl
 
--- the getters agree on a struct and on one with a zero word more
+-- the getters agree on a struct and on the same struct with one more zero word
 longer : (p : List Step) → get (node (0 ∷ []) no_trees) (to_pointer 0 ∷ p) ≡ get (node [] no_trees) (to_pointer 0 ∷ p)
 longer p = refl
 
--- a reader by a later schema, which also reads a list of numbers as a list of structs: data word 0 of element `i`
+-- data word 0 of element `i`, for a reader by a later schema that also reads a list of numbers as a list of structs
 abbrev first_words : (List Step → Answer) → ℕ → ℕ
 first_words told i = (told (to_element i ∷ [])).word 0 + (told []).number i
 
@@ -52,17 +52,17 @@ of_numbers = refl
 of_structs : first_words (get (rows (body (7 ∷ 1 ∷ []) no_trees (body (8 ∷ 0 ∷ []) no_trees no_bodies)))) 1 ≡ 8
 of_structs = refl
 
--- that reader agrees on values that are the same, as all readers do
+-- `first_words` is equal for values that are the same
 first_words_alike : (v w : Tree) → Same v w → (i : ℕ) → first_words (get v) i ≡ first_words (get w) i
 first_words_alike v w h i = same_to_reader (λ g. first_words g i) v w h
 
--- ---- what readers miss that don't ask for the kind
+-- ---- values that differ only in their kind
 
 -- the getters' results without the kind
 abbrev but_kind : Answer → Answer
 but_kind a = record a { kind = null }
 
--- null and an empty struct: along every path the getters agree on all but the kind
+-- along every path the getters agree on null and an empty struct, except for the kind
 pub null_or_empty : (p : List Step) → but_kind (get nil p) ≡ but_kind (get (node [] no_trees) p)
 null_or_empty [] = refl
 null_or_empty (to_pointer j ∷ p) = refl
@@ -71,7 +71,7 @@ null_or_empty (to_element i ∷ p) = refl
 null_is_not_empty : Same nil (node [] no_trees) → ⊥
 null_is_not_empty h = h
 
--- an empty list of bytes and an empty list of structs: the getters agree on all but the kind
+-- along every path the getters agree on an empty list of bytes and an empty list of structs, except for the kind
 bytes_or_structs : (p : List Step) → but_kind (get (numbers byte []) p) ≡ but_kind (get (rows no_bodies) p)
 bytes_or_structs [] = refl
 bytes_or_structs (to_pointer j ∷ p) = refl
@@ -80,7 +80,8 @@ bytes_or_structs (to_element i ∷ p) = refl
 bytes_are_no_structs : Same (numbers byte []) (rows no_bodies) → ⊥
 bytes_are_no_structs h = h
 
--- a list of two structs without words and a list of two elements without size: the getters agree on all but the kind
+-- along every path the getters agree on a list of two structs without words and a list of two voids, except for the
+-- kind
 structs_or_voids : (p : List Step)
     → but_kind (get (rows (body [] no_trees (body [] no_trees no_bodies))) p) ≡ but_kind (get (voids 2) p)
 structs_or_voids [] = refl

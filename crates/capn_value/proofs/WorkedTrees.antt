@@ -1,4 +1,4 @@
--- Worked values: their trimmed values, their costs and their texts, and values that do not fit.
+-- Worked values: their trimmed values, costs and texts, and values that do not fit.
 use Rattle.std.proofs.Common.{◌≡◌, [], ◌∷◌, Some, None, codes, false, refl}
 use Rattle.std.specs.Fmt.{digits}
 use Rattle.hex.specs.Hex.{encode_with}
@@ -12,39 +12,39 @@ use Rattle.capn_value.specs.Text.{show_text, line}
 use Rattle.capn_value.specs.Fits.{misfit}
 use Rattle.capn_value.specs.declared.misfit.Misfit.TheVariants.{Long, Ragged, BadRoot}
 
--- a struct loses its last word, which is zero, and its last slot, which is null
+-- trimming removes the last word of a struct, which is zero, and the last slot, which is null
 struct_trimmed : trimmed (node (5 ∷ 0 ∷ []) (tree (cap 3) (tree nil no_trees))) ≡ node (5 ∷ []) (tree (cap 3) no_trees)
 struct_trimmed = refl
 
--- an empty struct in a slot stays
+-- trimming keeps an empty struct in a slot
 empty_struct_stays : trimmed (node [] (tree (node (0 ∷ []) no_trees) no_trees))
     ≡ node [] (tree (node [] no_trees) no_trees)
 empty_struct_stays = refl
 
--- rows are cut to one size: the second word stays if one row has it
+-- trimming cuts rows to one size, so the second word of each row is kept if one row needs it
 rows_trimmed : trimmed (rows (body (1 ∷ 2 ∷ []) no_trees (body (3 ∷ 0 ∷ []) no_trees no_bodies)))
     ≡ rows (body (1 ∷ 2 ∷ []) no_trees (body (3 ∷ 0 ∷ []) no_trees no_bodies))
 rows_trimmed = refl
 
--- rows keep their number if nothing is kept of them
+-- trimming keeps the number of rows even if nothing is kept of each
 rows_left_empty : trimmed (rows (body (0 ∷ []) no_trees (body (0 ∷ []) no_trees no_bodies)))
     ≡ rows (body [] no_trees (body [] no_trees no_bodies))
 rows_left_empty = refl
 
--- null elements of a list of pointers stay
+-- trimming keeps null elements of a list of pointers
 links_stay : trimmed (links (tree nil (tree nil no_trees))) ≡ links (tree nil (tree nil no_trees))
 links_stay = refl
 
--- a struct that is copied whole is as it was
+-- a struct that is copied without trimming is unchanged
 struct_anew : anew false (node (5 ∷ 0 ∷ []) (tree nil no_trees)) ≡ node (5 ∷ 0 ∷ []) (tree nil no_trees)
 struct_anew = refl
 
--- rows that are cut to one word and no slot each
+-- rows are cut to one word and no slot each
 rows_cut : rows_anew (Some (1, 0)) (body (1 ∷ 2 ∷ []) (tree nil no_trees) (body [] no_trees no_bodies))
     ≡ body (1 ∷ []) no_trees (body [] no_trees no_bodies)
 rows_cut = refl
 
--- the cost of a struct of one word and of a slot with three bytes: 1 and 2 for the struct, 1 and 1 for the bytes
+-- a struct of one word and one slot with three bytes costs 5: 1 and 2 for the struct, 1 and 1 for the bytes
 struct_costs : cost 1 (node (5 ∷ []) (tree (numbers byte (1 ∷ 2 ∷ 3 ∷ [])) no_trees)) ≡ 5
 struct_costs = refl
 
@@ -81,7 +81,7 @@ capability_root : misfit (cap 0) ≡ Some BadRoot
 unfolding misfit
 capability_root = refl
 
--- the text of null, of a capability, and of a struct with a word and a list of two bits
+-- the texts of null, of a capability, and of a struct with a word and a list of two bits
 null_text : show_text nil ≡ codes "null\n"
 unfolding line
 null_text = refl

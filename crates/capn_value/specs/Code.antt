@@ -1,4 +1,4 @@
--- The code of trees: each tree is stored as a `Value`, over the usual allocator.
+-- The code of trees, which stores each tree as a `Value` over the usual allocator.
 use Rattle.std.specs.Prelude.{ℕ, zero, suc, ◌≡◌, List, [], ◌∷◌, map, Bool, true, false}
 use Rattle.std.specs.Coded.{Coded, code_by}
 use Rattle.std.specs.Int.{from_bool}
@@ -17,7 +17,7 @@ use Rattle.capn_value.specs.declared.value.Value.{Cap}
 use Rattle.capn_value.specs.declared.value.Body.{Body}
 use Rattle.capn_value.specs.contracts.value.Value as stored
 
--- the `Value` of a tree, and the lists in it; `bits_from` makes a list of bits of numbers
+-- the `Value` of a tree, and the lists of a tree as lists of values; `bits_from` turns numbers into bits
 module _ (A : Type 0) (bits_from : List ℕ → List Bool) where
   -- a list of numbers
   abbrev pub numbers_of : NumberWidth → List ℕ → Value A
@@ -45,8 +45,8 @@ module _ (A : Type 0) (bits_from : List ℕ → List Bool) where
     bodies_of no_bodies = []
     bodies_of (body ws ss bs) = (record { words = ws; slots = values_of ss }) ∷ bodies_of bs
 
--- The bits that stand for a list of any numbers, since a tree may hold numbers that are no bits. A number is stored as
--- that many set bits, and then one that isn't set.
+-- The bits that stand for a list of any numbers, since a tree may have numbers that are no bits. A number is stored as
+-- that many set bits, and then one bit that is not set.
 abbrev after_set : ℕ → List Bool → List Bool
 after_set zero bs = false ∷ bs
 after_set (suc n) bs = true ∷ after_set n bs
@@ -55,7 +55,7 @@ abbrev pub in_bits : List ℕ → List Bool
 in_bits [] = []
 in_bits (n ∷ ns) = after_set n (in_bits ns)
 
--- a list of numbers with 1 added to the first number
+-- the list `ns` with 1 added to its first number
 abbrev first_raised : List ℕ → List ℕ
 first_raised [] = []
 first_raised (n ∷ ns) = suc n ∷ ns
@@ -78,7 +78,7 @@ abbrev numbers_from : NumberWidth → List ℕ → List ℕ
 numbers_from bit xs = from_bits xs
 numbers_from _ xs = xs
 
--- the tree from the tree of the `Value` as which it was stored
+-- the original tree, from the tree of the `Value` that it was stored as
 abbrev mutual
   pub stored_tree : Tree → Tree
   stored_tree (node ws ss) = node ws (stored_each ss)
@@ -121,7 +121,7 @@ module _ (A : Type 0) where
     rows-stored no_bodies = refl
     rows-stored (body ws ss bs) = ap₂ (body ws) (trees-stored ss) (rows-stored bs)
 
--- a tree is coded as a declared value
+-- a tree is coded as its `Value`
 abbrev pub tree_code : Coded Tree
 tree_code = code_by (Value Global) (stored.the_row heap.the_row ghosts).coded (value_of Global in_bits)
     (λ v. stored_tree (tree_of v)) (tree-stored Global)

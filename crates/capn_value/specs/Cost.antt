@@ -1,5 +1,5 @@
--- Height and cost: the depth to which a reader goes, and the words that it pays. (Page: security considerations; the
--- prices are our own.)
+-- Height and cost: the depth to which a reader follows pointers, and the words that the reader pays. (Page: security
+-- considerations. The prices are our own.)
 use Rattle.std.specs.Prelude.{ℕ, ◌+◌, ◌*◌, ◌^◌, ◌==◌, max, length, cond}
 use Rattle.std.specs.Int.{div_ceil}
 use Rattle.capn_value.specs.declared.tariff.Tariff.{Tariff}
@@ -15,8 +15,8 @@ base Plain = 0
 
 -- ---- read to here for the theorem
 
--- the height: 0 for null and for a capability, otherwise 1 plus the greatest height of a slot, of a slot of a row, or
--- of an element
+-- the height of a value: 0 for null and for a capability, otherwise 1 plus the greatest height of a value in a slot, a
+-- slot of a row, or an element
 abbrev mutual
   pub height : Tree → ℕ
   height nil = 0
@@ -35,24 +35,25 @@ abbrev mutual
   greatest_in_rows no_bodies = 0
   greatest_in_rows (body ws slots bs) = max (greatest slots) (greatest_in_rows bs)
 
--- the cost of the rows of a composite list without its pointer and its tag: their words, or one for each row if rows
--- have no words
+-- the cost of the rows of a composite list without the list's pointer and tag: the number of their words, or the number
+-- of rows if the rows have no words
 unfoldable pub rows_price : Bodies → ℕ
 rows_price bs = cond (row_words bs == 0) (count_rows bs) (row_words bs)
 
--- the greatest cost of a value that fits, by the plain tariff, and the greatest budget
+-- the greatest cost of a value that fits, by the plain tariff, which is also the greatest budget
 abbrev pub most_cost : ℕ
 most_cost = 2 ^ 28
 
--- the greatest height of a value that fits, and the greatest depth
+-- the greatest height of a value that fits, which is also the greatest limit on the depth
 abbrev pub most_height : ℕ
 most_height = 256
 
--- one more than the greatest cost of a value that fits, by any tariff; sums of costs are capped here
+-- one more than the greatest cost of a value that fits, by any tariff, so that sums of costs may be capped at this
+-- number
 abbrev pub dear : ℕ
 dear = 2 * most_cost + 2
 
--- the cost of a value: the sum of the prices of all its content, if each costs `base` in addition to its size
+-- the cost of a value: the sum of the prices of all its contents, if each content costs `base` in addition to its size
 module _ (base : ℕ) where
   abbrev mutual
     pub cost : Tree → ℕ

@@ -1,4 +1,4 @@
--- The text of a misfit, as it is displayed. (Own.)
+-- The displayed text of a misfit. (Our own.)
 use Rattle.std.specs.Prelude.{ℕ, List, codes}
 use Rattle.capn_value.specs.declared.misfit.Misfit.{Misfit}
 use Rattle.capn_value.specs.declared.misfit.Misfit.TheVariants.{Wide, Long, Ragged, Costly, Tall, BadRoot}

@@ -1,11 +1,11 @@
--- The index of the first capability of a value. (Own.)
+-- The index of the first capability of a value. (Our own.)
 use Rattle.std.specs.Prelude.{ℕ, Some, None, Option}
 use Rattle.std.specs.Option.{option_or}
 use Rattle.capn_value.specs.Tree.{Tree, node, links, rows, cap, Trees}
 use Rattle.capn_value.specs.Tree.{no_trees, tree, Bodies, no_bodies, body}
 
--- in preorder: a value, then the values in its slots, rows or elements, in order, each with all below it before the
--- next
+-- the index of the first capability in preorder: a value is followed by the values in its slots, rows or elements, in
+-- order, and all values below one of them come before the next one
 abbrev mutual
   pub first_cap : Tree → Option ℕ
   first_cap (cap k) = Some k

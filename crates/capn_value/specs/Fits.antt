@@ -1,5 +1,5 @@
--- The values that fit into a message, and the first reason why a value doesn't. The greatest sizes are those that
--- pointers can count. (Page: structs, lists; the bounds on cost and height are our own.)
+-- The values that fit into a message, and the first reason why a value does not fit. The greatest sizes are those that
+-- pointers can count. (Page: structs, lists. The bounds on cost and height are our own.)
 use Rattle.std.specs.Prelude.{ℕ, ◌≡◌, ◌≤◌, Bool, true, false, cond, ◌||◌, ◌&&◌, not, nat_lt, ◌==◌, length, Option}
 use Rattle.std.specs.Prelude.{Some, None, List}
 use Rattle.capn_value.specs.Tree.{Tree, nil, node, voids, numbers, links, rows, cap, Trees}
@@ -9,7 +9,7 @@ use Rattle.capn_value.specs.Cost.{height, base, cost, most_cost, most_height}
 use Rattle.capn_value.specs.declared.misfit.Misfit.{Misfit}
 use Rattle.capn_value.specs.declared.misfit.Misfit.TheVariants.{Wide, Long, Ragged, Costly, Tall, BadRoot}
 
--- true if `test` holds of the value, or of one below it
+-- true if `test` holds of the value, or of a value below it
 module _ (test : Tree → Bool) where
   abbrev mutual
     pub anywhere : Tree → Bool
@@ -29,22 +29,22 @@ module _ (test : Tree → Bool) where
     anywhere_in_rows no_bodies = false
     anywhere_in_rows (body ws ss bs) = anywhere_in ss || anywhere_in_rows bs
 
--- a body of more than 65,535 words or slots
+-- true if a body has more than 65,535 words or slots
 abbrev pub is_wide_body : List ℕ → Trees → Bool
 is_wide_body ws ss = nat_lt 65535 (length ws) || nat_lt 65535 (count ss)
 
--- one of the rows has more than 65,535 words or slots
+-- true if one of the rows has more than 65,535 words or slots
 abbrev pub has_wide_row : Bodies → Bool
 has_wide_row no_bodies = false
 has_wide_row (body ws ss bs) = is_wide_body ws ss || has_wide_row bs
 
--- a struct with more than 65,535 words or slots, or a list of structs with one
+-- true of a struct with more than 65,535 words or slots, and of a list of structs with such a struct
 abbrev pub is_wide : Tree → Bool
 is_wide (node ws ss) = is_wide_body ws ss
 is_wide (rows bs) = has_wide_row bs
 is_wide _ = false
 
--- the number of elements of a list
+-- the number of elements of a list, and 0 for other values
 abbrev pub elements : Tree → ℕ
 elements (voids n) = n
 elements (numbers w xs) = length xs
@@ -52,31 +52,31 @@ elements (links ts) = count ts
 elements (rows bs) = count_rows bs
 elements _ = 0
 
--- the number of words that the rows of a list have together, data words and slots
+-- the number of data words and slots that the rows of a list have together, and 0 for other values
 abbrev pub words_in_rows : Tree → ℕ
 words_in_rows (rows bs) = row_words bs
 words_in_rows _ = 0
 
--- a list of more than 2^29 - 1 elements, or of rows with more words than that in all
+-- true of a list of more than 2^29 - 1 elements, and of a list of rows with more than 2^29 - 1 words in all
 abbrev pub is_long : Tree → Bool
 is_long t = nat_lt 536870911 (elements t) || nat_lt 536870911 (words_in_rows t)
 
--- every row has `w` words and `s` slots
+-- true if every row has `w` words and `s` slots
 abbrev pub are_even : ℕ → ℕ → Bodies → Bool
 are_even w s no_bodies = true
 are_even w s (body ws ss bs) = (length ws == w) && (count ss == s) && are_even w s bs
 
--- two rows of the list differ in words or slots
+-- true of a list of rows if two rows differ in words or slots
 abbrev pub is_ragged : Tree → Bool
 is_ragged (rows (body ws ss bs)) = not (are_even (length ws) (count ss) bs)
 is_ragged _ = false
 
--- the value may be a root, as anything but a capability may (Own.)
+-- true if the value may be a root, as any value but a capability may (our own)
 abbrev pub is_root : Tree → Bool
 is_root (cap k) = false
 is_root _ = true
 
--- The first of the six misfits that the value has. Each is looked for in the whole value before the next. Cost is
+-- The first of the six misfits that the value has. The whole value is tested for one misfit before the next. Cost is
 -- counted by the plain tariff, so a value that is cheap enough by the strict tariff is never `Costly`.
 unfoldable pub misfit : Tree → Option Misfit
 misfit t =
@@ -87,7 +87,7 @@ misfit t =
     (cond (nat_lt most_height (height t)) (Some Tall)
     (cond (is_root t) None (Some BadRoot))))))
 
--- the value has the misfit, and none before it
+-- the value has the given misfit, and no misfit that is tested before
 abbrev pub IsFirst : Misfit → Tree → Type 0
 IsFirst Wide t = anywhere is_wide t ≡ true
 IsFirst Long t = (anywhere is_wide t ≡ false) × (anywhere is_long t ≡ true)

@@ -25,54 +25,54 @@ kind (links ts) = list_of_pointers
 kind (rows bs) = list_of_structs
 kind (cap k) = capability
 
--- data word i of a struct, 0 past its end and if there is no struct
+-- data word `i` of a struct, 0 past its end and for other values
 abbrev pub word : Tree → ℕ → ℕ
 word (node ws ss) i = slice_index ws i
 word _ i = 0
 
--- pointer j of a struct, null past its end and if there is no struct
+-- pointer `j` of a struct, null past its end and for other values
 abbrev pub pointer : Tree → ℕ → Tree
 pointer (node ws ss) j = tree_at ss j
 pointer _ j = nil
 
--- number i of a list of numbers
+-- number `i` of a list of numbers, 0 past its end and for other values
 abbrev pub number : Tree → ℕ → ℕ
 number (numbers w xs) i = slice_index xs i
 number _ i = 0
 
--- struct `i` of a list
+-- struct `i` of a list of structs, null past its end
 abbrev pub row_at : Bodies → ℕ → Tree
 row_at no_bodies i = nil
 row_at (body ws ss bs) zero = node ws ss
 row_at (body ws ss bs) (suc i) = row_at bs i
 
--- element `i` of a list of pointers or of structs; for a struct, neither its number of words nor of pointers is given
+-- element `i` of a list of pointers or of structs; a getter does not give a struct's numbers of words and of pointers
 abbrev pub element : Tree → ℕ → Tree
 element (links ts) i = tree_at ts i
 element (rows bs) i = row_at bs i
 element _ i = nil
 
--- the index of a capability
+-- the index of a capability, 0 for other values
 abbrev pub index : Tree → ℕ
 index (cap k) = k
 index _ = 0
 
--- a step of a reader: to a pointer of a struct, or to an element of a list of pointers or structs
+-- a step of a reader, to a pointer of a struct, or to an element of a list of pointers or structs
 pub data Step : Type 0 where
   to_pointer : ℕ → Step
   to_element : ℕ → Step
 
--- the value to which a step leads
+-- the value that a step leads to
 abbrev pub next : Tree → Step → Tree
 next t (to_pointer j) = pointer t j
 next t (to_element i) = element t i
 
--- the value to which a path leads, step by step
+-- the value that a path leads to, step by step
 abbrev pub at : Tree → List Step → Tree
 at t [] = t
 at t (s ∷ p) = at (next t s) p
 
--- all results of the getters on one value, without a further step
+-- all results of the getters on one value
 pub record Answer : Type 0 where
   pub kind : Kind
   pub word : ℕ → ℕ
@@ -83,6 +83,6 @@ pub record Answer : Type 0 where
 abbrev pub told : Tree → Answer
 told t = record { kind = kind t; word = word t; elements = elements t; number = number t; index = index t }
 
--- the results of the getters at the end of a path
+-- the results of the getters on the value at the end of the path `p`
 abbrev pub get : Tree → List Step → Answer
 get t p = told (at t p)

@@ -1,16 +1,16 @@
--- Every number of a value is one that its type can hold (a natural number is never below 0).
+-- Every number of a value is in the range of its type. (A natural number is never below 0.)
 use Rattle.std.specs.Prelude.{ℕ, ◌<◌, ◌^◌, List, ⊤}
 use Rattle.std.specs.List.{AllByRecursion}
 use Rattle.capn_value.specs.NumberWidth.{bits_in}
 use Rattle.capn_value.specs.Tree.{Tree, nil, node, voids, numbers, links, rows, cap, Trees}
 use Rattle.capn_value.specs.Tree.{no_trees, tree, Bodies, no_bodies, body}
 
--- each number of the list is below the bound
+-- each number of `xs` is below `most`
 abbrev pub AllBelow : ℕ → List ℕ → Type 0
 AllBelow most xs = AllByRecursion (λ x. x < most) xs
 
--- words are below 2^64, counts of `Voids` and indices are below 2^32, and the numbers of a list are below the bound of
--- their width: a bit is 0 or 1
+-- words are below 2^64, counts of `Voids` and indices of capabilities are below 2^32, and the numbers of a list are
+-- below the bound of their width (a bit is 0 or 1)
 abbrev mutual
   pub InRange : Tree → Type 0
   InRange nil = ⊤

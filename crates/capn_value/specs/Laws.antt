@@ -1,4 +1,4 @@
--- Laws of the definitions alone, apart from the code. (Own.)
+-- The laws of values, which are about the definitions only. (Our own.)
 use Rattle.std.specs.Prelude.{◌≡◌, ◌≤◌, ◌↔◌, List, Some}
 use Rattle.capn_value.specs.Tree.{Tree}
 use Rattle.capn_value.specs.Same.{Same}
@@ -13,21 +13,21 @@ use Rattle.capn_value.specs.declared.tariff.Tariff.{Tariff}
 abbrev pub SameExactlyTrimmed : Type 0
 SameExactlyTrimmed = (t u : Tree) → Fits t → Fits u → Same t u ↔ (trimmed t ≡ trimmed u)
 
--- a value is the same once trimmed
+-- a value and its trimmed value are the same (`Same`)
 abbrev pub SameOnceTrimmed : Type 0
 SameOnceTrimmed = (t : Tree) → Same (trimmed t) t
 
--- trimming raises neither cost, by either tariff, nor height, and keeps a value fit
+-- for a value that fits, trimming raises neither cost, by either tariff, nor height, and the trimmed value fits
 abbrev pub TrimmingIsThrifty : Type 0
 TrimmingIsThrifty = (t : Tree) → Fits t
     → ((tariff : Tariff) → cost (base tariff) (trimmed t) ≤ cost (base tariff) t) × (height (trimmed t) ≤ height t)
     × Fits (trimmed t)
 
--- to have no misfit is to have the six facts
+-- a value fits if and only if the six facts hold of it
 abbrev pub FittingIsSixFacts : Type 0
 FittingIsSixFacts = (t : Tree) → Fits t ↔ IsFit t
 
--- the misfit of a value is the one that holds while none before it does
+-- the misfit of a value is `k` if and only if `k` is the first that the value has
 abbrev pub MisfitIsFirst : Type 0
 MisfitIsFirst = (t : Tree) (k : Misfit) → (misfit t ≡ Some k) ↔ IsFirst k t
 
@@ -35,8 +35,8 @@ MisfitIsFirst = (t : Tree) (k : Misfit) → (misfit t ≡ Some k) ↔ IsFirst k 
 abbrev pub SameExactlyToGetters : Type 0
 SameExactlyToGetters = (v w : Tree) → Same v w ↔ ((p : List Step) → get v p ≡ get w p)
 
--- values are the same if and only if the functions of all paths are equal, so that anything computed from the getters
--- is equal too
+-- values are the same if and only if the functions from paths to results are equal, so that anything computed from the
+-- getters is equal too
 abbrev pub SameToReaders : Type 0
 SameToReaders = (v w : Tree) → Same v w ↔ (get v ≡ get w)
 

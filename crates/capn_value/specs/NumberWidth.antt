@@ -1,4 +1,4 @@
--- The five widths of the numbers that a list may hold. (Page: lists.)
+-- The five widths of the numbers in a list. (Page: lists.)
 use Rattle.std.specs.Prelude.{ℕ, ◌*◌, ◌/◌, ◌==◌, ◌≡◌, Bool, refl}
 
 -- one bit, or one, two, four or eight bytes
@@ -9,7 +9,7 @@ pub data NumberWidth : Type 0 where
   quad : NumberWidth
   oct : NumberWidth
 
--- the number of bits of a number
+-- the number of bits of a number of the given width
 abbrev pub bits_in : NumberWidth → ℕ
 bits_in bit = 1
 bits_in byte = 8
@@ -17,13 +17,13 @@ bits_in pair = 16
 bits_in quad = 32
 bits_in oct = 64
 
--- the number of numbers that a word holds
+-- the number of elements of the given width that fit in a word
 abbrev pub per_word : NumberWidth → ℕ
 per_word w = 64 / bits_in w
 
 -- ---- read to here for the theorem
 
--- true if a number is a bit that is set
+-- true if the number is 1, which stands for a bit that is set
 abbrev pub is_set : ℕ → Bool
 is_set n = n == 1
 

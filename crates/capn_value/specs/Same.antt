@@ -3,11 +3,11 @@ use Rattle.std.specs.Prelude.{ℕ, ◌≡◌, List, ⊤, slice_index}
 use Rattle.capn_value.specs.Tree.{Tree, nil, node, voids, numbers, links, rows, cap, Trees}
 use Rattle.capn_value.specs.Tree.{no_trees, tree, Bodies, no_bodies, body}
 
--- word i of `ws` equals word i of `vs`, with 0 past the end
+-- for each `i`, word `i` of `ws` equals word `i` of `vs`, if words past the end are 0
 abbrev pub SameWords : List ℕ → List ℕ → Type 0
 SameWords ws vs = (i : ℕ) → slice_index ws i ≡ slice_index vs i
 
--- every slot is null
+-- every one of the slots is null
 abbrev pub AllNull : Trees → Type 0
 AllNull no_trees = ⊤
 AllNull (tree t ts) = (t ≡ nil) × AllNull ts
@@ -24,19 +24,19 @@ abbrev mutual
   Same (cap j) (cap k) = j ≡ k
   Same _ _ = ⊥
 
-  -- slot i of both is the same, with null past the end
+  -- slot `i` of one is the same as slot `i` of the other, if slots past the end are null
   pub SameSlots : Trees → Trees → Type 0
   SameSlots no_trees ts = AllNull ts
   SameSlots (tree s ss) no_trees = (s ≡ nil) × SameSlots ss no_trees
   SameSlots (tree s ss) (tree t ts) = Same s t × SameSlots ss ts
 
-  -- both have the same number of trees, and each is the same
+  -- both have the same number of trees, and trees at the same index are the same
   pub SameEach : Trees → Trees → Type 0
   SameEach no_trees no_trees = ⊤
   SameEach (tree s ss) (tree t ts) = Same s t × SameEach ss ts
   SameEach _ _ = ⊥
 
-  -- both have the same number of rows, and each is the same, whatever its size
+  -- both have the same number of rows, and rows at the same index are the same, whatever their sizes
   pub SameRows : Bodies → Bodies → Type 0
   SameRows no_bodies no_bodies = ⊤
   SameRows (body ws ss bs) (body vs ts cs) = SameWords ws vs × SameSlots ss ts × SameRows bs cs

@@ -1,4 +1,4 @@
--- The text of a tree. Every line is indented by two spaces for each level and ends with a newline. (Own.)
+-- The text of a tree. Every line is indented by two spaces for each level and ends with a newline. (Our own.)
 use Rattle.std.specs.Prelude.{ℕ, zero, suc, ◌+◌, ◌*◌, List, [], ◌∷◌, ◌++◌, length, codes, replicate, Bool, true, false}
 use Rattle.std.specs.Prelude.{map}
 use Rattle.std.specs.Fmt.{decimal}
@@ -16,21 +16,21 @@ line level text = replicate (2 * level) 32 ++ (text ++ 10 ∷ [])
 abbrev pub named : List ℕ → ℕ → List ℕ
 named name n = name ++ 32 ∷ decimal n
 
--- 16 lower-case hexadecimal digits
+-- the 16 lower-case hexadecimal digits of a word
 abbrev pub hex16 : ℕ → List ℕ
 hex16 n = encode_lower (to_be_bytes w64 n)
 
--- 1 for a bit that is set, else 0
+-- the character `1` for a bit that is set, otherwise `0`
 abbrev pub digit : Bool → ℕ
 digit true = 49
 digit false = 48
 
--- a digit for each bit, in the order of the elements
+-- a digit for each bit, in the order of the bits
 abbrev pub digits_of : List Bool → List ℕ
 digits_of [] = []
 digits_of (b ∷ bs) = digit b ∷ digits_of bs
 
--- one line with `text`, or none if the list has no elements
+-- one line with `text`, or no line if the number of elements is 0
 abbrev pub one_line : ℕ → ℕ → List ℕ → List ℕ
 one_line level zero text = []
 one_line level (suc n) text = line level text
@@ -45,7 +45,7 @@ abbrev pub number_lines : ℕ → List ℕ → List ℕ
 number_lines level [] = []
 number_lines level (n ∷ ns) = line level (decimal n) ++ number_lines level ns
 
--- the name of a list of numbers, with which its first line begins
+-- the name at the beginning of the first line of a list of numbers
 abbrev pub numbers_name : NumberWidth → List ℕ
 numbers_name bit = codes "bits"
 numbers_name byte = codes "bytes"
@@ -64,7 +64,7 @@ numbers_lines _ level xs = number_lines level xs
 abbrev pub body_line : ℕ → ℕ → ℕ → List ℕ
 body_line level w s = line level (codes "struct " ++ (decimal w ++ 32 ∷ decimal s))
 
--- the text of a value: a first line with its kind and size, then the values in it, one level deeper
+-- the text of a value: a first line with its kind and size, then the words and values in it, one level deeper
 abbrev mutual
   pub shown : ℕ → Tree → List ℕ
   shown level nil = line level (codes "null")
@@ -87,6 +87,6 @@ abbrev mutual
       body_line level (length ws) (count ss)
       ++ (word_lines (level + 1) ws ++ (shown_each (level + 1) ss ++ shown_rows level bs))
 
--- the text of a whole value, whose root has level 0
+-- the text of a whole value, with the root at level 0
 abbrev pub show_text : Tree → List ℕ
 show_text t = shown 0 t

@@ -1,9 +1,10 @@
--- Values as mathematical trees: no capacity, no address, no allocator. (Page: structs, lists, capabilities.)
+-- Values as mathematical trees, without capacities, addresses or allocators. (Page: structs, lists, capabilities.)
 use Rattle.std.specs.Prelude.{ℕ, zero, suc, ◌+◌, List, Bool, true, false, length}
 use Rattle.capn_value.specs.NumberWidth.{NumberWidth}
 
--- The value that a pointer denotes: null; a struct by its data words and slots; a list of elements of no size, of
--- numbers of one width, of pointers or of structs; or a capability by its index. The numbers are not bounded.
+-- The value that a pointer denotes. It is null; a struct, given by its data words and slots; a list of elements without
+-- size, of numbers of one width, of pointers or of structs; or a capability, given by its index. The numbers have no
+-- bound.
 mutual
   pub data Tree : Type 0 where
     nil : Tree
@@ -19,17 +20,17 @@ mutual
     no_trees : Trees
     tree : Tree → Trees → Trees
 
-  -- the structs of a composite list, each by its words and its slots
+  -- the structs of a composite list, each given by its words and its slots
   pub data Bodies : Type 0 where
     no_bodies : Bodies
     body : List ℕ → Trees → Bodies → Bodies
 
--- the number of trees
+-- the number of trees in the list
 abbrev pub count : Trees → ℕ
 count no_trees = 0
 count (tree t ts) = suc (count ts)
 
--- the number of rows
+-- the number of rows in the list
 abbrev pub count_rows : Bodies → ℕ
 count_rows no_bodies = 0
 count_rows (body ws ss bs) = suc (count_rows bs)
@@ -41,7 +42,7 @@ is_null _ = false
 
 -- ---- read to here for the theorem
 
--- tree number `i`, or null past the end
+-- tree `i` of the list, or null past the end
 abbrev pub tree_at : Trees → ℕ → Tree
 tree_at no_trees i = nil
 tree_at (tree t ts) zero = t
@@ -53,7 +54,7 @@ front zero ts = no_trees
 front (suc n) no_trees = no_trees
 front (suc n) (tree t ts) = tree t (front n ts)
 
--- the number of words of all rows together, data words and slots
+-- the number of data words and slots of all rows together
 abbrev pub row_words : Bodies → ℕ
 row_words no_bodies = 0
 row_words (body ws ss bs) = length ws + count ss + row_words bs

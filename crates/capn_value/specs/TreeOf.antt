@@ -1,4 +1,4 @@
--- The tree that a `Value` stands for: the bridge from the declared type to the mathematical one.
+-- The tree that a `Value` stands for, which connects the declared type with the mathematical one.
 use Rattle.std.specs.Prelude.{ℕ, List, [], ◌∷◌, map}
 use Rattle.std.specs.Int.{from_bool}
 use Rattle.capn_value.specs.NumberWidth.{bit, byte, pair, quad, oct}
@@ -19,7 +19,7 @@ rows_from [] = no_bodies
 rows_from (b ∷ bs) = body b.0 b.1 (rows_from bs)
 
 module _ {A : Type 0} where
-  -- the tree of one level, if each value inside is already a tree
+  -- the tree of a value whose parts are already given as trees
   abbrev pub value_step : Value-F A Tree (List ℕ × Trees) → Tree
   value_step Value-F.Nil = nil
   value_step (Value-F.Node b) = node b.0 b.1
@@ -33,7 +33,7 @@ module _ {A : Type 0} where
   value_step (Value-F.Rows bs) = rows (rows_from bs)
   value_step (Value-F.Cap k) = cap k
 
-  -- the tree of a body: its words, and its slots as trees
+  -- the words and slots of a body whose slots are already given as trees
   abbrev pub body_step : Body-F A Tree (List ℕ × Trees) → List ℕ × Trees
   body_step b = (b.words, trees b.slots)
 
@@ -41,7 +41,7 @@ module _ {A : Type 0} where
   unfoldable pub tree_of : Value A → Tree
   tree_of = fold-Value A Tree (List ℕ × Trees) value_step body_step
 
-  -- the tree of a body
+  -- the words of a body, and the trees of its slots
   abbrev pub body_of : Body A → List ℕ × Trees
   body_of b = (b.words, trees (map tree_of b.slots))
 

@@ -1,36 +1,36 @@
--- Values without trailing zero words and null slots of structs. (Page: canonicalization.)
+-- Values without trailing zero words and trailing null slots of structs. (Page: canonicalization.)
 use Rattle.std.specs.Prelude.{ℕ, ◌+◌, max, List, [], ◌∷◌, take, Bool, cond, ◌&&◌, ◌==◌}
 use Rattle.capn_value.specs.Tree.{Tree, nil, node, voids, numbers, links, rows, cap, Trees}
 use Rattle.capn_value.specs.Tree.{no_trees, tree, Bodies, no_bodies, body, front, is_null}
 
--- the length that is kept of a list, if `n` elements are kept after its first: `n` + 1, or 0 if `n` is 0 and the first
--- is `empty`
+-- The length that is kept of a list if `n` elements are kept of its rest. It is 0 if `n` is 0 and the first element is
+-- empty, otherwise `n` + 1.
 abbrev pub kept_behind : Bool → ℕ → ℕ
 kept_behind empty n = cond (empty && (n == 0)) 0 (n + 1)
 
--- the number of words that are kept: the least after which every word is 0
+-- the number of words that are kept, which is the least `n` such that all words from index `n` on are 0
 abbrev pub kept_words : List ℕ → ℕ
 kept_words [] = 0
 kept_words (w ∷ ws) = kept_behind (w == 0) (kept_words ws)
 
--- the number of slots that are kept: the least after which every slot is null
+-- the number of slots that are kept, which is the least `n` such that all slots from index `n` on are null
 abbrev pub kept_slots : Trees → ℕ
 kept_slots no_trees = 0
 kept_slots (tree t ts) = kept_behind (is_null t) (kept_slots ts)
 
--- the number of words that each row of a list keeps: the greatest number that one of them keeps
+-- the number of words that are kept of each row of a list: the greatest number that a row would keep by itself
 abbrev pub kept_words_of_rows : Bodies → ℕ
 kept_words_of_rows no_bodies = 0
 kept_words_of_rows (body ws ss bs) = max (kept_words ws) (kept_words_of_rows bs)
 
--- the number of slots that each row of a list keeps: the greatest number that one of them keeps
+-- the number of slots that are kept of each row of a list: the greatest number that a row would keep by itself
 abbrev pub kept_slots_of_rows : Bodies → ℕ
 kept_slots_of_rows no_bodies = 0
 kept_slots_of_rows (body ws ss bs) = max (kept_slots ss) (kept_slots_of_rows bs)
 
 -- ---- read to here for the theorem
 
--- the value with every body cut to what is kept of it, at every level
+-- the value with the data section and the pointer section of each struct cut to the kept lengths, at every level
 abbrev mutual
   pub trimmed : Tree → Tree
   trimmed nil = nil

@@ -1,7 +1,7 @@
 //! The cost and the height of a value, capped so that no sum wraps.
 //!
 //! The cost of a list is computed from its typed slice, whose numbers are in the range of the type. The functions for
-//! the cost therefore also prove that a value is in range, which takes no step at run time.
+//! the cost therefore also prove that a value is in range, which costs nothing at run time.
 
 ghost use Rattle.std.specs.Prelude.{◌≡◌, ◌+◌, ◌||◌, ◌^◌, min, length};
 ghost use Rattle.std.specs.Int.{div_ceil};
@@ -22,14 +22,14 @@ pub const MOST_HEIGHT: u32 = 256;
 /// One more than the greatest cost of a value that fits, by either tariff.
 const DEAR: usize = 2 * MOST_COST as usize + 2;
 
-// Returns `a + b`, or `DEAR` if that is less.
+// Returns `a + b`, but at most `DEAR`.
 fn plus(a: usize, b: usize) -> usize
     ensures { result ≡ min (a + b) sizes.dear }
 {
     a.saturating_add(b).min(DEAR)
 }
 
-// Returns the number of words that the bytes `xs` take.
+// Returns the number of words that the bytes `xs` fill or begin.
 fn byte_words(xs: &[u8]) -> usize
     ensures words { result ≡ div_ceil (length xs.now) 8 }
     ensures in_range { AllBelow (2 ^ 8) xs.now }
@@ -58,7 +58,8 @@ fn oct_words(xs: &[u64]) -> usize
     xs.len()
 }
 
-// Returns the cost of the rows `bodies` of a list without its pointer and tag, if the rows have `words` words together.
+// Returns the cost of the rows `bodies` of a list, without the list's pointer and tag. All rows together have `words`
+// words.
 #[tactic(auto, using(std::proofs::lemmas::Grind::common_steps, crate::proofs::shared::Prices::prices))]
 fn capped_rows_price<A: Allocator>(bodies: &[Body<A>], words: usize) -> usize
     requires { words ≡ min (row_words (rows_of bodies.now)) sizes.dear }
@@ -71,7 +72,7 @@ fn capped_rows_price<A: Allocator>(bodies: &[Body<A>], words: usize) -> usize
     }
 }
 
-/// Returns the cost of `v` in words if each content costs `base` in addition to its size, or `DEAR` if that is less.
+/// Returns the cost of `v` in words, but at most `DEAR`, if each content costs `base` in addition to its size.
 #[cycle(cost)]
 #[tactic(auto, using(std::proofs::lemmas::Grind::common_steps, crate::specs::Views::views))]
 pub fn capped_cost<A: Allocator>(v: &Value<A>, base: usize) -> usize
@@ -122,7 +123,7 @@ fn capped_costs<A: Allocator>(items: &[Value<A>], base: usize) -> usize
     sum
 }
 
-// The number of words of all rows together, and the cost of what is in their slots.
+// The number of words of all rows together, and the cost of the values in their slots.
 #[derive(Drop)]
 struct RowSums {
     words: usize,
@@ -155,7 +156,7 @@ fn taller(below: u32) -> u32
     below.saturating_add(1).min(TALL)
 }
 
-/// Returns the height of `v`, or `TALL` if that is less.
+/// Returns the height of `v`, but at most `TALL`.
 #[cycle(height)]
 #[tactic(auto, using(std::proofs::lemmas::Grind::common_steps, crate::specs::Views::views))]
 pub fn capped_height<A: Allocator>(v: &Value<A>) -> u32

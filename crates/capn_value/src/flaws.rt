@@ -12,7 +12,7 @@ use crate::tariff::Tariff;
 use crate::value::{Body, Value};
 use std::alloc::Allocator;
 
-/// The flaws found in a value, among those that its parts can have by themselves.
+/// The flaws found in a value, of the three kinds that a part of a value can have by itself.
 #[derive(Clone, Copy)]
 struct Flaws {
     wide: bool,
@@ -41,7 +41,7 @@ impl Flaws {
     }
 }
 
-/// Finds the first misfit of `v`. If there is none, `v` is also in range.
+/// Finds the first misfit of `v`. If `v` has none, the numbers in `v` are also in the range of their types.
 #[tactic(auto, unfolding(crate::specs::Fits::misfit))]
 pub fn misfit<A: Allocator>(v: &Value<A>) -> Option<Misfit>
     ensures reason { result ≡ fits.misfit (tree_of v.now) }
@@ -75,7 +75,7 @@ fn is_root<A: Allocator>(v: &Value<A>) -> bool
     }
 }
 
-// Finds the flaws of `v` and of all below it.
+// Finds the flaws of `v` and of all values below `v`.
 #[cycle(flaws_of)]
 fn flaws_of<A: Allocator>(v: &Value<A>) -> Flaws
     ensures wide { result.wide ≡ fits.anywhere fits.is_wide (tree_of v.now) }
@@ -117,7 +117,7 @@ fn flaws_of_rows<A: Allocator>(bodies: &[Body<A>]) -> Flaws
     found
 }
 
-// Finds the flaws of `v` itself.
+// Finds the flaws that `v` has by itself.
 #[tactic(auto, using(std::proofs::lemmas::Grind::common_steps, crate::specs::Views::views))]
 fn own_flaws<A: Allocator>(v: &Value<A>) -> Flaws
     ensures wide { result.wide ≡ fits.is_wide (tree_of v.now) }

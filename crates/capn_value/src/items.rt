@@ -11,7 +11,7 @@ use std::slice;
 
 /// A list of elements. Contracts see only the elements, without capacity and address.
 ///
-/// It is made of a `Vec` and gives that back, without taking memory.
+/// The list wraps a `Vec`. Wrapping and unwrapping take no memory.
 #[derive(Debug, Drop)]
 pub struct Items<T, A: Allocator = Global> {
     items: Vec<T, A>,
@@ -38,8 +38,8 @@ impl<T, A: Allocator> Items<T, A> {
         }
     }
 
-    /// Returns an empty list over `alloc` with room for `capacity` elements, which are then pushed without a growth.
-    /// Takes no memory if `capacity` is 0.
+    /// Returns an empty list over `alloc` with room for `capacity` elements, which can then be pushed without an
+    /// allocation. Takes no memory if `capacity` is 0.
     pub fn with_capacity(alloc: A, capacity: usize) -> Result<Items<T, A>, AllocError>
         ensures ok { IfOk result (λ it. it ≡ []) }
         ensures memory { OnErr result (0 < capacity) }
@@ -48,14 +48,14 @@ impl<T, A: Allocator> Items<T, A> {
         Ok(Items { items })
     }
 
-    /// Wraps a `Vec`. Takes no memory.
+    /// Wraps the `Vec` `items`. Takes no memory.
     pub fn from_vec(items: Vec<T, A>) -> Items<T, A>
         ensures { result ≡ items.items }
     {
         Items { items }
     }
 
-    /// Gives the `Vec` back. Takes no memory.
+    /// Returns the `Vec` that was wrapped. Takes no memory.
     pub fn into_vec(self) -> Vec<T, A>
         ensures { result.items ≡ self }
     {
@@ -76,7 +76,7 @@ impl<T, A: Allocator> Items<T, A> {
         self.items.len()
     }
 
-    /// Returns `true` if there are no elements.
+    /// Tests whether there are no elements.
     pub fn is_empty(&self) -> bool
         ensures { IsTrue result ↔ (self.now ≡ []) }
     {
@@ -85,7 +85,7 @@ impl<T, A: Allocator> Items<T, A> {
 }
 
 impl<T: Copy, A: Allocator> Items<T, A> {
-    /// Copies the slice `items` to memory of exactly its size.
+    /// Copies the slice `items` into memory of exactly its size.
     pub fn from_slice(alloc: A, items: &[T]) -> Result<Items<T, A>, AllocError>
         ensures { IfOk result (λ it. it ≡ items.now) }
     {
@@ -95,7 +95,7 @@ impl<T: Copy, A: Allocator> Items<T, A> {
 }
 
 impl<T: Drop, A: Allocator> Items<T, A> {
-    /// Appends `item`. After a refusal the list is as it was.
+    /// Appends `item`. If an allocation is refused, the list is as it was.
     pub fn push(&mut self, item: T) -> Result<(), AllocError>
         ensures ok { OnOk result (self.new ≡ self.old ++ item ∷ []) }
         ensures err { OnErr result (self.new ≡ self.old) }

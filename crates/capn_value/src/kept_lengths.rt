@@ -1,4 +1,4 @@
-//! The lengths that are kept of data sections and of pointer sections when a value is trimmed.
+//! The numbers of words and of slots that trimming keeps of a data section and of a pointer section.
 
 ghost use Rattle.std.specs.Prelude.{◌≡◌};
 ghost use Rattle.capn_value.specs.TreeOf.{trees_of, rows_of};
@@ -8,7 +8,7 @@ use crate::sameness::is_null;
 use crate::value::{Body, Value};
 use std::alloc::Allocator;
 
-/// Returns the number of `words` of a data section that are kept: all up to the last that is not 0.
+/// Returns the number of `words` of a data section that trimming keeps: all up to the last word that is not 0.
 #[tactic(auto, using(std::proofs::lemmas::Grind::common_steps, crate::proofs::Kept::kept))]
 pub fn kept_words(words: &[u64]) -> usize
     ensures { result ≡ cut.kept_words words.now }
@@ -20,7 +20,7 @@ pub fn kept_words(words: &[u64]) -> usize
     n
 }
 
-/// Returns the number of `slots` of a pointer section that are kept: all up to the last that is not null.
+/// Returns the number of `slots` of a pointer section that trimming keeps: all up to the last slot that is not null.
 #[tactic(auto, using(std::proofs::lemmas::Grind::common_steps, crate::specs::Views::views, crate::proofs::Kept::kept))]
 pub fn kept_slots<A: Allocator>(slots: &[Value<A>]) -> usize
     ensures { result ≡ cut.kept_slots (trees_of slots.now) }
@@ -32,8 +32,8 @@ pub fn kept_slots<A: Allocator>(slots: &[Value<A>]) -> usize
     n
 }
 
-/// Returns the number of words that each of the `rows` of a list keeps: the greatest number that one of them keeps by
-/// itself.
+/// Returns the number of words that trimming keeps of each of the `rows` of a list, which is the greatest number that a
+/// row would keep by itself.
 #[tactic(auto, using(std::proofs::lemmas::Grind::common_steps, crate::specs::Views::views))]
 pub fn kept_words_of_rows<A: Allocator>(rows: &[Body<A>]) -> usize
     ensures { result ≡ cut.kept_words_of_rows (rows_of rows.now) }
@@ -45,8 +45,8 @@ pub fn kept_words_of_rows<A: Allocator>(rows: &[Body<A>]) -> usize
     most
 }
 
-/// Returns the number of slots that each of the `rows` of a list keeps: the greatest number that one of them keeps by
-/// itself.
+/// Returns the number of slots that trimming keeps of each of the `rows` of a list, which is the greatest number that a
+/// row would keep by itself.
 #[tactic(auto, using(std::proofs::lemmas::Grind::common_steps, crate::specs::Views::views))]
 pub fn kept_slots_of_rows<A: Allocator>(rows: &[Body<A>]) -> usize
     ensures { result ≡ cut.kept_slots_of_rows (rows_of rows.now) }

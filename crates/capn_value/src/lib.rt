@@ -1,14 +1,14 @@
-//! Values of messages as trees: the value of a pointer is what it denotes, apart from where it is in a message.
+//! Values of messages as trees. The value of a pointer is what it denotes, apart from where that is in a message.
 //!
-//! A [`Value`] is put together freely. A [`Tree`] is a value that fits into a message. [`Tree::new`] makes one, or
-//! gives the value back with the first [`Misfit`]. Contracts see both as one mathematical tree, without capacities,
-//! addresses or allocators.
+//! A [`Value`] may be built from any parts. A [`Tree`] is a value that fits into a message. [`Tree::new`] makes a tree
+//! of a value, or returns the value with the first [`Misfit`]. Contracts see both as one mathematical tree, without
+//! capacities, addresses or allocators.
 //!
 //! - [`same`] tests whether two values are equal up to trailing zero words and trailing null slots of structs.
 //! - [`trim`] cuts off trailing zero words and trailing null slots of structs. Two trees are the same if and only if
 //!   they are equal once trimmed, and trimming raises neither [`cost`] nor [`height`].
 //! - [`first_cap`] finds the first capability, [`copy`] copies a tree, and [`show`] writes its text.
-//! - [`laws`] states what holds of the definitions alone.
+//! - [`laws`] states what holds of the definitions apart from any call.
 //!
 //! Only `trim`, `copy` and `show` take memory.
 //!

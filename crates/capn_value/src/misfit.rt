@@ -1,15 +1,15 @@
-//! The misfits: the reasons why a value fits into no message.
+//! The misfits, which are the reasons why a value fits into no message.
 
 use std::error::Error;
 use std::fmt;
 
-/// The reason why a value fits into no message. (Own.) The variants are in the order of the tests. Each test looks at
-/// the whole value before the next begins.
+/// The reason why a value fits into no message. (Our own.) The variants are in the order of the tests. Each test looks
+/// at the whole value before the next test begins.
 #[derive(Clone, Copy, Debug, PartialEq, Eq)]
 pub enum Misfit {
     /// A struct has more than 65,535 data words or slots.
     Wide,
-    /// A list has more than 2^29 - 1 elements, or its rows together have more data words and slots than that.
+    /// A list has more than 2^29 - 1 elements, or its rows together have more than 2^29 - 1 data words and slots.
     Long,
     /// Two rows of one list differ in their number of data words or of slots.
     Ragged,

@@ -1,4 +1,4 @@
-//! The flaws of one part of a value, by itself.
+//! The flaws that one part of a value has by itself.
 
 ghost use Rattle.std.specs.Prelude.{◌≡◌, ◌||◌, length, nat_lt};
 ghost use Rattle.capn_value.specs.TreeOf.{tree_of, trees_of, rows_of};
@@ -8,7 +8,7 @@ ghost use Rattle.capn_value.specs.Fits as fits;
 use crate::value::{Body, Value};
 use std::alloc::Allocator;
 
-/// Returns `true` if `v` is a struct, or a list of structs, with more words or slots than a pointer can count.
+/// Tests whether `v` is a struct, or a list of structs, with more words or slots than a pointer can count.
 #[tactic(auto, using(std::proofs::lemmas::Grind::common_steps, crate::specs::Views::views))]
 pub fn is_wide<A: Allocator>(v: &Value<A>) -> bool
     ensures { result ≡ fits.is_wide (tree_of v.now) }
@@ -39,10 +39,10 @@ fn has_wide_row<A: Allocator>(bodies: &[Body<A>]) -> bool
     false
 }
 
-/// The most elements that a list pointer can count.
+/// The greatest number of elements that a list pointer can count.
 const MOST_ELEMENTS: usize = 536_870_911;
 
-/// Returns `true` if `v` is a list of more elements, or more words in rows, than a pointer can count.
+/// Tests whether `v` is a list of more elements, or of more words in rows, than a pointer can count.
 #[tactic(auto, using(std::proofs::lemmas::Grind::common_steps, crate::specs::Views::views))]
 pub fn is_long<A: Allocator>(v: &Value<A>) -> bool
     ensures { result ≡ fits.is_long (tree_of v.now) }
@@ -60,7 +60,7 @@ pub fn is_long<A: Allocator>(v: &Value<A>) -> bool
     }
 }
 
-// Returns `true` if the rows together have more words than a list may.
+// Tests whether the rows `bodies` together have more words than a list may have.
 #[tactic(auto, using(std::proofs::lemmas::Grind::common_steps, crate::specs::Views::views))]
 fn has_long_rows<A: Allocator>(bodies: &[Body<A>]) -> bool
     ensures { result ≡ nat_lt 536870911 (trees.row_words (rows_of bodies.now)) }
@@ -74,7 +74,7 @@ fn has_long_rows<A: Allocator>(bodies: &[Body<A>]) -> bool
     words > MOST_ELEMENTS
 }
 
-/// Returns `true` if `v` is a composite list with two rows of different sizes.
+/// Tests whether `v` is a composite list with two rows of different sizes.
 #[tactic(auto, using(std::proofs::lemmas::Grind::common_steps, crate::specs::Views::views))]
 pub fn is_ragged<A: Allocator>(v: &Value<A>) -> bool
     ensures { result ≡ fits.is_ragged (tree_of v.now) }
@@ -95,7 +95,7 @@ fn are_ragged<A: Allocator>(bodies: &[Body<A>]) -> bool
     }
 }
 
-// Returns `true` if each row has `words` words and `slots` slots.
+// Tests whether each of the rows `bodies` has `words` words and `slots` slots.
 #[tactic(auto, using(std::proofs::lemmas::Grind::common_steps, crate::specs::Views::views))]
 fn are_even<A: Allocator>(bodies: &[Body<A>], words: usize, slots: usize) -> bool
     ensures { result ≡ fits.are_even words slots (rows_of bodies.now) }

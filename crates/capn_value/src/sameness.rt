@@ -1,4 +1,4 @@
-//! The test `same`: equality of values up to trimming.
+//! The test `same`, which compares values up to trailing zero words and trailing null slots of structs.
 
 ghost use Rattle.std.specs.Prelude.{◌≡◌, ◌↔◌, ◌&&◌, IsTrue};
 ghost use Rattle.capn_value.specs.TreeOf.{tree_of, trees_of, rows_of};
@@ -9,11 +9,11 @@ ghost use Rattle.capn_value.specs.inner.SameTest.{test, test_words, test_slots, 
 use crate::value::{Body, Value};
 use std::alloc::Allocator;
 
-/// Returns `true` if `v` and `w` are equal up to trailing zero words and trailing null slots of structs, at every
-/// level. (Page: canonicalization.)
+/// Tests whether `v` and `w` are equal up to trailing zero words and trailing null slots of structs, at every level.
+/// (Page: canonicalization.)
 ///
-/// A pointer to an empty struct isn't null. All elements of lists are compared, and lists of different kinds differ.
-/// The values needn't fit. Takes no memory.
+/// An empty struct is not the same as null. All elements of lists are compared, and lists of different kinds differ.
+/// The values need not fit. Takes no memory.
 #[tactic(auto, using(crate::proofs::Decided::test_decides))]
 pub fn same<A: Allocator, B: Allocator>(v: &Value<A>, w: &Value<B>) -> bool
     ensures { IsTrue result ↔ Same (tree_of v.now) (tree_of w.now) }
@@ -21,7 +21,7 @@ pub fn same<A: Allocator, B: Allocator>(v: &Value<A>, w: &Value<B>) -> bool
     test(v, w)
 }
 
-/// Returns `true` if `v` is null.
+/// Tests whether `v` is null.
 #[tactic(auto, using(std::proofs::lemmas::Grind::common_steps, crate::proofs::Apart::apart))]
 pub fn is_null<A: Allocator>(v: &Value<A>) -> bool
     ensures { result ≡ is_null (tree_of v.now) }
@@ -44,7 +44,7 @@ fn are_null<A: Allocator>(items: &[Value<A>]) -> bool
     true
 }
 
-// Returns `true` if word i of `a` equals word i of `b` for each i. Past its end, a section has zeros.
+// Tests whether word i of `a` equals word i of `b` for each i. Past the end of a section, each word is 0.
 fn test_words(a: &[u64], b: &[u64]) -> bool
     ensures { result ≡ test_words a.now b.now }
 {
@@ -88,7 +88,7 @@ fn test_bodies<A: Allocator, B: Allocator>(a: &Body<A>, b: &Body<B>) -> bool
         && test_slots(a.slots.as_slice(), b.slots.as_slice())
 }
 
-// Returns `true` if slot i of `a` is the same as slot i of `b` for each i. Past its end, a section has null slots.
+// Tests whether slot i of `a` is the same as slot i of `b` for each i. Past the end of a section, each slot is null.
 #[cycle(sameness)]
 #[tactic(auto, using(std::proofs::lemmas::Grind::common_steps, crate::proofs::Apart::apart))]
 fn test_slots<A: Allocator, B: Allocator>(a: &[Value<A>], b: &[Value<B>]) -> bool

@@ -1,15 +1,15 @@
-//! The tariffs: what each object of a message costs in addition to its size.
+//! The tariffs, which set what each content of a message costs in addition to its size.
 
 ghost use Rattle.std.specs.Prelude.{◌≡◌, ◌≤◌};
 ghost use Rattle.capn_value.specs.Cost as sizes;
 
 /// The rule for the price of a visit. A price counts the words of the content that the slot leads to, and one for each
-/// element of a list whose elements have no size. (Own, after the page's security considerations.)
+/// element of a list whose elements have no size. (Our own, after the page's security considerations.)
 #[derive(Clone, Copy, Debug, PartialEq, Eq)]
 pub enum Tariff {
     /// Each content costs 1 in addition to its size.
     Strict,
-    /// A content costs its size alone.
+    /// Each content costs only its size.
     Plain,
 }
 

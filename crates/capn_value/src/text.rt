@@ -1,4 +1,4 @@
-//! The text of a tree, written into one string.
+//! The text of a tree, which is appended to one string.
 
 ghost use Rattle.std.specs.Prelude.{◌≡◌, ◌++◌, ◌+◌, ◌*◌, ◌<◌, ◌^◌, OnOk, string_bytes, length, codes};
 ghost use Rattle.capn_value.specs.TreeOf.{tree_of, trees_of, rows_of};
@@ -12,7 +12,8 @@ use crate::text_lines::{
 use crate::value::{Body, Value};
 use std::alloc::{AllocError, Allocator};
 
-/// Appends the text of `v` to `out`, with its first line at `level`. After a refusal a part of the text may be there.
+/// Appends the text of `v` to `out`, the first line at `level`. If an allocation is refused, `out` may have a part of
+/// the text.
 #[cycle(show)]
 #[tactic(auto, using(std::proofs::lemmas::Grind::common_steps, crate::specs::Views::views))]
 pub fn show<A: Allocator, B: Allocator>(

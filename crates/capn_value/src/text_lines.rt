@@ -1,4 +1,4 @@
-//! The lines of a tree's text, written into one string.
+//! The lines of a tree's text, which are appended to one string.
 
 ghost use Rattle.std.specs.Prelude.{◌≡◌, ◌≤◌, [], ◌∷◌, ◌++◌, ◌*◌, length, OnOk, string_bytes, codes, replicate};
 ghost use Rattle.capn_value.specs.Text as text;
@@ -16,7 +16,7 @@ fn indent<A: Allocator>(out: &mut String<A>, level: u32) -> Result<(), AllocErro
     Ok(())
 }
 
-/// Appends a line of one `word` at this `level` to `out`.
+/// Appends to `out` a line of the one word `word`, indented for `level`.
 #[tactic(auto, using(std::proofs::lemmas::Grind::common_steps), unfolding(crate::specs::Text::line))]
 pub fn plain_line<A: Allocator>(
     out: &mut String<A>,
@@ -29,7 +29,7 @@ pub fn plain_line<A: Allocator>(
     writeln!(out, "{word}")
 }
 
-/// Appends a line of a `name` and the number `n` at this `level` to `out`.
+/// Appends to `out` a line of `name` and the number `n`, indented for `level`.
 #[tactic(auto, using(std::proofs::lemmas::Grind::common_steps), unfolding(crate::specs::Text::line))]
 pub fn named_line<A: Allocator>(
     out: &mut String<A>,
@@ -43,7 +43,7 @@ pub fn named_line<A: Allocator>(
     writeln!(out, "{name} {n}")
 }
 
-/// Appends the first line of a struct at this `level` to `out`: its number of `words` and of `slots`.
+/// Appends to `out` the first line of a struct of `words` words and `slots` slots, indented for `level`.
 #[tactic(auto, using(std::proofs::lemmas::Grind::common_steps), unfolding(crate::specs::Text::line))]
 pub fn body_line<A: Allocator>(
     out: &mut String<A>,
@@ -57,7 +57,7 @@ pub fn body_line<A: Allocator>(
     writeln!(out, "struct {words} {slots}")
 }
 
-/// Appends a line of the number `n` at this `level` to `out`.
+/// Appends to `out` a line of the number `n`, indented for `level`.
 #[tactic(auto, using(std::proofs::lemmas::Grind::common_steps), unfolding(crate::specs::Text::line))]
 pub fn number_line<A: Allocator>(out: &mut String<A>, level: u32, n: u64) -> Result<(), AllocError>
     ensures { OnOk result (string_bytes out.new ≡ string_bytes out.old ++ text.line level (decimal n)) }
@@ -66,8 +66,8 @@ pub fn number_line<A: Allocator>(out: &mut String<A>, level: u32, n: u64) -> Res
     writeln!(out, "{n}")
 }
 
-/// Appends the line of one data `word` at this `level` to `out`. The word is written as a number, its most significant
-/// digit first.
+/// Appends to `out` the line of the data word `word`, indented for `level`. The word is written as a number, the most
+/// significant digit first.
 #[tactic(auto, using(std::proofs::lemmas::Grind::common_steps), unfolding(crate::specs::Text::line))]
 pub fn word_line<A: Allocator>(out: &mut String<A>, level: u32, word: u64) -> Result<(), AllocError>
     ensures { OnOk result
@@ -79,7 +79,7 @@ pub fn word_line<A: Allocator>(out: &mut String<A>, level: u32, word: u64) -> Re
     out.push_str("\n")
 }
 
-/// Appends a line of two hexadecimal digits for each of `bytes` at this `level` to `out`.
+/// Appends to `out` a line of two hexadecimal digits for each of `bytes`, indented for `level`.
 #[tactic(auto, using(std::proofs::lemmas::Grind::common_steps), unfolding(crate::specs::Text::line))]
 pub fn bytes_line<A: Allocator>(
     out: &mut String<A>,
@@ -93,7 +93,7 @@ pub fn bytes_line<A: Allocator>(
     out.push_str("\n")
 }
 
-/// Appends a line of one digit for each of `bits` at this `level` to `out`.
+/// Appends to `out` a line of one digit for each of `bits`, indented for `level`.
 #[tactic(auto, using(std::proofs::lemmas::Grind::common_steps), unfolding(crate::specs::Text::line))]
 pub fn bits_line<A: Allocator>(
     out: &mut String<A>,
@@ -146,7 +146,7 @@ fn push_byte<A: Allocator>(out: &mut String<A>, byte: u8) -> Result<(), AllocErr
     ensures { OnOk result (string_bytes out.new ≡ string_bytes out.old ++ encode_lower (byte ∷ [])) }
 {
     let mut digits = [0u8; 2];
-    // There is room for both digits, so nothing is refused.
+    // There is room for both digits, so the call succeeds.
     let _done = hex::encode_to_slice([byte], &mut digits);
     out.push(char::from(digits[0]))?;
     out.push(char::from(digits[1]))

@@ -47,8 +47,8 @@ impl<A: Allocator> Model for Tree<A> {
 }
 
 impl<A: Allocator> Tree<A> {
-    /// Makes a tree of `value` if it fits. Otherwise gives `value` back unchanged, with its first misfit, which may be
-    /// anywhere in it. Takes no memory, whatever the height of `value`.
+    /// Makes a tree of `value` if it fits. Otherwise returns `value` unchanged and its first misfit, which may be of
+    /// any part of `value`. Takes no memory, whatever the height of `value`.
     #[tactic(auto, unfolding(crate::specs::Fits::Fits))]
     pub fn new(value: Value<A>) -> Result<Tree<A>, (Value<A>, Misfit)>
         ensures ok { IfOk result (λ t. t ≡ tree_of value) }
@@ -62,7 +62,7 @@ impl<A: Allocator> Tree<A> {
         }
     }
 
-    /// Makes a tree of a `value` that is known to fit, and looks at nothing in it. Takes no memory.
+    /// Makes a tree of `value`, which is known to fit, without a test. Takes no memory.
     pub fn of_fit(value: Value<A>) -> Tree<A>
         requires fits { Fits (tree_of value) }
         requires in_range { InRange (tree_of value) }
@@ -71,7 +71,7 @@ impl<A: Allocator> Tree<A> {
         Tree { value }
     }
 
-    /// Returns the value. Takes no memory.
+    /// Returns the value of the tree. Takes no memory.
     pub fn value(&self) -> &Value<A>
         ensures value { tree_of result.now ≡ self.now }
         ensures fits { Fits self.now }
@@ -80,7 +80,7 @@ impl<A: Allocator> Tree<A> {
         &self.value
     }
 
-    /// Gives the value back. Takes no memory.
+    /// Returns the value of the tree, by move. Takes no memory.
     pub fn into_value(self) -> Value<A>
         ensures value { tree_of result ≡ self }
         ensures fits { Fits self }
@@ -92,7 +92,7 @@ impl<A: Allocator> Tree<A> {
 }
 
 /// Returns the greatest depth of an object in `tree`, from 0 to 256. The root has depth 1. Null and capabilities have
-/// no depth. (Page: security considerations. That rows have the depth of their list is own.) Takes no memory.
+/// no depth. (Page: security considerations. Our own: rows have the depth of their list.) Takes no memory.
 #[tactic(auto, using(crate::proofs::shared::Fitting::fit_parts))]
 pub fn height<A: Allocator>(tree: &Tree<A>) -> u32
     ensures exact { result ≡ sizes.height tree.now }
@@ -101,8 +101,9 @@ pub fn height<A: Allocator>(tree: &Tree<A>) -> u32
     capped_height(&tree.value)
 }
 
-/// Returns the cost of `tree` by `tariff`, in words, if each pointer is followed once. It is at most 2^28 by the plain
-/// tariff, and at most 2^29 + 1 by the strict one. (Own, after the page's security considerations.) Takes no memory.
+/// Returns the cost of `tree` by `tariff`, in words, if each pointer is followed once. The cost is at most 2^28 by the
+/// plain tariff, and at most 2^29 + 1 by the strict one. (Our own, after the page's security considerations.) Takes no
+/// memory.
 #[tactic(auto, using(crate::proofs::shared::Tariffs::affordable))]
 pub fn cost<A: Allocator>(tree: &Tree<A>, tariff: Tariff) -> u32
     ensures exact { result ≡ sizes.cost (sizes.base tariff) tree.now }
@@ -115,7 +116,7 @@ pub fn cost<A: Allocator>(tree: &Tree<A>, tariff: Tariff) -> u32
 /// Copies `tree` without trailing zero words and trailing null slots of structs, at every level (encoding page:
 /// "Canonicalization"). All rows of a list are cut to one size, and elements of a list are never cut.
 ///
-/// Returns `Memory` only if a growth on `alloc` was refused. Takes only the memory that the result holds.
+/// Returns `Memory` only if an allocation was refused. Takes only the memory of the result.
 #[tactic(auto, using(crate::proofs::shared::StaysFit::fits))]
 pub fn trim<A: Allocator + Copy, B: Allocator>(alloc: A, tree: &Tree<B>) -> Result<Tree<A>, Memory>
     ensures value { IfOk result (λ r. r ≡ cut.trimmed tree.now) }
@@ -123,7 +124,7 @@ pub fn trim<A: Allocator + Copy, B: Allocator>(alloc: A, tree: &Tree<B>) -> Resu
     ensures cheap { IfOk result (λ r. (by : Tariff)
         → sizes.cost (sizes.base by) r ≤ sizes.cost (sizes.base by) tree.now) }
     ensures low { IfOk result (λ r. sizes.height r ≤ sizes.height tree.now) }
-    // Null takes no memory.
+    // A null tree takes no memory.
     ensures memory { OnErr result (tree.now ≢ trees.nil) }
 {
     let value = trim_value(alloc, &tree.value)?;
@@ -132,20 +133,20 @@ pub fn trim<A: Allocator + Copy, B: Allocator>(alloc: A, tree: &Tree<B>) -> Resu
 
 /// Copies `tree` to memory of `alloc`.
 ///
-/// Returns `Memory` only if a growth was refused. Takes only the memory that the result holds.
+/// Returns `Memory` only if an allocation was refused. Takes only the memory of the result.
 pub fn copy<A: Allocator + Copy, B: Allocator>(alloc: A, tree: &Tree<B>) -> Result<Tree<A>, Memory>
     ensures exact { IfOk result (λ r. r ≡ tree.now) }
-    // Null takes no memory.
+    // A null tree takes no memory.
     ensures memory { OnErr result (tree.now ≢ trees.nil) }
 {
     let value = copy_value(alloc, &tree.value)?;
     Ok(Tree { value })
 }
 
-/// Returns the text of `tree`, which is not trimmed first: a line for each value and each data word, indented by two
-/// spaces a level. (Own.)
+/// Returns the text of `tree`, which is not trimmed first. The text has a line for each value and each data word,
+/// indented by two spaces for each level. (Our own.)
 ///
-/// Returns `Memory` only if a growth on `alloc` was refused. Takes the memory of one string.
+/// Returns `Memory` only if an allocation was refused. Takes the memory of one string.
 #[tactic(auto, using(crate::proofs::shared::Fitting::fit_parts))]
 pub fn show<A: Allocator, B: Allocator>(alloc: A, tree: &Tree<B>) -> Result<String<A>, Memory>
     ensures { IfOk result (λ t. string_bytes t ≡ text.show_text tree.now) }

@@ -1,4 +1,4 @@
-//! The type `Value`, which is what a pointer denotes, and the search for the first capability in one.
+//! The type `Value`, which is what a pointer denotes, and the search for the first capability in a value.
 
 ghost use Rattle.std.specs.Prelude.{◌≡◌};
 ghost use Rattle.capn_value.specs.TreeOf.{tree_of, trees_of, rows_of};
@@ -17,7 +17,7 @@ pub enum Value<A: Allocator = Global> {
     Nil,
     /// A struct.
     Node(Body<A>),
-    /// A list of elements of no size, by their number.
+    /// A list of elements without size, given by their number.
     Voids(u32),
     /// A list of single bits.
     Bits(Items<bool, A>),
@@ -29,11 +29,11 @@ pub enum Value<A: Allocator = Global> {
     Quads(Items<u32, A>),
     /// A list of elements of eight bytes that are no pointers.
     Octs(Items<u64, A>),
-    /// A list of pointers, each as the value that it denotes.
+    /// A list of pointers, each given as the value that it denotes.
     Links(Items<Value<A>, A>),
-    /// A composite list: its elements are structs of one size.
+    /// A composite list, whose elements are structs of one size.
     Rows(Items<Body<A>, A>),
-    /// A capability, by its index.
+    /// A capability, given by its index.
     Cap(u32),
 }
 
@@ -41,16 +41,16 @@ pub enum Value<A: Allocator = Global> {
 #[cycle(value)]
 #[derive(Debug, Drop)]
 pub struct Body<A: Allocator = Global> {
-    /// The data section, word by word.
+    /// The words of the data section.
     pub words: Items<u64, A>,
-    /// The pointer section, each pointer as the value that it denotes.
+    /// The pointers of the pointer section, each given as the value that it denotes.
     pub slots: Items<Value<A>, A>,
 }
 
 /// Returns the index of the first capability of `v` in preorder, or `None` if there is none.
 ///
-/// In preorder a value is followed by the values in its slots, rows or elements, in order, each with all below it
-/// before the next. (Own.) Takes no memory.
+/// In preorder a value is followed by the values in its slots, rows or elements, in order. All values below one of them
+/// come before the next one. (Our own.) Takes no memory.
 #[cycle(first_cap)]
 pub fn first_cap<A: Allocator>(v: &Value<A>) -> Option<u32>
     ensures { result ≡ caps.first_cap (tree_of v.now) }

@@ -1,4 +1,4 @@
-//! Copies of values in other memory, trimmed or whole.
+//! Copies of values in other memory, trimmed or unchanged.
 
 ghost use Rattle.std.specs.Prelude.{◌≡◌, ◌≢◌, [], ◌∷◌, ◌++◌, IfOk, OnOk, OnErr, IsOkAnd, List};
 ghost use Rattle.capn_value.specs.Tree.{nil, front};
@@ -23,7 +23,7 @@ fn copied<T: Copy, A: Allocator, B: Allocator>(
     Items::from_slice(alloc, items.as_slice())
 }
 
-/// Appends what was `made` to `out`, if it was made. After a refusal `out` is as it was.
+/// Appends the item in `made` to `out`. If `made` is an `Err`, or an allocation is refused, `out` is as it was.
 #[inline]
 pub fn push_made<T: Drop, A: Allocator>(
     out: &mut Items<T, A>,
@@ -35,7 +35,7 @@ pub fn push_made<T: Drop, A: Allocator>(
     out.push(made?)
 }
 
-/// Copies `v` to memory of `alloc`. Null takes no memory.
+/// Copies `v` into memory of `alloc`. Null takes no memory.
 pub fn copy_value<A: Allocator + Copy, B: Allocator>(
     alloc: A,
     v: &Value<B>,
@@ -49,7 +49,7 @@ pub fn copy_value<A: Allocator + Copy, B: Allocator>(
     anew(alloc, v, false)
 }
 
-/// Copies `v`, which holds no other value, to memory of `alloc`.
+/// Copies `v`, which has no values below it, into memory of `alloc`.
 pub fn copy_of_plain<A: Allocator, B: Allocator>(
     alloc: A,
     v: &Value<B>,
@@ -72,7 +72,7 @@ pub fn copy_of_plain<A: Allocator, B: Allocator>(
     }
 }
 
-/// Copies `v` with every body cut to what is kept of it, at every level, to memory of `alloc`. Null takes no memory.
+/// Copies `v`, trimmed at every level, into memory of `alloc`. Null takes no memory.
 pub fn trim_value<A: Allocator + Copy, B: Allocator>(
     alloc: A,
     v: &Value<B>,
@@ -86,7 +86,7 @@ pub fn trim_value<A: Allocator + Copy, B: Allocator>(
     anew(alloc, v, true)
 }
 
-// Returns the numbers of words and of slots of `body` that are kept if it is cut, or `None` if it is not to be `cut`.
+// Returns the numbers of words and of slots that trimming keeps of `body`, or `None` if `cut` is false.
 fn kept_of_body<A: Allocator>(body: &Body<A>, cut: bool) -> Option<(usize, usize)>
     ensures { result ≡ made.kept_of_body cut body.now.words (trees_of body.now.slots) }
 {
@@ -99,8 +99,7 @@ fn kept_of_body<A: Allocator>(body: &Body<A>, cut: bool) -> Option<(usize, usize
     ))
 }
 
-// Returns the numbers of words and of slots of each row that are kept if the rows are cut, or `None` if they are not to
-// be `cut`.
+// Returns the numbers of words and of slots that trimming keeps of each of `rows`, or `None` if `cut` is false.
 fn kept_of_rows<A: Allocator>(rows: &[Body<A>], cut: bool) -> Option<(usize, usize)>
     ensures { result ≡ made.kept_of_rows cut (rows_of rows.now) }
 {
@@ -110,7 +109,7 @@ fn kept_of_rows<A: Allocator>(rows: &[Body<A>], cut: bool) -> Option<(usize, usi
     Some((kept_words_of_rows(rows), kept_slots_of_rows(rows)))
 }
 
-/// Copies `v` to memory of `alloc`. If `cut` is true, every body is cut to what is kept of it. Null is treated like any
+/// Copies `v` into memory of `alloc`. If `cut` is true, the copy is trimmed at every level. Null is treated like any
 /// other value.
 #[cycle(anew)]
 pub fn anew<A: Allocator + Copy, B: Allocator>(
@@ -133,7 +132,7 @@ pub fn anew<A: Allocator + Copy, B: Allocator>(
     }
 }
 
-// Copies `body`: the words and slots that are `kept`, or all if `kept` is `None`.
+// Copies `body`, with the numbers of words and slots that `kept` gives, or with all if `kept` is `None`.
 #[cycle(anew)]
 fn anew_body<A: Allocator + Copy, B: Allocator>(
     alloc: A,
@@ -150,7 +149,7 @@ fn anew_body<A: Allocator + Copy, B: Allocator>(
     Ok(Body { words, slots })
 }
 
-// Copies the first `most` of `items` to memory of `alloc`.
+// Copies the first `most` of `items` into memory of `alloc`.
 #[cycle(anew)]
 fn anew_front<A: Allocator + Copy, B: Allocator>(
     alloc: A,
@@ -168,7 +167,7 @@ fn anew_front<A: Allocator + Copy, B: Allocator>(
     Ok(out)
 }
 
-// Copies `rows`: of each the words and slots that are `kept`, or all if `kept` is `None`.
+// Copies `rows`, each with the numbers of words and slots that `kept` gives, or with all if `kept` is `None`.
 #[cycle(anew)]
 fn anew_rows<A: Allocator + Copy, B: Allocator>(
     alloc: A,

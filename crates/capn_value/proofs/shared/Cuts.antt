@@ -1,4 +1,5 @@
--- Lemmas for `OnceTrimmed`, `SameTrimmed` and capn_canon: cutting off what is not kept changes no word and no slot.
+-- Lemmas for `OnceTrimmed`, `SameTrimmed` and capn_canon: cutting off what trimming does not keep changes no word or
+-- slot.
 use Rattle.std.proofs.Common.{◌≡◌, ℕ, zero, suc, ◌≤◌, List, [], ◌∷◌, take, Bool, true, false, refl, sym, ap, arith}
 use Rattle.std.specs.Prelude.{◌==◌, slice_index}
 use Rattle.std.proofs.lemmas.Bool.{eqb-true}
@@ -6,11 +7,11 @@ use Rattle.std.proofs.lemmas.Bool.Decides.{nat_tests}
 use Rattle.capn_value.specs.Tree.{Tree, nil, Trees, no_trees, tree, front, tree_at, is_null}
 use Rattle.capn_value.specs.Trim.{kept_behind, kept_words, kept_slots, trimmed, trimmed_each}
 
--- the length that is kept of a list is at most one more than the length that is kept after its first
+-- if at most `n + 1` elements of a list are kept, at most `n` of its rest are
 pub behind_le : (b : Bool) (k n : ℕ) → kept_behind b k ≤ suc n → k ≤ n
 behind_le b k n h = grind (arith, nat_tests)
 
--- nothing is kept of a list only if its first is empty and nothing is kept after it
+-- if no element of a list is kept, its first element is empty and none of its rest is kept
 pub behind_none : (b : Bool) (k : ℕ) → kept_behind b k ≤ 0 → (b ≡ true) × (k ≤ 0)
 behind_none true k h = (refl, grind (arith, nat_tests))
 behind_none false k h = absurd (omega arith)
@@ -21,7 +22,7 @@ none_kept [] h i = refl
 none_kept (w ∷ ws) h zero = eqb-true w 0 (behind_none (w == 0) (kept_words ws) h).0
 none_kept (w ∷ ws) h (suc i) = none_kept ws (behind_none (w == 0) (kept_words ws) h).1 i
 
--- cutting off what is not kept changes no word
+-- if all kept words are among the first `n`, cutting the list to `n` words changes no word
 pub cut_words : (n : ℕ) (ws : List ℕ) → kept_words ws ≤ n → (i : ℕ) → slice_index (take n ws) i ≡ slice_index ws i
 cut_words zero ws h i = sym (none_kept ws h i)
 cut_words (suc n) [] h i = refl
@@ -39,7 +40,7 @@ none_kept_slots no_trees h i = refl
 none_kept_slots (tree s ss) h zero = null_at s (behind_none (is_null s) (kept_slots ss) h).0
 none_kept_slots (tree s ss) h (suc i) = none_kept_slots ss (behind_none (is_null s) (kept_slots ss) h).1 i
 
--- cutting off what is not kept changes no slot
+-- if all kept slots are among the first `n`, cutting the list to `n` slots changes no slot, except that each is trimmed
 pub cut_slots : (n : ℕ) (ss : Trees) → kept_slots ss ≤ n → (i : ℕ)
     → tree_at (front n (trimmed_each ss)) i ≡ trimmed (tree_at ss i)
 cut_slots zero ss h i = sym (ap trimmed (none_kept_slots ss h i))

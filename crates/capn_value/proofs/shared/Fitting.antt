@@ -1,5 +1,5 @@
 -- Lemmas for `height`, `show`, `trim`, `trimming`, capn_canon, capn_layout and other crates: a value fits if and only
--- if it has the six facts of `IsFit`.
+-- if the six facts of `IsFit` hold of it.
 use Rattle.std.proofs.Common.{◌≡◌, Bool, true, false, cond, nat_lt, refl, Option, Some, None}
 use Rattle.std.proofs.lemmas.Bool.{ltb-false, le-ltb}
 use Rattle.capn_value.specs.Tree.{Tree}

@@ -1,5 +1,5 @@
--- Lemmas for `cost_and_height.rt`, `tree.rt`, capn_canon and capn_walk: numbers that are in range stay so once a value
--- is trimmed.
+-- Lemmas for `cost_and_height.rt`, `tree.rt`, capn_canon and capn_walk: if a value is in range, its trimmed value is in
+-- range.
 use Rattle.std.proofs.Common.{ℕ, zero, suc, ◌<◌, ◌^◌, List, [], ◌∷◌, take}
 use Rattle.std.specs.Prelude.{slice_index}
 use Rattle.capn_value.specs.Tree.{Tree, nil, node, voids, numbers, links, rows, cap, Trees}
@@ -8,18 +8,18 @@ use Rattle.capn_value.specs.Trim.{kept_words, kept_slots, kept_words_of_rows, ke
 use Rattle.capn_value.specs.Trim.{trimmed_rows}
 use Rattle.capn_value.specs.InRange.{AllBelow, InRange, EachInRange, RowsInRange}
 
--- numbers that are below a bound at each index are all below it
+-- if the number at each index is below a bound, `AllBelow` holds
 pub below_from : (most : ℕ) (xs : List ℕ) → ((k : ℕ) → slice_index xs k < most) → AllBelow most xs
 below_from most [] each = tt
 below_from most (x ∷ xs) each = (each 0, below_from most xs (λ k. each (suc k)))
 
--- the first numbers of a list are below a bound if all are
+-- if all numbers are below a bound, so are those of a prefix
 pub below-take : (most n : ℕ) (xs : List ℕ) → AllBelow most xs → AllBelow most (take n xs)
 below-take most zero xs h = tt
 below-take most (suc n) [] h = tt
 below-take most (suc n) (x ∷ xs) h = (h.0, below-take most n xs h.1)
 
--- the first values of a list are in range if all are
+-- if all values are in range, so are the first `n`
 pub each_in_range-front : (n : ℕ) (ts : Trees) → EachInRange ts → EachInRange (front n ts)
 each_in_range-front zero ts h = tt
 each_in_range-front (suc n) no_trees h = tt
@@ -38,12 +38,12 @@ mutual
   in_range-trimmed (rows bs) h = rows_in_range-trimmed (kept_words_of_rows bs) (kept_slots_of_rows bs) bs h
   in_range-trimmed (cap k) h = h
 
-  -- the values of slots stay in range once they are trimmed
+  -- if the values of slots are in range, so are the trimmed values
   pub each_in_range-trimmed : (ts : Trees) → EachInRange ts → EachInRange (trimmed_each ts)
   each_in_range-trimmed no_trees h = tt
   each_in_range-trimmed (tree t ts) h = (in_range-trimmed t h.0, each_in_range-trimmed ts h.1)
 
-  -- the values of rows stay in range once they are trimmed
+  -- if the values of rows are in range, so are the trimmed values
   pub rows_in_range-trimmed : (w s : ℕ) (bs : Bodies) → RowsInRange bs → RowsInRange (trimmed_rows w s bs)
   rows_in_range-trimmed w s no_bodies h = tt
   rows_in_range-trimmed w s (body ws ss bs) h = (

@@ -126,12 +126,12 @@ kept_slots_rows_same (body ws ss bs) (body vs ts cs) h =
     ap₂ max (kept_slots_same ss ts h.1) (kept_slots_rows_same bs cs h.2)
 kept_slots_rows_same _ _ h = absurd h
 
--- each row has at least `w` words and `s` slots
+-- each row has at least `w` words and at least `s` slots
 abbrev AtLeast : ℕ → ℕ → Bodies → Type 0
 AtLeast w s no_bodies = Unit {0}
 AtLeast w s (body ws ss bs) = (w ≤ length ws) × (s ≤ count ss) × AtLeast w s bs
 
--- the lengths that are kept of even rows are at most those of each row
+-- if all rows have `a` words and `b` slots, at most that many are kept of each
 even_bounds : (a b : ℕ) (bs : Bodies) → are_even a b bs ≡ true → (kept_words_of_rows bs ≤ a)
     × (kept_slots_of_rows bs ≤ b)
 even_bounds a b no_bodies h = (omega arith, omega arith)

@@ -1,4 +1,4 @@
--- Lemmas for `trim`, `trimming` and capn_canon: a trimmed value fits if the value does.
+-- Lemmas for `trim`, `trimming` and capn_canon: if a value fits, its trimmed value fits.
 use Rattle.std.proofs.Common.{◌≡◌, ℕ, zero, suc, ◌≤◌, min, List, take, length, Bool, true, false, ◌||◌, ◌&&◌, nat_lt}
 use Rattle.std.proofs.Common.{refl, ap, ◌∙◌, arith, length-take}
 use Rattle.std.specs.Prelude.{◌==◌}
@@ -139,7 +139,7 @@ same_root (links ts) = refl
 same_root (rows bs) = refl
 same_root (cap k) = refl
 
--- a value that fits still fits once it is trimmed
+-- if a value fits, its trimmed value fits
 pub fits-trimmed : (t : Tree) → Fits t → Fits (trimmed t)
 fits-trimmed t h =
     let p = fit_parts t h in

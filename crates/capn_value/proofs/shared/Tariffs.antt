@@ -1,4 +1,4 @@
--- Lemmas for `cost` and capn_walk: the cost of a value by one tariff and by the other.
+-- Lemmas for `cost` and capn_walk: the costs of a value by the two tariffs.
 use Rattle.std.proofs.Common.{◌≡◌, ℕ, ◌+◌, ◌*◌, ◌≤◌, length, arith}
 use Rattle.std.specs.Int.{div_ceil}
 use Rattle.capn_value.specs.NumberWidth.{per_word}
@@ -11,7 +11,7 @@ use Rattle.capn_value.specs.Fits.{Fits}
 use Rattle.capn_value.proofs.shared.Fitting.{fit_parts}
 use Rattle.capn_value.proofs.shared.Prices.{row_words-le}
 
--- if each content costs more in addition to its size, the value costs more
+-- if each content costs more in addition to its size, the value does not cost less
 module _ (less more : ℕ) (le : less ≤ more) where
   raised : (n : ℕ) → less + n ≤ more + n
   raised n = omega (arith, le)
@@ -37,7 +37,7 @@ module _ (less more : ℕ) (le : less ≤ more) where
 doubled : (n : ℕ) → 1 + n ≤ 2 * (0 + n) + 1
 doubled n = omega arith
 
--- each content except the root's has a slot, which is a word of the content above it
+-- the strict cost is at most twice the plain cost plus 1, since each content but the root's has a slot, which is a word
 mutual
   pub cost-doubled : (t : Tree) → cost 1 t ≤ 2 * cost 0 t + 1
   cost-doubled nil = omega arith
@@ -56,7 +56,7 @@ mutual
   costs_in_rows-doubled no_bodies = omega arith
   costs_in_rows-doubled (body ws ss bs) = omega (arith, costs-doubled ss, costs_in_rows-doubled bs)
 
--- the cost of a value that fits is below the cap, by either tariff
+-- the cost of a value that fits is below `dear`, by either tariff
 pub affordable : (tariff : Tariff) (t : Tree) → Fits t → cost (base tariff) t + 1 ≤ dear
 affordable Strict t h = let cheap = (fit_parts t h).cheap in omega (arith, cost-doubled t)
 affordable Plain t h = let cheap = (fit_parts t h).cheap in omega arith

@@ -8,9 +8,9 @@ use Rattle.capn_value.specs.Fits.{elements}
 use Rattle.capn_value.specs.Getters.{null, struct, list_of_numbers, list_of_pointers, list_of_structs, Step, to_pointer}
 use Rattle.capn_value.specs.Getters.{to_element, Answer, row_at, kind, word, number, index, next, told, get}
 
--- ---- what is the same is told alike
+-- ---- if values are the same, the getters agree on them
 
--- a slot that is null in one is null in the other
+-- a slot that is `nil` is the same as null
 null_slot : (t : Tree) → t ≡ nil → Same nil t
 null_slot t e = subst (λ (u : Tree). Same nil u) (sym e) tt
 
@@ -51,7 +51,7 @@ rows_counted no_bodies no_bodies h = refl
 rows_counted (body ws ss bs) (body vs ts cs) h = ap suc (rows_counted bs cs h.2)
 rows_counted _ _ h = absurd h
 
--- the same step from values that are the same leads to values that are the same
+-- from values that are the same, a step leads to values that are the same
 pub same_next : (t u : Tree) → Same t u → (s : Step) → Same (next t s) (next u s)
 same_next nil nil h (to_pointer j) = tt
 same_next nil nil h (to_element i) = tt
@@ -101,7 +101,7 @@ pub same_got : (p : List Step) (t u : Tree) → Same t u → get t p ≡ get u p
 same_got [] t u h = same_told t u h
 same_got (s ∷ p) t u h = same_got p (next t s) (next u s) (same_next t u h s)
 
--- ---- what is told alike is the same
+-- ---- if the getters agree on values, these are the same
 
 -- the getters agree on both values along every path
 abbrev pub Alike : Tree → Tree → Type 0
@@ -125,7 +125,7 @@ alike_numbers t u h i = ap (λ (a : Answer). a.number i) (h [])
 alike_index : (t u : Tree) → Alike t u → index t ≡ index u
 alike_index t u h = ap (λ (a : Answer). a.index) (h [])
 
--- a value of the kind null is null
+-- a value whose kind is null is `nil`
 null_told : (t : Tree) → null ≡ kind t → t ≡ nil
 null_told nil e = refl
 null_told _ e = absurd cc
@@ -134,7 +134,7 @@ all_null_told : (ts : Trees) → ((i : ℕ) → Alike nil (tree_at ts i)) → Al
 all_null_told no_trees h = tt
 all_null_told (tree t ts) h = (null_told t (alike_kind nil t (h 0)), all_null_told ts (λ i. h (suc i)))
 
--- lists of the same length with equal numbers are equal
+-- lists of the same length with equal numbers at each index are equal
 equal_lists : (xs ys : List ℕ) → length xs ≡ length ys → ((i : ℕ) → get_or xs i 0 ≡ get_or ys i 0) → xs ≡ ys
 equal_lists [] [] e h = refl
 equal_lists [] (y ∷ ys) e h = absurd cc
@@ -186,15 +186,15 @@ mutual
   )
   rows_from_told _ _ e h = absurd cc
 
--- values are the same if and only if the getters agree on them
+-- values are the same if and only if the getters agree on them along every path
 pub same_exactly_told : (t u : Tree) → Same t u ↔ Alike t u
 same_exactly_told t u = ((λ h p. same_got p t u h), same_from_told t u)
 
--- values are the same if and only if the functions that give all their getters' results are equal
+-- values are the same if and only if the functions from paths to getters' results are equal
 pub same_as_whole : (t u : Tree) → Same t u ↔ (get t ≡ get u)
 same_as_whole t u = ((λ h i p. same_got p t u h i), (λ e. same_from_told t u (λ p i. e i p)))
 
--- a function of the getters' results is equal for values that are the same
+-- anything computed from the getters' results is equal for values that are the same
 pub same_to_reader : {A : Type 0} (read : (List Step → Answer) → A) (t u : Tree) → Same t u
     → read (get t) ≡ read (get u)
 same_to_reader read t u h = ap read ((same_as_whole t u).0 h)

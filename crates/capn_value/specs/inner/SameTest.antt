@@ -6,7 +6,7 @@ use Rattle.capn_value.specs.NumberWidth.{bits_in}
 use Rattle.capn_value.specs.Tree.{Tree, nil, node, voids, numbers, links, rows, cap, Trees}
 use Rattle.capn_value.specs.Tree.{no_trees, tree, Bodies, no_bodies, body, is_null}
 
--- true if the words are equal one by one, with zeros past the end of the shorter list
+-- true if the words are equal one by one, with zeros after the end of the shorter list
 abbrev pub test_words : List ℕ → List ℕ → Bool
 test_words [] [] = true
 test_words [] (v ∷ vs) = (0 == v) && test_words [] vs

@@ -1,5 +1,5 @@
--- The storage of elements in `Items`, by which `Value` may hold `Items` of `Value`. It is that of the `Vec` inside,
--- seen as the list of its elements.
+-- The storage of the elements in `Items`, which allows a `Value` to have `Items` of values. It is the storage of the
+-- `Vec` inside, seen as the list of its elements.
 use mathlib.Core.Path.{◌≡◌, refl, sym}
 use mathlib.Core.List.{List, []}
 use mathlib.Core.Former.{Former, this, list, via, children}
@@ -22,14 +22,14 @@ use Rattle.capn_value.specs.contracts.items.Items.TheInside as fields
 abbrev pub the_former : Former {0} → Type 0 → Former {0}
 the_former elements A = list elements
 
--- if the elements are weighed, so is a list of them
+-- if the elements have weights, a list of them has one
 abbrev pub the_weighed : {elements : Former {0}} → Weighed elements → (A : Type 0) → Weighed (the_former elements A)
 the_weighed weights A = w_list weights
 
 pub the_empty : (A : Type 0) → A → List ⊥
 the_empty A alloc = []
 
--- the elements of an `Items` are its value
+-- the elements of the value of an `Items` are the value itself
 abbrev pub the_items : (A T : Type 0) → List T → List T
 the_items A T elements = elements
 
@@ -37,7 +37,7 @@ pub the_items_listed : (A T : Type 0) (elements : List T)
     → listed _ (children (the_former this A) T elements) ≡ the_items A T elements
 the_items_listed A T elements = list-listed T elements
 
--- the storage of the one field, a `Vec`
+-- the storage of the only field, a `Vec`
 abbrev inside : Type 0 → Former {0}
 inside A = via (vec.the_former this A) (λ T. Inside T A) (λ T it. it.items) (λ T v. record { items = v }) (λ T it. refl)
     (λ T v. refl)
