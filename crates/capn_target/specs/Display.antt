@@ -1,4 +1,4 @@
--- The text of a fault, as it is displayed. (Own.)
+-- The displayed text of a fault. (Our own.)
 use Rattle.std.specs.Prelude.{ℕ, List, codes}
 use Rattle.capn_target.specs.declared.target.Fault.{Fault}
 use Rattle.capn_target.specs.declared.target.Fault.TheVariants as walks

@@ -1,4 +1,4 @@
--- The size of an object by its form, and what it means that the object lies inside its message.
+-- The size of an object with a given form, and the definition of an object inside its message.
 use Rattle.std.specs.Prelude.{ℕ, ◌+◌, ◌*◌, ◌<◌, ◌≤◌, List, length, ⊤}
 use Rattle.capn_words.specs.Message.{segment_at}
 use Rattle.capn_words.specs.declared.space.Place.{Place}
@@ -12,20 +12,20 @@ use Rattle.capn_target.specs.declared.target.Shape.{Shape}
 use Rattle.capn_target.specs.declared.target.Shape.TheVariants as shapes
 use Rattle.capn_target.specs.Target.{content_words}
 
--- the number of slots of an object
+-- the number of slots of an object of the given form
 abbrev pub slot_count : Shape → ℕ
 slot_count (shapes.Node data_words pointers) = pointers
 slot_count (shapes.Many Link n) = n
 slot_count (shapes.Many width n) = 0
 slot_count (shapes.Rows n data_words pointers span) = n * pointers
 
--- the number of words that an object takes
+-- the number of words of an object of the given form
 abbrev pub extent : Shape → ℕ
 extent (shapes.Node data_words pointers) = data_words + pointers
 extent (shapes.Many width n) = content_words width n
 extent (shapes.Rows n data_words pointers span) = 1 + span
 
--- the rows of a composite list, which has a tag word, are within the words that its pointer gives
+-- a composite list has the form `Rows`, and its rows are within the words that its pointer gives
 abbrev pub RowsFit : Shape → Type 0
 RowsFit (shapes.Rows n data_words pointers span) = n * (data_words + pointers) ≤ span
 RowsFit (shapes.Many Rows n) = ⊥
@@ -42,12 +42,13 @@ abbrev pub AreNumbers : Pointer → Type 0
 AreNumbers (Many o width n) = IsPlain width
 AreNumbers _ = ⊥
 
--- `n` words from `at` on are inside its segment, which exists
+-- segment `at.segment` exists, and `n` words from `at` on are inside the segment
 pub record IsContent (message : List (List ℕ)) (at : Place) (n : ℕ) : Type 0 where
   pub exists : at.segment < length message
   pub within : at.word + n ≤ length (segment_at message at.segment)
 
--- the target, if it is content of `message`, lies inside its segment
+-- if the target is content, the content lies inside its segment of `message`, and the rows of a composite list are
+-- within the words that its pointer gives
 abbrev pub IsInMessage : List (List ℕ) → Target → Type 0
 IsInMessage message (targets.Content s start shape pads) =
     IsContent message (record { segment = s; word = start }) (extent shape) × RowsFit shape

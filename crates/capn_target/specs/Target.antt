@@ -15,7 +15,7 @@ use Rattle.capn_target.specs.declared.target.Fault.{Fault}
 use Rattle.capn_target.specs.declared.target.Fault.TheVariants as faults
 use Rattle.capn_words.specs.Pointers.{field, pointer_of}
 
--- the width that the pointer to a list of such numbers has
+-- the width in the pointer to a list of numbers of the given width
 abbrev pub list_width : NumberWidth → Width
 list_width bit = W1
 list_width byte = W8
@@ -23,11 +23,11 @@ list_width pair = W16
 list_width quad = W32
 list_width oct = W64
 
--- the number of words that `n` bits take
+-- the number of words that `n` bits need
 abbrev pub words_for : ℕ → ℕ
 words_for n = (n + 63) / 64
 
--- the number of words of a list's content; a composite list has a tag word and `n` words after it
+-- the number of words of the content of a list; for a composite list a tag word and `n` words after it
 abbrev pub content_words : Width → ℕ → ℕ
 content_words W0 n = 0
 content_words W1 n = words_for n
@@ -38,15 +38,15 @@ content_words W64 n = n
 content_words Link n = n
 content_words Rows n = 1 + n
 
--- the index of the word to which an offset leads, counted from the word after a pointer at `word`; before word 0 it is
--- a fault (Own.)
+-- The index of the word that an offset leads to, counted from the word after a pointer at `word`. An index before word
+-- 0 is the fault `Range`. (Our own.)
 abbrev pub content_start : (word : ℕ) (offset : ℤ) → Result ℕ Fault
 content_start w (pos n) = Ok (w + 1 + n)
 content_start w (negsuc n) = if nat_lt w n then Err faults.Range else Ok (w - n)
 
 module _ (message : List (List ℕ)) where
-  -- the composite list whose content starts with the tag word `tag`; its count is unsigned, its rows may leave words
-  -- free (Own: both.)
+  -- The composite list whose content starts with the tag word `tag`, or the fault of the tag word. The count in the tag
+  -- word is unsigned, and the rows may leave words unused. (Our own: both.)
   abbrev pub tagged : (segment start pads span tag : ℕ) → Result Target Fault
   tagged s start pads span tag =
       if field 0 2 tag == 0
@@ -54,40 +54,41 @@ module _ (message : List (List ℕ)) where
       else Ok (targets.Content s start (shapes.Rows (field 2 30 tag) (field 32 16 tag) (field 48 16 tag) span) pads)
       else Err faults.BadTag
 
-  -- `found`, if content of `n` words from `start` on is inside its segment; `n` may be 0 (Own.)
+  -- `found`, if `n` words from `start` on are inside the segment, otherwise `Range`; `n` may be 0 (our own)
   abbrev pub if_inside : (segment start n : ℕ) → Result Target Fault → Result Target Fault
   if_inside s start n found = if nat_lt (length (segment_at message s)) (start + n) then Err faults.Range else found
 
-  -- the list whose content starts at `start`: rows after their tag word, or elements of one width
+  -- the list whose content starts at `start`: rows after a tag word, or elements of one width
   abbrev pub list : (segment start pads : ℕ) → Width → (n : ℕ) → Result Target Fault
   list s start pads Rows n =
       if_inside s start (1 + n) (tagged s start pads n (slice_index (segment_at message s) start))
   list s start pads width n =
       if_inside s start (content_words width n) (Ok (targets.Content s start (shapes.Many width n) pads))
 
-  -- the struct whose content starts at `start`, by the sizes of its sections
+  -- the struct whose content starts at `start`, with the given sizes of its sections
   abbrev pub struct : (segment start pads data_words pointers : ℕ) → Result Target Fault
   struct s start pads data_words pointers =
       if_inside s start (data_words + pointers) (Ok (targets.Content s start (shapes.Node data_words pointers) pads))
 
-  -- the struct whose content starts at the given word, or the fault of that start
+  -- the struct whose content starts at the given word, or the given fault of the start
   abbrev pub struct_from : (segment : ℕ) → Result ℕ Fault → (pads data_words pointers : ℕ) → Result Target Fault
   struct_from s (Ok start) pads data_words pointers = struct s start pads data_words pointers
   struct_from s (Err e) pads data_words pointers = Err e
 
-  -- the list whose content starts at the given word, or the fault of that start
+  -- the list whose content starts at the given word, or the given fault of the start
   abbrev pub list_from : (segment : ℕ) → Result ℕ Fault → (pads : ℕ) → Width → (n : ℕ) → Result Target Fault
   list_from s (Ok start) pads width n = list s start pads width n
   list_from s (Err e) pads width n = Err e
 
-  -- the struct or list whose pointer is at `word` of the segment, in the slot itself or in a pad of one word
+  -- the struct or list that the pointer at `word` of the segment leads to, in the slot itself or in a pad of one word
   abbrev pub target_from : (segment word pads : ℕ) → Pointer → Result Target Fault
   target_from s w pads (Node o data_words pointers) = struct_from s (content_start w o) pads data_words pointers
   target_from s w pads (Many o width n) = list_from s (content_start w o) pads width n
   target_from s w pads _ = Err faults.BadPad
 
-  -- the content that the second word of a pad of two describes, if the first gives its start; zero is a struct without
-  -- words, and the offset is ignored (Own: both.)
+  -- The content that the second word of a two-word landing pad describes. The first word gave `start`. A null second
+  -- word describes a struct without words, and any offset in the second word is ignored. (Our own: both.) Any other
+  -- pointer is `BadPad`.
   abbrev pub second_pad : (segment start : ℕ) → Pointer → Result Target Fault
   second_pad s start Nil = struct s start 2 0 0
   second_pad s start (Node o data_words pointers) = struct s start 2 data_words pointers
@@ -101,7 +102,8 @@ module _ (message : List (List ℕ)) where
   is_second_pad (Many o width n) = true
   is_second_pad _ = false
 
-  -- the target of a pad of two words: the first is a far pointer to the content, and the second describes the content
+  -- the target that a pad of two words leads to: the first is a far pointer to the content, and the second describes
+  -- the content
   abbrev pub two_pads : Pointer → Pointer → Result Target Fault
   two_pads (Far false w s) tag =
       if is_second_pad tag
@@ -109,18 +111,18 @@ module _ (message : List (List ℕ)) where
       else Err faults.BadPad
   two_pads _ tag = Err faults.BadPad
 
-  -- the pointer at `word` of a segment
+  -- the pointer at `word` of the segment
   abbrev pub pointer_in : (segment word : ℕ) → Pointer
   pointer_in s w = pointer_of (slice_index (segment_at message s) w)
 
-  -- `found`, if a landing pad of `n` words at `word` is inside an existing segment
+  -- `found`, if a landing pad of `n` words at `word` is inside an existing segment, otherwise the fault of the pad
   abbrev pub landing : (segment word n : ℕ) → Result Target Fault → Result Target Fault
   landing s w n found =
       if nat_lt s (length message)
       then if nat_lt (length (segment_at message s)) (w + n) then Err faults.PadRange else found
       else Err faults.NoSegment
 
-  -- the target of a pointer at `word` of a segment (Own: the order of the faults.)
+  -- the target of the given pointer, which is at `word` of the segment (our own: the order of the faults)
   abbrev pub target_of_pointer : (segment word : ℕ) → Pointer → Result Target Fault
   target_of_pointer s w Nil = Ok targets.Nil
   target_of_pointer s w (Cap k) = Ok (targets.Cap k)
@@ -129,13 +131,13 @@ module _ (message : List (List ℕ)) where
   target_of_pointer s w (Far true v t) = landing t v 2 (two_pads (pointer_in t v) (pointer_in t (v + 1)))
   target_of_pointer s w near_pointer = target_from s w 0 near_pointer
 
-  -- the target of the pointer at a place
+  -- the target of the pointer at the place `at`
   unfoldable pub target : Place → Result Target Fault
   target at = target_of_pointer at.segment at.word (pointer_in at.segment at.word)
 
 -- ---- read to here for the theorem
 
--- the number of bits of an element, or for a composite list of a word of its rows
+-- the number of bits of an element, or for a composite list the number of bits of a word
 abbrev pub bits_of : Width → ℕ
 bits_of W0 = 0
 bits_of W1 = bits_in bit

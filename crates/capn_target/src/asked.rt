@@ -1,10 +1,10 @@
-//! The trait `Asked`, a message on which one task is done, by calls whose reads are counted.
+//! The trait `Asked`, a message on which one task is done by calls whose reads are counted.
 //!
-//! A call that takes an [`Asked`] in place of a `Space` can do only one task on it, since the `Asked` is moved. The
-//! task ([`CountedTask`]) gets the message as calls that count, and reads it no more often than the message allows. A
-//! clause `requires work { M.allows message n }` therefore bounds the work of the call: its body is proved for every
-//! message that allows n reads, even one that allows no more. A reference to a `Space` allows any number, so callers
-//! have nothing to prove.
+//! A call that takes an [`Asked`] in place of a `Space` can do only one task on the message, since the `Asked` is
+//! moved. The task ([`CountedTask`]) gets the message as a value whose reads are counted, and reads no more often than
+//! the message allows. A clause `requires work { M.allows message n }` therefore bounds the work of a call: the call's
+//! body is proved for every message that allows n reads, even one that allows no more. A reference to a `Space` allows
+//! any number of reads, so callers have nothing to prove.
 
 ghost use Rattle.std.specs.Prelude.{◌≡◌, ℕ, ◌+◌, ◌<◌, ◌≤◌, List};
 
@@ -24,7 +24,7 @@ pub trait CountedTask {
     /// The greatest number of reads and turns of loops that the task counts, for any message.
     ghost most: { Self → ℕ };
 
-    /// Does the task on the message `space`. Its reads are counted in `reads`.
+    /// Does the task on the message `space`. The reads are counted in `reads`.
     fn run<S: Space, L: Ledger>(
         self,
         space: &CountedSpace<'_, S, L>,
@@ -39,7 +39,7 @@ pub trait CountedWriter {
     /// The result of the task.
     type Told;
 
-    /// An item of the buffer.
+    /// The type of the buffer's items.
     type Item;
 
     /// The relation between a message, the buffer before and after the task, and the result of the task.
@@ -48,7 +48,7 @@ pub trait CountedWriter {
     /// The greatest number of reads and turns of loops that the task counts, for any message.
     ghost most: { Self → ℕ };
 
-    /// Does the task on the message `space` and the buffer `out`. Its reads are counted in `reads`.
+    /// Does the task on the message `space` and the buffer `out`. The reads are counted in `reads`.
     fn run<S: Space, L: Ledger>(
         self,
         space: &CountedSpace<'_, S, L>,
@@ -61,20 +61,20 @@ pub trait CountedWriter {
 
 /// A message on which one task is done.
 pub trait Asked {
-    /// The segments, each the list of its words.
+    /// The segments of the message, each as the list of its words.
     ghost message: { Self → List (List ℕ) };
 
     /// The condition that the given number of reads is allowed.
     ghost allows: { Self → ℕ → Type 0 };
 
-    /// Does `task` with a new count. The count begins with one read of the number of segments, so one read more than
-    /// those of the task has to be allowed.
+    /// Does `task` with a new count. The count begins with one read of the number of segments, so the message has to
+    /// allow one read more than the task counts.
     fn ask<T: CountedTask>(self, task: T) -> T::Told
         requires { allows self (T.most task + 1) }
         ensures { T.tells task (message self) result };
 
     /// Does `task` on the buffer `out` with a new count. The count begins with one read of the number of segments, so
-    /// one read more than those of the task has to be allowed.
+    /// the message has to allow one read more than the task counts.
     fn ask_into<T: CountedWriter>(self, task: T, out: &mut [T::Item]) -> T::Told
         requires { allows self (T.most task + 1) }
         ensures { T.tells task (message self) out.old out.new result };

@@ -1,4 +1,4 @@
-//! The content at a known word of a segment: its form, or the fault of its range or of its tag.
+//! The content at a known word of a segment: its form, or the fault of its range or of its tag word.
 
 ghost use Rattle.std.specs.Prelude.{◌≡◌, ℕ, ◌<◌, ◌≤◌, ◌+◌, ◌^◌, length, slice_index};
 ghost use Rattle.capn_words.specs.Message.{segment_at};
@@ -23,7 +23,7 @@ pub fn segment_length<S: Space, L: Ledger>(
     space.words(segment, reads).unwrap_or(0)
 }
 
-/// Returns the number of words of `segment`, without a read if it is the segment `known`, which has `size` words.
+/// Returns the number of words of `segment`. Reads nothing if `segment` is `known`, which has `size` words.
 #[inline(always)]
 pub fn size_of<S: Space, L: Ledger>(
     space: &CountedSpace<'_, S, L>,
@@ -51,8 +51,8 @@ pub fn place(segment: u32, word: u32) -> Place
     Place { segment, word }
 }
 
-/// Returns the index of the word to which `offset` leads from the pointer at `word`, or `Range` if that is before word
-/// 0.
+/// Returns the index of the word that `offset` leads to from the pointer at `word`, or `Range` if the index would be
+/// negative.
 #[inline(always)]
 pub fn start_of(word: u32, offset: i32) -> Result<u64, Fault>
     ensures { result ≡ spec.content_start word offset }
@@ -65,8 +65,8 @@ pub fn start_of(word: u32, offset: i32) -> Result<u64, Fault>
     }
 }
 
-/// Returns the number of bits of an element of a list of this `width`. For `Rows` these are the bits of a word, since
-/// the count of a composite list is in words.
+/// Returns the number of bits of an element of a list of the width `width`. For `Rows` the result is the number of bits
+/// of a word, since the count of a composite list is in words.
 #[inline(always)]
 fn bits_of(width: Width) -> u64
     ensures value { result ≡ spec.bits_of width }
@@ -82,7 +82,7 @@ fn bits_of(width: Width) -> u64
     }
 }
 
-/// Returns the number of words that the content of a list of `count` elements takes. For `Rows`, `count` is in words,
+/// Returns the number of words of the content of a list of `count` elements. For `Rows`, `count` is a number of words,
 /// and the tag word is added.
 #[inline(always)]
 pub fn content_words(width: Width, count: u32) -> u64
@@ -96,7 +96,7 @@ pub fn content_words(width: Width, count: u32) -> u64
 }
 
 /// Returns the struct of `words` and `slots` whose content begins at word `start` of `segment`, which has `size` words.
-/// Its pointer has a landing pad of `pads` words. `Range` if the content ends past the segment.
+/// The landing pad of the struct's pointer has `pads` words. Returns `Range` if the content ends past the segment.
 #[inline(always)]
 pub fn node_at<S: Space, L: Ledger>(
     space: &CountedSpace<'_, S, L>,
@@ -123,9 +123,9 @@ pub fn node_at<S: Space, L: Ledger>(
     })
 }
 
-/// Returns the list of `count` elements whose content begins at word `start` of `segment`, which has `size` words. Its
-/// pointer has a landing pad of `pads` words. `Range` if the content ends past the segment, otherwise the fault of the
-/// tag word if it has one.
+/// Returns the list of `count` elements whose content begins at word `start` of `segment`, which has `size` words. The
+/// landing pad of the list's pointer has `pads` words. Returns `Range` if the content ends past the segment, otherwise
+/// the fault of the tag word if there is one.
 #[inline(always)]
 pub fn many_at<S: Space, L: Ledger>(
     space: &CountedSpace<'_, S, L>,
@@ -157,8 +157,8 @@ pub fn many_at<S: Space, L: Ledger>(
     })
 }
 
-/// Returns the composite list that has its tag word at word `start` of `segment` and `span` words after it, or the
-/// fault of the tag word.
+/// Returns the composite list whose tag word is word `start` of `segment`, with `span` words after the tag word.
+/// Returns the fault of the tag word if there is one.
 #[tactic(auto, using(std::proofs::lemmas::Grind::common_steps))]
 #[inline(always)]
 fn rows_at<S: Space, L: Ledger>(

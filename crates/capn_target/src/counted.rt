@@ -1,4 +1,4 @@
-//! The steps to the target of a slot, for a message whose reads are counted.
+//! The calls that find the target of a slot step by step, for a message whose reads are counted.
 
 pub use crate::asked::{Asked, CountedTask, CountedWriter};
 pub use crate::content::{many_at, node_at, segment_length, size_of};

@@ -1,4 +1,4 @@
-//! The type `PaidBytes`, bytes whose read was counted when they were handed out.
+//! The type `PaidBytes`, bytes whose reads were counted when the bytes were returned.
 
 ghost use Rattle.std.specs.Prelude.{◌≡◌, ◌≤◌, length, drop, slice_index, IfOk};
 ghost use Rattle.byteorder.specs.Endian.{little_number};
@@ -8,8 +8,8 @@ use capn_value::Items;
 use std::alloc::{AllocError, Allocator};
 use std::marker::Model;
 
-/// Bytes of a message, whose read was counted when they were handed out. Each byte can be read once: a byte that was
-/// read is gone, and a copy takes all that are left. No call gives the slice, so the count bounds what is read.
+/// Bytes of a message that were counted as read when they were returned. Each byte can be read once. A byte that was
+/// read is removed, and a copy takes all bytes that are left. No call returns the slice, so the count bounds the reads.
 #[derive(Drop)]
 pub struct PaidBytes<'s> {
     bytes: &'s [u8],
@@ -52,7 +52,7 @@ impl<'s> PaidBytes<'s> {
         byte
     }
 
-    /// Reads the next two bytes as a number.
+    /// Reads the next two bytes as a number, the least significant byte first.
     #[inline(always)]
     pub fn next_pair(&mut self) -> u16
         requires { 2 ≤ length self.old }
@@ -64,7 +64,7 @@ impl<'s> PaidBytes<'s> {
         pair
     }
 
-    /// Reads the next four bytes as a number.
+    /// Reads the next four bytes as a number, the least significant byte first.
     #[inline(always)]
     pub fn next_quad(&mut self) -> u32
         requires { 4 ≤ length self.old }
@@ -76,7 +76,7 @@ impl<'s> PaidBytes<'s> {
         quad
     }
 
-    /// Reads the next eight bytes as a number.
+    /// Reads the next eight bytes as a number, the least significant byte first.
     #[inline(always)]
     pub fn next_word(&mut self) -> u64
         requires { 8 ≤ length self.old }
@@ -88,7 +88,7 @@ impl<'s> PaidBytes<'s> {
         word
     }
 
-    /// Copies the bytes that are left to `out`, which has exactly their length.
+    /// Copies the bytes that are left into `out`, which has exactly their length.
     #[inline(always)]
     pub fn copy_to(self, out: &mut [u8])
         requires { length self ≡ length out.old }
@@ -97,7 +97,7 @@ impl<'s> PaidBytes<'s> {
         out.copy_from_slice(self.bytes);
     }
 
-    /// Copies the bytes that are left to memory of `alloc` of exactly their size.
+    /// Copies the bytes that are left into memory of `alloc` of exactly their size.
     #[inline(always)]
     pub fn into_items<A: Allocator>(self, alloc: A) -> Result<Items<u8, A>, AllocError>
         ensures { IfOk result (λ bytes. bytes ≡ self.entry) }

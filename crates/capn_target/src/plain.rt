@@ -1,5 +1,5 @@
-//! The steps to the target of a slot, for any `Space`, without a count of reads. They call those of
-//! [`counted`](crate::counted) with a ledger of their own, or read the `Space` directly.
+//! The calls that find the target of a slot step by step, for any `Space`, without a count of reads. `resolve` calls
+//! the `resolve` of [`counted`](crate::counted) with a new ledger. The other calls read the `Space` directly.
 
 ghost use Rattle.std.specs.Prelude.{◌≡◌, ◌<◌, length, IfOk};
 ghost use Rattle.capn_words.specs.Message.{segment_at, IsPlace};
@@ -25,14 +25,14 @@ pub fn segment_length<S: Space>(space: &S, segment: u32) -> u32
 /// Finds the target of the pointer at `at`, or the first fault of that slot.
 ///
 /// The place has to be in range. The refusals are `Reserved` to `TagOverrun`, tested in this order: the word itself,
-/// its landing pad, the range of the content, the tag word of a composite list. Reads at most four words and takes no
+/// the landing pad, the range of the content, the tag word of a composite list. Reads at most four words and takes no
 /// memory. (Page: structs, lists, inter-segment pointers, capabilities. The order of the tests is our own.)
 #[inline(always)]
 pub fn resolve<S: Space>(space: &S, at: Place) -> Result<Target, Fault>
     requires { IsPlace (S.message space.now) at }
     ensures exact { result ≡ spec.target (S.message space.now) at }
-    // If `result` is content, it lies inside its segment, which exists. The rows of a composite list are within the
-    // words that the list's pointer gives.
+    // If `result` is content, the content lies inside its segment, which exists. The rows of a composite list are
+    // within the words that the list's pointer gives.
     ensures inside { IfOk result (λ t. IsInMessage (S.message space.now) t) }
 {
     resolve_with_ledger::<S, Brand>(space, at, Blank::new(1))
@@ -59,8 +59,8 @@ fn resolve_with_ledger<S: Space, L: Ledger>(
     requires one { 0 < blank.parts }
     requires place { IsPlace (S.message space.now) at }
     ensures exact { result ≡ spec.target (S.message space.now) at }
-    // If `result` is content, it lies inside its segment, which exists. The rows of a composite list are within the
-    // words that the list's pointer gives.
+    // If `result` is content, the content lies inside its segment, which exists. The rows of a composite list are
+    // within the words that the list's pointer gives.
     ensures inside { IfOk result (λ t. IsInMessage (S.message space.now) t) }
 {
     let (space, mut reads) = count_reads::<S, L>(space, blank);

@@ -1,11 +1,12 @@
-//! The type `CountedSpace`, a message that can be read only by calls that count.
+//! The type `CountedSpace`, a message that can be read only by calls that count their reads.
 //!
-//! A function that is handed a [`CountedSpace`] in place of a `Space` can read the message only by its calls, and each
-//! of them counts. A clause on [`Reads`] therefore bounds the reads of a body, whatever it returns. It is proved that
-//! each read is counted. The fields are private to this file, no other ledger fits the type, and no call gives a slice
-//! or a `Space`. [`PaidBytes`] are read once, and an [`OnlySegment`] is read by calls that count in the same ledger.
-//! Work on a copy of what was read isn't counted. The turns of a loop are counted only if its author calls
-//! [`Reads::tick`]. A loop without that call is not refused, and its turns are not bounded.
+//! A function that gets a [`CountedSpace`] in place of a `Space` can read the message only by the calls of
+//! `CountedSpace`, each of which counts. A clause on [`Reads`] therefore bounds the reads of a body, whatever the body
+//! returns. It is proved that each read is counted. The fields are private to this file, no other ledger fits the type,
+//! and no call returns a slice or a `Space`. [`PaidBytes`] are read once, and an [`OnlySegment`] is read by calls that
+//! count in the same ledger. Work on a copy of what was read is not counted. The turns of a loop are counted only if
+//! the author of the loop calls [`Reads::tick`]. A loop without that call is not refused, and its turns are not
+//! bounded.
 
 ghost use Rattle.std.specs.Prelude.{◌≡◌, ◌≢◌, ◌+◌, ◌/◌, ◌<◌, ◌≤◌, [], ◌∷◌, length, IfSome, IfNone};
 ghost use Rattle.capn_words.specs.Message.{IsMessage, IsPlace, IsRange, word_at, words_of, bytes_at};
@@ -15,8 +16,8 @@ use capn_words::{Bare, Place, Space};
 use std::marker::{Model, PhantomData};
 use std::sync::ledger::{Blank, Book, Ledger, Share};
 
-/// The number of reads of the message of its ledger, and of the turns of loops that were counted with them. Its size is
-/// 0, and no call lowers it.
+/// The number of reads of one message, and of the turns of loops that were counted with them. The value has size 0 at
+/// run time, and no call lowers the number.
 #[derive(Drop)]
 pub struct Reads<L: Ledger> {
     book: Book<L>,
@@ -34,7 +35,8 @@ impl<L: Ledger> Model for Reads<L> {
 }
 
 impl<L: Ledger> Reads<L> {
-    /// Counts one read, or one turn of a loop. The author of a loop has to call it in each turn; nothing enforces that.
+    /// Counts one read, or one turn of a loop. The author of a loop has to call `tick` in each turn, but nothing
+    /// enforces that.
     #[inline(always)]
     pub fn tick(&mut self)
         ensures { self.new ≡ self.old + 1 }
@@ -43,7 +45,7 @@ impl<L: Ledger> Reads<L> {
     }
 }
 
-/// A message that can be read only by calls that count. It has the size of a reference.
+/// A message that can be read only by calls that count their reads. The value has the size of a reference.
 #[derive(Drop)]
 pub struct CountedSpace<'s, S: Space, L: Ledger> {
     space: &'s S,
@@ -61,8 +63,8 @@ impl<'s, S: Space, L: Ledger> Model for CountedSpace<'s, S, L> {
     ghost invariant = { λ c. IsMessage (S.message c.space.now) };
 }
 
-/// Opens the count of a message's reads. Returns the message of `space` as one that is read by calls that count, and a
-/// count of 1, since the number of segments is read once here. The ledger `blank` is new.
+/// Begins the count of a message's reads. Returns the message of `space` as one that is read by calls that count, and a
+/// count of 1, since this call reads the number of segments once. The ledger `blank` is new.
 #[inline(always)]
 pub fn count_reads<'s, S: Space, L: Ledger>(
     space: &'s S,
@@ -86,8 +88,8 @@ pub fn count_reads<'s, S: Space, L: Ledger>(
 }
 
 impl<'s, S: Space, L: Ledger> CountedSpace<'s, S, L> {
-    /// Returns the message again, for a function that takes it by value. A reference to it would be a reference to a
-    /// reference.
+    /// Returns the message again, for a function that takes a `CountedSpace` by value. A reference to a `CountedSpace`
+    /// would be a reference to a reference.
     #[inline(always)]
     pub fn again(&self) -> CountedSpace<'s, S, L>
         ensures { result ≡ self.now }
@@ -98,7 +100,7 @@ impl<'s, S: Space, L: Ledger> CountedSpace<'s, S, L> {
         }
     }
 
-    /// Gives the prover the bounds of the message. Reads nothing.
+    /// States the bounds of the message for the prover. Reads nothing.
     #[inline(always)]
     pub fn bounds(&self)
         ensures { IsMessage self.now }
@@ -138,8 +140,8 @@ impl<'s, S: Space, L: Ledger> CountedSpace<'s, S, L> {
         self.space.word(at)
     }
 
-    /// Returns `len` bytes from the start of the word at `at` on, as [`Space::bytes`] does, but so that each is read
-    /// once. Counts in `reads` as one read for each word that the bytes take.
+    /// Returns the `len` bytes from the start of the word at `at` on. Unlike with [`Space::bytes`], each byte can be
+    /// read only once. Counts in `reads` as one read for each 8 bytes, and as one read for a shorter rest.
     #[inline(always)]
     pub fn bytes(&self, at: Place, len: usize, reads: &mut Reads<L>) -> PaidBytes<'s>
         requires { IsRange self.now at len }
@@ -150,9 +152,8 @@ impl<'s, S: Space, L: Ledger> CountedSpace<'s, S, L> {
         PaidBytes::of(self.space.bytes(at, len))
     }
 
-    /// Returns the words of the only segment of the message, which are faster to read than a message, or `None` if
-    /// there are more segments. Counts in `reads` as at most three reads. The words are read by calls that count in the
-    /// same ledger.
+    /// Returns the words of the only segment of the message, or `None` if there are more segments. Reading those words
+    /// is faster than reading the message, and counts in the same ledger. Counts in `reads` as at most three reads.
     #[inline(always)]
     pub fn only_segment(&self, reads: &mut Reads<L>) -> Option<OnlySegment<'s, L>>
         ensures one { IfSome result (λ words. self.now ≡ words ∷ []) }
@@ -174,8 +175,8 @@ impl<'s, S: Space, L: Ledger> CountedSpace<'s, S, L> {
     }
 }
 
-/// The words of the only segment of a message, which can be read only by calls that count. Contracts see it as the list
-/// of these words.
+/// The words of the only segment of a message, which can be read only by calls that count their reads. Contracts see
+/// the value as the list of the words.
 #[derive(Drop)]
 pub struct OnlySegment<'s, L: Ledger> {
     words: Bare<'s>,
@@ -191,7 +192,8 @@ impl<'s, L: Ledger> Model for OnlySegment<'s, L> {
 }
 
 impl<'s, L: Ledger> OnlySegment<'s, L> {
-    /// Returns the message whose only segment this is. Its reads count in the same ledger.
+    /// Returns the message whose only segment has these words. The reads of that message are counted in the same
+    /// ledger.
     #[inline(always)]
     pub fn space(&self) -> CountedSpace<'_, Bare<'s>, L>
         ensures { result ≡ self.now ∷ [] }

@@ -15,7 +15,7 @@ use std::sync::ledger::Ledger;
 /// Finds the target of the pointer at `at`, or the first fault of that slot.
 ///
 /// The place has to be in range. The refusals are `Reserved` to `TagOverrun`, tested in this order: the word itself,
-/// its landing pad, the range of the content, the tag word of a composite list. Reads at most four words, counted in
+/// the landing pad, the range of the content, the tag word of a composite list. Reads at most four words, counted in
 /// `reads`, and takes no memory. (Page: structs, lists, inter-segment pointers, capabilities. The order of the tests is
 /// our own.)
 #[tactic(auto, unfolding(crate::specs::Target::target))]
@@ -27,8 +27,8 @@ pub fn resolve<S: Space, L: Ledger>(
 ) -> Result<Target, Fault>
     requires { IsPlace space.now at }
     ensures exact { result ≡ spec.target space.now at }
-    // If `result` is content, it lies inside its segment, which exists. The rows of a composite list are within the
-    // words that the list's pointer gives.
+    // If `result` is content, the content lies inside its segment, which exists. The rows of a composite list are
+    // within the words that the list's pointer gives.
     ensures inside { IfOk result (λ t. IsInMessage space.now t) }
     ensures reads { reads.new ≤ reads.old + 8 }
 {
@@ -36,7 +36,7 @@ pub fn resolve<S: Space, L: Ledger>(
     named(space, at.segment, at.word, pointer, reads)
 }
 
-/// Finds the target of the `pointer` at `word` of `segment`.
+/// Finds the target of `pointer`, which is at `word` of `segment`.
 #[inline(always)]
 fn named<S: Space, L: Ledger>(
     space: &CountedSpace<'_, S, L>,
@@ -85,9 +85,9 @@ pub fn pointer_at<S: Space, L: Ledger>(
     split(space.word(Place { segment, word }, reads))
 }
 
-/// Returns the content to which the struct or list `pointer` at `word` of `segment` leads. The segment has `size`
-/// words. The word is the slot itself if `pads` is 0, and a landing pad of one word if `pads` is 1. Any other pointer
-/// gives `BadPad`.
+/// Returns the content that `pointer`, a struct or list pointer at `word` of `segment`, leads to. The segment has
+/// `size` words. The pointer is the slot itself if `pads` is 0, and a landing pad of one word if `pads` is 1. Returns
+/// `BadPad` for any other pointer.
 #[inline(always)]
 pub fn near<S: Space, L: Ledger>(
     space: &CountedSpace<'_, S, L>,
@@ -123,7 +123,7 @@ pub fn near<S: Space, L: Ledger>(
     }
 }
 
-/// Finds the target of a far pointer whose landing pad is the one word at `word` of `segment`.
+/// Finds the target of a far pointer whose landing pad is one word, at `word` of `segment`.
 #[inline(never)]
 fn behind_one<S: Space, L: Ledger>(
     space: &CountedSpace<'_, S, L>,
@@ -142,7 +142,7 @@ fn behind_one<S: Space, L: Ledger>(
     near(space, segment, size, word, 1, pointer, reads)
 }
 
-/// Finds the target of a far pointer whose landing pad is the two words at `word` of `segment`.
+/// Finds the target of a far pointer whose landing pad is two words, from `word` of `segment` on.
 #[inline(never)]
 fn behind_two<S: Space, L: Ledger>(
     space: &CountedSpace<'_, S, L>,
@@ -162,7 +162,7 @@ fn behind_two<S: Space, L: Ledger>(
     named_by_two(space, first, second, reads)
 }
 
-/// Finds the target to which the two words of a landing pad lead: `first` is a far pointer to the content, and `second`
+/// Finds the target that a landing pad of two words leads to. `first` is a far pointer to the content, and `second`
 /// gives the form of the content.
 fn named_by_two<S: Space, L: Ledger>(
     space: &CountedSpace<'_, S, L>,
@@ -209,7 +209,7 @@ fn named_by_two<S: Space, L: Ledger>(
     }
 }
 
-/// Refuses a landing pad of `pads` words at `word` of `segment` that isn't inside an existing segment.
+/// Refuses a landing pad of `pads` words at `word` of `segment` that is not inside an existing segment.
 fn landing<S: Space, L: Ledger>(
     space: &CountedSpace<'_, S, L>,
     segment: u32,
@@ -231,7 +231,7 @@ fn landing<S: Space, L: Ledger>(
     Ok(())
 }
 
-/// Refuses a `segment` that doesn't exist.
+/// Refuses a `segment` that does not exist.
 fn exists<S: Space, L: Ledger>(
     space: &CountedSpace<'_, S, L>,
     segment: u32,

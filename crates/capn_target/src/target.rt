@@ -1,27 +1,27 @@
-//! The types `Target`, to which a pointer leads, and `Fault`, the reason why a slot is refused.
+//! The types `Target`, which is what a pointer leads to, and `Fault`, which is the reason why a slot is refused.
 
 use capn_words::Width;
 use std::error::Error;
 use std::fmt;
 
-/// The form of the content to which a pointer leads. (Page: structs, lists.)
+/// The form of the content that a pointer leads to. (Page: structs, lists.)
 #[derive(Clone, Copy, Debug, PartialEq, Eq)]
 pub enum Shape {
     /// A struct.
     Node {
-        /// The number of its data words.
+        /// The number of data words.
         words: u16,
-        /// The number of its pointers, each of one word, after the data words.
+        /// The number of pointers, each of one word, after the data words.
         slots: u16,
     },
-    /// A list that isn't composite.
+    /// A list that is not composite.
     Many {
         /// The size of an element.
         width: Width,
         /// The number of elements.
         count: u32,
     },
-    /// A composite list: a tag word, then structs of one size each.
+    /// A composite list: a tag word, then structs of one size.
     Rows {
         /// The number of structs.
         count: u32,
@@ -39,50 +39,50 @@ pub enum Shape {
 pub enum Target {
     /// Null.
     Nil,
-    /// A capability, by its index.
+    /// A capability, given by its index.
     Cap(u32),
-    /// Content, which lies inside its segment.
+    /// Content that lies inside its segment.
     Content {
-        /// The index of its segment.
+        /// The number of the segment.
         segment: u32,
-        /// The index of its first word in the segment. For a composite list that is the tag word.
+        /// The index in the segment of the content's first word. For a composite list that word is the tag word.
         start: u32,
-        /// Its form and size.
+        /// The form and size of the content.
         shape: Shape,
-        /// The number of words of its landing pad: 0 for a near pointer, otherwise 1 or 2.
+        /// The number of words of the pointer's landing pad: 0 for a near pointer, otherwise 1 or 2.
         pads: u8,
     },
 }
 
-/// The reason why a slot is refused. The tests of one slot are made in the order of the variants, and the first that
-/// fails is returned. There is one exception: for a landing pad of two words, the segment of the content is looked up
-/// after the pad's words are tested. (Own.)
+/// The reason why a slot is refused. The tests of one slot are made in the order of the variants, and the first test
+/// that fails gives the fault. There is one exception: for a landing pad of two words, the segment of the content is
+/// looked up after the pad's words are tested. (Our own.)
 #[derive(Clone, Copy, Debug, PartialEq, Eq)]
 pub enum Fault {
     /// Segment 0 has no word, so there is no root.
     NoRoot,
     /// The root is a capability.
     RootKind,
-    /// The word is no kind of pointer.
+    /// The word is a pointer of no known kind.
     Reserved,
-    /// The segment of the landing pad doesn't exist, or that of the content to which a pad of two words leads.
+    /// The segment of the landing pad does not exist, or the segment of the content that a pad of two words leads to.
     NoSegment,
-    /// The landing pad isn't inside its segment.
+    /// The landing pad is not inside its segment.
     PadRange,
     /// The landing pad has the wrong words. A pad of one word has to be a struct or list pointer. The first word of a
     /// pad of two has to be a far pointer whose double bit is 0, and the second a struct or list pointer, or zero.
     BadPad,
     /// The content starts before word 0 or ends past its segment's end.
     Range,
-    /// The tag word of a composite list doesn't have the form of a struct pointer.
+    /// The tag word of a composite list does not have the form of a struct pointer.
     BadTag,
-    /// The structs of a composite list take more words than its pointer gives.
+    /// The structs of a composite list take more words than the list's pointer gives.
     TagOverrun,
     /// The object is deeper than the limit.
     TooDeep,
-    /// The price, added to what was paid, is above the budget.
+    /// The price of the content, added to what was already paid, is above the budget.
     OverBudget,
-    /// A growth of memory was refused.
+    /// An allocation was refused.
     Memory,
 }
 

@@ -1,4 +1,4 @@
--- Lemmas for capn_layout and capn_walk: the target of a pointer that isn't null isn't null.
+-- Lemmas for capn_layout and capn_walk: if a pointer is not null, its target is not null.
 use Rattle.std.proofs.Common.{◌≡◌, ℕ, ◌+◌, ◌*◌, ◌==◌, nat_lt, true, false, List, length, slice_index, Result, Ok}
 use Rattle.std.proofs.Common.{Err, refl, ap, sym, subst, ◌∙◌}
 use Rattle.std.specs.Bool.{⊤}
@@ -16,7 +16,7 @@ use Rattle.capn_target.specs.declared.target.Fault.{Fault}
 use Rattle.capn_target.specs.Target.{if_inside, list, struct_from, list_from, target_from, second_pad, is_second_pad}
 use Rattle.capn_target.specs.Target.{content_start, two_pads, pointer_in, landing, target_of_pointer, target}
 
--- the target, if there is one, isn't null
+-- the result is a fault, or a target that is not null
 abbrev pub IsThere : Result Target Fault → Type 0
 IsThere (Ok targets.Nil) = ⊥
 IsThere _ = ⊤
@@ -94,7 +94,7 @@ module _ (m : List (List ℕ)) where
   there-named s w (Node o a b) h = there-near s w 0 (Node o a b)
   there-named s w (Many o width n) h = there-near s w 0 (Many o width n)
 
-  -- the target of a word that isn't 0 isn't null
+  -- if the word at `at` is not 0, its target is not null
   pub there : (at : Place) (w : ℕ) (p : Pointer) → w ≡ word_at m at → p ≡ pointer_of w → word_of p ≡ w → (w ≡ 0 → ⊥)
       → IsThere (target m at)
   unfolding target

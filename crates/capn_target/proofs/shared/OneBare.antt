@@ -9,11 +9,11 @@ use Rattle.capn_words.proofs.shared.Words.{bytes-injective, length-bytes}
 use Rattle.capn_words.specs.declared.space.Place.{Place}
 use Rattle.capn_target.proofs.shared.Segments.{length_of_none, length_of_some}
 
--- the place at which the bytes of the segment begin
+-- the place where the bytes of the first segment begin
 abbrev pub start : Place
 start = record { segment = 0; word = 0 }
 
--- a message of one segment is that segment
+-- a message of one segment is the list of only that segment
 pub only-segment : (m : List (List ℕ)) → length m ≡ 1 → m ≡ segment_at m 0 ∷ []
 only-segment [] e = absurd (omega arith)
 only-segment (ws ∷ []) e = refl
@@ -28,13 +28,13 @@ one-bare m bs ws is e eb b =
     only-segment m e
     ∙ ap (λ (xs : List ℕ). xs ∷ []) (bytes-injective seg ws (is.each 0) b.each (sym all ∙ sym eb ∙ b.same))
 
--- the number of words of the first segment, which is 0 if there is none
+-- the number of words of the first segment, which is 0 if there is no such segment
 pub first-words : (m : List (List ℕ)) (r : Option ℕ) (n : ℕ) → r ≡ words_of m 0 → n ≡ unwrap_or r 0
     → n ≡ length (segment_at m 0)
 first-words m None n e f = f ∙ sym (length_of_none m 0 (sym e))
 first-words m (Some k) n e f = f ∙ sym (length_of_some m 0 k (sym e))
 
--- the words read from the bytes of the only segment are the message, which may be given under another name
+-- the words that are read from the bytes of the only segment are the message `m`, which `k` equals
 pub read-alone : (m k : List (List ℕ)) (r : Option ℕ) (n : ℕ) (bs ws : List ℕ) → k ≡ m → IsMessage m → length k ≡ 1
     → r ≡ words_of k 0 → n ≡ unwrap_or r 0 → bs ≡ bytes_at m start (8 * n) → IsBare bs ws → k ≡ ws ∷ []
 read-alone m k r n bs ws same is e er en eb b =

@@ -1,4 +1,4 @@
--- Lemmas for `Inside`, capn_layout and capn_walk: the content to which a pointer leads is in a segment that exists.
+-- Lemmas for `Inside`, capn_layout and capn_walk: the content that a pointer leads to is in a segment that exists.
 use Rattle.std.proofs.Common.{◌≡◌, inl, inr, ℕ, ◌<◌, ◌≤◌, nat_lt, Bool, true, false, List, [], length, Ok, refl, ap}
 use Rattle.std.proofs.Common.{arith}
 use Rattle.std.proofs.lemmas.Bool.Decides.{nat_tests}
@@ -12,7 +12,7 @@ use Rattle.capn_target.specs.Ways.{OneOfThree}
 use Rattle.capn_target.proofs.shared.Ways.{one-of-three}
 
 module _ (m : List (List ℕ)) where
-  -- the segment of a place in range exists
+  -- if a place is in range, its segment exists
   has-segment : (s w : ℕ) → w < length (segment_at m s) → s < length m
   has-segment s w h = below (nat_lt s (length m)) refl
     where
@@ -29,7 +29,7 @@ module _ (m : List (List ℕ)) where
   there at s start pads shape h (inr (inl n)) = n.pad.0
   there at s start pads shape h (inr (inr n)) = n.there
 
-  -- the segment of the content to which a pointer in range leads exists
+  -- if the place `at` is in range and its pointer leads to content, the segment of the content exists
   pub present : (at : Place) (s start pads : ℕ) (shape : Shape) → at.word < length (segment_at m at.segment) →
       target m at ≡ Ok (targets.Content s start shape pads) → s < length m
   present at s start pads shape h e = there at s start pads shape h (one-of-three m at s start pads shape e)

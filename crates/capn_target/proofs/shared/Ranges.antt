@@ -15,7 +15,7 @@ use Rattle.capn_target.specs.Ways.{Describes}
 use Rattle.capn_target.proofs.shared.Ways.{described, cap-pointer}
 use Rattle.capn_words.proofs.shared.Choices.{pick}
 
--- the fields of a pointer are in their ranges
+-- the fields of the pointer are in the ranges of their types
 abbrev IsNarrow : Pointer → Type 0
 IsNarrow (Node o a b) = (a < 2 ^ 16) × (b < 2 ^ 16)
 IsNarrow (Many o k c) = c < 2 ^ 29
@@ -31,7 +31,7 @@ narrow-pointer w =
     pick IsNarrow (w % 4 == 2) _ _ (λ e. tt) (λ z.
     pick IsNarrow (field 2 30 w == 0) _ _ (λ e. omega arith) (λ e. tt)))))
 
--- the sizes and counts of an object fit the fields of its pointer and its tag word
+-- the sizes and counts of an object of this form fit the fields of its pointer and of its tag word
 abbrev pub HasRoom : Shape → Type 0
 HasRoom (shapes.Node a b) = (a < 2 ^ 16) × (b < 2 ^ 16)
 HasRoom (shapes.Many width n) = n < 2 ^ 29
@@ -57,13 +57,13 @@ module _ (m : List (List ℕ)) where
   narrow-in : (s w : ℕ) → IsNarrow (pointer_in m s w)
   narrow-in s w = narrow-pointer (slice_index (segment_at m s) w)
 
-  -- the object to which a pointer leads has sizes and counts that fit their fields
+  -- if the pointer at `at` leads to content, the sizes and counts of the content fit their fields
   pub room-of : (at : Place) (s start pads : ℕ) (shape : Shape) → target m at ≡ Ok (targets.Content s start shape pads)
       → HasRoom shape
   room-of at s start pads shape e =
       let d = described m at s start pads shape e in
       room-described (pointer_in m d.0.segment d.0.word) s start shape (narrow-in d.0.segment d.0.word) d.1
 
-  -- a capability's index is below 2^32
+  -- if the pointer at `at` is a capability, the index is below 2^32
   pub cap-of : (at : Place) (k : ℕ) → target m at ≡ Ok (targets.Cap k) → k < 2 ^ 32
   cap-of at k e = let h = rw (cap-pointer m at k e) at (narrow-in at.segment at.word) in h

@@ -1,5 +1,5 @@
 -- Lemmas for `Inside`, `Present`, `Ranges`, capn_canon and capn_walk: a pointer leads to content in one of three ways,
--- and to a capability by itself. No pointer is refused because memory runs out.
+-- or is itself a capability. No pointer is refused with `Memory`.
 use Rattle.std.proofs.Common.{◌≡◌, ◌≢◌, inl, inr, ℕ, ◌+◌, ◌*◌, ◌<◌, ◌==◌, nat_lt, ℤ, pos, negsuc, true, false, List}
 use Rattle.std.proofs.Common.{length, slice_index, Result, Ok, Err, refl, arith}
 use Rattle.std.specs.Bool.{⊤}
@@ -34,8 +34,8 @@ plain-moved w (pos n) = tt
 plain-moved w (negsuc n) = pick IsPlain (nat_lt w n) _ _ (λ e f. absurd cc) (λ e. tt)
 
 module _ (m : List (List ℕ)) where
-  -- `P` holds of the content, or `Q` of the index of the capability, to which a pointer leads; no refusal says that
-  -- memory ran out
+  -- If a pointer leads to content, `P` holds of the content. If it is a capability, `Q` holds of the index. If it is
+  -- refused, the fault is not `Memory`.
   module _ (P : ℕ → ℕ → Shape → ℕ → Type 0) (Q : ℕ → Type 0) where
     abbrev pub Told : Result Target Fault → Type 0
     Told (Ok (targets.Content s start shape pads)) = P s start shape pads
@@ -81,7 +81,7 @@ module _ (m : List (List ℕ)) where
     told-list_from s (Ok start) pads width n k h = h start refl
     told-list_from s (Err e) pads width n k h = k
 
-    -- the pointer leads to a struct or a list, near or from a pad of one word
+    -- if `P` holds of each struct or list that the pointer may lead to, `Told` holds of the target
     pub told-near : (s w pads : ℕ) (p : Pointer)
         → ((start : ℕ) (shape : Shape) → LeadsTo w p start → Describes m p s start shape → P s start shape pads)
         → Told (target_from m s w pads p)
@@ -127,7 +127,7 @@ module _ (m : List (List ℕ)) where
         (λ f. h (grind (arith, nat_tests), grind (arith, nat_tests))))
         (λ e f. absurd cc)
 
-  -- the pointer at a place leads to content in one of the three ways, or is the capability's own pointer
+  -- the pointer at a place leads to content in one of the three ways, or is itself the capability
   abbrev ToldAt : Place → Result Target Fault → Type 0
   ToldAt at = Told (OneOfThree m at) (λ k. pointer_in m at.segment at.word ≡ Cap k)
 
@@ -154,20 +154,20 @@ module _ (m : List (List ℕ)) where
   unfolding target
   told at = told-named at (pointer_in m at.segment at.word) refl
 
-  -- if the target is content, the pointer leads to it in one of the three ways
+  -- if the target is content, the pointer leads to the content in one of the three ways
   pub one-of-three : (at : Place) (s start pads : ℕ) (shape : Shape)
       → target m at ≡ Ok (targets.Content s start shape pads) → OneOfThree m at s start shape pads
   one-of-three at s start pads shape e = let h = rw e at (told at) in h
 
-  -- if the target is a capability, the pointer is its own
+  -- if the target is a capability, the pointer is itself that capability
   pub cap-pointer : (at : Place) (k : ℕ) → target m at ≡ Ok (targets.Cap k) → pointer_in m at.segment at.word ≡ Cap k
   cap-pointer at k e = let h = rw e at (told at) in h
 
-  -- no slot is refused because memory runs out
+  -- no slot is refused with `Memory`
   pub never-memory : (at : Place) (e : Fault) → target m at ≡ Err e → e ≢ faults.Memory
   never-memory at e h = let k = rw h at (told at) in k
 
-  -- the pointer that describes the content, with its place, in whichever way the content is reached
+  -- if the target is content, there is a place with a pointer that describes the content
   pub described : (at : Place) (s start pads : ℕ) (shape : Shape)
       → target m at ≡ Ok (targets.Content s start shape pads)
       → (by : Place) × Describes m (pointer_in m by.segment by.word) s start shape
