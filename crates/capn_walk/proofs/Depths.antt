@@ -1,4 +1,4 @@
--- The least depth under which a message is accepted. (For `survey_depth_counted`.)
+-- The least depth limit with which a message is accepted. (For `survey_depth_counted`.)
 use Rattle.std.proofs.Common.{◌≡◌, true, ℕ, zero, suc, ◌+◌, ◌-◌, ◌≤◌, List, [], ◌∷◌, ◌++◌, Result, Ok, Err, refl}
 use Rattle.std.proofs.Common.{ap, ap₂, sym, ◌∙◌, arith}
 use Rattle.capn_words.specs.declared.space.Place.{Place}
@@ -18,9 +18,9 @@ use Rattle.capn_walk.proofs.shared.Costs.{all-front, all-back}
 use Rattle.capn_walk.proofs.shared.Walks.{visits-null, visits-cap, visits-fault, visits-deep, visits-object}
 
 module _ (m : List (List ℕ)) (base : ℕ) where
-  -- ---- if the visits all pay, the number of objects one below another is within the limit
+  -- ---- if all visits pay, the number of objects on a path is within the limit
 
-  -- the claim holds of slots if it holds of each
+  -- the claim holds of several slots if the claim holds of each slot
   reach-slots : (d n : ℕ) (ps : List Place) → ((at : Place) → AllPay (visits m base n at) → reach m d at ≤ n)
       → AllPay (visits_of m base n ps) → reach_of m d ps ≤ n
   reach-slots d n [] each h = omega arith
@@ -29,7 +29,7 @@ module _ (m : List (List ℕ)) (base : ℕ) where
       let b = reach-slots d n ps each (all-back (visits m base n p) (visits_of m base n ps) h) in
       omega arith
 
-  -- the claim holds of a slot if it holds of each slot below it
+  -- the claim holds of a slot if the claim holds of each slot below that slot
   module _ (d : ℕ) (at : Place)
       (each : (n : ℕ) (to : Place) → AllPay (visits m base n to) → reach m d to ≤ n) where
     reach-next : (r : Result Target Fault) → target m at ≡ r → (n : ℕ) → AllPay (visits m base n at)
@@ -52,7 +52,7 @@ module _ (m : List (List ℕ)) (base : ℕ) where
   reach-within zero n at h = let z = reach-zero m at in omega arith
   reach-within (suc d) n at h = reach-next d at (λ k to g. reach-within d k to g) (target m at) refl n h
 
-  -- ---- if the objects one below another are within another depth, the visits under it are the same
+  -- ---- if the number of objects on a path is within another depth limit, the visits with that limit are the same
 
   same-slots : (d n : ℕ) (ps : List Place)
       → ((at : Place) → AllPay (visits m base d at) → reach m d at ≤ n → visits m base n at ≡ visits m base d at)

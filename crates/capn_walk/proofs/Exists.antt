@@ -26,7 +26,7 @@ use Rattle.capn_walk.proofs.shared.Listed.{listed, length-listed, elements-liste
 use Rattle.capn_walk.proofs.shared.Walks.{slot, visits-fault, visits-deep, visits-object}
 
 module _ (m : List (List ℕ)) where
-  -- the first n words from word w on are n, if they lie inside the segment
+  -- the first n words from word w on are n in number, if word w + n - 1 is inside the segment
   length-words : (s w n : ℕ) → w + n ≤ length (segment_at m s) → length (take n (words_from m s w)) ≡ n
   length-words s w n h = let l = length-drop w (segment_at m s) in length-take-le n (words_from m s w) (omega arith)
 

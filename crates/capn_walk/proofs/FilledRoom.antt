@@ -1,4 +1,4 @@
--- The state of an index while it is under way. (For the cycle `index_slots`.)
+-- The state of an index that is being written. (For the cycle `index_slots`.)
 use Rattle.std.proofs.Common.{◌≡◌, ◌≢◌, ◌⊎◌, inl, inr, ℕ, zero, suc, ◌+◌, ◌-◌, ◌<◌, ◌≤◌, List, [], ◌∷◌, ◌++◌, length}
 use Rattle.std.proofs.Common.{set, Result, Ok, Err, refl, ap, ap₂, sym, ◌∙◌, arith, length-append}
 use Rattle.std.specs.List.{flat_map}
@@ -29,7 +29,7 @@ laid-append f i (x ∷ xs) ys room =
     let e : i + suc (length xs) ≡ suc i + length xs = omega arith in
     rw e (laid-append f (suc i) xs ys (set room i (f x)))
 
--- writing an item before the entries can be done before or after they are laid
+-- an item before the entries can be written before or after the entries
 set-laid : {A : Type 0} (f : Entry → A) (es : List Entry) (i k : ℕ) (a : A) (room : List A) → k < i
     → set (laid f i es room) k a ≡ laid f i es (set room k a)
 set-laid f [] i k a room h = refl
@@ -45,7 +45,8 @@ respanned (targets.Content s start (shapes.Node a b) pads) k n = refl
 respanned (targets.Content s start (shapes.Many width c) pads) k n = refl
 respanned (targets.Content s start (shapes.Rows c a b span) pads) k n = refl
 
--- an item that is written before the entries behind it stays, and another one in its place is as if written first
+-- an item at index i is kept when the entries after index i are written, and overwriting the item then has the same
+-- effect as before
 module _ {A : Type 0} (f : Entry → A) (es : List Entry) (i : ℕ) (room : List A) (x : A) where
   put-again : (y : A) → set (laid f (i + 1) es (set room i x)) i y ≡ laid f (suc i) es (set room i y)
   put-again y =
@@ -116,7 +117,7 @@ module _ (m : List (List ℕ)) where
     as-many-entries zero at = one-last at (target m at)
     as-many-entries (suc d) at = as-many-by (entries m d) (visits m base d) (as-many-entries d) at (target m at)
 
--- ---- visits under way: some are made, and the others are to come
+-- ---- a list of visits: some are made, and the rest are to come
 
 module _ (left : ℕ) (vs : List Visit) (n : ℕ) where
   pub record IsOnWay (coming : List Visit) (owed paid visits : ℕ) : Type 0 where
@@ -186,7 +187,7 @@ way-begins left vs n =
 -- ---- an object
 
 module _ (left p : ℕ) (at : Place) (vs : List Visit) (n : ℕ) (fits : p ≤ left) (few : n ≤ p) where
-  -- an object is accepted if its slots are
+  -- an object is accepted if the slots below are accepted
   pub object-gives : (q j : ℕ) → Gives (left - p) vs n q j → Gives left (pays at p ∷ vs) 1 (p + q) (1 + j)
   object-gives q j g = record {
     is = judge-pays left p at vs fits ∙ ap (after p 1) g.is;
@@ -194,7 +195,7 @@ module _ (left p : ℕ) (at : Place) (vs : List Visit) (n : ℕ) (fits : p ≤ l
     few = let a = g.few in omega arith;
   }
 
-  -- an object is refused if one of its slots is
+  -- an object is refused if one of the slots below is refused
   pub object-refuses : (t : Stopped) → Refuses (left - p) vs n t
       → Refuses left (pays at p ∷ vs) 1 (record t { paid = p + t.paid; visits = 1 + t.visits })
   object-refuses t r = record {
@@ -217,7 +218,7 @@ leaf-gives left p at fits =
       few = omega arith;
     }
 
--- ---- entries under way: some of all entries are written, and the others are to come
+-- ---- a list of entries: some are written, and the rest are to come
 
 module _ {A : Type 0} (f : Entry → A) (whole here rest : List Entry) (e : whole ≡ here ++ rest) (i k j : ℕ)
     (old new : List A) (h : IsLaid f here (i + k) old new j) where
@@ -234,7 +235,7 @@ module _ {A : Type 0} (f : Entry → A) (whole here rest : List Entry) (e : whol
       let n = ap length e ∙ length-append here rest in
       omega arith
 
--- an object's entry is written before those of its slots, and gets its span after them
+-- an object's entry is written before the entries of the slots below, and the span is set after these entries
 module _ {A : Type 0} (f : Entry → A) (es : List Entry) (t : Target) (below : List Entry) (e : es ≡ entered t below)
     (i j : ℕ) (old first mid new : List A) (q : first ≡ set old i (f (entry_of t 1)))
     (h : IsLaid f below (i + 1) first mid j)

@@ -34,7 +34,7 @@ greatest_of-append f [] qs = omega arith
 greatest_of-append f (p ∷ ps) qs = let e = greatest_of-append f ps qs in omega arith
 
 module _ (m : List (List ℕ)) (base : ℕ) where
-  -- an object: its visits below pay, and its depth is one more than theirs
+  -- the visits below an object pay, and the object's depth is one more than the depth of the slots below
   record Object (at : Place) (d s start : ℕ) (shape : Shape) : Type 0 where
     below : AllPay (flat_map (visits m base (d - 1)) (slots s start shape))
     is : reach m d at ≡ 1 + reach_of m (d - 1) (slots s start shape)

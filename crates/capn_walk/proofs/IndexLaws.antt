@@ -28,9 +28,9 @@ use Rattle.capn_walk.proofs.FilledRoom.{entries-leaf, entries-object}
 use Rattle.capn_walk.proofs.Answering.{all-at_root}
 use Rattle.capn_target.proofs.shared.Inside.{found-inside}
 
--- ---- what an entry keeps of a target
+-- ---- the part of a target that an entry keeps
 
--- the target that an entry gives is the part that it keeps
+-- the target that the entry of t gives is the kept part of t
 keeps : (t : Target) (n : ℕ) → entry_target (entry_of t n) ≡ kept t
 keeps targets.Nil n = refl
 keeps (targets.Cap k) n = refl
@@ -71,7 +71,7 @@ slots-kept (targets.Content s start (shapes.Many Link c) pads) = refl
 slots-kept (targets.Content s start (shapes.Many Rows c) pads) = no-row-places s (start + 1) c
 slots-kept (targets.Content s start (shapes.Rows c a b span) pads) = refl
 
--- the kept part of a target lies inside its segment, too
+-- the kept part of a target lies inside a segment, too
 inside-kept : (m : List (List ℕ)) (t : Target) → IsInMessage m t → IsInMessage m (kept t)
 inside-kept m targets.Nil h = tt
 inside-kept m (targets.Cap k) h = tt
@@ -98,7 +98,7 @@ below-or k zero = inr (omega arith)
 below-or zero (suc a) = inl (omega arith)
 below-or (suc k) (suc a) = next-or k a (below-or k a)
 
--- ---- slots are in their segment
+-- ---- slots are inside a segment
 
 module _ (m : List (List ℕ)) where
   abbrev pub AllPlaces : List Place → Type 0
@@ -139,10 +139,10 @@ module _ (m : List (List ℕ)) where
       let j = h.1 in
       in-rows s (start + 1) a b n (omega arith)
 
-  -- ---- what a visit that pays says
+  -- ---- the consequences of a visit that pays
 
   module _ (base : ℕ) (at : Place) where
-    -- a visit that pays: its target, its entries, and that the slots below it pay
+    -- the target and the entries at a visit that pays, and the fact that the slots below pay
     record Paid (d : ℕ) : Type 0 where
       t : Target
       is : target m at ≡ Ok t
@@ -298,7 +298,7 @@ module _ (m : List (List ℕ)) where
               → ((k : ℕ) → k < b → Reads (i + a + b) (i + a + k)) → (k : ℕ) → k < n → Reads (i + n) (i + k)
           each-by i a n b e one more k l = each-or i a n b e one more k l (below-or k a)
 
-    -- an entry is followed by those of its slots
+    -- an entry is followed by the entries of the slots below
     module _ (i n : ℕ) (t : Target) (is : entry_at all i ≡ entry_of t (1 + n)) (inside : IsInMessage m t)
         (s : Slots (slots_below t) (i + 1) n) where
       reads-here : Reads (i + suc n) i

@@ -6,7 +6,7 @@ use Rattle.capn_walk.specs.declared.entry.Entry.{Entry}
 use Rattle.capn_walk.specs.inner.IndexRoom.{laid, IsLaid, IsKept}
 
 module _ {A : Type 0} where
-  -- entries that are written before index n leave the room from n on as it was
+  -- entries that are written before index n leave the room unchanged from n on
   behind-laid : (f : Entry → A) (es : List Entry) (i n : ℕ) (room : List A) → i + length es ≤ n
       → drop n (laid f i es room) ≡ drop n room
   behind-laid f [] i n room h = refl
@@ -21,7 +21,7 @@ module _ {A : Type 0} where
       ∙ drop-drop (n - k) k ys ∙ ap (λ (c : ℕ). drop c ys) z
 
   module _ (first k : ℕ) (all old : List A) (e : drop (first + k) old ≡ drop (first + k) all) where
-    -- entries are written after k others
+    -- entries are written after k other entries
     pub kept-takes : (f : Entry → A) (es : List Entry) (j : ℕ) (new : List A) → IsLaid f es (first + k) old new j
         → drop (first + (k + j)) new ≡ drop (first + (k + j)) all
     kept-takes f es j new h =
@@ -29,7 +29,7 @@ module _ {A : Type 0} where
         ap (drop (first + (k + j))) h.is ∙ behind-laid f es (first + k) (first + (k + j)) old (omega arith)
         ∙ from-later (first + k) (first + (k + j)) old all e (omega arith)
 
-    -- a slot is refused after k others
+    -- a slot is refused after k visits
     pub kept-stops : (j : ℕ) (new : List A) → IsKept (first + k) old new j → IsKept first all new (k + j)
     kept-stops j new h =
         let some = h.some in
@@ -41,7 +41,7 @@ module _ {A : Type 0} where
               ∙ ap (λ (c : ℕ). drop c all) (sym z);
         }
 
-  -- an object is refused at a slot below it, after its own entry was written
+  -- an object is refused at a slot below the object, after the object's own entry was written
   pub kept-object : (first j : ℕ) (x : A) (old put new : List A) → put ≡ set old first x
       → IsKept (first + 1) put new j → IsKept first old new (1 + j)
   kept-object first j x old put new e h =

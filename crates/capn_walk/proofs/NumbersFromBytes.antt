@@ -25,7 +25,7 @@ next-is i bs left x e is =
     let k : i + 0 ≡ i = omega arith in
     is ∙ ap (λ (l : List ℕ). slice_index l 0) e ∙ get_or-drop i bs 0 0 ∙ ap (slice_index bs) k
 
--- one more number is read
+-- the next number is read
 pub read-more : (number : ℕ → List ℕ → ℕ) (n i : ℕ) (bs left xs ys : List ℕ) (x : ℕ) → ys ≡ xs ++ x ∷ []
     → length xs ≡ i → IsRead number n bs xs → left ≡ drop (n * i) bs → x ≡ number n left → IsRead number n bs ys
 read-more number n i bs left xs ys x e l is at here = subst (IsRead number n bs) (sym e) more

@@ -10,17 +10,17 @@ pub no-slots : (s w a n : ℕ) → row_places s w a 0 n ≡ []
 no-slots s w a zero = refl
 no-slots s w a (suc n) = no-slots s (w + a + 0) a n
 
--- if n rows have slots, and their slots are none, then n is 0
+-- if each row has slots, and the slots of n rows are none, then n is 0
 pub no-rows : (n b : ℕ) → (0 < n → 0 < b) → n * b ≡ 0 → n ≡ 0
 no-rows zero b h e = refl
 no-rows (suc n) b h e = let k = h (omega arith) in let p : suc n * b ≡ b + n * b = omega arith in absurd (omega arith)
 
--- the places of n slots begin with the next one
+-- the places of n slots begin with the place of the next slot
 pub next-place : (s w n : ℕ) → 0 < n → places s w n ≡ record { segment = s; word = w } ∷ places s (w + 1) (n - 1)
 next-place s w zero h = absurd (omega arith)
 next-place s w (suc n) h = let e : suc n - 1 ≡ n = omega arith in rw e refl
 
--- the places of a frame begin with its next slot, if the current row has a slot left
+-- the places of the slots that are left begin with the next slot, if the current row has a slot left
 pub taken : (f : SlotsLeft) → 0 < f.left →
     places_of f ≡ record {
       segment = f.segment;

@@ -1,4 +1,4 @@
--- The price of an object pays for the reads of its own words. (For the cycle `walk`.)
+-- The price of an object pays for the reads of the object's own words. (For the cycle `walk`.)
 use Rattle.std.proofs.Common.{ℕ, zero, suc, ◌+◌, ◌*◌, ◌≡◌, ◌≤◌, ◌==◌, arith, false, if◌then◌else◌}
 use Rattle.std.proofs.lemmas.Bool.Decides.{nat_tests}
 use Rattle.capn_words.specs.declared.pointer.Width.TheVariants.{W0, W1, W8, W16, W32, W64, Link, Rows}
@@ -16,7 +16,7 @@ at-least-once n (suc k) h = let e : n * suc k ≡ n + n * k = omega arith in ome
 some : (k : ℕ) → (k == 0) ≡ false → 1 ≤ k
 some k e = grind (arith, nat_tests)
 
--- the data words of rows and a turn for each are within twice the price, since empty rows are paid one by one
+-- the data words of rows plus a turn for each row are within twice the price, since each empty row is paid for
 rows-price : (base n a b span : ℕ) → n * (a + b) ≤ span
     → n * (1 + a) ≤ 2 * (base + 1 + span + (if a + b == 0 then n else 0))
 rows-price base n a b span h =

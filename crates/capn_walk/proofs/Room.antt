@@ -12,6 +12,6 @@ within-total (ws ∷ m) (suc s) =
     let below = within-total m s in
     omega arith
 
--- each segment number has this bound, even if there is no such segment
+-- no segment is longer than 2^28 + 1 words, and a segment that doesn't exist has length 0
 pub room-of : (m : List (List ℕ)) (s : ℕ) → IsMessage m → length (segment_at m s) ≤ 2 ^ 28 + 1
 room-of m s is = let all = is.room in let one = within-total m s in omega arith

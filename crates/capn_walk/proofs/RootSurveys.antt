@@ -27,7 +27,7 @@ use Rattle.capn_walk.proofs.shared.CapsMet.{caps-at}
 use Rattle.capn_walk.proofs.Exists.{exists-at}
 
 module _ (m : List (List ℕ)) (base : ℕ) where
-  -- the survey of a slot that pays, from that of the slots below it
+  -- the survey of a slot that pays, given the survey of the slots below that slot
   module _ (budget depth : ℕ) (at : Place) (p : ℕ) (below : SlotsLeft) (k : Option ℕ)
       (here : visits m base depth at ≡ pays at p ∷ visits_of m base (depth - 1) (places_of below)) (fits : p ≤ budget)
       (few : owed below ≤ p) (c : cap_of (target m at) ≡ k) where
@@ -37,7 +37,7 @@ module _ (m : List (List ℕ)) (base : ℕ) where
     both : judge budget (visits m base depth at) ≡ after p 1 (judge (budget - p) others)
     both = ap (judge budget) here ∙ judge-pays budget p at others fits
 
-    -- if no slot is below it, there are no other visits
+    -- if no slot is below the slot, there are no other visits
     none-below : HasRows below → owed below ≡ 0 → others ≡ []
     none-below h z = ap (visits_of m base (depth - 1)) (nothing-left below h z)
 

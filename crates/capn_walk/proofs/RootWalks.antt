@@ -1,4 +1,4 @@
--- A walk from the root: its refusals before the price of the root, and its verdict on the whole message. (For
+-- A walk from the root: the refusals before the price of the root, and the verdict on the whole message. (For
 -- `message_index.rt`, `message_survey.rt` and `message_walk.rt`.)
 use Rattle.std.proofs.Common.{◌≡◌, ◌⊎◌, inl, inr, Bool, true, false, if◌then◌else◌, ℕ, ◌^◌, ◌<◌, ◌≤◌, List, [], ◌∷◌}
 use Rattle.std.proofs.Common.{length, Ok, Err, refl, ap, ◌∙◌, arith}
@@ -24,7 +24,7 @@ use Rattle.capn_walk.proofs.shared.Walks.{visits-fault}
 use Rattle.capn_walk.proofs.shared.Unique.{unique}
 use Rattle.capn_walk.proofs.shared.Fitting.{root-costs, fits-root}
 
--- a walk that stops at its first visit
+-- a fault at the first visit is the stop of a walk
 pub stops-at-once : (b : ℕ) (at : Place) (e : Fault) (vs : List Visit) → vs ≡ fails at e ∷ [] → IsStop b vs e at 0 1
 stops-at-once b at e vs h = record {
   before = [];
@@ -38,7 +38,7 @@ stops-at-once b at e vs h = record {
 }
 
 module _ (m : List (List ℕ)) where
-  -- the root's visits are those of its slot, if its target may be that of the root
+  -- the visits of the root are the visits of the root's slot, if the target may be that of a root pointer
   pub from-root : (base d : ℕ) (t : Target) → target m root ≡ Ok t → may_be_root t ≡ true
       → root_visits m base d ≡ visits m base d root
   unfolding root_visits

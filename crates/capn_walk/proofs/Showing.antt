@@ -1,4 +1,4 @@
--- A view of a slot shows the value that is there. (For `views_show_values`.)
+-- A view of a slot shows the slot's value. (For `views_show_values`.)
 use Rattle.std.proofs.Common.{◌≡◌, ℕ, zero, suc, ◌+◌, ◌*◌, ◌<◌, List, length, slice_index, Ok, refl, ap, sym, ◌∙◌}
 use Rattle.std.proofs.Common.{arith}
 use Rattle.std.proofs.lemmas.List.{get_or-take}
@@ -17,7 +17,7 @@ use Rattle.capn_walk.specs.View.{kind_of_list}
 use Rattle.capn_walk.proofs.shared.Walks.{slot}
 
 module _ (m : List (List ℕ)) where
-  -- the value of slot i is that of tree i
+  -- tree i is the value of slot i
   slot-at : (ts : Trees) (s w i : ℕ) → AreAt m s w ts → i < count ts → IsAt m (slot s (w + i)) (tree_at ts i)
   slot-at no_trees s w i a h = absurd (omega arith)
   slot-at (tree t ts) s w zero a h = let e : w + 0 ≡ w = omega arith in rw e a.0

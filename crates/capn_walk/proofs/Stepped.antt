@@ -31,8 +31,7 @@ use Rattle.capn_walk.proofs.shared.Judge.{judge-over}
 use Rattle.capn_walk.proofs.shared.Walks.{visits-null, visits-cap, visits-fault, visits-deep, visits-object}
 
 module _ (m : List (List ℕ)) (base : ℕ) (at : Place) (depth budget : ℕ) where
-  -- a step that returns the target `t` pays the first visit of its slot, and the other visits are those of the slots
-  -- below
+  -- a step that returns the target `t` pays the first visit of the slot, and the rest are the visits of the slots below
   pub record IsPaid (t : Target) : Type 0 where
     pub is : visits m base depth at ≡ pays at (toll base t) ∷ visits_of m base (depth - 1) (slots_below t)
     pub within : toll base t ≤ budget
@@ -73,7 +72,7 @@ stepped-memory base depth budget (targets.Content s start shape pads) e =
     (λ over f. absurd cc)
     (λ within f. absurd cc)) e
 
--- if a step to content succeeds, the content isn't too deep, and its price is at most what is left
+-- if a step to content succeeds, the content isn't too deep, and the content's price is at most the budget
 pub content-taken : (base depth budget s start pads : ℕ) (shape : Shape) →
     stepped base depth budget (Ok (targets.Content s start shape pads)) ≡ Ok (targets.Content s start shape pads) →
     (0 < depth) × (price base shape + pads ≤ budget)
@@ -87,7 +86,7 @@ content-taken base depth budget s start pads shape =
     (λ over e. absurd cc)
     (λ within e. (grind (arith, nat_tests), grind (arith, nat_tests))))
 
--- if a step is refused, the visits of its slot are refused in the same way
+-- if a step is refused, the visits of the slot are refused in the same way
 pub step-refuses : (m : List (List ℕ)) (base : ℕ) (at : Place) (depth budget : ℕ) (t : Target) (e : Fault) (s : Stopped)
     → target m at ≡ Ok t
     → stepped base depth budget (Ok t) ≡ Err e → s ≡ record { fault = e; place = at; paid = 0; visits = 1 }
@@ -98,7 +97,7 @@ step-refuses m base at depth budget t e s is h k = rw k (record {
   few = omega arith;
 })
 
--- the step to a root that may be one is the step to its target
+-- the step to the root is the step to the root's target, if that target may be that of a root pointer
 pub step-to-root : (m : List (List ℕ)) (base depth budget : ℕ) (t : Target) → 0 < length (segment_at m 0)
     → target m root ≡ Ok t → may_be_root t ≡ true
     → stepped base depth budget (Ok t) ≡ stepped_to_root m base depth budget
@@ -168,7 +167,7 @@ module _ (m : List (List ℕ)) where
       → below_of (target m at) ≡ []
   numbers-none at p h e = none-of at p h (target m at) e
 
-  -- a visit of a list of numbers, if its target is known
+  -- a visit of a list of numbers, given the list's target
   module _ (base : ℕ) (at : Place) (depth left : ℕ) (p : Pointer) where
     pub numbers-paid : (t : Target) → AreNumbers p → target_from m at.segment at.word 0 p ≡ Ok t
         → target_from m at.segment at.word 0 p ≡ target m at →

@@ -1,4 +1,4 @@
--- A pointer names content if it leads there in one of three ways. (For `targets`.)
+-- There are three ways in which a pointer names content. (For `targets`.)
 use Rattle.std.proofs.Common.{◌≡◌, inl, inr, ℕ, ◌+◌, ◌*◌, ◌<◌, ◌==◌, nat_lt, ℤ, true, false, List, length, slice_index}
 use Rattle.std.proofs.Common.{Result, Ok, refl, sym, ap, ◌∙◌, arith}
 use Rattle.std.proofs.lemmas.Bool.Decides.{nat_tests}

@@ -1,4 +1,4 @@
--- The state of a survey while it is under way. (For the cycle `index_slots` and `survey_in_room`.)
+-- The state of a survey between two visits. (For the cycle `index_slots` and `survey_in_room`.)
 use Rattle.std.proofs.Common.{◌*◌, ◌≡◌, inr, ℕ, ◌+◌, ◌-◌, ◌<◌, ◌≤◌, List, [], ◌∷◌, ◌++◌, length, Option, Some, None}
 use Rattle.std.proofs.Common.{Ok, refl, ap, sym, ◌∙◌, arith}
 use Rattle.std.proofs.lemmas.List.{append-nil}
@@ -67,7 +67,7 @@ module _ (m : List (List ℕ)) where
       ap (λ (vs : List Visit). vs ++ visits_of m base g.depth (places_of g.frame)) (left-push base ws w)
       ∙ rw append_assoc refl
 
--- ---- a survey under way: of a list of visits, some are made, and the others are to come
+-- ---- the state of a survey: of a list of visits, some are made, and the rest are to come
 
 module _ (m : List (List ℕ)) (budget : ℕ) (vs : List Visit) (n : ℕ) where
   pub record IsUnderWay (coming : List Visit) (owed paid visits : ℕ) (cap : Option ℕ) : Type 0 where
@@ -76,7 +76,7 @@ module _ (m : List (List ℕ)) (budget : ℕ) (vs : List Visit) (n : ℕ) where
     pub few : visits + owed ≤ paid + n
     pub first : first_cap_of m vs ≡ option_or cap (first_cap_of m coming)
 
-  -- the next visit pays, and has b slots below it
+  -- the next visit pays, and b slots are below the visited slot
   pub goes-on : (at : Place) (p : ℕ) (below rest : List Visit) (o b paid visits : ℕ) (cap k : Option ℕ) →
       IsUnderWay (pays at p ∷ (below ++ rest)) (o + 1) paid visits cap → p ≤ budget - paid → b ≤ p
       → cap_of (target m at) ≡ k →
@@ -119,7 +119,7 @@ null-target m at h = ap (λ (w : ℕ). target_of_pointer m at.segment at.word (p
     ∙ ap (target_of_pointer m at.segment at.word) null_pointer
 
 module _ (m : List (List ℕ)) (base : ℕ) where
-  -- the visits to come: those of the current object, then those of the objects that wait
+  -- the visits to come: first the visits of the current object, then the visits of the objects that wait
   abbrev pub coming : ℕ → List Waiting → SlotsLeft → List Visit
   coming d ws f = visits_of m base d (places_of f) ++ visits_left m base ws
 
@@ -133,7 +133,7 @@ module _ (m : List (List ℕ)) (base : ℕ) where
       coming d ws f ≡ pays at p ∷ (visits_of m base (d - 1) (places_of below) ++ coming d ws rest)
   coming-take d ws f rest below at p h e = rw (h, e) (rw append_assoc refl)
 
-  -- the visits to come begin with those of the next slot
+  -- the visits to come begin with the visits of the next slot
   pub coming-stop : (d : ℕ) (ws : List Waiting) (f rest : SlotsLeft) (at : Place) → places_of f ≡ at ∷ places_of rest →
       coming d ws f ≡ visits m base d at ++ coming d ws rest
   coming-stop d ws f rest at h = rw h (rw append_assoc refl)
@@ -218,7 +218,7 @@ module _ (m : List (List ℕ)) (base : ℕ) where
           depth = omega arith;
         }
 
-    -- the next row of the object becomes the current one
+    -- the next row of the object becomes the current row
     pub next-row : (d : ℕ) (ws : List Waiting) (f row : SlotsLeft) (paid visits : ℕ) (cap : Option ℕ)
         → places_of row ≡ places_of f → owed row ≡ owed f →
         Lies m row → Surveys d ws f paid visits cap → Surveys d ws row paid visits cap

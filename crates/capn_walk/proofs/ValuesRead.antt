@@ -1,4 +1,4 @@
--- The value of an accepted message is the one that its index gives. (For `indexes`.)
+-- The value of an accepted message is the value that the index gives. (For `indexes`.)
 use Rattle.std.proofs.Common.{◌≡◌, ◌≢◌, ◌⊎◌, inl, inr, ℕ, zero, suc, ◌+◌, ◌*◌, ◌<◌, List, [], ◌∷◌, ◌++◌, length}
 use Rattle.std.proofs.Common.{get_or, Result, Ok, Err, refl, ap, sym, subst, ◌∙◌, arith}
 use Rattle.std.specs.Bool.{⊤}
@@ -25,9 +25,9 @@ use Rattle.capn_walk.specs.IndexValues.{IsReadAt, AreReadAt, RowsReadAt, Indexes
 use Rattle.capn_walk.proofs.IndexLaws.{AllPlaces, in-slots, readable, not-empty}
 use Rattle.capn_target.proofs.shared.Inside.{found-inside}
 
--- ---- a target, given what an entry keeps of it
+-- ---- a target, given the part of the target that an entry keeps
 
--- content is kept with its start, and with its shape or as rows
+-- the kept part is content at `start`, with the shape `shape` or as rows
 abbrev KeptAs : Target → ℕ → ℕ → Shape → Type 0
 KeptAs t s start shape = (kept t ≡ targets.Content s start shape 0)
     ⊎ ((c a b span : ℕ) × (kept t ≡ targets.Content s start (shapes.Rows c a b span) 0))
@@ -44,7 +44,7 @@ kept-content s start pads (shapes.Many Link c) = inl refl
 kept-content s start pads (shapes.Many Rows c) = inr (c, 0, 0, c * (0 + 0), refl)
 kept-content s start pads (shapes.Rows c a b span) = inr (c, a, b, c * (a + b), refl)
 
--- if what is kept is no content, it is the target itself
+-- if the kept part of a target is no content, the kept part is the target itself
 unkept-plain : (t u : Target) → ((s start pads : ℕ) (shape : Shape) → u ≢ targets.Content s start shape pads)
     → kept t ≡ u → t ≡ u
 unkept-plain targets.Nil u n h = h
@@ -55,7 +55,7 @@ unkept-plain (targets.Content s start shape pads) u n h = by-shape (kept-content
     by-shape (inl e) = absurd (n s start 0 shape (sym h ∙ e))
     by-shape (inr (c, a, b, span, e)) = absurd (n s start 0 (shapes.Rows c a b span) (sym h ∙ e))
 
--- if what is kept has a shape other than rows, the target has that shape
+-- if the kept part of a target has a shape other than rows, the target has that shape
 unkept : (t : Target) (s start : ℕ) (shape : Shape) → ((c a b span : ℕ) → shape ≢ shapes.Rows c a b span)
     → kept t ≡ targets.Content s start shape 0 → (pads : ℕ) × (t ≡ targets.Content s start shape pads)
 unkept targets.Nil s start shape n h = absurd cc
@@ -67,7 +67,7 @@ unkept (targets.Content r from x pads) s start shape n h = by-shape (kept-conten
     by-shape (inl e) = (pads, let f = sym e ∙ h in cc)
     by-shape (inr (c, a, b, span, e)) = absurd (n c a b span (let f = sym e ∙ h in cc))
 
--- if what is kept is rows, the target is rows, provided that it lies in a message
+-- if the kept part of a target is rows, the target is rows, provided that the target lies inside a message
 unkept-rows : (m : List (List ℕ)) (t : Target) (s start c a b span : ℕ) → IsInMessage m t
     → kept t ≡ targets.Content s start (shapes.Rows c a b span) 0
     → (more pads : ℕ) × (t ≡ targets.Content s start (shapes.Rows c a b more) pads)
@@ -105,13 +105,13 @@ kept-numbers oct s start n pads = refl
 module _ (m : List (List ℕ)) (es : List Entry) (readable : (i : ℕ) → i < length es → IsReadable m es i) where
   -- ---- the slots of entries
 
-  -- entry i is that of the slot at a place
+  -- entry i is the entry of the slot at a place
   record Of (at : Place) (i : ℕ) : Type 0 where
     place : IsPlace m at
     within : i < length es
     is : kept_of (target m at) ≡ Ok (entry_target (entry_at es i))
 
-  -- the entries from entry i on, each a span after the one before, are those of slots
+  -- the entries from entry i on, each one span after the entry before, are the entries of the slots
   abbrev AllOf : List Place → ℕ → Type 0
   AllOf [] i = ⊤
   AllOf (p ∷ ps) i = Of p i × AllOf ps (i + (entry_at es i).span)
@@ -144,7 +144,7 @@ module _ (m : List (List ℕ)) (es : List Entry) (readable : (i : ℕ) → i < l
   all-said : (i : ℕ) (t : Target) → i < length es → entry_target (entry_at es i) ≡ t → AllOf (slots_below t) (i + 1)
   all-said i t h e = subst (λ (x : Target). AllOf (slots_below x) (i + 1)) e (all-below i h)
 
-  -- ---- the target that an entry gives is the kept part of its slot's target, and conversely
+  -- ---- the target that an entry gives is the kept part of the slot's target, and conversely
 
   said : (at : Place) (i : ℕ) (t : Target) → Of at i → target m at ≡ Ok t → entry_target (entry_at es i) ≡ kept t
   said at i t o e = let f = sym o.is ∙ ap kept_of e in cc
@@ -173,7 +173,7 @@ module _ (m : List (List ℕ)) (es : List Entry) (readable : (i : ℕ) → i < l
       let (more, pads, x) = unkept-rows m t s start c a b span (found-inside m at t o.place is) (k ∙ e) in
       (more, pads, is ∙ ap Ok x)
 
-  -- ---- the value at a place is that of its entry
+  -- ---- the value at a place is the value of the entry for that place
 
   mutual
     reads : (v : Tree) (at : Place) (i : ℕ) → Of at i → IsAt m at v → IsReadAt m es i v
@@ -249,7 +249,7 @@ module _ (m : List (List ℕ)) (es : List Entry) (readable : (i : ℕ) → i < l
         let back = subst (λ (n : ℕ). AllOf rest (beside es i n)) (length-places s (w + a) b) (all-back here rest i o) in
         (h.0, h.1, h.2, reads-slots ss s (w + a) i front h.3, reads-rows bs a b s (w + a + b) (beside es i b) back h.4)
 
-  -- ---- the value of an entry is that at its place
+  -- ---- the value of an entry is the value at the place of the entry
 
   mutual
     stands : (v : Tree) (at : Place) (i : ℕ) → Of at i → IsReadAt m es i v → IsAt m at v

@@ -1,5 +1,5 @@
--- The messages that are accepted within limits, with their values and prices, and the refusals of all others. (Page:
--- security considerations; own.)
+-- The messages that are accepted within limits, with their values and prices, and the refusals of all other messages.
+-- (Page: security considerations; our own.)
 use Rattle.std.specs.Prelude.{◌≡◌, ℕ, ◌+◌, ◌<◌, ◌≤◌, List, [], ◌∷◌, ◌++◌, length, Bool, true, false, Result, Ok, Err}
 use Rattle.std.specs.Prelude.{if◌then◌else◌, ⊤, ◌⊎◌}
 use Rattle.capn_words.specs.declared.space.Place.{Place}
@@ -16,7 +16,7 @@ use Rattle.capn_walk.specs.Limits.{Bounds}
 use Rattle.capn_walk.specs.ValueAt.{IsAt}
 
 -- ---- the visits that are accepted within a budget, and the visit that ends a walk. (Page: security considerations;
--- own.)
+-- our own.)
 
 -- the sum of the prices of visits
 abbrev pub paid_of : List Visit → ℕ
@@ -35,12 +35,14 @@ pub record IsWithin (budget : ℕ) (vs : List Visit) : Type 0 where
   pub all : AllPay vs
   pub paid : paid_of vs ≤ budget
 
--- the visit at `at` is a fault, or it brings the sum above the budget after visits that paid `before` words
+-- the visit is at `at`, and is the fault `fault`; or the visit is at `at`, `fault` is `OverBudget`, and the price
+-- brings the sum above the budget after visits that paid `before` words
 abbrev pub IsStopHere : (budget before : ℕ) → Visit → Place → Fault → Type 0
 IsStopHere budget before (fails p e) at fault = (p ≡ at) × (e ≡ fault)
 IsStopHere budget before (pays p n) at fault = (p ≡ at) × (faults.OverBudget ≡ fault) × (budget < before + n)
 
--- the first visit that is a fault or above the budget: its place, the sum before it, and its number, counted from 1
+-- the first visit that is a fault or brings the sum above the budget is at `at`, ends the walk with `fault`, and has
+-- the number `visits`, counted from 1; `paid` is the sum of the prices before
 pub record IsStop (budget : ℕ) (vs : List Visit) (fault : Fault) (at : Place) (paid visits : ℕ) : Type 0 where
   pub before : List Visit
   pub stop : Visit
@@ -55,7 +57,7 @@ pub record IsStop (budget : ℕ) (vs : List Visit) (fault : Fault) (at : Place) 
 abbrev pub root : Place
 root = record { segment = 0; word = 0 }
 
--- true if the root pointer may have this target, which is any but a capability (Own.)
+-- true if the root pointer may have the target, which is so for any target but a capability (Our own.)
 abbrev pub may_be_root : Target → Bool
 may_be_root (targets.Cap index) = false
 may_be_root _ = true
@@ -70,9 +72,9 @@ module _ (message : List (List ℕ)) (base : ℕ) where
   unfoldable pub root_visits : ℕ → List Visit
   root_visits depth = visits_at_root (target message root) (visits message base depth root)
 
--- ---- the messages that are accepted within limits, their values and prices, and the refusals of the others.
+-- ---- the messages that are accepted within limits, their values and prices, and the refusals of all other messages.
 
--- the visits of a walk from the root, priced by the tariff of the limits and as deep as they go
+-- the visits of a walk from the root, priced by the tariff of `limits`, and at most `limits.depth` objects deep
 abbrev pub visits_within : List (List ℕ) → Bounds → List Visit
 visits_within message limits = root_visits message (base limits.tariff) limits.depth
 
@@ -81,7 +83,7 @@ pub record IsAccepted (message : List (List ℕ)) (limits : Bounds) : Type 0 whe
   pub some : 0 < length (segment_at message 0)
   pub within : IsWithin limits.budget (visits_within message limits)
 
--- the words that the walk of an accepted message pays
+-- the number of words that the walk of an accepted message pays
 abbrev pub paid : List (List ℕ) → Bounds → ℕ
 paid message limits = paid_of (visits_within message limits)
 
@@ -89,12 +91,13 @@ paid message limits = paid_of (visits_within message limits)
 abbrev pub number_of_visits : List (List ℕ) → Bounds → ℕ
 number_of_visits message limits = length (visits_within message limits)
 
--- the message is accepted, and `v` is the value at its root
+-- the message is accepted within `limits`, and `v` is the value at the root
 pub record IsValueOf (message : List (List ℕ)) (limits : Bounds) (v : Tree) : Type 0 where
   pub accepted : IsAccepted message limits
   pub is : IsAt message root v
 
--- the message isn't accepted: it has no root, or its walk stops at the first visit that is a fault or above the budget
+-- the message isn't accepted: segment 0 has no word, or the walk stops with `fault` at the first visit that is a fault
+-- or brings the sum above the budget, which is visit number `visits`, to `at`, after `paid` words were paid
 abbrev pub IsWalkRefused : List (List ℕ) → Bounds → Fault → Place → (paid visits : ℕ) → Type 0
 IsWalkRefused message limits fault at paid visits =
     ((length (segment_at message 0) ≡ 0) × (fault ≡ faults.NoRoot) × (at ≡ root) × (paid ≡ 0) × (visits ≡ 0))
@@ -102,7 +105,7 @@ IsWalkRefused message limits fault at paid visits =
 
 -- ---- read to here for the theorem
 
--- a walk pays at most the budget, and makes at most one visit more than it paid words
+-- `paid` is at most the budget, and `visits` is at most `paid + 1`
 pub record IsBounded (budget paid visits : ℕ) : Type 0 where
   pub within : paid ≤ budget
   pub few : visits ≤ paid + 1

@@ -1,14 +1,14 @@
--- A budget, the words already paid from it, and the tariff.
+-- The account of a view: a budget, the number of words already paid, and the tariff.
 use Rattle.std.specs.Prelude.{ℕ, ◌+◌, ◌-◌}
 use Rattle.capn_value.specs.declared.tariff.Tariff.{Tariff}
 
--- the budget, the words already paid from it, and the tariff
+-- the budget, the number of words already paid, and the tariff
 pub record Account : Type 0 where
   pub budget : ℕ
   pub paid : ℕ
   pub tariff : Tariff
 
--- the words that are left to pay
+-- the number of words that are left to pay
 abbrev pub left_of : Account → ℕ
 left_of a = a.budget - a.paid
 

@@ -1,4 +1,4 @@
--- The index of a message: an entry for each slot that its walk visits, in the order of the visits.
+-- The index of a message: an entry for each visit of the walk, in the order of the visits.
 use Rattle.std.specs.Prelude.{◌≡◌, ℕ, zero, suc, ◌+◌, ◌*◌, ◌<◌, ◌≤◌, List, [], ◌∷◌, ◌++◌, length, take, drop}
 use Rattle.std.specs.Prelude.{get_or, map, Result, Ok, Err}
 use Rattle.std.specs.List.{flat_map}
@@ -20,7 +20,7 @@ use Rattle.capn_walk.specs.Limits.{Bounds}
 use Rattle.capn_walk.specs.View.{slots_below, kind_of_list}
 use Rattle.capn_target.specs.Shapes.{IsInMessage}
 
--- the entry of a slot, given its target and the number of entries that the slot takes
+-- the entry of a slot with the given target and the span n
 abbrev pub entry_of : Target → ℕ → Entry
 entry_of targets.Nil n =
     record { start = 0; segment = 0; count = 0; span = n; words = 0; slots = 0; kind = kinds.Nil }
@@ -38,7 +38,8 @@ abbrev pub entered : Target → List Entry → List Entry
 entered found below = entry_of found (1 + length below) ∷ below
 
 module _ (message : List (List ℕ)) where
-  -- the entries of a slot, given its target, and of the slots below it (in an accepted message each slot has a target)
+  -- the entries of a slot, given the slot's target, and of the slots below (in an accepted message each slot has a
+  -- target)
   abbrev pub entries_by : (Place → List Entry) → Result Target Fault → List Entry
   entries_by below (Ok found) = entered found (flat_map below (slots_below found))
   entries_by below (Err e) = entered targets.Nil []
@@ -52,16 +53,16 @@ module _ (message : List (List ℕ)) where
   abbrev pub entries_of : ℕ → List Place → List Entry
   entries_of d ps = flat_map (entries d) ps
 
--- the index of a message, as deep as the limits go
+-- the index of a message, at most `limits.depth` objects deep
 abbrev pub index_of : List (List ℕ) → Bounds → List Entry
 index_of message limits = entries message limits.depth root
 
--- the room after the entries are written: as many of the first entries as fit, and after them its old items
+-- the room after the entries `es` are written: as many of the first entries as fit, and then the room's old items
 abbrev pub filled : {A : Type 0} → List A → List A → List A
 filled es room = take (length room) es ++ drop (length es) room
 
--- the message is accepted, and the room has its index; `t` has the words that its walk pays and the number of slots
--- that it visits
+-- the message is accepted, and the room `new` is the room `old` after the index is written; `t` has the number of words
+-- that the walk pays and the number of visits, and the index has an entry for each visit
 pub record IsIndexed (message : List (List ℕ)) (limits : Bounds) (old new : List Entry) (t : Indexed) : Type 0 where
   pub accepted : IsAccepted message limits
   pub entries : new ≡ filled (index_of message limits) old
@@ -69,7 +70,8 @@ pub record IsIndexed (message : List (List ℕ)) (limits : Bounds) (old new : Li
   pub counts : t.visits ≡ number_of_visits message limits
   pub each : length (index_of message limits) ≡ number_of_visits message limits
 
--- the message is accepted, and the room has its index with each entry in a form; `t` is as for `IsIndexed`
+-- the message is accepted, and the room `new` is the room `old` after the index is written with each entry in the form;
+-- `t` has the number of words that the walk pays and the number of visits
 pub record IsIndexedAs {A : Type 0} (form : Entry → A) (message : List (List ℕ)) (limits : Bounds) (old new : List A)
     (t : Indexed) : Type 0 where
   pub accepted : IsAccepted message limits
@@ -80,11 +82,11 @@ pub record IsIndexedAs {A : Type 0} (form : Entry → A) (message : List (List �
 
 -- ---- the reader of an index
 
--- a list of elements of one width, from a word on
+-- the list of `width` that the entry describes
 abbrev pub elements : Entry → Width → Target
 elements e width = targets.Content e.segment e.start (shapes.Many width e.count) 0
 
--- the target of a slot, given its entry and the entry's kind
+-- the target of a slot, given the slot's entry and the entry's kind
 abbrev pub by_kind : Kind → Entry → Target
 by_kind kinds.Nil e = targets.Nil
 by_kind kinds.Cap e = targets.Cap e.count
@@ -102,9 +104,9 @@ by_kind kinds.Links e = elements e Link
 abbrev pub entry_target : Entry → Target
 entry_target e = by_kind e.kind e
 
--- the part of a target that an entry keeps, which is all except its landing pads and the length of a composite list. So
--- spare words after the list's last row can't be found through an index, but no value has them. (No target is a list
--- whose width is that of rows.)
+-- the part of a target that an entry keeps, which is all except the landing pads and the length of a composite list in
+-- words. So spare words after the last row of a list can't be found through an index, but no value has spare words. (No
+-- target is a list `Many` of width `Rows`.)
 abbrev pub kept : Target → Target
 kept (targets.Content s start (shapes.Rows c a b span) pads) =
     targets.Content s start (shapes.Rows c a b (c * (a + b))) 0
@@ -112,7 +114,7 @@ kept (targets.Content s start (shapes.Many Rows c) pads) = targets.Content s sta
 kept (targets.Content s start shape pads) = targets.Content s start shape 0
 kept found = found
 
--- the part that an entry keeps of the target of a slot; a fault stays as it is
+-- the kept part of the target of a slot; a fault stays as it is
 abbrev pub kept_of : Result Target Fault → Result Target Fault
 kept_of (Ok found) = Ok (kept found)
 kept_of (Err e) = Err e
@@ -125,13 +127,14 @@ entry_at es i = get_or es i (entry_of targets.Nil 1)
 abbrev pub slots_at : List Entry → ℕ → List Place
 slots_at es i = slots_below (entry_target (entry_at es i))
 
--- the index of the entry for the slot that is j slots after the slot of entry i, each one span after the one before
+-- the index of the entry that is j slots after entry i, where each step adds the span of an entry
 abbrev pub beside : List Entry → ℕ → ℕ → ℕ
 beside es i zero = i
 beside es i (suc j) = beside es (i + (entry_at es i).span) j
 
--- entry i can be read: its content lies inside its segment, the entries of its slots follow one after the other with
--- the targets of those slots, and its span ends with the last of them
+-- entry i can be read: the content lies inside a segment of the message, the entries of the object's slots follow one
+-- after the other with the targets of the slots, and the span of entry i ends with the last of these entries and within
+-- the index
 pub record IsReadable (message : List (List ℕ)) (es : List Entry) (i : ℕ) : Type 0 where
   pub inside : IsInMessage message (entry_target (entry_at es i))
   pub below : (j : ℕ) → j < length (slots_at es i) → (beside es (i + 1) j < i + (entry_at es i).span)
@@ -140,7 +143,7 @@ pub record IsReadable (message : List (List ℕ)) (es : List Entry) (i : ℕ) : 
   pub span : beside es (i + 1) (length (slots_at es i)) ≡ i + (entry_at es i).span
   pub within : i + (entry_at es i).span ≤ length es
 
--- the index of an accepted message begins with its root, and each of its entries can be read
+-- the index of an accepted message begins with the entry of the root, and each entry can be read
 abbrev pub IndexesAreReadable : Type 0
 IndexesAreReadable = (message : List (List ℕ)) (limits : Bounds) → IsAccepted message limits
     → (kept_of (target message root) ≡ Ok (entry_target (entry_at (index_of message limits) 0)))
@@ -151,7 +154,8 @@ abbrev pub place_of : Visit → Place
 place_of (pays at n) = at
 place_of (fails at e) = at
 
--- the entries of an accepted message belong to its visits one for one, and each has the target at its visit's place
+-- the index of an accepted message has one entry for each visit, in order, with the kept part of the target at the
+-- place of the visit
 abbrev pub IndexesFollowVisits : Type 0
 IndexesFollowVisits = (message : List (List ℕ)) (limits : Bounds) → IsAccepted message limits
     → map (λ e. Ok (entry_target e)) (index_of message limits)

@@ -32,39 +32,40 @@ AcceptedAreReadable = (message : List (List ℕ)) (limits : Bounds) → IsAccept
 abbrev pub PlacesHaveOneValue : Type 0
 PlacesHaveOneValue = (message : List (List ℕ)) (at : Place) (v w : Tree) → IsAt message at v → IsAt message at w → v ≡ w
 
--- there is at most one list of values in the slots from a word on, given their number
+-- there is at most one list of values in the slots from a word on, given the number of slots
 abbrev pub SlotsHaveOneValue : Type 0
 SlotsHaveOneValue = (message : List (List ℕ)) (vs ws : Trees) (segment word : ℕ) → count vs ≡ count ws
     → AreAt message segment word vs → AreAt message segment word ws → vs ≡ ws
 
--- there is at most one list of bodies in the rows from a word on, given their number and sizes
+-- there is at most one list of bodies in the rows from a word on, given the number of rows and the sizes of a row
 abbrev pub RowsHaveOneValue : Type 0
 RowsHaveOneValue = (message : List (List ℕ)) (bs cs : Bodies) (words slots segment word : ℕ)
     → count_rows bs ≡ count_rows cs
     → RowsAt message words slots segment word bs → RowsAt message words slots segment word cs → bs ≡ cs
 
--- the numbers of a value at a place of a message are in their ranges
+-- the numbers of a value at a place of a message are in range
 abbrev pub ValuesAreInRange : Type 0
 ValuesAreInRange = (message : List (List ℕ)) (at : Place) (v : Tree) → IsMessage message → IsAt message at v → InRange v
 
--- the value of an accepted message fits
+-- the value of an accepted message fits in a message, if the budget and the depth limit are in range
 abbrev pub ValuesFit : Type 0
 ValuesFit = (message : List (List ℕ)) (limits : Bounds) (v : Tree) → limits.budget ≤ most_cost
     → limits.depth ≤ most_height → IsValueOf message limits v → Fits v
 
--- the value of an accepted message costs at most what its walk pays, and is no higher than the limit on depth
+-- the value of an accepted message costs at most the number of words that the walk pays, and is no higher than the
+-- depth limit
 abbrev pub ValuesAreCheap : Type 0
 ValuesAreCheap = (message : List (List ℕ)) (limits : Bounds) (v : Tree) → IsValueOf message limits v
     → (cost (base limits.tariff) v ≤ paid message limits) × (height v ≤ limits.depth)
 
--- the least depth under which a message is accepted is the height of its value
+-- the least depth limit with which a message is accepted is the height of the message's value
 abbrev pub DepthsAreHeights : Type 0
 DepthsAreHeights = (message : List (List ℕ)) (limits : Bounds) (v : Tree) (depth : ℕ) → IsValueOf message limits v
     → IsDepth message limits depth → depth ≡ height v
 
 -- ---- targets
 
--- the target of the pointer at a place lies inside its segment, which exists
+-- the target of the pointer at a place lies inside a segment of the message
 abbrev pub TargetsLieInside : Type 0
 TargetsLieInside = (message : List (List ℕ)) (at : Place) (found : Target) → IsPlace message at
     → target message at ≡ Ok found → IsInMessage message found
@@ -82,23 +83,23 @@ abbrev pub Apart : Type 0
 Apart = (message : List (List ℕ)) (limits : Bounds) (fault : Fault) (at : Place) (paid visits : ℕ)
     → IsAccepted message limits → IsWalkRefused message limits fault at paid visits → ⊥
 
--- either all visits are within a budget, or one of them is the first that isn't
+-- either all visits are within a budget, or there is a first visit that is a fault or brings the sum above the budget
 abbrev pub Decided : Type 0
 Decided = (budget : ℕ) (vs : List Visit) → IsWithin budget vs
     ⊎ ((fault : Fault) × (at : Place) × (paid visits : ℕ) × IsStop budget vs fault at paid visits)
 
--- there is at most one first visit that isn't within a budget
+-- there is at most one first visit that is a fault or brings the sum above the budget
 abbrev pub StopsAreOne : Type 0
 StopsAreOne = (budget : ℕ) (vs : List Visit) (e f : Fault) (at to : Place) (p q k j : ℕ)
     → IsStop budget vs e at p k → IsStop budget vs f to q j → (e ≡ f) × (at ≡ to) × (p ≡ q) × (k ≡ j)
 
--- a message is refused for its bytes, never because memory runs out
+-- the fault of a refused message is never `Memory`
 abbrev pub RefusedForTheirWords : Type 0
 RefusedForTheirWords = (message : List (List ℕ)) (limits : Bounds) (fault : Fault) (at : Place) (paid visits : ℕ)
     → IsWalkRefused message limits fault at paid visits → fault ≢ faults.Memory
 
--- the pointer at a place names content exactly if it does so in one of three ways: near, by a landing pad of one word,
--- or by a landing pad of two words
+-- there are exactly three ways in which the pointer at a place names content: near, by a landing pad of one word, or by
+-- a landing pad of two words
 abbrev pub ContentByThreeWays : Type 0
 ContentByThreeWays = (message : List (List ℕ)) (at : Place) (segment start pads : ℕ) (shape : Shape)
     → (target message at ≡ Ok (targets.Content segment start shape pads))

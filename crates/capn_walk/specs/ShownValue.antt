@@ -33,7 +33,7 @@ module _ (message : List (List ℕ)) (found : Target) where
     pub word : (i : ℕ) → i < length ws → slice_index (content_of message found) i ≡ slice_index ws i
     pub slot : (i : ℕ) → i < count ss → IsAt message (step_place found i) (tree_at ss i)
 
-  -- the view shows a list with the numbers `xs`
+  -- the view shows a list of kind k with the numbers `xs`
   pub record ShowsNumbers (k : Kind) (xs : List ℕ) : Type 0 where
     pub kind : kind_of found ≡ k
     pub len : len_of found ≡ length xs
@@ -54,7 +54,7 @@ pub record ShowsRows (message : List (List ℕ)) (found : Target) (bs : Bodies) 
   pub rows : rows_in found ≡ count_rows bs
   pub row : (i : ℕ) → i < count_rows bs → ShowsStruct message (row_of found i) (words_of_row bs i) (slots_of_row bs i)
 
--- a view of the target `found` shows the value
+-- a view of the target `found` shows the value that is the last argument
 abbrev pub Shows : List (List ℕ) → Target → Tree → Type 0
 Shows message found nil = found ≡ targets.Nil
 Shows message found (cap k) = found ≡ targets.Cap k
@@ -64,6 +64,6 @@ Shows message found (numbers a xs) = ShowsNumbers message found (kind_of_list (l
 Shows message found (links ts) = ShowsLinks message found ts
 Shows message found (rows bs) = ShowsRows message found bs
 
--- a view of a slot shows the value that is there
+-- a view of the slot at `at` shows the slot's value `v`
 abbrev pub ViewsShow : List (List ℕ) → Place → Target → Tree → Type 0
 ViewsShow message at found v = target message at ≡ Ok found → IsAt message at v → Shows message found v

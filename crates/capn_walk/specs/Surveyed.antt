@@ -1,4 +1,4 @@
--- The results of a survey in addition to its verdict, for a list of visits.
+-- The results of a survey in addition to the verdict, for a list of visits.
 use Rattle.std.specs.Prelude.{◌≡◌, ℕ, List, [], ◌∷◌, Result, Ok, Option, Some, None}
 use Rattle.std.specs.Option.{option_or}
 use Rattle.capn_value.specs.Tree.{Tree}
@@ -23,8 +23,8 @@ first_cap_of message [] = None
 first_cap_of message (pays at n ∷ vs) = option_or (cap_of (target message at)) (first_cap_of message vs)
 first_cap_of message (fails at e ∷ vs) = first_cap_of message vs
 
--- the message is accepted, and `s` has the words that its walk pays, the number of its visits, and the first capability
--- of its value
+-- the message is accepted, and `s` has the number of words that the walk pays, the number of visits, and the first
+-- capability of the message's value
 pub record IsSurvey (message : List (List ℕ)) (limits : Bounds) (s : Surveyed) : Type 0 where
   pub value : Tree
   pub is : IsValueOf message limits value

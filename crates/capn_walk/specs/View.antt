@@ -1,4 +1,4 @@
--- The view of a message: the target that a step found, and the limit on depth below it.
+-- The view of a message: the target that a step found, and the depth limit below that target.
 use Rattle.std.specs.Prelude.{ℕ, ◌+◌, ◌*◌, ◌/◌, ◌%◌, ◌^◌, ◌==◌, nat_lt, List, [], length, slice_index, Result, Ok, Err}
 use Rattle.std.specs.Prelude.{Option, Some, None, if◌then◌else◌, ⊤}
 use Rattle.capn_words.specs.Message.{segment_at}
@@ -19,7 +19,7 @@ use Rattle.capn_walk.specs.Visits.{price, slots}
 use Rattle.capn_walk.specs.Accepted.{root, may_be_root}
 use Rattle.capn_walk.specs.ValueAt.{element, words_from}
 
--- a message, the target that was found in it, and the greatest number of objects one below another from there on
+-- a message, the target that a step found, and the greatest number of objects on a path below that target
 pub record Seen : Type 0 where
   pub message : List (List ℕ)
   pub found : Target
@@ -27,12 +27,13 @@ pub record Seen : Type 0 where
 
 -- ---- steps
 
--- the price of a step to a target, which is 0 without content
+-- the price of a step to a target, which is 0 if the target has no content
 abbrev pub toll : ℕ → Target → ℕ
 toll base (targets.Content s start shape pads) = price base shape + pads
 toll base _ = 0
 
--- the result of a step to a slot with a target, where `depth` levels and `budget` words remain
+-- the result of a step to a slot with the given target, where the limits still allow `depth` levels and a price of
+-- `budget` words
 abbrev pub stepped : ℕ → ℕ → ℕ → Result Target Fault → Result Target Fault
 stepped base depth budget (Ok (targets.Content s start shape pads)) =
     if depth == 0 then Err faults.TooDeep
@@ -40,12 +41,12 @@ stepped base depth budget (Ok (targets.Content s start shape pads)) =
     else Ok (targets.Content s start shape pads)
 stepped base depth budget found = found
 
--- a step succeeds and leads to content
+-- the result of a step is content
 abbrev pub IsEntered : Result Target Fault → Type 0
 IsEntered (Ok (targets.Content s start shape pads)) = ⊤
 IsEntered _ = ⊥
 
--- the target of the root pointer, or RootKind if the root may not have this target
+-- the target of the root pointer, or `RootKind` if the root may not have that target
 abbrev pub rooted : Result Target Fault → Result Target Fault
 rooted (Ok found) = if may_be_root found then Ok found else Err faults.RootKind
 rooted (Err e) = Err e
@@ -93,7 +94,7 @@ abbrev pub slots_in : Target → ℕ
 slots_in (targets.Content s start (shapes.Node a b) pads) = b
 slots_in _ = 0
 
--- the index of a capability
+-- the index of a capability, else `None`
 abbrev pub cap_in : Target → Option ℕ
 cap_in (targets.Cap k) = Some k
 cap_in _ = None
@@ -103,7 +104,7 @@ abbrev pub links_in : Target → ℕ
 links_in (targets.Content s start (shapes.Many Link n) pads) = n
 links_in _ = 0
 
--- the number of slots to which a step can lead: those of a struct, or the elements of a list of pointers
+-- the number of slots to which a step can lead: the slots of a struct, or the elements of a list of pointers
 abbrev pub steps_in : Target → ℕ
 steps_in t = slots_in t + links_in t
 
@@ -126,7 +127,7 @@ number_in W16 ws i = element 4 16 ws i
 number_in W32 ws i = element 2 32 ws i
 number_in _ ws i = slice_index ws i
 
--- the number of elements of a width that a word holds
+-- the number of elements of the width that a word holds
 abbrev pub per_word : Width → ℕ
 per_word W1 = widths.per_word bit
 per_word W8 = widths.per_word byte
@@ -142,13 +143,13 @@ digit W16 w place = w / (2 ^ 16) ^ place % 2 ^ 16
 digit W32 w place = w / (2 ^ 32) ^ place % 2 ^ 32
 digit _ w place = w
 
--- number i of the list that a target is
+-- number i of a list of numbers
 abbrev pub number_of : List (List ℕ) → Target → ℕ → ℕ
 number_of message (targets.Content s start (shapes.Many width n) pads) i =
     number_in width (words_from message s start) i
 number_of message _ i = 0
 
--- the number of elements of a list of numbers, else 0
+-- the number of elements of a list of bits, bytes, pairs, quads or octs, else 0
 abbrev pub numbers_in : Target → ℕ
 numbers_in (targets.Content s start (shapes.Many W0 n) pads) = 0
 numbers_in (targets.Content s start (shapes.Many Link n) pads) = 0

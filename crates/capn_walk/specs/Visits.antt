@@ -16,20 +16,20 @@ pub data Visit : Type 0 where
   pays : Place → ℕ → Visit
   fails : Place → Fault → Visit
 
--- the cost of an object without its landing pads: `base` and its size, where an element without size counts as a word
--- (Own.)
+-- the price of an object without landing pads: `base` and the object's size in words, where an element of size 0 counts
+-- as a word (Our own.)
 abbrev pub price : (base : ℕ) → Shape → ℕ
 price base (shapes.Node data_words pointers) = base + data_words + pointers
 price base (shapes.Many W0 n) = base + n
 price base (shapes.Many width n) = base + content_words width n
 price base (shapes.Rows n data_words pointers span) = base + 1 + span + (if data_words + pointers == 0 then n else 0)
 
--- n consecutive places, from word w on
+-- n consecutive places, from word w of segment s on
 abbrev pub places : (segment word n : ℕ) → List Place
 places s w zero = []
 places s w (suc n) = (record { segment = s; word = w }) ∷ places s (w + 1) n
 
--- the places of the slots of n consecutive rows, each with sections of these sizes
+-- the places of the slots of n consecutive rows, each with `data_words` data words and `pointers` pointers
 abbrev pub row_places : (segment word data_words pointers n : ℕ) → List Place
 row_places s w data_words pointers zero = []
 row_places s w data_words pointers (suc n) =
@@ -43,7 +43,7 @@ slots s start (shapes.Many width n) = []
 slots s start (shapes.Rows n data_words pointers span) = row_places s (start + 1) data_words pointers n
 
 module _ (message : List (List ℕ)) (base : ℕ) where
-  -- the visit of a slot at which no content is allowed any more
+  -- the visit of a slot at which the depth limit allows no content
   abbrev pub last_visit : Place → Result Target Fault → List Visit
   last_visit at (Ok (targets.Content s start shape pads)) = fails at faults.TooDeep ∷ []
   last_visit at (Ok found) = pays at 0 ∷ []

@@ -9,23 +9,24 @@ use capn_target::{Shape, Target};
 use std::alloc::{Allocator, Global};
 use std::mem::size_of;
 
-/// The entry of a slot in an index: the target of its pointer, and the number of entries that it takes with all below
-/// it. An entry takes 24 bytes.
+/// The entry of a slot in an index: the target of the slot's pointer, and the number of entries for the slot and all
+/// slots below it. An entry takes 24 bytes.
 #[derive(Clone, Copy, Debug, PartialEq, Eq)]
 pub struct Entry {
-    /// The index of the content's first word in its segment, or 0 without content. The first word of a composite list
-    /// is its tag.
+    /// The index, within the segment, of the content's first word, or 0 if the target has no content. The first word of
+    /// a composite list is the tag word.
     pub start: u32,
-    /// The index of the segment that has the content, or 0 without content.
+    /// The index of the segment that has the content, or 0 if the target has no content.
     pub segment: u32,
-    /// The number of elements of a list, the number of rows of a composite list, or the index of a capability, else 0.
+    /// The number of elements of a list, the number of rows of a composite list, or the index of a capability; 0 for
+    /// null and for a struct.
     pub count: u32,
-    /// The number of entries of the slot: its own and those of all slots below it. The entry of the next slot of the
-    /// same object is `span` entries further on.
+    /// The number of entries for the slot and all slots below it. The entry of the next slot of the same object is
+    /// `span` entries further on.
     pub span: u32,
-    /// The data words of a struct, or of each row of a composite list; else 0.
+    /// The number of data words of a struct, or of each row of a composite list; 0 for any other target.
     pub words: u16,
-    /// The pointers of a struct, or of each row of a composite list; else 0.
+    /// The number of pointers of a struct, or of each row of a composite list; 0 for any other target.
     pub slots: u16,
     /// The kind of the slot's target.
     pub kind: Kind,
@@ -46,7 +47,7 @@ impl Entry {
         Entry::of(Target::Nil, 1)
     }
 
-    /// Returns the entry of a slot that names `target` and takes `span` entries.
+    /// Returns the entry of a slot with the target `target` and the span `span`.
     #[inline(always)]
     pub(crate) fn of(target: Target, span: u32) -> Entry
         ensures { result ≡ entry_of target span }
@@ -113,20 +114,20 @@ impl Entry {
     }
 }
 
-/// The totals of an index: the words that the walk of the message pays, and the number of entries.
+/// The totals of an index: the number of words that the walk of the message pays, and the number of visits.
 #[derive(Clone, Copy, Debug, PartialEq, Eq)]
 pub struct Indexed {
-    /// The words paid: the sum of the prices of all visits.
+    /// The number of words paid: the sum of the prices of all visits.
     pub paid: u32,
-    /// The number of visits. It equals the number of entries, even if the room was too small for all of them.
+    /// The number of visits. A full index has an entry for each visit, also if the room was too small for all entries.
     pub visits: u32,
 }
 
-/// The index of a message, and the words that its walk pays.
+/// The index of a message, and the number of words that the walk of the message pays.
 #[derive(Debug, Drop)]
 pub struct Index<A: Allocator = Global> {
     /// An entry for each slot that the walk visits, in preorder.
     pub entries: Vec<Entry, A>,
-    /// The words paid: the sum of the prices of all visits.
+    /// The number of words paid: the sum of the prices of all visits.
     pub paid: u32,
 }

@@ -1,14 +1,14 @@
-//! The forms in which a room holds index entries.
+//! The forms in which a room, which is a slice of items, holds the entries of an index.
 
 ghost use Rattle.std.specs.Prelude.{◌≡◌, set};
 ghost use Rattle.capn_walk.specs.declared.entry.Entry.{Entry as Entries};
 
 use crate::entry::Entry;
 
-/// A form of index entries. It says which item a room holds for each entry.
+/// A form of index entries, which determines the item that a room holds for each entry.
 ///
-/// An index writes the entry of a slot before the entries of the slots below it, and sets the slot's span after them.
-/// It never reads an item, and writes nothing past the end of the room.
+/// The entry of a slot is written before the entries of the slots below, and the slot's span is set after them. No item
+/// is read, and nothing is written past the end of the room.
 pub trait EntryForm {
     /// The type of item that a room holds for an entry.
     type Item;
@@ -16,11 +16,11 @@ pub trait EntryForm {
     /// The item that is stored for an entry.
     ghost written: { Self → Entries → Self.Item };
 
-    /// Writes `entry` at index `at` of `room`, if the room has this index.
+    /// Writes `entry` at index `at` of `room`, if `at` is below the length of `room`.
     fn put(&self, room: &mut [Self::Item], at: u32, entry: Entry)
         ensures { room.new ≡ set room.old at (written self.now entry) };
 
-    /// Sets the span of the entry at index `at` of `room` to `span`, if the room has this index.
+    /// Sets the span of the entry at index `at` of `room` to `span`, if `at` is below the length of `room`.
     fn set_span(&self, room: &mut [Self::Item], at: u32, span: u32)
         ensures { (e : Entries) → room.old ≡ set room.old at (written self.now e)
             → room.new ≡ set room.old at (written self.now (record e { span = span })) };

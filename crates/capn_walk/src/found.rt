@@ -1,4 +1,4 @@
-//! The values that visits of slots find, with the words paid and the number of visits.
+//! The results of reading slots: the values, the number of words paid, and the number of visits.
 
 ghost use Rattle.std.specs.Prelude.{◌≡◌};
 ghost use Rattle.capn_value.specs.Tree as trees;
@@ -7,7 +7,7 @@ ghost use Rattle.capn_value.specs.TreeOf.{tree_of, trees_of, rows_of};
 use capn_value::{Body, Items, Value};
 use std::alloc::Allocator;
 
-/// The value of a slot, the words that were paid for it, and the number of visits.
+/// The value of a slot, the number of words paid for the value, and the number of visits.
 #[derive(Drop)]
 pub struct Found<A: Allocator> {
     pub value: Value<A>,
@@ -16,7 +16,7 @@ pub struct Found<A: Allocator> {
 }
 
 impl<A: Allocator> Found<A> {
-    /// Returns the result of one visit of a slot without content. Its `value` costs nothing.
+    /// Returns the result of one visit of a slot without content: the value `value`, no words paid, and one visit.
     pub fn without_content(value: Value<A>) -> Found<A>
         ensures value { result.value ≡ value }
         ensures paid { result.paid ≡ 0 }
@@ -29,8 +29,8 @@ impl<A: Allocator> Found<A> {
         }
     }
 
-    /// Returns the result for an object with a `value` that has no slots. The visit of the object and its own price are
-    /// not counted here.
+    /// Returns the result for an object that has no slots and the value `value`. Neither the visit of the object nor
+    /// the object's own price is counted.
     #[inline(always)]
     pub fn without_slots(value: Value<A>) -> Found<A>
         ensures value { result.value ≡ value }
@@ -45,7 +45,7 @@ impl<A: Allocator> Found<A> {
     }
 }
 
-/// The values of consecutive slots, the words that were paid for them, and the number of visits.
+/// The values of consecutive slots, the number of words paid for the values, and the number of visits.
 #[derive(Drop)]
 pub struct FoundSlots<A: Allocator> {
     pub items: Items<Value<A>, A>,
@@ -55,7 +55,7 @@ pub struct FoundSlots<A: Allocator> {
 
 #[tactic(auto, using(capn_value::specs::Views::views))]
 impl<A: Allocator> FoundSlots<A> {
-    /// Makes a struct of these values and the data `words`.
+    /// Makes a struct of the data `words` and the values of `self`.
     pub fn into_struct(self, words: Items<u64, A>) -> Found<A>
         ensures value { tree_of result.value ≡ trees.node words (trees_of self.items) }
         ensures paid { result.paid ≡ self.paid }
@@ -69,7 +69,7 @@ impl<A: Allocator> FoundSlots<A> {
         }
     }
 
-    /// Makes a list of pointers with these values.
+    /// Makes a list of pointers with the values of `self`.
     pub fn into_list(self) -> Found<A>
         ensures value { tree_of result.value ≡ trees.links (trees_of self.items) }
         ensures paid { result.paid ≡ self.paid }
@@ -83,7 +83,7 @@ impl<A: Allocator> FoundSlots<A> {
     }
 }
 
-/// The rows of a composite list, the words that were paid for the slots of all rows, and the number of visits.
+/// The rows of a composite list, the number of words paid for the slots of all rows, and the number of visits.
 #[derive(Drop)]
 pub struct FoundRows<A: Allocator> {
     pub rows: Items<Body<A>, A>,
@@ -93,7 +93,7 @@ pub struct FoundRows<A: Allocator> {
 
 #[tactic(auto, using(capn_value::specs::Views::views))]
 impl<A: Allocator> FoundRows<A> {
-    /// Makes a composite list of these rows.
+    /// Makes a composite list of the rows of `self`.
     pub fn into_list(self) -> Found<A>
         ensures value { tree_of result.value ≡ trees.rows (rows_of self.rows) }
         ensures paid { result.paid ≡ self.paid }

@@ -1,8 +1,8 @@
-//! The entries of slots, in preorder, written to a room.
+//! The functions that write the entries of slots, in preorder, to a room.
 //!
-//! A slot costs at most thirteen reads and turns of the loop. Its own turn and a turn that begins its row are two. Its
-//! word is one read, and its target takes at most eight. The length of the segment below it and the last turn there are
-//! two more.
+//! A slot costs at most thirteen reads and turns of the loop: the slot's own turn, a turn that begins the slot's row,
+//! one read of the slot's word, at most eight reads to find the target, one read of the length of the target's segment,
+//! and the last turn over the target's slots.
 
 ghost use Rattle.std.specs.Prelude.{◌≡◌, ◌+◌, ◌*◌, ◌<◌, ◌≤◌, ◌^◌, length, IfErr, MatchResult};
 ghost use Rattle.capn_words.specs.Message.{segment_at, IsMessage, IsPlace};
@@ -23,8 +23,8 @@ use capn_target::{Fault, Target};
 use capn_words::{Place, Pointer, Space, split};
 use std::sync::ledger::Ledger;
 
-/// Writes the entries of the slot at `at`, whose target `found` is known, and of all slots below it to `room`, from
-/// index `first` on.
+/// Writes the entries of the slot at `at` and of all slots below it to `room`, from index `first` on. `found` is the
+/// target of the slot, or the slot's fault.
 #[cycle(index_slots)]
 #[inline(always)]
 pub fn index_found<S: Space, L: Ledger, F: EntryForm>(
@@ -93,8 +93,8 @@ pub fn index_found<S: Space, L: Ledger, F: EntryForm>(
     }
 }
 
-/// Writes the entries of the slot at `at`, whose `pointer` names a near struct or list, to `room` from index `first`
-/// on.
+/// Writes the entries of the slot at `at` and of all slots below it to `room`, from index `first` on. The slot's
+/// `pointer` names a near struct or list.
 #[cycle(index_slots)]
 #[inline(always)]
 fn index_near<S: Space, L: Ledger, F: EntryForm>(
@@ -129,7 +129,8 @@ fn index_near<S: Space, L: Ledger, F: EntryForm>(
     )
 }
 
-/// Writes the entries of the slot at `at`, whatever its target, to `room` from index `first` on.
+/// Writes the entries of the slot at `at`, which may hold any pointer, and of all slots below it to `room`, from index
+/// `first` on.
 #[cycle(index_slots)]
 #[inline(never)]
 fn index_elsewhere<S: Space, L: Ledger, F: EntryForm>(
@@ -161,8 +162,8 @@ fn index_elsewhere<S: Space, L: Ledger, F: EntryForm>(
     )
 }
 
-/// Writes the entries of the slot at `at` to `room` from index `first` on. Near structs and near lists have an arm
-/// each, so that each is compiled for its form alone.
+/// Writes the entries of the slot at `at` and of all slots below it to `room`, from index `first` on. Near structs and
+/// near lists have an arm each, so that each arm is compiled for only one form of pointer.
 #[cycle(index_slots)]
 #[inline(always)]
 fn index_slot<S: Space, L: Ledger, F: EntryForm>(
@@ -216,7 +217,8 @@ fn index_slot<S: Space, L: Ledger, F: EntryForm>(
     }
 }
 
-/// Writes the entries of the `slots` of a frame to `room` from index `first` on, in order, each with all below it.
+/// Writes the entries of `slots`, in order, to `room` from index `first` on. The entries of the slots below a slot
+/// follow the slot's own entry.
 #[cycle(index_slots)]
 #[inline(never)]
 fn index_frame<S: Space, L: Ledger, F: EntryForm>(

@@ -1,4 +1,4 @@
-//! The kinds of values shown by a view.
+//! The kinds of values that views and indexes show.
 
 ghost use Rattle.std.specs.Prelude.{◌≡◌};
 ghost use Rattle.capn_walk.specs.View as seen;
@@ -13,7 +13,7 @@ pub enum Kind {
     Nil,
     /// A struct.
     Node,
-    /// A list of elements without size.
+    /// A list of elements of size 0.
     Voids,
     /// A list of bits.
     Bits,

@@ -9,15 +9,15 @@ ghost use Rattle.capn_walk.specs.ShownValue.{ViewsShow};
 ghost use Rattle.capn_walk.specs.Index.{IndexesAreReadable, IndexesFollowVisits};
 ghost use Rattle.capn_walk.specs.IndexValues.{IndexesSayValues, EntriesSayValues};
 
-/// States that a view of a slot shows the value that is there.
+/// States that a view of a slot shows the value at that slot.
 pub fn views_show_values()
     ensures { (message : List (List ℕ)) (at : Place) (found : Target) (v : Tree) → ViewsShow message at found v }
 {}
 
 /// States the laws of values. An accepted message has a value at its root. There is at most one value at a place, one
 /// list of values in consecutive slots, and one list of bodies in consecutive rows. Numbers are in range. The value of
-/// an accepted message fits, and costs at most what was paid. The least depth under which a message is accepted is the
-/// height of its value.
+/// an accepted message fits in a message, and costs at most the number of words that the walk pays. The least depth
+/// limit with which a message is accepted is the height of the message's value.
 pub fn values()
     ensures readable { laws.AcceptedAreReadable }
     ensures one { laws.PlacesHaveOneValue }
@@ -29,17 +29,17 @@ pub fn values()
     ensures deep { laws.DepthsAreHeights }
 {}
 
-/// States the laws of targets. The target of the pointer at a place of a message lies inside its segment, which exists.
-/// A value whose content is at the target is the value at that place. A pointer names content exactly if it does so in
-/// one of three ways: near, by a landing pad of one word, or by a landing pad of two words.
+/// States the laws of targets. The target of the pointer at a place of a message lies inside a segment of the message.
+/// A value whose content is at the target is the value at that place. There are exactly three ways in which a pointer
+/// names content: near, by a landing pad of one word, or by a landing pad of two words.
 pub fn targets()
     ensures inside { laws.TargetsLieInside }
     ensures content { laws.ContentIsValue }
     ensures ways { laws.ContentByThreeWays }
 {}
 
-/// States the laws of verdicts. No message is both accepted and refused. Either all visits are within a budget, or
-/// exactly one is the first that isn't. A message is refused for its own words, never because memory ran out.
+/// States the laws of verdicts. No message is both accepted and refused. For each budget, either all visits stay within
+/// it, or there is exactly one first visit that does not. The fault of a refused message is never `Memory`.
 pub fn verdicts()
     ensures apart { laws.Apart }
     ensures decided { laws.Decided }
@@ -47,10 +47,11 @@ pub fn verdicts()
     ensures their_words { laws.RefusedForTheirWords }
 {}
 
-/// States the laws of indexes. The index of an accepted message begins with the entry of its root. The content of each
-/// entry lies inside its segment. The entries of its slots come after it, each one span after the one before, with the
-/// target of that slot. There is one entry for each visit, in order. The entries and the words together give the value
-/// of the message, and the value at each entry.
+/// States the laws of indexes. The index of an accepted message begins with the entry of the root. The content of each
+/// entry lies inside a segment of the message. The entries of an object's slots follow the object's own entry. Each
+/// slot's entry has the target of that slot, and comes one span after the entry of the slot before. There is one entry
+/// for each visit, in order. The entries and the words together give the value of the message, and the value at each
+/// entry.
 pub fn indexes()
     ensures readable { IndexesAreReadable }
     ensures visits { IndexesFollowVisits }

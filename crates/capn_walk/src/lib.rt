@@ -1,22 +1,22 @@
-//! The walk over a message from its root, within limits: its value, a survey without the value, or an index of its
-//! slots.
+//! The walk over a message from the root, within limits. A walk returns the message's value, a survey without the
+//! value, or an index of the message's slots.
 //!
-//! - [`resolve`] finds the target of the pointer at a place, or the first fault of that slot. A target is null, a
+//! - [`resolve`] finds the target of the pointer at a place, or the first fault of that pointer. A target is null, a
 //!   capability, or content that lies inside its segment. Landing pads are followed.
-//! - [`walk`] returns the value that a message denotes within [`Limits`], with the words that reading it paid, or the
-//!   place and the reason at which it stopped. Each visit of a slot pays its price before its content is read. So a
-//!   message that leads in circles or shares its objects costs at most the budget.
-//! - [`survey`] pays and refuses as [`walk`] does and makes no tree. [`survey_depth`] also finds the least depth that
-//!   admits the message.
-//! - [`index`] and [`index_into`] add an entry for each slot that was visited. With the entries the message can be read
-//!   in place with no further test. [`index_into_form`] writes them in another [`EntryForm`].
-//! - [`survey_of`] and [`survey_depth_of`] make the surveys without an allocator, and read the message only through a
-//!   counter. The budget bounds the number of reads.
-//! - [`walk_counted`], [`survey_counted`], [`survey_depth_counted`] and [`index_into_counted`] do the same to a message
-//!   whose reads are counted. The budget bounds the number of reads.
+//! - [`walk`] returns the value that a message denotes within [`Limits`], with the number of words paid, or the place
+//!   and the reason at which the walk stopped. The price of a visit is paid before any content is read. So a message
+//!   with cycles or shared objects costs at most the budget.
+//! - [`survey`] pays the same prices and refuses the same messages as [`walk`], and makes no tree. [`survey_depth`]
+//!   also finds the least depth limit that admits the message.
+//! - [`index`] and [`index_into`] make an entry for each visit of a slot. With the entries the message can be read in
+//!   place without further tests. [`index_into_form`] writes the entries in another [`EntryForm`].
+//! - [`survey_of`] and [`survey_depth_of`] survey without an allocator, and read the message only through a counter.
+//!   The budget bounds the number of reads.
+//! - [`walk_counted`], [`survey_counted`], [`survey_depth_counted`] and [`index_into_counted`] walk, survey and index a
+//!   message whose reads are counted. The budget bounds the number of reads.
 //! - [`View`] steps from one object to those below it, and pays from a [`Meter`] for each step.
 //!
-//! All take any `Space`: a bare segment, a framed message, or one that owns its segments.
+//! A message can be any `Space`: a bare segment, a framed message, or a message that owns its segments.
 //!
 //! ```text
 //! let bare = Bare::new(input)?;

@@ -10,15 +10,15 @@ use capn_value::{MOST_COST, MOST_HEIGHT, Tariff};
 use capn_words::MOST_MESSAGE_WORDS;
 use std::marker::Model;
 
-/// The usual limit on the words of a message, and the usual budget: 64 MiB.
+/// The usual limit on the number of words of a message, and the usual budget: 64 MiB.
 const USUAL_WORDS: u32 = 8_388_608;
 
 /// The usual limit on depth.
 const USUAL_DEPTH: u32 = 64;
 
-/// The limits of a reader: the words of one framed message (from 1 to 2^28), the words that a walk pays (at most 2^28),
-/// the depth of objects (from 1 to 256, where the root object has depth 1), and the tariff by which visits are priced.
-/// (Page: security considerations; the ranges are our own.)
+/// The limits of a reader: the greatest number of words of one framed message (from 1 to 2^28), the greatest number of
+/// words that a walk pays (at most 2^28), the greatest depth of objects (from 1 to 256, where the root object has depth
+/// 1), and the tariff by which visits are priced. (Page: security considerations; the ranges are our own.)
 #[derive(Clone, Copy, Debug, PartialEq, Eq)]
 pub struct Limits {
     message_words: u32,
@@ -42,8 +42,8 @@ impl Model for Limits {
 }
 
 impl Limits {
-    /// Returns limits of `message_words`, `budget` and `depth`, with the strict prices. Returns `None` exactly if one
-    /// of them is out of its range.
+    /// Returns the limits `message_words`, `budget` and `depth`, with the strict prices. Returns `None` exactly if one
+    /// of the three numbers is out of range.
     pub fn new(message_words: u32, budget: u32, depth: u32) -> Option<Limits>
         ensures some { IsSome result ↔ AreLimits message_words budget depth }
         ensures message_words { IfSome result (λ l. l.message_words ≡ message_words) }
@@ -80,7 +80,7 @@ impl Limits {
         }
     }
 
-    /// Returns these limits with the prices of `tariff`.
+    /// Returns `self` with the prices of `tariff`.
     pub fn with_tariff(self, tariff: Tariff) -> Limits
         ensures tariff { result.tariff ≡ tariff }
         ensures message_words { result.message_words ≡ self.message_words }

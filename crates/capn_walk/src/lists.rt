@@ -1,4 +1,4 @@
-//! Copies of lists of elements without pointers, each made in one pass.
+//! The functions that copy lists without pointers, each in one pass.
 
 ghost use Rattle.std.specs.Prelude.{◌≡◌, ◌+◌, ◌*◌, ◌/◌, ◌%◌, ◌<◌, ◌≤◌, ◌^◌, ◌++◌, length, map, take};
 ghost use Rattle.std.specs.Prelude.{vec_capacity, IfOk};
@@ -116,7 +116,7 @@ fn pairs_at<S: Space, A: Allocator, L: Ledger>(
     Ok(Items::from_vec(pairs))
 }
 
-/// Copies `count` bytes from `at` on, by one copy.
+/// Copies `count` bytes from `at` on, in one operation.
 fn bytes_at<S: Space, A: Allocator, L: Ledger>(
     alloc: A,
     space: &CountedSpace<'_, S, L>,
@@ -160,8 +160,8 @@ fn bits_at<S: Space, A: Allocator, L: Ledger>(
     Ok(Items::from_vec(bits))
 }
 
-/// Appends the first `count` bits of `byte` to `bits`, the least significant first. It is inlined, so that the loop
-/// over a whole byte is unrolled.
+/// Appends the first `count` bits of `byte` to `bits`, the least significant first. The function is inlined, so that
+/// the loop over a whole byte is unrolled.
 #[inline(always)]
 fn push_bits<A: Allocator>(bits: &mut Vec<bool, A>, byte: u8, count: usize)
     requires within { count ≤ 8 }
@@ -176,7 +176,7 @@ fn push_bits<A: Allocator>(bits: &mut Vec<bool, A>, byte: u8, count: usize)
     }
 }
 
-/// Returns the bit at `place` of `byte`, counted from the least significant.
+/// Returns bit `place` of `byte`, where bit 0 is the least significant.
 fn bit_of(byte: u8, place: usize) -> bool
     requires { place < 8 }
     ensures { from_bool result ≡ byte / 2 ^ place % 2 }

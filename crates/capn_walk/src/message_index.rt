@@ -1,4 +1,4 @@
-//! The index of a message: an entry for each slot that its walk visits, in preorder.
+//! The index of a message: an entry for each visit of a slot, in preorder.
 
 ghost use Rattle.std.specs.Prelude.{◌≡◌, ◌⊎◌, ◌<◌, ◌≤◌, ◌+◌, ◌-◌, ◌*◌, length, drop};
 ghost use Rattle.std.specs.Prelude.{IfOk, IfErr, IsOk, OnOk, MatchResult};
@@ -52,32 +52,34 @@ impl<'f, F: EntryForm> CountedWriter for IndexTask<'f, F> {
 }
 
 /// Writes the index of the message `space` to `room`, if the message is accepted within `limits`. Returns the number of
-/// entries and the words that the walk pays.
+/// visits and the number of words that the walk pays.
 ///
-/// A room that is too small gets the first entries, and nothing is refused for it. A room that is larger keeps what it
-/// had after the entries. There is an entry for each visit, so `budget + 1` entries are always enough. With an empty
-/// room the entries are only counted.
+/// If `room` is too small for all entries, the first entries are written, and the message is still accepted. If `room`
+/// is larger, the items after the entries stay as they were. There is an entry for each visit, so room for `budget + 1`
+/// entries is always enough. If `room` is empty, the entries are only counted.
 ///
-/// It visits the slots as [`walk`](crate::walk) and [`survey`](crate::survey) do, and has the same refusals. After a
-/// refusal the entries of the visits before the refused one may have changed, and no others.
+/// The order of the visits and the refusals are those of [`survey`](crate::survey). After a refusal the entries of the
+/// visits before the refused visit may have changed, and no other entries.
 ///
-/// Memory: only the stack, which has one frame for each object on the way down, at most as many as the depth limit.
+/// Memory: only the stack, with one frame for each object on the path from the root, so at most as many frames as the
+/// depth limit.
 pub fn index_into<M: Asked>(
     space: M,
     limits: Limits,
     room: &mut [Entry],
 ) -> Result<Indexed, Stopped>
-    // The index reads the message and turns its loop at most 13 * (budget + 1) + 1 times, and opens the count once. The
-    // message has to allow this number. A reference to a `Space` allows any number.
+    // The reads of the message and the turns of the loop are at most 13 * (budget + 1) + 1 in all, and starting the
+    // count takes one further read. The message has to allow that total. A reference to a `Space` allows any number.
     requires work { M.allows space (13 * (limits.budget + 1) + 1 + 1) }
-    // If `result` is `Ok`, the message is accepted, and the room has its index, or as much of it as fits.
+    // If `result` is `Ok`, the message is accepted, and `room` has the message's index, or as much of the index as
+    // fits.
     ensures found { IfOk result (λ t. IsIndexed (M.message space) limits room.old room.new t) }
     // An accepted message gives `Ok`. Any refusal is the first stop of the walk.
     ensures only { IsAccepted (M.message space) limits → IsOk result }
     ensures refused { IfErr result (λ s. IsWalkRefused (M.message space) limits s.fault s.place s.paid s.visits) }
-    // After a refusal the room is as it was, except for the entries of the visits before the refused one.
+    // After a refusal `room` is unchanged, except for the entries of the visits before the refused visit.
     ensures kept { IfErr result (λ s. drop (s.visits - 1) room.new ≡ drop (s.visits - 1) room.old) }
-    // No walk pays beyond its budget.
+    // No more than the budget is paid, and the visits are at most one more than the words paid.
     ensures bounded { MatchResult result (λ t. IsBounded limits.budget t.paid t.visits)
         (λ s. IsBounded limits.budget s.paid s.visits) }
 {
@@ -92,37 +94,38 @@ pub fn index_into<M: Asked>(
 
 /// Writes the index of the message `space` to `room`, each entry in `form`.
 ///
-/// The reads, the results, the refusals under `limits` and the words paid are those of [`index_into`]. It takes no
-/// memory but the stack.
+/// The bound on the reads, the results, the refusals and the prices are those of [`index_into`]. No memory is taken
+/// except the stack.
 pub fn index_into_form<M: Asked, F: EntryForm>(
     space: M,
     limits: Limits,
     form: &F,
     room: &mut [F::Item],
 ) -> Result<Indexed, Stopped>
-    // The index reads the message and turns its loop at most 13 * (budget + 1) + 1 times, and opens the count once. The
-    // message has to allow this number. A reference to a `Space` allows any number.
+    // The reads of the message and the turns of the loop are at most 13 * (budget + 1) + 1 in all, and starting the
+    // count takes one further read. The message has to allow that total. A reference to a `Space` allows any number.
     requires work { M.allows space (13 * (limits.budget + 1) + 1 + 1) }
-    // If `result` is `Ok`, the message is accepted, and the room has its index in the form, or as much of it as fits.
+    // If `result` is `Ok`, the message is accepted, and `room` has the message's index in `form`, or as much of the
+    // index as fits.
     ensures found { IfOk result (λ t.
         IsIndexedAs (F.written form.now) (M.message space) limits room.old room.new t) }
     // An accepted message gives `Ok`. Any refusal is the first stop of the walk.
     ensures only { IsAccepted (M.message space) limits → IsOk result }
     ensures refused { IfErr result (λ s. IsWalkRefused (M.message space) limits s.fault s.place s.paid s.visits) }
-    // After a refusal the room is as it was, except for the entries of the visits before the refused one.
+    // After a refusal `room` is unchanged, except for the entries of the visits before the refused visit.
     ensures kept { IfErr result (λ s. drop (s.visits - 1) room.new ≡ drop (s.visits - 1) room.old) }
-    // No walk pays beyond its budget.
+    // No more than the budget is paid, and the visits are at most one more than the words paid.
     ensures bounded { MatchResult result (λ t. IsBounded limits.budget t.paid t.visits)
         (λ s. IsBounded limits.budget s.paid s.visits) }
 {
     space.ask_into(IndexTask { limits, form }, room)
 }
 
-/// Writes the index as [`index_into_form`] does, and counts its reads in `reads`, as
-/// [`survey_counted`](crate::survey_counted) does. Each turn of the loop counts as a read, too.
+/// Writes the index of the message `space` to `room`, each entry in `form`, and counts reads and loop turns in `reads`.
+/// The results and refusals are those of [`index_into_form`].
 ///
-/// The count grows by at most thirteen for each visit, including the refused one, and by one more. So the budget alone
-/// bounds the work, whatever the message says. It takes no memory but the stack.
+/// The count grows by at most thirteen for each visit, including a refused visit, plus one. So the budget bounds the
+/// work for any message. No memory is taken except the stack.
 pub fn index_into_counted<S: Space, L: Ledger, F: EntryForm>(
     space: &CountedSpace<'_, S, L>,
     limits: Limits,
@@ -130,20 +133,21 @@ pub fn index_into_counted<S: Space, L: Ledger, F: EntryForm>(
     room: &mut [F::Item],
     reads: &mut Reads<L>,
 ) -> Result<Indexed, Stopped>
-    // If `result` is `Ok`, the message is accepted, and the room has its index in the form, or as much of it as fits.
+    // If `result` is `Ok`, the message is accepted, and `room` has the message's index in `form`, or as much of the
+    // index as fits.
     ensures found { IfOk result (λ t. IsIndexedAs (F.written form.now) space.now limits room.old room.new t) }
     // An accepted message gives `Ok`. Any refusal is the first stop of the walk.
     ensures only { IsAccepted space.now limits → IsOk result }
     ensures refused { IfErr result (λ s. IsWalkRefused space.now limits s.fault s.place s.paid s.visits) }
-    // After a refusal the room is as it was, except for the entries of the visits before the refused one.
+    // After a refusal `room` is unchanged, except for the entries of the visits before the refused visit.
     ensures kept { IfErr result (λ s. drop (s.visits - 1) room.new ≡ drop (s.visits - 1) room.old) }
-    // No walk pays beyond its budget.
+    // No more than the budget is paid, and the visits are at most one more than the words paid.
     ensures bounded { MatchResult result (λ t. IsBounded limits.budget t.paid t.visits)
         (λ s. IsBounded limits.budget s.paid s.visits) }
-    // The count of reads and turns grows by at most thirteen for each visit, and by one more.
+    // The count of reads and turns grows by at most thirteen for each visit, plus one.
     ensures reads { MatchResult result (λ t. reads.new ≤ reads.old + 13 * t.visits + 1)
         (λ s. reads.new ≤ reads.old + 13 * s.visits + 1) }
-    // So the budget bounds the count, whatever the message says and whatever is returned.
+    // So the budget bounds the count, for any message and any result.
     ensures work { reads.new ≤ reads.old + 13 * (limits.budget + 1) + 1 }
 {
     space.bounds();
@@ -165,28 +169,33 @@ pub fn index_into_counted<S: Space, L: Ledger, F: EntryForm>(
     Ok(told)
 }
 
-/// Makes the index as [`index`] does, and counts its reads in `reads`, as [`survey_counted`] does.
+/// Makes the index of the message `space`, and counts reads and loop turns in `reads`. The results are those of
+/// [`index`].
 fn index_counted<S: Space, A: Allocator + Copy, L: Ledger>(
     alloc: A,
     space: &CountedSpace<'_, S, L>,
     limits: Limits,
     reads: &mut Reads<L>,
 ) -> Result<Index<A>, Stopped>
-    // If `result` is `Ok`, the message is accepted, and `result` has its entries and the words that its walk pays.
+    // If `result` is `Ok`, the message is accepted, and `result` has the message's entries and the number of words that
+    // the walk pays.
     ensures accepted { OnOk result (IsAccepted space.now limits) }
     ensures entries { IfOk result (λ x. x.entries.items ≡ index_of space.now limits) }
     ensures pays { IfOk result (λ x. x.paid ≡ paid space.now limits) }
-    // An accepted message gives `Ok`, unless a growth was refused. Any other refusal is the first stop of the walk.
+    // An accepted message gives `Ok`, unless an allocation was refused. Any refusal other than `Memory` is the first
+    // stop of the walk.
     ensures only { (v : Tree) → IsValueOf space.now limits v → IfErr result (λ s. s.fault ≡ Memory) }
     ensures refused { IfErr result (λ s.
         (s.fault ≡ Memory)
         ⊎ IsWalkRefused space.now limits s.fault s.place s.paid s.visits) }
-    // Only the entries need a growth. If it is refused, the message is accepted.
+    // Only the vector of entries takes memory, and only once the survey has accepted the message. So if `Memory` is
+    // returned, the message is an accepted one.
     ensures no_memory { IfErr result (λ s. s.fault ≡ Memory → IsAccepted space.now limits) }
-    // No walk pays beyond its budget.
+    // No more than the budget is paid, and the visits are at most one more than the words paid.
     ensures bounded { MatchResult result (λ x. IsBounded limits.budget x.paid (length x.entries.items))
         (λ s. IsBounded limits.budget s.paid s.visits) }
-    // For each visit the survey adds at most fourteen reads and turns, and the index thirteen.
+    // For each visit the survey adds at most fourteen reads and turns, and writing the entries adds at most thirteen.
+    // Each of the two passes adds one more.
     ensures work { reads.new ≤ reads.old + 27 * (limits.budget + 1) + 2 }
 {
     let told = survey_counted(space, limits, reads)?;
@@ -202,7 +211,7 @@ fn index_counted<S: Space, A: Allocator + Copy, L: Ledger>(
     }
 }
 
-/// A task that makes the index of a message within `limits`, in a vector of its own.
+/// A task that makes the index of a message within `limits`, in a new vector on `alloc`.
 #[derive(Drop)]
 struct EntriesTask<A: Allocator + Copy> {
     alloc: A,
@@ -228,9 +237,10 @@ impl<A: Allocator + Copy> CountedTask for EntriesTask<A> {
     }
 }
 
-/// Makes the index of the message `space`, if it is accepted within `limits`, with the words that its walk pays.
+/// Makes the index of the message `space`, with the number of words that the walk pays, if the message is accepted
+/// within `limits`.
 ///
-/// It has the refusals of [`survey`](crate::survey). `Memory` is returned only if a growth on `alloc` was refused.
+/// The refusals are those of [`survey`](crate::survey), and `Memory` only if an allocation on `alloc` was refused.
 ///
 /// Memory: the entries, 24 bytes each, which are allocated once the message is accepted.
 pub fn index<M: Asked, A: Allocator + Copy>(
@@ -238,21 +248,25 @@ pub fn index<M: Asked, A: Allocator + Copy>(
     space: M,
     limits: Limits,
 ) -> Result<Index<A>, Stopped>
-    // Both passes read the message and turn their loops at most 27 * (budget + 1) + 2 times, and open the count once.
-    // The message has to allow this number. A reference to a `Space` allows any number.
+    // The reads of the message and the turns of the loops are at most 27 * (budget + 1) + 2 in both passes together,
+    // and starting the count takes one further read. The message has to allow that total. A reference to a `Space`
+    // allows any number.
     requires work { M.allows space (27 * (limits.budget + 1) + 2 + 1) }
-    // If `result` is `Ok`, the message is accepted, and `result` has its entries and the words that its walk pays.
+    // If `result` is `Ok`, the message is accepted, and `result` has the message's entries and the number of words that
+    // the walk pays.
     ensures accepted { OnOk result (IsAccepted (M.message space) limits) }
     ensures entries { IfOk result (λ x. x.entries.items ≡ index_of (M.message space) limits) }
     ensures pays { IfOk result (λ x. x.paid ≡ paid (M.message space) limits) }
-    // An accepted message gives `Ok`, unless a growth was refused. Any other refusal is the first stop of the walk.
+    // An accepted message gives `Ok`, unless an allocation was refused. Any refusal other than `Memory` is the first
+    // stop of the walk.
     ensures only { (v : Tree) → IsValueOf (M.message space) limits v → IfErr result (λ s. s.fault ≡ Memory) }
     ensures refused { IfErr result (λ s.
         (s.fault ≡ Memory)
         ⊎ IsWalkRefused (M.message space) limits s.fault s.place s.paid s.visits) }
-    // Only the entries need a growth. If it is refused, the message is accepted.
+    // Only the vector of entries takes memory, and only once the survey has accepted the message. So if `Memory` is
+    // returned, the message is an accepted one.
     ensures no_memory { IfErr result (λ s. s.fault ≡ Memory → IsAccepted (M.message space) limits) }
-    // No walk pays beyond its budget.
+    // No more than the budget is paid, and the visits are at most one more than the words paid.
     ensures bounded { MatchResult result (λ x. IsBounded limits.budget x.paid (length x.entries.items))
         (λ s. IsBounded limits.budget s.paid s.visits) }
 {

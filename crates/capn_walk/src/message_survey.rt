@@ -1,4 +1,4 @@
-//! The survey of a whole message: its walk, without its value.
+//! The survey of a whole message: the walk without the message's value.
 
 ghost use Rattle.std.specs.Prelude.{◌≡◌, ◌≢◌, ◌<◌, ◌≤◌, ◌+◌, ◌*◌, ◌⊎◌, IfOk, IfErr, MatchResult};
 ghost use Rattle.capn_walk.specs.Accepted.{IsValueOf, IsWalkRefused, IsBounded};
@@ -44,86 +44,90 @@ impl CountedTask for SurveyTask {
     }
 }
 
-/// Surveys the message `space` within `limits`, as [`survey`] does, but reads it only through a counter. It has no
-/// allocator and takes no memory.
+/// Surveys the message `space` within `limits`, without an allocator, and reads the message only through a counter. The
+/// results are those of [`survey`]. No memory is taken.
 pub fn survey_of<M: Asked>(space: M, limits: Limits) -> Result<Surveyed, Stopped>
-    // The survey reads the message and turns its loop at most 14 * (budget + 1) + 1 times, and opens the count once.
-    // The message has to allow this number. A reference to a `Space` allows any number.
+    // The reads of the message and the turns of the loop are at most 14 * (budget + 1) + 1 in all, and starting the
+    // count takes one further read. The message has to allow that total. A reference to a `Space` allows any number.
     requires work { M.allows space (14 * (limits.budget + 1) + 1 + 1) }
-    // If `result` is `Ok`, the message is accepted, and `result` has the words that its walk pays, its visits and the
-    // first capability of its value.
+    // If `result` is `Ok`, the message is accepted, and `result` has the number of words that the walk pays, the number
+    // of visits, and the first capability of the value.
     ensures found { IfOk result (λ s. told.IsSurvey (M.message space) limits s) }
-    // An accepted message gives `Ok`, unless a growth was refused. Any other refusal is the first stop of the walk.
+    // An accepted message gives `Ok`, with the first capability of the value. Any refusal is the first stop of the
+    // walk, and never `Memory` (see `no_memory`).
     ensures only { (v : Tree) → IsValueOf (M.message space) limits v →
         MatchResult result (λ s. s.capability ≡ first_cap v) (λ s. s.fault ≡ Memory) }
     ensures refused { IfErr result (λ s.
         (s.fault ≡ Memory)
         ⊎ IsWalkRefused (M.message space) limits s.fault s.place s.paid s.visits) }
-    // `Memory` is never the fault, since no depth needs a growth.
+    // `Memory` is never the fault, since nothing is allocated.
     ensures no_memory { IfErr result (λ s. s.fault ≢ Memory) }
-    // No walk pays beyond its budget.
+    // No more than the budget is paid, and the visits are at most one more than the words paid.
     ensures bounded { MatchResult result (λ s. IsBounded limits.budget s.paid s.visits)
         (λ s. IsBounded limits.budget s.paid s.visits) }
 {
     space.ask(SurveyTask { limits })
 }
 
-/// Surveys the message `space` within `limits`. Returns the words that its walk pays, the number of its visits and its
-/// first capability, without its value.
+/// Surveys the message `space` within `limits`. Returns the number of words that the walk pays, the number of visits
+/// and the first capability, but not the value.
 ///
-/// It visits the slots as [`walk`] does, and has the same refusals. It takes no memory, and doesn't use the allocator.
+/// The order of the visits and the refusals are those of [`walk`], except that `Memory` is never the refusal. No memory
+/// is taken, and the allocator is not used.
 pub fn survey<S: Space, A: Allocator + Copy>(
     _alloc: A,
     space: &S,
     limits: Limits,
 ) -> Result<Surveyed, Stopped>
-    // If `result` is `Ok`, the message is accepted, and `result` has the words that its walk pays, its visits and the
-    // first capability of its value.
+    // If `result` is `Ok`, the message is accepted, and `result` has the number of words that the walk pays, the number
+    // of visits, and the first capability of the value.
     ensures found { IfOk result (λ s. told.IsSurvey (S.message space.now) limits s) }
-    // An accepted message gives `Ok`, unless a growth was refused. Any other refusal is the first stop of the walk.
+    // An accepted message gives `Ok`, with the first capability of the value. Any refusal is the first stop of the
+    // walk, and never `Memory` (see `no_memory`).
     ensures only { (v : Tree) → IsValueOf (S.message space.now) limits v →
         MatchResult result (λ s. s.capability ≡ first_cap v) (λ s. s.fault ≡ Memory) }
     ensures refused { IfErr result (λ s.
         (s.fault ≡ Memory)
         ⊎ IsWalkRefused (S.message space.now) limits s.fault s.place s.paid s.visits) }
-    // `Memory` is never the fault, since no depth needs a growth.
+    // `Memory` is never the fault, since nothing is allocated.
     ensures no_memory { IfErr result (λ s. s.fault ≢ Memory) }
-    // No walk pays beyond its budget.
+    // No more than the budget is paid, and the visits are at most one more than the words paid.
     ensures bounded { MatchResult result (λ s. IsBounded limits.budget s.paid s.visits)
         (λ s. IsBounded limits.budget s.paid s.visits) }
 {
     survey_of(space, limits)
 }
 
-/// Surveys the message `space` within `limits`, as [`survey`] does, and counts its reads in `reads`. A read is that of
-/// a word, of the length of a segment, or of the number of segments. The message can be read in no other way. Each turn
-/// of the one loop counts as a read, too.
+/// Surveys the message `space` within `limits`, and counts reads and loop turns in `reads`. The results are those of
+/// [`survey`]. A read returns a word, the length of a segment, or the number of segments. The survey reads the message
+/// in no other way.
 ///
-/// The count grows by at most fourteen for each visit, including the refused one, and by one more. So the budget alone
-/// bounds the work, whatever the message says. It takes no memory.
+/// The count grows by at most fourteen for each visit, including a refused visit, plus one. So the budget bounds the
+/// work for any message. No memory is taken.
 pub fn survey_counted<S: Space, L: Ledger>(
     space: &CountedSpace<'_, S, L>,
     limits: Limits,
     reads: &mut Reads<L>,
 ) -> Result<Surveyed, Stopped>
-    // If `result` is `Ok`, the message is accepted, and `result` has the words that its walk pays, its visits and the
-    // first capability of its value.
+    // If `result` is `Ok`, the message is accepted, and `result` has the number of words that the walk pays, the number
+    // of visits, and the first capability of the value.
     ensures found { IfOk result (λ s. told.IsSurvey space.now limits s) }
-    // An accepted message gives `Ok`, unless a growth was refused. Any other refusal is the first stop of the walk.
+    // An accepted message gives `Ok`, with the first capability of the value. Any refusal is the first stop of the
+    // walk, and never `Memory` (see `no_memory`).
     ensures only { (v : Tree) → IsValueOf space.now limits v →
         MatchResult result (λ s. s.capability ≡ first_cap v) (λ s. s.fault ≡ Memory) }
     ensures refused { IfErr result (λ s.
         (s.fault ≡ Memory)
         ⊎ IsWalkRefused space.now limits s.fault s.place s.paid s.visits) }
-    // `Memory` is never the fault, since no depth needs a growth.
+    // `Memory` is never the fault, since nothing is allocated.
     ensures no_memory { IfErr result (λ s. s.fault ≢ Memory) }
-    // No walk pays beyond its budget.
+    // No more than the budget is paid, and the visits are at most one more than the words paid.
     ensures bounded { MatchResult result (λ s. IsBounded limits.budget s.paid s.visits)
         (λ s. IsBounded limits.budget s.paid s.visits) }
-    // The count of reads and turns grows by at most fourteen for each visit, and by one more.
+    // The count of reads and turns grows by at most fourteen for each visit, plus one.
     ensures reads { MatchResult result (λ s. reads.new ≤ reads.old + 14 * s.visits + 1)
         (λ s. reads.new ≤ reads.old + 14 * s.visits + 1) }
-    // So the budget bounds the count, whatever the message says and whatever is returned.
+    // So the budget bounds the count, for any message and any result.
     ensures work { reads.new ≤ reads.old + 14 * (limits.budget + 1) + 1 }
 {
     space.bounds();
@@ -165,92 +169,97 @@ impl CountedTask for DepthTask {
     }
 }
 
-/// Surveys the message `space` within `limits`, as [`survey_depth`] does, but reads it only through a counter. It has
-/// no allocator and takes no memory.
+/// Surveys the message `space` within `limits`, also finds the least depth limit that admits the message, and reads the
+/// message only through a counter. The results are those of [`survey_depth`]. No allocator is used and no memory is
+/// taken.
 pub fn survey_depth_of<M: Asked>(space: M, limits: Limits) -> Result<Measured, Stopped>
-    // The survey reads the message and turns its loop at most 14 * (budget + 1) + 1 times, and opens the count once.
-    // The message has to allow this number. A reference to a `Space` allows any number.
+    // The reads of the message and the turns of the loop are at most 14 * (budget + 1) + 1 in all, and starting the
+    // count takes one further read. The message has to allow that total. A reference to a `Space` allows any number.
     requires work { M.allows space (14 * (limits.budget + 1) + 1 + 1) }
-    // If `result` is `Ok`, the message is accepted, and `result` has the words that its walk pays, its visits and the
-    // first capability of its value.
+    // If `result` is `Ok`, the message is accepted, and `result` has the number of words that the walk pays, the number
+    // of visits, and the first capability of the value.
     ensures found { IfOk result (λ m. told.IsSurvey (M.message space) limits m.survey) }
-    // The message is accepted under the depth `m.depth`, and under no lower one.
+    // If `result` is `Ok(m)`, the message is accepted with the depth limit `m.depth`, and with no lower depth limit.
     ensures depth { IfOk result (λ m. IsDepth (M.message space) limits m.depth) }
     ensures within { IfOk result (λ m. m.depth ≤ limits.depth) }
-    // An accepted message gives `Ok`, unless a growth was refused. Any other refusal is the first stop of the walk.
+    // An accepted message gives `Ok`, with the first capability of the value. Any refusal is the first stop of the
+    // walk, and never `Memory` (see `no_memory`).
     ensures only { (v : Tree) → IsValueOf (M.message space) limits v →
         MatchResult result (λ m. m.survey.capability ≡ first_cap v) (λ s. s.fault ≡ Memory) }
     ensures refused { IfErr result (λ s.
         (s.fault ≡ Memory)
         ⊎ IsWalkRefused (M.message space) limits s.fault s.place s.paid s.visits) }
-    // `Memory` is never the fault, since no depth needs a growth.
+    // `Memory` is never the fault, since nothing is allocated.
     ensures no_memory { IfErr result (λ s. s.fault ≢ Memory) }
-    // No walk pays beyond its budget.
+    // No more than the budget is paid, and the visits are at most one more than the words paid.
     ensures bounded { MatchResult result (λ m. IsBounded limits.budget m.survey.paid m.survey.visits)
         (λ s. IsBounded limits.budget s.paid s.visits) }
 {
     space.ask(DepthTask { limits })
 }
 
-/// Surveys the message `space` within `limits`, as [`survey`] does, and also finds the least depth under which it is
-/// accepted if the other limits stay as they are. This depth is 0 if the root is null, else the greatest number of
-/// objects one below another, including the root.
+/// Surveys the message `space` within `limits`, and also finds the least depth limit with which the message is
+/// accepted, if the other limits stay as they are. The least depth limit is 0 if the root is null, else the greatest
+/// number of objects on a path from the root, including the root object.
 ///
-/// It makes one walk, as [`survey`] does, and has the same refusals. It takes no memory, and doesn't use the allocator.
+/// The message is surveyed once, with the refusals of [`survey`]. No memory is taken, and the allocator is not used.
 pub fn survey_depth<S: Space, A: Allocator + Copy>(
     _alloc: A,
     space: &S,
     limits: Limits,
 ) -> Result<Measured, Stopped>
-    // If `result` is `Ok`, the message is accepted, and `result` has the words that its walk pays, its visits and the
-    // first capability of its value.
+    // If `result` is `Ok`, the message is accepted, and `result` has the number of words that the walk pays, the number
+    // of visits, and the first capability of the value.
     ensures found { IfOk result (λ m. told.IsSurvey (S.message space.now) limits m.survey) }
-    // The message is accepted under the depth `m.depth`, and under no lower one.
+    // If `result` is `Ok(m)`, the message is accepted with the depth limit `m.depth`, and with no lower depth limit.
     ensures depth { IfOk result (λ m. IsDepth (S.message space.now) limits m.depth) }
     ensures within { IfOk result (λ m. m.depth ≤ limits.depth) }
-    // An accepted message gives `Ok`, unless a growth was refused. Any other refusal is the first stop of the walk.
+    // An accepted message gives `Ok`, with the first capability of the value. Any refusal is the first stop of the
+    // walk, and never `Memory` (see `no_memory`).
     ensures only { (v : Tree) → IsValueOf (S.message space.now) limits v →
         MatchResult result (λ m. m.survey.capability ≡ first_cap v) (λ s. s.fault ≡ Memory) }
     ensures refused { IfErr result (λ s.
         (s.fault ≡ Memory)
         ⊎ IsWalkRefused (S.message space.now) limits s.fault s.place s.paid s.visits) }
-    // `Memory` is never the fault, since no depth needs a growth.
+    // `Memory` is never the fault, since nothing is allocated.
     ensures no_memory { IfErr result (λ s. s.fault ≢ Memory) }
-    // No walk pays beyond its budget.
+    // No more than the budget is paid, and the visits are at most one more than the words paid.
     ensures bounded { MatchResult result (λ m. IsBounded limits.budget m.survey.paid m.survey.visits)
         (λ s. IsBounded limits.budget s.paid s.visits) }
 {
     survey_depth_of(space, limits)
 }
 
-/// Surveys the message `space` within `limits`, as [`survey_depth`] does, and counts its reads in `reads`. The count
-/// has the bounds of [`survey_counted`]. It takes no memory.
+/// Surveys the message `space` within `limits`, also finds the least depth limit that admits the message, and counts
+/// reads and loop turns in `reads`. The results are those of [`survey_depth`]. The count has the bounds of
+/// [`survey_counted`]. No memory is taken.
 pub fn survey_depth_counted<S: Space, L: Ledger>(
     space: &CountedSpace<'_, S, L>,
     limits: Limits,
     reads: &mut Reads<L>,
 ) -> Result<Measured, Stopped>
-    // If `result` is `Ok`, the message is accepted, and `result` has the words that its walk pays, its visits and the
-    // first capability of its value.
+    // If `result` is `Ok`, the message is accepted, and `result` has the number of words that the walk pays, the number
+    // of visits, and the first capability of the value.
     ensures found { IfOk result (λ m. told.IsSurvey space.now limits m.survey) }
-    // The message is accepted under the depth `m.depth`, and under no lower one.
+    // If `result` is `Ok(m)`, the message is accepted with the depth limit `m.depth`, and with no lower depth limit.
     ensures depth { IfOk result (λ m. IsDepth space.now limits m.depth) }
     ensures within { IfOk result (λ m. m.depth ≤ limits.depth) }
-    // An accepted message gives `Ok`, unless a growth was refused. Any other refusal is the first stop of the walk.
+    // An accepted message gives `Ok`, with the first capability of the value. Any refusal is the first stop of the
+    // walk, and never `Memory` (see `no_memory`).
     ensures only { (v : Tree) → IsValueOf space.now limits v →
         MatchResult result (λ m. m.survey.capability ≡ first_cap v) (λ s. s.fault ≡ Memory) }
     ensures refused { IfErr result (λ s.
         (s.fault ≡ Memory)
         ⊎ IsWalkRefused space.now limits s.fault s.place s.paid s.visits) }
-    // `Memory` is never the fault, since no depth needs a growth.
+    // `Memory` is never the fault, since nothing is allocated.
     ensures no_memory { IfErr result (λ s. s.fault ≢ Memory) }
-    // No walk pays beyond its budget.
+    // No more than the budget is paid, and the visits are at most one more than the words paid.
     ensures bounded { MatchResult result (λ m. IsBounded limits.budget m.survey.paid m.survey.visits)
         (λ s. IsBounded limits.budget s.paid s.visits) }
-    // The count of reads and turns grows by at most fourteen for each visit, and by one more.
+    // The count of reads and turns grows by at most fourteen for each visit, plus one.
     ensures reads { MatchResult result (λ s. reads.new ≤ reads.old + 14 * s.survey.visits + 1)
         (λ s. reads.new ≤ reads.old + 14 * s.visits + 1) }
-    // So the budget bounds the count, whatever the message says and whatever is returned.
+    // So the budget bounds the count, for any message and any result.
     ensures work { reads.new ≤ reads.old + 14 * (limits.budget + 1) + 1 }
 {
     space.bounds();

@@ -1,4 +1,5 @@
-//! The walk over a whole message, from its root.
+//! The walk over a whole message, from its root, and the refusals of the root, `NoRoot` and `RootKind`, for walk,
+//! survey and index.
 
 ghost use Rattle.std.specs.Prelude.{◌+◌, ◌*◌, ◌≡◌, ◌≢◌, ◌⊎◌, ◌<◌, ◌≤◌, Ok};
 ghost use Rattle.std.specs.Prelude.{length, true, IfOk, IfErr, OnOk, MatchResult};
@@ -48,48 +49,50 @@ impl<A: Allocator + Copy> CountedTask for WalkTask<A> {
     }
 }
 
-/// Reads the value that the message `space` denotes, from its root, within `limits`. Returns it with the words that
-/// were paid and the number of visits.
+/// Reads the value that the message `space` denotes, from the root, within `limits`. Returns the value, the number of
+/// words paid, and the number of visits.
 ///
-/// Slots are visited in preorder, each as often as a pointer leads to it. Each visit pays its price before anything of
-/// its content is read or memory is taken for it. So a hostile message, with cycles or shared objects, costs at most
-/// the budget.
+/// Slots are visited in preorder. A slot is visited each time that a pointer leads to the object with the slot. The
+/// price of a visit is paid before any content is read and before memory is taken for the content. So a hostile
+/// message, with cycles or shared objects, costs at most the budget.
 ///
-/// If segment 0 has no word, the refusal is `NoRoot` at 0:0, with paid 0 and visits 0. Any other refusal is that of the
-/// first visit that is a fault or brings the sum above the budget. It has the place of the visited slot, the words paid
-/// before it, and the number of the visit. At one visit the faults of `resolve` come first, then `RootKind`, `TooDeep`
-/// and `OverBudget`. `Memory` is returned only if a growth was refused, in place of any later result. Its `paid` is at
-/// most the budget, and its `visits` at most one more than that `paid`.
+/// If segment 0 has no word, the refusal is `NoRoot` at 0:0, with `paid` 0 and `visits` 0. Any other refusal except
+/// `Memory` is that of the first visit that is a fault or brings the sum of the prices above the budget. The refusal
+/// has the place of the visited slot, the number of words paid before the visit, and the number of the visit. At one
+/// visit the faults of `resolve` come first, then `RootKind`, `TooDeep` and `OverBudget`. `Memory` is returned only if
+/// an allocation was refused, in place of any later result. In a `Memory` refusal `paid` is at most the budget, and
+/// `visits` is at most `paid + 1`.
 ///
-/// Memory: the tree's own, on `alloc`. The stack holds at most as many objects as the depth limit. (Page: security
+/// Memory: that of the tree, on `alloc`. The stack holds at most as many objects as the depth limit. (Page: security
 /// considerations; the tariffs and the order of the faults are our own.)
 pub fn walk<M: Asked, A: Allocator + Copy>(
     alloc: A,
     space: M,
     limits: Limits,
 ) -> Result<Walked<A>, Stopped>
-    // The walk reads the message and turns its loops at most 12 * (budget + 1) times, and opens the count once. The
-    // message has to allow this number. A reference to a `Space` allows any number.
+    // The reads of the message and the turns of the loops are at most 12 * (budget + 1) in all, and starting the count
+    // takes one further read. The message has to allow that total. A reference to a `Space` allows any number.
     requires work { M.allows space (12 * (limits.budget + 1) + 1) }
 
-    // If `result` is `Ok`, it has the value at the root of an accepted message, with the sum of the prices.
+    // If `result` is `Ok`, the message is accepted, and `result` has the value at the root, the sum of the prices, and
+    // the number of visits.
     ensures found { IfOk result (λ w. IsValueOf (M.message space) limits w.tree) }
     ensures pays { IfOk result (λ w. w.paid ≡ paid (M.message space) limits) }
     ensures counts { IfOk result (λ w. w.visits ≡ number_of_visits (M.message space) limits) }
 
-    // If the message has a value within the limits, that is returned, unless a growth was refused. Any other refusal is
-    // the first stop of the walk.
+    // If the message has a value within the limits, that value is returned, unless an allocation was refused. Any
+    // refusal other than `Memory` is the first stop of the walk.
     ensures only { (v : trees.Tree) → IsValueOf (M.message space) limits v →
         MatchResult result (λ w. w.tree ≡ v) (λ s. s.fault ≡ Memory) }
     ensures refused { IfErr result (λ s.
         (s.fault ≡ Memory)
         ⊎ IsWalkRefused (M.message space) limits s.fault s.place s.paid s.visits) }
 
-    // Memory is needed only if the root leads to content whose price is within the budget.
+    // `Memory` is returned only if the root leads to content whose price is within the budget.
     ensures memory { IfErr result (λ s. s.fault ≡ Memory →
         IsEntered (stepped_to_root (M.message space) (base limits.tariff) limits.depth limits.budget)) }
 
-    // No walk pays beyond its budget.
+    // No more than the budget is paid, and the visits are at most one more than the words paid.
     ensures bounded { MatchResult result (λ w. IsBounded limits.budget w.paid w.visits)
         (λ s. IsBounded limits.budget s.paid s.visits) }
 
@@ -100,36 +103,37 @@ pub fn walk<M: Asked, A: Allocator + Copy>(
     space.ask(WalkTask { alloc, limits })
 }
 
-/// Reads the value that the message `space` denotes within `limits`, as [`walk`] does, and counts its reads in `reads`,
-/// as [`survey_counted`](crate::survey_counted) does. Bytes count as one read for each word that they take. Each turn
-/// of the loops over slots and over rows counts as a read, too.
+/// Reads the value that the message `space` denotes within `limits`, and counts reads and loop turns in `reads`. The
+/// results are those of [`walk`]. A read of bytes counts one for each word that the bytes take. The loops are those
+/// over slots and over rows.
 ///
-/// The count grows by at most ten for each visit, including the refused one, by two for each word paid, and by one
-/// more. So the budget alone bounds the work, whatever the message says. Memory on `alloc`: as for [`walk`].
+/// The count grows by at most ten for each visit, including a refused visit, plus two for each word paid, plus one. So
+/// the budget bounds the work for any message. Memory: that of the tree, on `alloc`.
 pub fn walk_counted<S: Space, A: Allocator + Copy, L: Ledger>(
     alloc: A,
     space: &CountedSpace<'_, S, L>,
     limits: Limits,
     reads: &mut Reads<L>,
 ) -> Result<Walked<A>, Stopped>
-    // If `result` is `Ok`, it has the value at the root of an accepted message, with the sum of the prices.
+    // If `result` is `Ok`, the message is accepted, and `result` has the value at the root, the sum of the prices, and
+    // the number of visits.
     ensures found { IfOk result (λ w. IsValueOf space.now limits w.tree) }
     ensures pays { IfOk result (λ w. w.paid ≡ paid space.now limits) }
     ensures counts { IfOk result (λ w. w.visits ≡ number_of_visits space.now limits) }
 
-    // If the message has a value within the limits, that is returned, unless a growth was refused. Any other refusal is
-    // the first stop of the walk.
+    // If the message has a value within the limits, that value is returned, unless an allocation was refused. Any
+    // refusal other than `Memory` is the first stop of the walk.
     ensures only { (v : trees.Tree) → IsValueOf space.now limits v →
         MatchResult result (λ w. w.tree ≡ v) (λ s. s.fault ≡ Memory) }
     ensures refused { IfErr result (λ s.
         (s.fault ≡ Memory)
         ⊎ IsWalkRefused space.now limits s.fault s.place s.paid s.visits) }
 
-    // Memory is needed only if the root leads to content whose price is within the budget.
+    // `Memory` is returned only if the root leads to content whose price is within the budget.
     ensures memory { IfErr result (λ s. s.fault ≡ Memory →
         IsEntered (stepped_to_root space.now (base limits.tariff) limits.depth limits.budget)) }
 
-    // No walk pays beyond its budget.
+    // No more than the budget is paid, and the visits are at most one more than the words paid.
     ensures bounded { MatchResult result (λ w. IsBounded limits.budget w.paid w.visits)
         (λ s. IsBounded limits.budget s.paid s.visits) }
 
@@ -137,10 +141,10 @@ pub fn walk_counted<S: Space, A: Allocator + Copy, L: Ledger>(
     ensures thrifty { IfOk result (λ w. cost (base limits.tariff) w.tree ≤ w.paid) }
     ensures low { IfOk result (λ w. height w.tree ≤ limits.depth) }
 
-    // The count of reads and turns grows by at most ten for each visit, by two for each word paid, and by one more.
+    // The count of reads and turns grows by at most ten for each visit, plus two for each word paid, plus one.
     ensures reads { MatchResult result (λ w. reads.new ≤ reads.old + 10 * w.visits + 2 * w.paid + 1)
         (λ s. reads.new ≤ reads.old + 10 * s.visits + 2 * s.paid + 1) }
-    // So the budget bounds the count, whatever the message says and whatever is returned.
+    // So the budget bounds the count, for any message and any result.
     ensures work { reads.new ≤ reads.old + 12 * (limits.budget + 1) }
 {
     space.bounds();
@@ -198,7 +202,7 @@ pub fn root_target<S: Space, L: Ledger>(
     }
 }
 
-/// Tests whether `target` may be that of the root pointer. A capability may not.
+/// Tests whether `target` may be the target of the root pointer. A capability may not.
 pub fn may_be_root(target: Target) -> bool
     ensures { result ≡ accepted.may_be_root target }
 {

@@ -8,7 +8,8 @@ ghost use Rattle.capn_walk.specs.Account.{with_paid, left_of};
 use capn_value::Tariff;
 use std::marker::Model;
 
-/// The budget that the steps of views share: the words paid so far, the words left, and the tariff of their prices.
+/// The budget that the steps of views share: the number of words paid so far, the number of words left, and the tariff
+/// by which steps are priced.
 #[derive(Debug, Drop)]
 pub struct Meter {
     paid: u32,
@@ -79,7 +80,7 @@ impl Meter {
         self.left
     }
 
-    /// Pays `price`, which is at most what is left.
+    /// Pays `price`, which is at most the number of words left.
     #[inline(always)]
     pub(crate) fn pay(&mut self, price: u32)
         requires { price ≤ left_of self.old }

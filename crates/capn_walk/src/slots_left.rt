@@ -1,4 +1,4 @@
-//! The slots of an object that a survey has still to visit.
+//! The slots of an object that a survey or an index has still to visit.
 
 ghost use Rattle.std.specs.Prelude.{◌≡◌, ℕ, ◌-◌, ◌<◌, ◌≤◌, ◌+◌, ◌*◌, ◌^◌, [], ◌∷◌, ◌↔◌, IsTrue};
 ghost use Rattle.capn_walk.specs.Visits.{slots};
@@ -8,8 +8,8 @@ ghost use Rattle.capn_walk.specs.inner.SlotsLeft.{places_of, owed, end_of, HasRo
 use capn_target::Shape;
 use capn_words::{Place, Width};
 
-/// The slots of an object that are still to be visited, in order: those left of the current row, then those of the rows
-/// after it. A struct and a list of pointers count as one row.
+/// The slots of an object that are still to be visited, in order: the slots left of the current row, then the slots of
+/// the later rows. A struct and a list of pointers count as one row.
 #[derive(Clone, Copy, Default)]
 pub struct SlotsLeft {
     /// The segment of the object.
@@ -18,20 +18,20 @@ pub struct SlotsLeft {
     pub next: u32,
     /// The number of slots left of the current row.
     pub left: u32,
-    /// The number of rows after the current one.
+    /// The number of rows after the current row.
     pub rows: u32,
-    /// The number of data words of each row after the current one.
+    /// The number of data words of each row after the current row.
     pub words: u16,
-    /// The number of slots of each row after the current one.
+    /// The number of slots of each row after the current row.
     pub slots: u16,
 }
 
 /// An object that waits until everything below one of its slots is visited.
 #[derive(Clone, Copy, Default)]
 pub struct Waiting {
-    /// The slots of the object that are visited after that one.
+    /// The slots of the object that are still to be visited.
     pub frame: SlotsLeft,
-    /// The number of levels that remain under the limit on depth for what these slots name.
+    /// The number of levels that the depth limit still allows for the targets of the slots in `frame`.
     pub depth: u32,
 }
 
@@ -89,7 +89,7 @@ impl SlotsLeft {
         self.left == 0 && self.rows == 0
     }
 
-    /// Returns these slots with the next row as the current one.
+    /// Returns `self` with the next row as the current row.
     #[inline(always)]
     pub fn turned(self) -> SlotsLeft
         requires done { self.left ≡ 0 }
@@ -113,7 +113,7 @@ impl SlotsLeft {
         }
     }
 
-    /// Takes the next slot. Returns its place, and the slots that are left after it.
+    /// Returns the place of the next slot, and the slots that are left after that slot.
     #[inline(always)]
     pub fn take(self) -> (Place, SlotsLeft)
         requires some { 0 < self.left }

@@ -14,9 +14,9 @@ use capn_target::{Fault, Target};
 use capn_words::{Place, Space};
 use std::sync::ledger::Ledger;
 
-/// Returns the price of a step to `target`. Under the limits `depth` levels and `left` words remain. Each content costs
-/// `base` in addition to its size. Content is refused with `TooDeep` if `depth` is 0, else with `OverBudget` if its
-/// price exceeds `left`. A target without content costs nothing.
+/// Returns the price of a step to `target`. The limits still allow `depth` levels of objects and a price of `left`
+/// words. Each content costs `base` in addition to its size. Content is refused with `TooDeep` if `depth` is 0, else
+/// with `OverBudget` if its price exceeds `left`. A target without content costs nothing.
 #[inline(always)]
 pub fn price_within(target: Target, depth: u32, left: u32, base: u32) -> Result<u32, Fault>
     ensures found { MatchResult result (λ p. seen.stepped base depth left (Ok target) ≡ Ok target)

@@ -25,8 +25,8 @@ use smallvec::SmallVec;
 use std::alloc::Allocator;
 use std::sync::ledger::Ledger;
 
-/// Visits the root's slot, whose `target` is known, and then the slots below it, if there are any. Only these need a
-/// stack. If `DEEP`, it also finds how deep the objects are.
+/// Visits the root's slot, whose target is `target`, and then all slots below the root. Only the slots below the root
+/// need a stack. If `DEEP` is true, also finds how deep the objects are.
 #[inline(always)]
 pub fn survey_root<S: Space, A: Allocator + Copy, L: Ledger, const DEEP: bool>(
     alloc: A,
@@ -81,8 +81,8 @@ pub fn survey_root<S: Space, A: Allocator + Copy, L: Ledger, const DEEP: bool>(
     }
 }
 
-/// Returns the refusal of the slot at `place` for `fault`. It is visit number `visits`, and `paid` words were paid
-/// before it.
+/// Returns the refusal, for `fault`, of visit number `visits`, which is to the slot at `place`. Before that visit
+/// `paid` words were paid.
 #[inline(always)]
 fn stopped(fault: Fault, place: Place, paid: u32, visits: u32) -> Stopped
     ensures { result ≡ record { fault = fault; place = place; paid = paid; visits = visits } }
@@ -95,11 +95,11 @@ fn stopped(fault: Fault, place: Place, paid: u32, visits: u32) -> Stopped
     }
 }
 
-/// Visits the slots of the frame `first`, with all below them. If `DEEP`, it also finds how deep the objects are, from
-/// the least depth that was left at any content.
+/// Visits the slots of `first` and all slots below them. If `DEEP` is true, also finds how deep the objects are, from
+/// the least number of levels that was left at any content.
 ///
-/// All places of the stack are filled before the first visit. So there is a smaller stack for low limits, among them
-/// the usual ones.
+/// All places of the stack are filled before the first visit. So a smaller stack is used for low depth limits, which
+/// include the usual limit.
 #[inline(always)]
 fn survey_slots<S: Space, A: Allocator + Copy, L: Ledger, const DEEP: bool>(
     alloc: A,
@@ -139,8 +139,8 @@ fn survey_slots<S: Space, A: Allocator + Copy, L: Ledger, const DEEP: bool>(
     }
 }
 
-/// Visits the slots of the frame `first`, with all below them. Its stack has places for `ROOM` objects that wait. If
-/// `DEEP`, it also finds how deep the objects are, from the least depth that was left at any content.
+/// Visits the slots of `first` and all slots below them, with a stack for `ROOM` objects that wait. If `DEEP` is true,
+/// also finds how deep the objects are, from the least number of levels that was left at any content.
 #[inline(never)]
 fn survey_in_room<S: Space, A: Allocator + Copy, L: Ledger, const DEEP: bool, const ROOM: usize>(
     alloc: A,

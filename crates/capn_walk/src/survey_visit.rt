@@ -1,4 +1,5 @@
-//! One visit of a slot: its price and the slots below it, without its value.
+//! One visit of a slot, without the slot's value: the price and the slots below, or the refusal. A far pointer to a
+//! landing pad of one word is resolved here, and the pad is tested again here, not by `resolve`.
 
 ghost use Rattle.std.specs.Prelude.{◌≡◌, ◌≢◌, ℕ, ◌≤◌, ◌+◌, ◌-◌, ◌∷◌, ◌↔◌, [], length, IsTrue, IfOk, IfErr, false, max};
 ghost use Rattle.capn_words.specs.Message.{segment_at, word_at, IsMessage, IsPlace};
@@ -19,19 +20,19 @@ use capn_target::{Fault, Target};
 use capn_words::{Place, Pointer, Space, Width, split};
 use std::sync::ledger::Ledger;
 
-/// The findings of one visit: its price, the capability that it meets, and the slots below it.
+/// The findings of one visit: the price, the capability if the slot names one, and the slots below the visited slot.
 #[derive(Clone, Copy)]
 pub struct Visited {
     /// The price of the visit.
     pub price: u32,
     /// The index of the capability that the slot names, if it names one.
     pub capability: Option<u32>,
-    /// The slots below the visited one.
+    /// The slots below the visited slot.
     pub below: SlotsLeft,
 }
 
-/// Visits the slot at `at`, whose `pointer` names a near struct, in a segment of `size` words. Under the limits `depth`
-/// levels and `left` words remain. Each content costs `base` in addition to its size.
+/// Visits the slot at `at`, whose `pointer` names a near struct, in a segment of `size` words. The limits still allow
+/// `depth` levels of objects and a price of `left` words. Each content costs `base` in addition to its size.
 #[inline(always)]
 pub fn visit_struct<S: Space, L: Ledger>(
     space: &CountedSpace<'_, S, L>,
@@ -56,8 +57,8 @@ pub fn visit_struct<S: Space, L: Ledger>(
     visit_found(space, at, found, depth, left, base)
 }
 
-/// Returns the price of a visit of the slot at `at`, whose `pointer` names a near list of numbers. Under the limits
-/// `depth` levels and `left` words remain.
+/// Returns the price of a visit of the slot at `at`, whose `pointer` names a near list of numbers. The limits still
+/// allow `depth` levels of objects and a price of `left` words.
 #[inline(always)]
 pub fn visit_numbers<S: Space, L: Ledger>(
     space: &CountedSpace<'_, S, L>,
@@ -85,8 +86,8 @@ pub fn visit_numbers<S: Space, L: Ledger>(
     }
 }
 
-/// Visits the slot at `at`, whose `word` may be a pointer of any kind. Under the limits `depth` levels and `left` words
-/// remain.
+/// Visits the slot at `at`, whose `word` may be a pointer of any kind. The limits still allow `depth` levels of objects
+/// and a price of `left` words.
 #[inline(never)]
 pub fn visit_elsewhere<S: Space, L: Ledger>(
     space: CountedSpace<'_, S, L>,
@@ -116,9 +117,9 @@ pub fn visit_elsewhere<S: Space, L: Ledger>(
     visit_found(&space, at, found, depth, left, base)
 }
 
-/// Visits the slot at `at`, which holds a far pointer to the landing pad of one word at `word` of `segment`. Under the
-/// limits `depth` levels and `left` words remain. A pad that names a struct has an arm of its own, so that its target
-/// doesn't pass through memory.
+/// Visits the slot at `at`, which holds a far pointer to the landing pad of one word at `word` of `segment`. The limits
+/// still allow `depth` levels of objects and a price of `left` words. A pad that names a struct has an arm of its own,
+/// so that the struct's target doesn't pass through memory.
 #[inline(always)]
 fn visit_behind_pad<S: Space, L: Ledger>(
     space: &CountedSpace<'_, S, L>,
@@ -157,7 +158,8 @@ fn visit_behind_pad<S: Space, L: Ledger>(
     }
 }
 
-/// Visits the slot at `at`, whose target `found` is known. Under the limits `depth` levels and `left` words remain.
+/// Visits the slot at `at`. `found` is the target of the slot, or the slot's fault. The limits still allow `depth`
+/// levels of objects and a price of `left` words.
 #[inline(always)]
 pub fn visit_found<S: Space, L: Ledger>(
     space: &CountedSpace<'_, S, L>,
@@ -187,7 +189,7 @@ pub fn visit_found<S: Space, L: Ledger>(
     }
 }
 
-/// Tests whether the elements of a list of `width` are numbers.
+/// Tests whether the elements of a list of `width` are neither pointers nor structs.
 #[inline(always)]
 pub fn is_plain(width: Width) -> bool
     ensures { IsTrue result ↔ IsPlain width }
@@ -198,7 +200,7 @@ pub fn is_plain(width: Width) -> bool
     }
 }
 
-/// Returns the lesser of `least` and `depth`, if `DEEP` and the visit met no capability, else `least`. `depth` is the
+/// Returns the lesser of `least` and `depth` if `DEEP` is true and `capability` is `None`, else `least`. `depth` is the
 /// number of levels that remained at the visit.
 #[inline(always)]
 pub fn lowered<const DEEP: bool>(least: u32, depth: u32, capability: Option<u32>) -> u32

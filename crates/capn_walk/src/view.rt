@@ -1,4 +1,4 @@
-//! The view of a message, which is read in place step by step, and the faults of its root.
+//! The view of a message, which reads the message in place, step by step, and refuses a faulty root or slot.
 
 ghost use Rattle.std.specs.Prelude.{◌≡◌, ◌<◌, ◌-◌, Ok, Err, length, slice_index};
 ghost use Rattle.std.specs.Prelude.{IfOk, IfErr, IfSome, IsSome, OnErr, MatchResult, ◌↔◌};
@@ -42,7 +42,7 @@ impl<'s, S: Space> Model for View<'s, S> {
 
 impl<'s, S: Space> View<'s, S> {
     /// Steps to the root of the message `space`, where `depth` is the limit on depth. The price is paid from `meter`,
-    /// by its tariff.
+    /// by the meter's tariff.
     pub fn root(space: &'s S, meter: &mut Meter, depth: u32) -> Result<View<'s, S>, Fault>
         ensures found { MatchResult result
             (λ v. seen.stepped_to_root (S.message space.now) (base meter.old.tariff) depth (left_of meter.old)
@@ -78,8 +78,8 @@ impl<'s, S: Space> View<'s, S> {
         }
     }
 
-    /// Steps to slot `i` of a struct, or to element `i` of a list of pointers. The price is paid from `meter`, by its
-    /// tariff.
+    /// Steps to slot `i` of a struct, or to element `i` of a list of pointers. The price is paid from `meter`, by the
+    /// meter's tariff.
     pub fn slot(&self, i: u32, meter: &mut Meter) -> Result<View<'s, S>, Fault>
         requires { i < seen.steps_in self.now.found }
         ensures found { MatchResult result
@@ -195,7 +195,7 @@ impl<'s, S: Space> View<'s, S> {
         }
     }
 
-    /// Returns row `i` of a list of structs. Nothing is paid, since the step to the list has paid for its rows.
+    /// Returns row `i` of a list of structs. Nothing is paid, since the step to the list has paid for the rows.
     #[inline]
     pub fn row(&self, i: u32) -> View<'s, S>
         requires { i < seen.rows_in self.now.found }

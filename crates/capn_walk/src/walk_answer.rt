@@ -10,14 +10,14 @@ use std::alloc::{Allocator, Global};
 use std::error::Error;
 use std::fmt;
 
-/// The value that a message denotes, with the words that its walk paid.
+/// The value that a message denotes, the number of words that the walk paid, and the number of visits.
 #[derive(Debug, Drop)]
 pub struct Walked<A: Allocator = Global> {
     /// The value at the root.
     pub tree: Tree<A>,
-    /// The words paid: the sum of the prices of all visits.
+    /// The number of words paid: the sum of the prices of all visits.
     pub paid: u32,
-    /// The number of visits: one of the root, and one of each slot below it for each time that it is reached.
+    /// The number of visits: one of the root, and one of a slot for each time that the walk reaches the slot.
     pub visits: u32,
 }
 
@@ -26,17 +26,17 @@ pub struct Walked<A: Allocator = Global> {
 pub struct Stopped {
     /// The fault.
     pub fault: Fault,
-    /// The slot that was visited, even if the fault is in its landing pad. If the fault is `Memory`, no clause says
-    /// which place this is. It is near the object for which memory was refused.
+    /// The place of the visited slot, even if the fault is in a landing pad. No clause fixes the place for the fault
+    /// `Memory`, but the place is near the object for which an allocation was refused.
     pub place: Place,
-    /// The words paid for the visits before the refused one.
+    /// The number of words paid for the visits before the refused visit.
     pub paid: u32,
-    /// The number of visits, the refused one among them.
+    /// The number of visits, including the refused visit.
     pub visits: u32,
 }
 
 impl Stopped {
-    /// Returns this refusal as it is after `visits` earlier visits, which paid `paid` words.
+    /// Returns `self` with `visits` earlier visits added, for which `paid` words were paid.
     pub(crate) fn behind(self, paid: u32, visits: u32) -> Stopped
         requires paid { paid + self.paid < 2 ^ 32 }
         requires visits { visits + self.visits < 2 ^ 32 }
@@ -71,7 +71,7 @@ impl fmt::Display for Stopped {
 
 impl Error for Stopped {}
 
-/// Returns the refusal of the slot at `place` for `fault`, as that of a first visit.
+/// Returns the refusal, for `fault`, of a first visit, which is to the slot at `place`.
 pub(crate) fn stop(fault: Fault, place: Place) -> Stopped
     ensures { result ≡ record { fault = fault; place = place; paid = 0; visits = 1 } }
 {
@@ -83,7 +83,7 @@ pub(crate) fn stop(fault: Fault, place: Place) -> Stopped
     }
 }
 
-/// Returns the refusal of a growth at `place`, before any visit is counted.
+/// Returns the refusal `Memory` at `place`, with no words paid and no visit counted.
 pub(crate) fn out_of_memory(place: Place) -> Stopped
     ensures { result ≡ record { fault = Memory; place = place; paid = 0; visits = 0 } }
 {

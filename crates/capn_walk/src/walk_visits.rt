@@ -1,8 +1,8 @@
-//! The visits of slots, in preorder: the value of each slot, the words that were paid, and the number of visits.
+//! The visits of slots, in preorder: the value of each slot, the number of words paid, and the number of visits.
 //!
-//! A slot costs at most ten reads and turns of a loop: one turn, one read of its word, and eight to find its target.
-//! The object that it names costs a read for each data word and a turn for each row. Both together are at most two for
-//! each word of its price.
+//! A slot costs at most ten reads and turns of a loop: one turn, one read of the slot's word, and eight reads to find
+//! the target. The object that the slot names costs a read for each data word and a turn for each row. Data words and
+//! rows together cost at most two for each word of the object's price.
 
 ghost use Rattle.std.specs.Prelude.{◌≡◌, ◌≤◌, ◌+◌, ◌*◌, Ok, length, IfErr, MatchResult};
 ghost use Rattle.capn_words.specs.Message.{segment_at, IsMessage, IsPlace};
@@ -25,9 +25,9 @@ use capn_words::{Place, Pointer, Space, Width};
 use std::alloc::Allocator;
 use std::sync::ledger::Ledger;
 
-/// Reads the value of the slot at `at`. Under the limits `depth` levels and `left` words remain. Each content costs
-/// `base` in addition to its size. Near structs and near lists have an arm each, so that each is compiled for its form
-/// alone.
+/// Reads the value of the slot at `at`. The limits still allow `depth` levels of objects and a price of `left` words.
+/// Each content costs `base` in addition to its size. Near structs and near lists have an arm each, so that each arm is
+/// compiled for only one form of pointer.
 #[cycle(walk)]
 #[inline(always)]
 fn walk_slot<S: Space, A: Allocator + Copy, L: Ledger>(
@@ -88,7 +88,7 @@ fn walk_near<S: Space, A: Allocator + Copy, L: Ledger>(
     }
 }
 
-/// Reads the value of the slot at `at`, whatever its target.
+/// Reads the value of the slot at `at`, which may hold any pointer.
 #[cycle(walk)]
 #[inline(never)]
 fn walk_elsewhere<S: Space, A: Allocator + Copy, L: Ledger>(
@@ -113,8 +113,8 @@ fn walk_elsewhere<S: Space, A: Allocator + Copy, L: Ledger>(
     }
 }
 
-/// Reads the value of the slot at `at`, whose `target` is known. Under the limits `depth` levels and `left` words
-/// remain. The price is paid before anything of the content is read.
+/// Reads the value of the slot at `at`, whose target is `target`. The limits still allow `depth` levels of objects and
+/// a price of `left` words. The price is paid before any content is read.
 #[cycle(walk)]
 #[inline(always)]
 pub fn walk_target<S: Space, A: Allocator + Copy, L: Ledger>(
@@ -132,7 +132,7 @@ pub fn walk_target<S: Space, A: Allocator + Copy, L: Ledger>(
     requires target { spec.target space.now at ≡ Ok target }
     requires left { left ≤ most_cost }
     ensures answer { Walks space.now base depth left at result }
-    // Memory is needed only for content, and only once its price is paid.
+    // `Memory` is returned only for content, and only once the content's price is paid.
     ensures memory { IfErr result (λ s. s.fault ≡ Memory → IsEntered (stepped base depth left (Ok target))) }
     ensures reads { MatchResult result (λ f. reads.new + 10 ≤ reads.old + 10 * f.visits + 2 * f.paid)
         (λ s. reads.new + 10 ≤ reads.old + 10 * s.visits + 2 * s.paid) }
@@ -164,8 +164,8 @@ pub fn walk_target<S: Space, A: Allocator + Copy, L: Ledger>(
     }
 }
 
-/// Reads the object that the slot at `at` names, with all below it. Its content has the shape `shape` and starts at
-/// `start`. Its own price has been paid.
+/// Reads the object that the slot at `at` names, with everything below it. The content has the shape `shape` and starts
+/// at `start`. The object's own price has been paid.
 #[cycle(walk)]
 #[inline(always)]
 fn object<S: Space, A: Allocator + Copy, L: Ledger>(

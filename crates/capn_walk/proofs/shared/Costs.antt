@@ -1,5 +1,5 @@
--- A walk pays at least the cost of the value that it finds, and its depth is at least the height. (For `CapsMet`,
--- `Depths`, `Exists`, capn_canon and capn_mismatch.)
+-- A walk pays at least the cost of the value that the walk finds, and the depth limit is at least the value's height.
+-- (For `CapsMet`, `Depths`, `Exists`, capn_canon and capn_mismatch.)
 use Rattle.std.proofs.Common.{◌≡◌, ◌≢◌, ℕ, zero, suc, ◌+◌, ◌-◌, ◌*◌, ◌<◌, ◌≤◌, ◌==◌, List, [], ◌∷◌, ◌++◌, length}
 use Rattle.std.proofs.Common.{refl, ap, ◌∙◌, arith, cond, if◌then◌else◌}
 use Rattle.std.specs.List.{flat_map}
@@ -31,7 +31,7 @@ all-back [] ys h = h
 all-back (pays at n ∷ xs) ys h = all-back xs ys h
 all-back (fails at e ∷ xs) ys h = absurd h
 
--- joined visits pay the sum of what both parts pay
+-- two lists of visits together pay the sum of the words that each list pays
 pub paid-append : (xs ys : List Visit) → paid_of (xs ++ ys) ≡ paid_of xs + paid_of ys
 paid-append [] ys = omega arith
 paid-append (pays at n ∷ xs) ys = omega (arith, paid-append xs ys)
@@ -56,7 +56,8 @@ rows-price bs a b span e f =
         omega arith in grind (arith, nat_tests)
 
 module _ (m : List (List ℕ)) (base : ℕ) where
-  -- an object: it may be visited, its visits below pay, and all pay its price and theirs
+  -- an object within the depth limit, where the visits below pay, and the sum paid is the object's price and the prices
+  -- of the visits below
   record Object (at : Place) (d s start pads : ℕ) (shape : Shape) : Type 0 where
     deep : 0 < d
     below : AllPay (flat_map (visits m base (d - 1)) (slots s start shape))
@@ -71,13 +72,13 @@ module _ (m : List (List ℕ)) (base : ℕ) where
       let o = visits-object m base at i.segment i.start i.pads x i.is (suc d) (omega arith) in
       record { deep = omega arith; below = rw o at h; sum = ap paid_of o }
 
-  -- the cost and the height of a value with slots are within what its visits pay and its depth
+  -- the cost and the height of a value with slots are within the sum that the visits pay and the depth limit
   with-slots : {at : Place} {d s start pads c q n : ℕ} {x : Shape} → Object at d s start pads x
       → (q ≤ paid_of (flat_map (visits m base (d - 1)) (slots s start x))) × (n ≤ d - 1) → c ≤ price base x + q
       → (c ≤ paid_of (visits m base d at)) × (1 + n ≤ d)
   with-slots o below cheap = let deep = o.deep in let sum = o.sum in (omega arith, omega arith)
 
-  -- the cost and the height of a value without slots are within what its visits pay and its depth
+  -- the cost and the height of a value without slots are within the sum that the visits pay and the depth limit
   without-slots : {c : ℕ} {x : Shape} {Inside : ℕ → ℕ → Type 0} (at : Place) (d : ℕ) → NamesObject m at x Inside
       → AllPay (visits m base d at) → c ≤ price base x → (c ≤ paid_of (visits m base d at)) × (1 ≤ d)
   without-slots at d i h cheap = with-slots {q = 0} {n = 0} (object at d i h) (omega arith, omega arith) (omega arith)

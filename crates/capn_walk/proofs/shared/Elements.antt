@@ -1,4 +1,5 @@
--- Elements of a list, read from the bytes of its words. (For `lists.rt`, `view.rt`, capn_layout and capn_show.)
+-- The elements of a list, read from the bytes of the list's words. (For `lists.rt`, `view.rt`, capn_layout and
+-- capn_show.)
 use Rattle.std.proofs.Common.{◌≡◌, ℕ, zero, suc, ◌+◌, ◌*◌, ◌/◌, ◌%◌, ◌^◌, ◌<◌, ◌≤◌, Bool, List, [], ◌∷◌, ◌++◌, length}
 use Rattle.std.proofs.Common.{take, drop, slice_index, map, refl, ap, sym, subst, ◌∙◌, arith, length-drop}
 use Rattle.std.proofs.Math.Nat.{div-div-eq-div-mul}
@@ -37,7 +38,7 @@ byte-of ws q p inside below =
     ∙ ap (λ (bs : List ℕ). slice_index bs p) (bytes-drop q ws ∙ ap bytes (drop-cons ws q 0 inside))
     ∙ byte-in_word (slice_index ws q) p (bytes (drop (suc q) ws)) below
 
--- ---- elements of several bytes, given their place in their word
+-- ---- elements of several bytes, given the place of an element in a word
 
 two-bytes : (w r : ℕ) → r < 4
     → w / 256 ^ (2 * r) % 256 + 256 * (w / 256 ^ (2 * r + 1) % 256) ≡ w / (2 ^ 16) ^ r % 2 ^ 16
@@ -98,7 +99,7 @@ eight-bytes w h = omega arith
 abbrev pub first_bits : ℕ → ℕ → List ℕ
 first_bits count x = map (λ k. x / 2 ^ k % 2) (range_with_len 0 count)
 
--- one more bit of a number
+-- the first i + 1 bits of a number, given the first i bits and bit i
 pub first_bits-more : (i x : ℕ) (zs xs ys : List Bool) (b : Bool) → ys ≡ xs ++ b ∷ []
     → map from_bool xs ≡ map from_bool zs ++ first_bits i x → from_bool b ≡ x / 2 ^ i % 2
     → map from_bool ys ≡ map from_bool zs ++ first_bits (i + 1) x
@@ -111,7 +112,7 @@ first_bits-more i x zs xs ys b e before is =
     ∙ ap (λ (l : List ℕ). map from_bool zs ++ l) (ap (λ (y : ℕ). first_bits i x ++ y ∷ []) is
     ∙ sym (map-range_with_len_more bit 0 i i (omega arith)))
 
--- elements, followed by the next ones
+-- the first elements of a list of bits, followed by the next elements
 elements-joined : (ws xs ys : List ℕ) → AreElements 64 1 ws xs
     → ((k : ℕ) → k < length ys → slice_index ys k ≡ element 64 1 ws (length xs + k)) → AreElements 64 1 ws (xs ++ ys)
 elements-joined ws xs ys before next i below = grind (arith, common_steps)
@@ -123,7 +124,7 @@ module _ (m : List (List ℕ)) (at : Place) where
   abbrev ws : List ℕ
   ws = words_from m at.segment at.word
 
-  -- the bytes from the place on are n, if they lie inside the segment
+  -- the bytes from the place on are n in number, if the segment has them all
   pub length-bytes_at : (n : ℕ) → 8 * at.word + n ≤ 8 * length (segment_at m at.segment) → length (bytes_at m at n) ≡ n
   length-bytes_at n h =
       let whole = length-bytes (segment_at m at.segment) in

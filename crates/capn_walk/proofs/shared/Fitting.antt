@@ -1,5 +1,5 @@
--- The value at the root of an accepted message fits, costs at most what was paid, and is no higher than the depth
--- limit. (For `Answering`, `RootWalks`, capn_c, capn_canon and capn_mismatch.)
+-- The value at the root of an accepted message fits, costs at most the number of words paid, and is no higher than the
+-- depth limit. (For `Answering`, `RootWalks`, capn_c, capn_canon and capn_mismatch.)
 use Rattle.std.proofs.Common.{◌≡◌, inl, inr, ℕ, suc, ◌+◌, ◌*◌, ◌^◌, ◌<◌, ◌≤◌, ◌==◌, ◌&&◌, ◌||◌, Bool, true, false, List}
 use Rattle.std.proofs.Common.{[], ◌∷◌, length, refl, ap, arith}
 use Rattle.std.proofs.lemmas.Bool.{or_from, and_from, and_parts, eqb-true, eq-eqb, le-ltb, not_from_true}
@@ -33,7 +33,7 @@ not-long : (t : Tree) → elements t < 2 ^ 29 → words_in_rows t < 2 ^ 29 → i
 not-long t a b =
     or_from _ _ (le-ltb 536870911 (elements t) (omega arith)) (le-ltb 536870911 (words_in_rows t) (omega arith))
 
--- the rows at a place: narrow if their sizes are, all alike, and of a + b words each
+-- no row is wide, all rows have a words and b slots, and the rows have a + b words each
 record Rows (a b : ℕ) (bs : Bodies) : Type 0 where
   narrow : has_wide_row bs ≡ false
   even : are_even a b bs ≡ true
@@ -67,7 +67,7 @@ module _ (m : List (List ℕ)) where
         words = omega arith;
       }
 
-  -- rows that cost few words are few, even if they have no words
+  -- rows that cost few words are few, even rows without words
   few-rows : (bs : Bodies) → is_ragged (rows bs) ≡ false → row_words bs < 2 ^ 29 → rows_price bs < 2 ^ 29
       → count_rows bs < 2 ^ 29
   few-rows bs e w p =
@@ -138,7 +138,8 @@ module _ (m : List (List ℕ)) where
 
     -- ---- the root
 
-    -- a value at the root, if no visit is a fault, is no capability, and the root's visits are those of its slot
+    -- if no visit is a fault, the value at the root is no capability, and the root's visits are the visits of the
+    -- root's slot
     pub record Root (depth : ℕ) (v : Tree) : Type 0 where
       pub kind : is_root v ≡ true
       pub all : AllPay (visits m base depth root)
@@ -167,7 +168,8 @@ module _ (m : List (List ℕ)) where
       root-of (rows bs) h =
           as-it-is (rows bs) refl (ap (λ r. visits_at_root m base r (visits m base depth root)) h.3.is)
 
-      -- the cost of the value at the root is at most what its visits pay, and its height at most the depth limit
+      -- the cost of the value at the root is at most the sum that the visits pay, and the value's height is at most the
+      -- depth limit
       pub root-costs : (v : Tree) → IsAt m root v → AllPay (root_visits m base depth)
           → (cost base v ≤ paid_of (root_visits m base depth)) × (height v ≤ depth)
       root-costs v h a =
@@ -178,7 +180,7 @@ module _ (m : List (List ℕ)) where
           let y = c.1 in
           (omega arith, y)
 
-  -- the value at the root of a message accepted under limits in their ranges fits
+  -- the value at the root of a message that is accepted within limits in range fits
   pub fits-root : (base budget depth : ℕ) (v : Tree) → budget ≤ most_cost → depth ≤ most_height
       → IsWithin budget (root_visits m base depth) → IsAt m root v → Fits v
   fits-root base budget depth v lb ld w h =

@@ -1,5 +1,5 @@
--- Every number of a value at a place of a message is in its range. (For `values`, `walk_counted`, capn_c, capn_canon
--- and capn_mismatch.)
+-- Every number of a value at a place of a message is in range. (For `values`, `walk_counted`, capn_c, capn_canon and
+-- capn_mismatch.)
 use Rattle.std.proofs.Common.{ℕ, zero, suc, ◌+◌, ◌/◌, ◌%◌, ◌^◌, ◌<◌, List, [], ◌∷◌, length, drop, slice_index, sym}
 use Rattle.std.proofs.Common.{subst, arith}
 use Rattle.std.proofs.Math.Nat.{mod-lt}
@@ -20,7 +20,7 @@ below-drop most zero xs h = h
 below-drop most (suc n) [] h = tt
 below-drop most (suc n) (x ∷ xs) h = below-drop most n xs h.1
 
--- elements read from words are below their base
+-- elements of `bits` bits that are read from words are below 2 ^ bits
 below-by_index : (most : ℕ) (xs : List ℕ) → ((i : ℕ) → i < length xs → slice_index xs i < most) → AllBelow most xs
 below-by_index most [] h = tt
 below-by_index most (x ∷ xs) h = (h 0 (omega arith), below-by_index most xs (λ i l. h (suc i) (omega arith)))

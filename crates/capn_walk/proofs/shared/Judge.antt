@@ -20,19 +20,19 @@ pub after-none : (r : Verdict) → after 0 0 r ≡ r
 after-none (accepted x y) = let a : 0 + x ≡ x = omega arith in let b : 0 + y ≡ y = omega arith in cc
 after-none (refused e at x y) = let a : 0 + x ≡ x = omega arith in let b : 0 + y ≡ y = omega arith in cc
 
--- if a verdict after a part is an acceptance, the verdict itself is one
+-- if the verdict with earlier visits added is an acceptance, the verdict without them is an acceptance
 pub after-accepted : (n m p k : ℕ) (r : Verdict) → after n m r ≡ accepted p k → (q j : ℕ) × (r ≡ accepted q j)
     × (p ≡ n + q) × (k ≡ m + j)
 after-accepted n m p k (accepted q j) h = (q, j, refl, cc, cc)
 after-accepted n m p k (refused e at q j) h = absurd cc
 
--- if a verdict after a part is a refusal, the verdict itself is one
+-- if the verdict with earlier visits added is a refusal, the verdict without them is a refusal
 pub after-refused : (n m : ℕ) (e : Fault) (at : Place) (p k : ℕ) (r : Verdict) → after n m r ≡ refused e at p k
     → (q j : ℕ) × (r ≡ refused e at q j) × (p ≡ n + q) × (k ≡ m + j)
 after-refused n m e at p k (accepted q j) h = absurd cc
 after-refused n m e at p k (refused f x q j) h = (q, j, cc, cc, cc)
 
--- the verdict on a visit that pays, and those after it
+-- the verdict on a visit that pays and on the visits after that visit
 pub judge-pays : (b n : ℕ) (at : Place) (vs : List Visit) → n ≤ b
     → judge b (pays at n ∷ vs) ≡ after n 1 (judge (b - n) vs)
 judge-pays b n at vs h =
@@ -46,13 +46,13 @@ judge-over b n at vs h =
     pick (λ (r : Verdict). r ≡ refused faults.OverBudget at 0 1) (nat_lt b n) _ _ (λ e. refl)
     (λ e. absurd (grind (arith, nat_tests)))
 
--- the first visit of those that are accepted costs at most what is left
+-- the first visit of an accepted list costs at most the words left
 pub judge-fits : (b n : ℕ) (at : Place) (vs : List Visit) (p k : ℕ) → judge b (pays at n ∷ vs) ≡ accepted p k → n ≤ b
 judge-fits b n at vs p k =
     pick (λ (r : Verdict). r ≡ accepted p k
     → n ≤ b) (nat_lt b n) _ _ (λ e. λ h. absurd cc) (λ e. λ h. grind (arith, nat_tests))
 
--- the verdict on visits after others that are within the budget
+-- the verdict on visits that follow visits within the budget
 pub judge-more : (b : ℕ) (xs ys : List Visit) (p k : ℕ) → judge b xs ≡ accepted p k
     → judge b (xs ++ ys) ≡ after p k (judge (b - p) ys)
 judge-more b [] ys p k h =
@@ -83,7 +83,7 @@ stops-paid b n x xs ys e at p k ih =
     let two = ap (after n 1) (ih q j is) in
     cc)
 
--- a refusal stays one whatever comes after it
+-- visits that are refused are refused in the same way if more visits follow
 pub judge-stops : (b : ℕ) (xs ys : List Visit) (e : Fault) (at : Place) (p k : ℕ) → judge b xs ≡ refused e at p k
     → judge b (xs ++ ys) ≡ refused e at p k
 judge-stops b [] ys e at p k h = absurd cc

@@ -1,5 +1,5 @@
--- Lists of numbers, given the width in their pointers. (For `CapsMet`, `Costs`, `Heights`, `Unique`, capn_canon and
--- capn_layout.)
+-- Lists of numbers, given the width in the pointer to the list. (For `CapsMet`, `Costs`, `Heights`, `Unique`,
+-- capn_canon and capn_layout.)
 use Rattle.std.proofs.Common.{◌≡◌, ℕ, ◌+◌, ◌≤◌, [], Some, None, Option, refl, sym, ap, subst, ◌∙◌, arith}
 use Rattle.std.proofs.Math.Nat.{le_refl}
 use Rattle.std.specs.Int.{div_ceil}
@@ -10,7 +10,7 @@ use Rattle.capn_target.specs.declared.target.Shape.TheVariants as shapes
 use Rattle.capn_target.specs.Target.{list_width, content_words}
 use Rattle.capn_walk.specs.Visits.{slots, price}
 
--- the width of the numbers in a list, if it holds numbers
+-- the width of the numbers in a list, if the width is of numbers
 abbrev pub number_width : Width → Option NumberWidth
 number_width W1 = Some bit
 number_width W8 = Some byte
@@ -26,12 +26,12 @@ number_width-list pair = refl
 number_width-list quad = refl
 number_width-list oct = refl
 
--- pointers with one width are to numbers of one width
+-- two widths of numbers are equal if their list widths are equal
 pub same-list_width : (a b : NumberWidth) → list_width a ≡ list_width b → a ≡ b
 same-list_width a b e = let same : Some a ≡ Some b =
     sym (number_width-list a) ∙ ap number_width e ∙ number_width-list b in cc
 
--- a width that is not of numbers is not that of a list of numbers
+-- a width that is not of numbers is not the width of a list of numbers
 pub no-number_width : (a : NumberWidth) (w : Width) → number_width w ≡ None → list_width a ≡ w → ⊥
 no-number_width a w none e = let same : Some a ≡ None = sym (number_width-list a) ∙ ap number_width e ∙ none in
     absurd cc
@@ -44,7 +44,7 @@ no-slots pair s start n = refl
 no-slots quad s start n = refl
 no-slots oct s start n = refl
 
--- a list of numbers costs what its pointer says
+-- the cost of a list of numbers is the price of the list's shape
 pub numbers-price : (a : NumberWidth) (base n : ℕ)
     → base + div_ceil n (per_word a) ≡ price base (shapes.Many (list_width a) n)
 numbers-price bit base n = omega arith
@@ -59,7 +59,7 @@ numbers-paid a base n =
     subst (λ (k : ℕ). base + div_ceil n (per_word a) ≤ k) (numbers-price a base n)
     (le_refl (base + div_ceil n (per_word a)))
 
--- the words of a list of numbers are no more than its cost
+-- the words of a list of numbers are no more than the list's cost
 pub numbers-sized : (a : NumberWidth) (base n : ℕ) → content_words (list_width a) n ≤ base + div_ceil n (per_word a)
 numbers-sized bit base n = omega arith
 numbers-sized byte base n = omega arith

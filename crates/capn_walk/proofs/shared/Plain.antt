@@ -70,7 +70,7 @@ plain-end : (budget before : ℕ) (v : Visit) (at : Place) (e : Fault) → IsPla
 plain-end budget before (fails p f) at e h k = λ x. h (k.1 ∙ x)
 plain-end budget before (pays p n) at e h k = λ x. let y = k.1 ∙ x in absurd cc
 
--- a message is refused for its bytes, never because memory runs out
+-- the fault of a refused message is never `Memory`
 pub plain-refusal : (m : List (List ℕ)) (limits : Bounds) (e : Fault) (at : Place) (paid visits : ℕ)
     → IsWalkRefused m limits e at paid visits → e ≢ faults.Memory
 plain-refusal m limits e at paid visits (inl h) = λ x. let y = sym h.1 ∙ x in absurd cc

@@ -1,4 +1,4 @@
--- The price of an object pays for its slots. (For the cycle `walk`.)
+-- The price of an object pays for the object's slots. (For the cycle `walk`.)
 use Rattle.std.proofs.Common.{ℕ, ◌+◌, ◌*◌, ◌≡◌, ◌≤◌, ◌==◌, arith}
 use Rattle.capn_words.specs.declared.pointer.Width.TheVariants.{W0, W1, W8, W16, W32, W64, Link, Rows}
 use Rattle.capn_words.proofs.shared.Choices.{pick}
@@ -7,7 +7,7 @@ use Rattle.capn_target.specs.declared.target.Shape.TheVariants as shapes
 use Rattle.capn_walk.specs.Visits.{price}
 use Rattle.capn_target.specs.Shapes.{slot_count, RowsFit}
 
--- an object has at most as many slots as it costs, even if `base` is 0
+-- the number of slots of an object is at most the object's price, even if `base` is 0
 pub slots-price : (base : ℕ) (shape : Shape) → RowsFit shape → slot_count shape ≤ price base shape
 slots-price base (shapes.Node a b) h = omega arith
 slots-price base (shapes.Many W0 n) h = omega arith

@@ -31,7 +31,7 @@ use Rattle.capn_walk.proofs.shared.Judge.{judge-more, judge-stops, judge-pays}
 abbrev pub slot : ℕ → ℕ → Place
 slot s w = record { segment = s; word = w }
 
--- the places of i slots and of n slots after them
+-- the places of i slots and of the n slots that follow
 pub places-add : (s w i n : ℕ) → places s w (i + n) ≡ places s w i ++ places s (w + i) n
 places-add s w zero n = let a : 0 + n ≡ n = omega arith in let b : w + 0 ≡ w = omega arith in rw (a, b) refl
 places-add s w (suc i) n =
@@ -39,7 +39,7 @@ places-add s w (suc i) n =
     let b : w + 1 + i ≡ w + suc i = omega arith in
     rw a (ap (λ (ps : List Place). slot s w ∷ ps) (rw (← b) (places-add s (w + 1) i n)))
 
--- the places before slot i, the place of slot i, and those after it
+-- the places before slot i, the place of slot i, and the places after slot i
 pub places-split : (s w i n : ℕ) → i < n
     → places s w n ≡ places s w i ++ slot s (w + i) ∷ places s (w + i + 1) (n - suc i)
 places-split s w i n h =
@@ -51,7 +51,7 @@ module _ (f : Place → List Visit) (s w : ℕ) where
   abbrev pub all : ℕ → List Visit
   all n = flat_map f (places s w n)
 
-  -- the visits before slot i, those of slot i, and those after it
+  -- the visits before slot i, the visits of slot i, and the visits after slot i
   pub all-split : (i n : ℕ) → i < n
       → all n ≡ all i ++ (f (slot s (w + i)) ++ flat_map f (places s (w + i + 1) (n - suc i)))
   all-split i n h = ap (flat_map f) (places-split s w i n h)
@@ -80,7 +80,7 @@ module _ (f : Place → List Visit) (s w : ℕ) where
       ∙ judge-more left (all i) (f (slot s (w + i)) ++ rest) p k g
       ∙ ap (after p k) (judge-stops (left - p) (f (slot s (w + i))) rest e at q j r)
 
-  -- slot i is refused, after slots that are accepted
+  -- slot i is refused after slots that are accepted
   pub refuses-next : (left i n p k : ℕ) (t : Stopped) → i < n → Gives left (all i) i p k
       → Refuses (left - p) (f (slot s (w + i))) 1 t →
       Refuses left (all n) n (record { fault = t.fault; place = t.place; paid = p + t.paid; visits = k + t.visits })
@@ -95,7 +95,7 @@ module _ (f : Place → List Visit) (s w : ℕ) where
   }
 
 module _ (m : List (List ℕ)) where
-  -- the values with that of the next slot are those of the slots
+  -- the values read so far with the next slot's value appended are the values of the slots
   pub at-next : {A : Type 0} (s w : ℕ) (vs : List (Value A)) (v : Value A) → AreAt m s w (trees_of vs)
       → IsAt m (slot s (w + count (trees_of vs))) (tree_of v) →
       AreAt m s w (trees_of (vs ++ v ∷ []))
@@ -105,13 +105,13 @@ module _ (m : List (List ℕ)) where
       let j = rw e at i in
       (h.0, at-next s (suc w) vs v h.1 j)
 
-  -- the next slot makes the count one more
+  -- appending a value adds one to the count
   pub count-next : {A : Type 0} (vs : List (Value A)) (v : Value A)
       → count (trees_of (vs ++ v ∷ [])) ≡ count (trees_of vs) + 1
   count-next [] v = refl
   count-next (u ∷ vs) v = let e = count-next vs v in omega arith
 
-  -- the visits of a slot, given its target
+  -- the visits of a slot, given the slot's target
   module _ (base : ℕ) (at : Place) where
     -- the visit of a null pointer pays nothing
     pub visits-null : (d : ℕ) → target m at ≡ Ok targets.Nil → visits m base d at ≡ pays at 0 ∷ []
@@ -138,7 +138,7 @@ module _ (m : List (List ℕ)) where
       visits-deep zero z = ap (last_visit m base at) e
       visits-deep (suc d) z = absurd (omega arith)
 
-      -- the visit of content pays its price if depth is left, and its slots are visited
+      -- the visit of content pays the content's price if depth is left, and then the content's slots are visited
       pub visits-object : (d : ℕ) → 0 < d
           → visits m base d at
           ≡ pays at (price base shape + pads) ∷ flat_map (visits m base (d - 1)) (slots s start shape)
@@ -160,7 +160,7 @@ module _ (m : List (List ℕ)) where
     few_slots : slot_count shape ≤ price base shape
     few_slots = slots-price base shape (inside m at s start pads shape e).1
 
-    -- an object is accepted if its slots are
+    -- an object is accepted if the slots below are accepted
     pub gives-object : (p k : ℕ)
         → Gives (left - (price base shape + pads)) below (slot_count shape) p k →
         Gives left (visits m base d at) 1 (price base shape + pads + p) (1 + k)
@@ -172,7 +172,7 @@ module _ (m : List (List ℕ)) where
       few = let a = g.few in let b = few_slots in omega arith;
     }
 
-    -- an object is refused if one of its slots is
+    -- an object is refused if one of the slots below is refused
     pub refuses-object : (t : Stopped)
         → Refuses (left - (price base shape + pads)) below (slot_count shape) t →
         Refuses left (visits m base d at) 1
@@ -239,7 +239,7 @@ module _ (m : List (List ℕ)) (s start : ℕ) (shape : Shape) where
       → IsInside m shape s start (links ts)
   inside-links n ts e l h = (e ∙ ap (shapes.Many Link) (sym l), h)
 
-  -- rows behind a tag are the list's
+  -- rows after the tag word are the rows of the list
   pub inside-rows : (n a b span : ℕ) (bs : Bodies) → shape ≡ shapes.Rows n a b span → count_rows bs ≡ n
       → RowsAt m a b s (suc start) bs →
       IsInside m shape s start (rows bs)

@@ -18,11 +18,11 @@ owed f = f.left + f.rows * f.slots
 abbrev pub end_of : SlotsLeft → ℕ
 end_of f = f.next + f.left + f.rows * (f.words + f.slots)
 
--- if rows are left, each has slots
+-- if rows are left, each row has slots
 abbrev pub HasRows : SlotsLeft → Type 0
 HasRows f = 0 < f.rows → 0 < f.slots
 
--- the slots that are left lie inside their segment
+-- the slots that are left lie inside a segment of the message
 pub record Lies (message : List (List ℕ)) (f : SlotsLeft) : Type 0 where
   pub within : end_of f ≤ length (segment_at message f.segment)
   pub rows : HasRows f
@@ -34,18 +34,19 @@ abbrev pub owed_by : List Waiting → ℕ
 owed_by [] = 0
 owed_by (w ∷ ws) = owed w.frame + owed_by ws
 
--- the depth left at each object of a stack is at most the limit, which is one lower for each next object
+-- the depth left at each object of a stack is at most the limit, where the limit falls by one from each object to the
+-- next
 abbrev pub AreShallow : ℕ → List Waiting → Type 0
 AreShallow limit [] = ⊤
 AreShallow limit (w ∷ ws) = (w.depth ≤ limit) × AreShallow (limit - 1) ws
 
 module _ (message : List (List ℕ)) where
-  -- the slots that are left of each object lie inside their segment
+  -- the slots that are left of each object lie inside a segment of the message
   abbrev pub AllLie : List Waiting → Type 0
   AllLie [] = ⊤
   AllLie (w ∷ ws) = Lies message w.frame × AllLie ws
 
-  -- the visits that are left, of the last object of the stack first
+  -- the visits that are left, where those of the last object of the stack come first
   abbrev pub visits_left : ℕ → List Waiting → List Visit
   visits_left base [] = []
   visits_left base (w ∷ ws) = visits_left base ws ++ visits_of message base w.depth (places_of w.frame)

@@ -1,4 +1,4 @@
--- The results of walks, surveys and indexes of a message, for calls that count and those that don't.
+-- The results of walks, surveys and indexes of a message, for calls that count reads and calls that don't.
 use Rattle.std.specs.Prelude.{◌≡◌, ◌≢◌, ◌-◌, ◌≤◌, ◌⊎◌, ℕ, List, length, drop, Result, IfOk, IfErr, IsOk, OnOk}
 use Rattle.std.specs.Prelude.{MatchResult}
 use Rattle.capn_value.specs.Tree.{Tree}
@@ -17,8 +17,8 @@ use Rattle.capn_walk.specs.Limits.{Bounds}
 use Rattle.capn_walk.specs.Surveyed.{IsSurvey}
 use Rattle.capn_walk.specs.View.{IsEntered, stepped_to_root}
 
--- the result of a walk: the value of an accepted message with what it pays, or the first stop, or `Memory` if a growth
--- was refused for content within the budget
+-- the result of a walk: the value of an accepted message with the number of words paid, or the first stop, or `Memory`
+-- if an allocation was refused for content within the budget
 pub record IsWalkTold {W : Type 0} (message : List (List ℕ)) (limits : Bounds) (r : Result W Stopped) (tree : W → Tree)
     (price visits : W → ℕ) : Type 0 where
   pub found : IfOk r (λ w. IsValueOf message limits (tree w))
@@ -33,7 +33,7 @@ pub record IsWalkTold {W : Type 0} (message : List (List ℕ)) (limits : Bounds)
   pub thrifty : IfOk r (λ w. cost (base limits.tariff) (tree w) ≤ price w)
   pub low : IfOk r (λ w. height (tree w) ≤ limits.depth)
 
--- the result of a survey: the words that the walk of an accepted message pays, or the first stop, but never `Memory`
+-- the result of a survey: the totals of the walk of an accepted message, or the first stop, but never `Memory`
 pub record IsSurveyTold (message : List (List ℕ)) (limits : Bounds) (r : Result Surveyed Stopped) : Type 0 where
   pub found : IfOk r (λ s. IsSurvey message limits s)
   pub only : (v : Tree) → IsValueOf message limits v
@@ -43,7 +43,7 @@ pub record IsSurveyTold (message : List (List ℕ)) (limits : Bounds) (r : Resul
   pub bounded : MatchResult r (λ s. IsBounded limits.budget s.paid s.visits)
       (λ s. IsBounded limits.budget s.paid s.visits)
 
--- the result of a survey that also finds the least depth
+-- the result of a survey that also finds the least depth limit
 pub record IsDepthTold (message : List (List ℕ)) (limits : Bounds) (r : Result Measured Stopped) : Type 0 where
   pub found : IfOk r (λ m. IsSurvey message limits m.survey)
   pub depth : IfOk r (λ m. IsDepth message limits m.depth)
@@ -56,7 +56,7 @@ pub record IsDepthTold (message : List (List ℕ)) (limits : Bounds) (r : Result
       (λ s. IsBounded limits.budget s.paid s.visits)
 
 -- the result of an index in a room: the totals of an accepted message, whose entries the room has, or the first stop,
--- which leaves all of the room as it was but the entries of the visits before it
+-- which leaves the room unchanged except for the entries of the visits before the stop
 pub record IsIndexTold {A : Type 0} (form : Entry → A) (message : List (List ℕ)) (limits : Bounds) (old new : List A)
     (r : Result Indexed Stopped) : Type 0 where
   pub found : IfOk r (λ t. IsIndexedAs form message limits old new t)
@@ -66,8 +66,8 @@ pub record IsIndexTold {A : Type 0} (form : Entry → A) (message : List (List �
   pub bounded : MatchResult r (λ t. IsBounded limits.budget t.paid t.visits)
       (λ s. IsBounded limits.budget s.paid s.visits)
 
--- the result of an index in memory of its own: the entries of an accepted message and what it pays, or the first stop,
--- or `Memory` if a growth for the entries was refused
+-- the result of an index in a new vector: the entries of an accepted message and the number of words paid, or the first
+-- stop, or `Memory` if the allocation of the vector was refused
 pub record IsIndexMade {X : Type 0} (message : List (List ℕ)) (limits : Bounds) (r : Result X Stopped)
     (entries : X → List Entry) (price : X → ℕ) : Type 0 where
   pub accepted : OnOk r (IsAccepted message limits)
