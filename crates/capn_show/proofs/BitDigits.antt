@@ -40,7 +40,7 @@ bit-set digits i v f size below so_far e j h =
       | inr less ↦ get_or-set_other digits i j v 0 (omega arith) ∙ so_far j less
     ]
 
--- The first digits of a word are those of the elements from the first one in the word on.
+-- The first `left` digits of a word are the digits of the first `left` elements in the word.
 pub first-bits : (ws : List ℕ) (xs : List Bool) (i left w : ℕ) (digits : List ℕ)
     → ((k : ℕ) → k < length (map from_bool xs) → element 64 1 ws k ≡ slice_index (map from_bool xs) k)
     → length (map from_bool xs) ≡ length xs

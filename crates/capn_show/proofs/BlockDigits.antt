@@ -40,7 +40,7 @@ eight : (w : ℕ) → length (to_le_bytes w64 w) ≡ 8
 eight w = refl
 
 module _ (ws xs : List ℕ) (i : ℕ) (are : (k : ℕ) → k < length xs → element 8 8 ws k ≡ slice_index xs k) where
-  -- The first bytes of a word are the elements from the first one in the word on.
+  -- The first `left` bytes of word `i` are the first `left` elements in that word.
   same-bytes : (left w : ℕ) → w ≡ slice_index ws i → left ≤ 8 → 8 * i + left ≤ length xs
       → take left (to_le_bytes w64 w) ≡ take left (drop (8 * i) xs)
   same-bytes left w e few room =

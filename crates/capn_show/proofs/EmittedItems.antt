@@ -16,7 +16,7 @@ use Rattle.capn_show.proofs.ItemTexts.{texts}
 -- ---- words and numbers
 
 module _ (rule : Rule) (size : ℕ) (piece_of : ℕ → List ℕ) (end path : List ℕ) (first : ℕ) where
-  -- The mark and the piece of a number, by the number of items before it.
+  -- The mark and the piece of the number `x`, which has `i` items before it.
   abbrev pub number_item : ℕ → ℕ → List ℕ
   number_item i x = rule.mark i (first + i * size) path ++ piece_of x
 
@@ -111,7 +111,7 @@ nth first k = record { segment = first.segment; word = first.word + k }
 abbrev pub nth_row : Place → ℕ → ℕ → ℕ → Target
 nth_row first a b k = struct_at first.segment (first.word + k * (a + b)) a b
 
--- The text of one item is the same by an equal rule and at an equal path.
+-- An equal rule gives the same text of an item at an equal path.
 module _ (m : List (List ℕ)) (rule : Rule) (level : ℕ) (path : List ℕ) (r : Rule) (here : List ℕ) (e : r ≡ rule)
     (f : here ≡ path) where
   pub item-is : (place : ℕ → Place) (ts : Trees) (i : ℕ)
@@ -137,6 +137,6 @@ module _ (m : List (List ℕ)) (rule : Rule) (level : ℕ) (path : List ℕ) (r 
       ++ emitted_body m rule level (rule.below path i) (nth_row first a b i) ws ss)
       (sym (words-listed bs i)) (sym (slots-listed bs i))
 
--- The piece that closes slots is the same by equal rules.
+-- Equal rules close slots with the same text.
 pub closing : (level : ℕ) {r s : Rule} → r ≡ s → r.piece level pieces.EndItems ≡ s.piece level pieces.EndItems
 closing level e = ap (λ (x : Rule). x.piece level pieces.EndItems) e

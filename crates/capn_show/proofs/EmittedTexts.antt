@@ -30,7 +30,8 @@ use Rattle.capn_show.specs.EmittedPlaces.{RowsEmitted, WordsEmitted}
 use Rattle.capn_show.proofs.shared.FoundKinds.{as-nil, as-cap, as-node, as-links, as-rows}
 use Rattle.capn_show.proofs.shared.FoundKinds.{as-voids, as-bits, as-numbers}
 
--- The digits of a list that is not empty, with the mark and the pieces before and behind them.
+-- For a list that is not empty, the mark, the piece `Digits`, the digits and the piece `EndDigits` are its line of
+-- digits.
 pub digits-emitted : (rule : Rule) (level : ℕ) (path : List ℕ) (first n : ℕ) (digits : List ℕ) → 0 < n
     → (rule.mark 0 first path ++ rule.piece level pieces.Digits) ++ (digits ++ rule.piece level pieces.EndDigits)
     ≡ emitted_digits rule level path first n digits
@@ -127,7 +128,7 @@ module _ (m : List (List ℕ)) (rule : Rule) (level : ℕ) (path : List ℕ) whe
   -- ---- a list of elements without pointers
 
   module _ (s w n : ℕ) (width : Width) (Says : List ℕ → Type 0) where
-    -- `Says` holds of the text of the list, whatever number of pads led to it.
+    -- `Says` holds of the text of the list, for any number `pads` of landing pads.
     abbrev IsListEmitted : Type 0
     IsListEmitted = (pads : ℕ)
         → IsFoundEmitted m rule level path (targets.Content s w (shapes.Many width n) pads) Says

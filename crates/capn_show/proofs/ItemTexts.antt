@@ -26,7 +26,7 @@ module _ {A : Type 0} (item : ℕ → A → List ℕ) where
       ∙ ap (λ (l : List ℕ). item k x ++ l)
       (ap (λ (n : ℕ). front ++ item n y) same ∙ texts-next d (suc k) i xs (omega arith))
 
-  -- The texts of all items are those before item `i`, its own, and those after it.
+  -- The texts of all items are the texts before item `i`, the text of item `i`, and a rest.
   texts-split : (d : A) (k i : ℕ) (xs : List A) → i < length xs → (rest : List ℕ)
       × ((texts k (take i xs) ++ item (k + i) (get_or xs i d)) ++ rest ≡ texts k xs)
   texts-split d k i [] below = absurd (omega arith)

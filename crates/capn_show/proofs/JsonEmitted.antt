@@ -20,11 +20,11 @@ use Rattle.capn_show.specs.JsonTexts.{is_json_text, text_json}
 use Rattle.capn_show.specs.inner.JsonRule.{json_rule, bytes_json_of}
 use Rattle.capn_show.proofs.TextDigits.{encode_lower-none}
 
--- A byte and the end of an object, behind other bytes.
+-- Appending is associative for `head`, `x`, a byte `c`, and the end of an object.
 pub closed : (head x : List ℕ) (c : ℕ) → head ++ (x ++ (c ∷ 125 ∷ [])) ≡ head ++ ((x ++ c ∷ []) ++ 125 ∷ [])
 closed head x c = ap (λ (l : List ℕ). head ++ l) (sym (append_assoc x (c ∷ []) (125 ∷ [])))
 
--- The parts of a struct.
+-- The parts of a struct make up the JSON of the struct.
 struct-parts : (ws : List ℕ) (slots : List (List ℕ)) → codes "{\"words\":["
     ++ ((with_commas (map word_text ws) ++ codes "],\"slots\":[") ++ (with_commas slots ++ codes "]}"))
     ≡ struct_text ws slots
@@ -36,7 +36,7 @@ struct-parts ws slots =
     ∙ ap (λ (l : List ℕ). own ++ (codes "],\"slots\":[" ++ l)) (sym (append_assoc below (93 ∷ []) (125 ∷ [])))
     ∙ sym (append_assoc own (93 ∷ []) (codes ",\"slots\":[" ++ ((below ++ 93 ∷ []) ++ 125 ∷ []))))
 
--- The first item, or one behind a comma, and the items that follow.
+-- The text `x` before `y` is `x` and `rest`, followed by `end`, if `y` is `rest` followed by `end`.
 first : (x y rest end : List ℕ) → y ≡ rest ++ end → x ++ y ≡ (x ++ rest) ++ end
 first x y rest end e = ap (λ (l : List ℕ). x ++ l) e ∙ sym (append_assoc x rest end)
 

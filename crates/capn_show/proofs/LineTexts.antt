@@ -9,7 +9,7 @@ use Rattle.capn_show.specs.declared.fault.Broken.{Broken}
 use Rattle.capn_show.specs.Outgoing.{Outgoing, Adds, BreaksOff}
 use Rattle.capn_show.proofs.shared.Appended.{both, otherwise, otherwise-broken, then-broken, broken-before}
 
--- The spaces of `a` levels and of `b` levels are those of their sum.
+-- A list of `n` spaces.
 abbrev blanks : ℕ → List ℕ
 blanks n = replicate n 32
 

@@ -11,11 +11,11 @@ use Rattle.capn_show.specs.JsonTexts.{text_or_digits}
 
 -- ---- the bytes between quotes
 
--- The byte for which the byte after a backslash stands.
+-- The byte that a backslash followed by `c` stands for.
 abbrev unescaped_as : ℕ → ℕ
 unescaped_as c = if c == 116 then 9 else if c == 110 then 10 else if c == 114 then 13 else c
 
--- The bytes of a text, from those between quotes.
+-- The bytes of a text, computed from the bytes between its quotes.
 abbrev unescaped : List ℕ → List ℕ
 unescaped [] = []
 unescaped (b ∷ []) = b ∷ []
@@ -76,7 +76,7 @@ abbrev third : List ℕ → ℕ
 third (a ∷ b ∷ c ∷ cs) = c
 third _ = 0
 
--- The JSON of a text is never that of digits.
+-- The JSON of a text never equals the JSON of a list in digits.
 apart : (xs ys : List ℕ) → text_json xs ≡ digits_json ys → ⊥
 apart xs ys e = let bad : 116 ≡ 98 = ap third e in absurd (omega (arith, bad))
 

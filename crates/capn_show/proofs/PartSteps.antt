@@ -63,7 +63,7 @@ follow-one path i n t below e =
     ∙ ap (λ (k : ℕ). follow (drop (suc i) path) (step_down t k)) (sym e)
     ∙ ap (λ (k : ℕ). follow (drop k path) (step_down t n)) next
 
--- A path ends early, if a step leads nowhere.
+-- If step `i` of a path leads nowhere, the path leads nowhere from there on.
 pub follow-stop : (path : List ℕ) (i n : ℕ) (t : Tree) → i < length path → n ≡ get_or path i 0 → step_down t n ≡ None
     → follow (drop i path) (Some t) ≡ None
 follow-stop path i n t below e none =

@@ -1,4 +1,4 @@
--- The target to which one step of a path leads. (Own.)
+-- The target to which one step of a path leads. (Our own.)
 use Rattle.std.specs.Prelude.{ℕ, List, Result, Ok, Err}
 use Rattle.capn_words.specs.declared.space.Place.{Place}
 use Rattle.capn_target.specs.declared.target.Target.{Target}
@@ -14,18 +14,18 @@ abbrev pub begin : Target → Place
 begin (targets.Content s w shape pads) = record { segment = s; word = w }
 begin _ = root
 
--- The target of a pointer, or null if it has none.
+-- The target of a pointer, or null if the pointer has a fault and no target.
 abbrev pub named_by : Result Target Fault → Target
 named_by (Ok found) = found
 named_by (Err e) = targets.Nil
 
--- The place one step below a target: of slot `i`, or of the beginning of row `i`.
+-- The place one step below a target: slot or element `i`, or the first word of row `i`.
 abbrev pub step_at : Target → ℕ → Place
 step_at (targets.Content s w (shapes.Rows n a b span) pads) i =
     begin (row_of (targets.Content s w (shapes.Rows n a b span) pads) i)
 step_at found i = step_place found i
 
--- The target one step below a target.
+-- The target one step below a target of the message `m`, by the number `i` of the step.
 abbrev pub step_to : List (List ℕ) → Target → ℕ → Target
 step_to m (targets.Content s w (shapes.Rows n a b span) pads) i =
     row_of (targets.Content s w (shapes.Rows n a b span) pads) i

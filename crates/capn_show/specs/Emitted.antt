@@ -1,5 +1,5 @@
 -- The text that an emitter writes for the values of a message, by its rule: a mark before each item, and the pieces.
--- (Own.)
+-- (Our own.)
 use Rattle.std.specs.Prelude.{ℕ, zero, suc, ◌+◌, ◌*◌, Bool, false, List, [], ◌∷◌, ◌++◌, length, map, codes}
 use Rattle.std.specs.Prelude.{replicate, if◌then◌else◌}
 use Rattle.std.specs.Fmt.{decimal}
@@ -19,10 +19,10 @@ use Rattle.capn_show.specs.Quoting.{is_text, quoted_line}
 use Rattle.capn_show.specs.declared.piece.Piece.{Piece}
 use Rattle.capn_show.specs.declared.piece.Piece.TheVariants as pieces
 
--- A rule of an emitter. `is_text` is true if a list of bytes is written as a text, and `text` is that text at a level.
--- `lies` is the byte at which a word of a message lies, and `below` the path to an item of this number. `mark` is the
--- text before an item: by the number of items before it, the byte of its subject, and the path to it. `piece` is the
--- text of any other piece at a level.
+-- A rule of an emitter. `is_text` is true if a list of bytes is written as a text, and `text` gives that text at a
+-- level. `lies` gives the offset in bytes of a word of a message, and `below` extends a path by the number of an item.
+-- `mark` gives the text before an item, from the number of items before that item, the offset of the item's subject,
+-- and the path to the item. `piece` gives the text of a piece at a level.
 pub record Rule : Type 0 where
   pub is_text : List ℕ → Bool
   pub text : ℕ → List ℕ → List ℕ
@@ -52,7 +52,7 @@ line_piece level pieces.Digits = replicate (2 * level) 32
 line_piece level pieces.EndDigits = 10 ∷ []
 line_piece level _ = []
 
--- True if a list of bytes is a text, and texts are written between quotes (`quoted`).
+-- True if texts are written between quotes (`quoted`) and the list of bytes `xs` is a text.
 abbrev pub is_quoted : Bool → List ℕ → Bool
 is_quoted quoted xs = if quoted then is_text xs else false
 
@@ -74,19 +74,19 @@ plain_rule quoted = line_rule quoted (λ m at. 0) (λ path i. path) (λ byte pat
 -- ---- lists without pointers
 
 module _ (rule : Rule) where
-  -- The mark and the piece of each item, from item `i` on, and the piece `end`. The first item lies at the byte
-  -- `first`, and each takes `size` bytes.
+  -- The mark and the piece of each item, from item `i` on, and then the text `end`. Item `i` lies at the byte `first`,
+  -- and each item takes `size` bytes.
   abbrev pub emitted_items : ℕ → (ℕ → List ℕ) → List ℕ → List ℕ → ℕ → ℕ → List ℕ → List ℕ
   emitted_items size piece_of end path i first [] = end
   emitted_items size piece_of end path i first (x ∷ xs) =
       rule.mark i first path ++ (piece_of x ++ emitted_items size piece_of end path (suc i) (first + size) xs)
 
-  -- The data words from the byte `first` on.
+  -- The text of data words, which lie from the byte `first` on.
   abbrev pub emitted_words : ℕ → List ℕ → ℕ → List ℕ → List ℕ
   emitted_words level path first =
       emitted_items 8 (λ w. rule.piece level (pieces.Word w)) (rule.piece level pieces.EndWords) path 0 first
 
-  -- Numbers of a width, each of `size` bytes.
+  -- The text of numbers of a width, which take `size` bytes each and lie from the byte `first` on.
   abbrev pub emitted_each : Width → ℕ → ℕ → List ℕ → ℕ → List ℕ → List ℕ
   emitted_each width size level path first =
       emitted_items size (λ n. rule.piece level (pieces.Number width n)) (rule.piece level pieces.EndItems) path 0 first
@@ -98,18 +98,19 @@ module _ (rule : Rule) where
       rule.mark 0 first path
       ++ (rule.piece level pieces.Digits ++ (digits ++ rule.piece level pieces.EndDigits))
 
-  -- A list of bytes in digits.
+  -- The text of a list of bytes in digits.
   abbrev pub digit_lines : ℕ → List ℕ → ℕ → List ℕ → List ℕ
   digit_lines level path first xs =
       rule.piece level (pieces.Bytes (length xs))
       ++ emitted_digits (level + 1) path first (length xs) (encode_lower xs)
 
-  -- A list of bytes: as a text if the rule says so, and in digits otherwise.
+  -- The text of the list of bytes `xs`, between quotes or the like if `rule.is_text` is true of `xs`, and in digits
+  -- otherwise.
   abbrev pub text_or_digits : ℕ → List ℕ → ℕ → List ℕ → List ℕ
   text_or_digits level path first xs =
       if rule.is_text xs then rule.text level xs else digit_lines level path first xs
 
-  -- A list of numbers, behind its mark.
+  -- The text of a list of numbers, without the mark of the list.
   abbrev pub emitted_numbers : NumberWidth → ℕ → List ℕ → ℕ → List ℕ → List ℕ
   emitted_numbers bit level path first xs =
       rule.piece level (pieces.Bits (length xs))
@@ -126,7 +127,7 @@ module _ (rule : Rule) where
 
 module _ (m : List (List ℕ)) (rule : Rule) where
   abbrev mutual
-    -- The text of the value with the target `found`, behind its mark, with everything below.
+    -- The text of the value with the target `found` and of everything below it, without the mark of the value.
     pub emitted : ℕ → List ℕ → Target → Tree → List ℕ
     emitted level path found nil = rule.piece level pieces.Nil
     emitted level path found (node ws ss) =
@@ -142,7 +143,7 @@ module _ (m : List (List ℕ)) (rule : Rule) where
     emitted level path found (cap k) = rule.piece level (pieces.Cap k)
 
     -- The texts of the values in slots, from item `i` on, and the piece that closes them. `place` gives the place of
-    -- each slot, which is where its mark says that it lies.
+    -- each slot, and the mark of the slot has the offset of that place.
     pub emitted_slots : ℕ → List ℕ → (ℕ → Place) → ℕ → Trees → List ℕ
     emitted_slots level path place i no_trees = rule.piece level pieces.EndItems
     emitted_slots level path place i (tree t ts) =
@@ -150,7 +151,8 @@ module _ (m : List (List ℕ)) (rule : Rule) where
         ++ emitted level (rule.below path i) (named_by (target m (place i))) t)
         ++ emitted_slots level path place (suc i) ts
 
-    -- The texts of rows, from item `i` on, and the piece that closes them. Each mark says where its row begins.
+    -- The texts of rows, from item `i` on, and the piece that closes them. The mark of a row has the offset at which
+    -- the row begins.
     pub emitted_rows : ℕ → List ℕ → (ℕ → Target) → ℕ → Bodies → List ℕ
     emitted_rows level path row i no_bodies = rule.piece level pieces.EndItems
     emitted_rows level path row i (body ws ss bs) =
@@ -160,7 +162,7 @@ module _ (m : List (List ℕ)) (rule : Rule) where
         ++ emitted_slots (level + 1) (rule.below path i) (step_place (row i)) 0 ss)))
         ++ emitted_rows level path row (suc i) bs
 
-  -- The text of a struct, behind its mark.
+  -- The text of a struct, without the mark of the struct.
   abbrev pub emitted_body : ℕ → List ℕ → Target → List ℕ → Trees → List ℕ
   emitted_body level path found ws ss = emitted level path found (node ws ss)
 

@@ -1,4 +1,5 @@
--- Statements `Says` on the text that an emitter writes for a place of a message, such as that it is added to a text.
+-- Statements that a property `Says` holds of the text that an emitter writes for a place of a message. `Says` may be
+-- that the text was added.
 use Rattle.std.specs.Prelude.{◌≡◌, ℕ, ◌+◌, ◌*◌, List, ◌++◌, length}
 use Rattle.capn_words.specs.declared.space.Place.{Place}
 use Rattle.capn_value.specs.Tree.{Tree, Trees, Bodies, count, count_rows}
@@ -9,7 +10,8 @@ use Rattle.capn_show.specs.Descent.{begin}
 use Rattle.capn_show.specs.Emitted.{Rule, emitted, emitted_body, emitted_rows, emitted_slot, emitted_slots}
 use Rattle.capn_show.specs.ReadyPlaces.{struct_at, AreDataWords, AreSlots, AreRowsAt}
 
--- The emitter `new` has the rule and the path of the emitter `old`, and is one for the same messages.
+-- The emitter `new` has the rule and the path of the emitter `old`, and is made for each message that `old` is made
+-- for.
 module _ {E : Type 0} (rule_of : E → Rule) (path_of : E → List ℕ) (is_of : E → List (List ℕ) → Type 0) where
   pub record Keeps (old new : E) : Type 0 where
     pub rule : rule_of new ≡ rule_of old
@@ -25,7 +27,8 @@ module _ (m : List (List ℕ)) where
   abbrev pub IsEmitted : Rule → ℕ → ℕ → List ℕ → Place → (List ℕ → Type 0) → Type 0
   IsEmitted rule level i path at Says = (v : Tree) → IsAt m at v → Says (emitted_slot m rule level i path at v)
 
-  -- `Says` holds of the mark and the text of the row at word `w` of segment `s`, which is item `i` of its list.
+  -- `Says` holds of the mark and the text of the row at word `w` of segment `s`, with `a` data words and `b` slots. The
+  -- row is item `i` of its list.
   abbrev pub IsRowEmitted : Rule → ℕ → ℕ → List ℕ → ℕ → ℕ → ℕ → ℕ → (List ℕ → Type 0) → Type 0
   IsRowEmitted rule level i path s w a b Says =
       (ws : List ℕ) (ss : Trees) → ShowsStruct m (struct_at s w a b) ws ss
@@ -33,11 +36,12 @@ module _ (m : List (List ℕ)) where
       ++ emitted_body m rule level path (struct_at s w a b) ws ss)
 
   module _ (rule : Rule) (level : ℕ) (path : List ℕ) where
-    -- `Says` holds of the text of the value with the target `found`, behind its mark.
+    -- `Says` holds of the text, without the mark, of the value with the target `found`.
     abbrev pub IsFoundEmitted : Target → (List ℕ → Type 0) → Type 0
     IsFoundEmitted found Says = (v : Tree) → Shows m found v → Says (emitted m rule level path found v)
 
-    -- `Says` holds of the text of the struct at word `w` of segment `s`, behind its mark.
+    -- `Says` holds of the text, without the mark, of the struct with `a` data words and `b` slots at word `w` of
+    -- segment `s`.
     abbrev pub IsBodyEmitted : ℕ → ℕ → ℕ → ℕ → (List ℕ → Type 0) → Type 0
     IsBodyEmitted s w a b Says = (ws : List ℕ) (ss : Trees) → ShowsStruct m (struct_at s w a b) ws ss
         → Says (emitted_body m rule level path (struct_at s w a b) ws ss)
@@ -47,7 +51,8 @@ module _ (m : List (List ℕ)) where
     AreEmitted s w number Says = (ts : Trees) → AreSlots m s w ts → count ts ≡ number
         → Says (emitted_slots m rule level path (λ i. record { segment = s; word = w + i }) 0 ts)
 
-    -- `Says` holds of the texts of the `number` rows that begin at word `w` of segment `s`.
+    -- `Says` holds of the texts of the `number` rows that begin at word `w` of segment `s`, with `a` data words and `b`
+    -- slots each.
     abbrev pub RowsEmitted : ℕ → ℕ → ℕ → ℕ → ℕ → (List ℕ → Type 0) → Type 0
     RowsEmitted s w number a b Says = (bs : Bodies) → AreRowsAt m s w a b bs → count_rows bs ≡ number
         → Says (emitted_rows m rule level path (λ i. struct_at s (w + i * (a + b)) a b) 0 bs)

@@ -1,4 +1,4 @@
--- The JSON of a tree: one line without blanks. (Own.)
+-- The JSON of a tree: one line without blanks. (Our own.)
 use Rattle.std.specs.Prelude.{◌≡◌, ℕ, List, [], ◌∷◌, ◌++◌, codes, map, refl}
 use Rattle.std.specs.Fmt.{decimal}
 use Rattle.hex.specs.Hex.{encode_lower}
@@ -21,38 +21,38 @@ abbrev pub with_commas : List (List ℕ) → List ℕ
 with_commas [] = []
 with_commas (x ∷ xs) = x ++ after_commas xs
 
--- An array with items of these texts.
+-- An array whose items have the texts `xs`.
 abbrev pub array : List (List ℕ) → List ℕ
 array xs = 91 ∷ (with_commas xs ++ 93 ∷ [])
 
--- An object with one member.
+-- An object with one member, which has the given name and value.
 abbrev pub member : List ℕ → List ℕ → List ℕ
 member name value = 123 ∷ (quoted name ++ (58 ∷ (value ++ 125 ∷ [])))
 
--- The string of a data word, and of a number that a reader of JSON might round.
+-- The string of a data word (`word_text`), and that of a number which a reader of JSON might round (`number_text`).
 abbrev pub word_text : ℕ → List ℕ
 word_text w = quoted (hex16 w)
 
 abbrev pub number_text : ℕ → List ℕ
 number_text n = quoted (decimal n)
 
--- A struct with the data words `ws` and slots of these texts.
+-- The JSON of a struct with the data words `ws`, whose slots have the texts `slots`.
 abbrev pub struct_text : List ℕ → List (List ℕ) → List ℕ
 struct_text ws slots =
     codes "{\"words\":" ++ (array (map word_text ws) ++ (codes ",\"slots\":" ++ (array slots ++ codes "}")))
 
--- The numbers of a list other than one of bytes: a string of digits for bits, and an array for the others.
+-- The JSON of the numbers of a list, except for a list of bytes. Bits are a string of digits, other numbers an array.
 abbrev pub numbers_text : NumberWidth → List ℕ → List ℕ
 numbers_text bit xs = quoted (digits_of (map is_set xs))
 numbers_text oct xs = array (map number_text xs)
 numbers_text _ xs = array (map decimal xs)
 
--- A list of bytes as a string of digits.
+-- The JSON of a list of bytes as a string of digits.
 abbrev pub digits_json : List ℕ → List ℕ
 digits_json xs = member (codes "bytes") (quoted (encode_lower xs))
 
--- The JSON of a value, which is null or an object named after the kind of the value. `bytes_json` gives that of a list
--- of bytes.
+-- The JSON of a value, which is null or an object named after the kind of the value. `bytes_json` gives the JSON of a
+-- list of bytes.
 module _ (bytes_json : List ℕ → List ℕ) where
   abbrev mutual
     pub json_by : Tree → List ℕ
@@ -70,7 +70,7 @@ module _ (bytes_json : List ℕ → List ℕ) where
     each_json_by no_trees = []
     each_json_by (tree t ts) = json_by t ∷ each_json_by ts
 
-    -- The JSON of each row, which is that of a struct.
+    -- The JSON of each row, written as a struct.
     pub each_row_by : Bodies → List (List ℕ)
     each_row_by no_bodies = []
     each_row_by (body ws ss bs) = struct_text ws (each_json_by ss) ∷ each_row_by bs

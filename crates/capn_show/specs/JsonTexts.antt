@@ -11,17 +11,17 @@ use Rattle.capn_show.specs.Quoting.{escapes_by}
 abbrev pub is_control : ℕ → Bool
 is_control b = (nat_le b 31 && not (b == 9 || (b == 10 || b == 13))) || b == 127
 
--- True if the bytes `b` and `c` of a UTF-8 text are a control character from U+0080 to U+009F.
+-- True if `b` and `c`, two consecutive bytes of a UTF-8 text, encode a control character from U+0080 to U+009F.
 abbrev pub is_long_control : ℕ → ℕ → Bool
 is_long_control b c = b == 194 && nat_le c 159
 
--- True if a text in UTF-8 has a control character other than tab, newline and carriage return.
+-- True if the bytes, read as UTF-8, contain a control character other than tab, newline and carriage return.
 abbrev pub has_control : List ℕ → Bool
 has_control [] = false
 has_control (b ∷ []) = is_control b
 has_control (b ∷ c ∷ bs) = (is_control b || is_long_control b c) || has_control (c ∷ bs)
 
--- true if the last byte is zero
+-- True if the list is not empty and its last byte is zero.
 abbrev pub ends_in_zero : List ℕ → Bool
 ends_in_zero [] = false
 ends_in_zero (b ∷ []) = b == 0
@@ -35,7 +35,8 @@ before_last xs = take (length xs - 1) xs
 abbrev pub is_clear : List ℕ → Bool
 is_clear xs = is_utf8 xs && not (has_control xs)
 
--- True if the bytes are a text: the last one is zero, and those before it are clear.
+-- True if the bytes `xs` are a text: the last byte is zero, and those before it are well-formed UTF-8 without control
+-- characters other than tab, newline and carriage return.
 abbrev pub is_json_text : List ℕ → Bool
 is_json_text xs = ends_in_zero xs && is_clear (before_last xs)
 
@@ -48,11 +49,11 @@ json_escaped b =
 abbrev pub json_escapes : List ℕ → List ℕ
 json_escapes = escapes_by json_escaped
 
--- The JSON of a text, which leaves out its last byte.
+-- The JSON of the text `xs`, as a string without the last byte of `xs`.
 abbrev pub text_json : List ℕ → List ℕ
 text_json xs = member (codes "text") (quoted (json_escapes (before_last xs)))
 
--- The JSON of a list of bytes: a string if it is a text, and its digits otherwise.
+-- The JSON of the list of bytes `xs`, as a string if `xs` is a text, and in digits otherwise.
 abbrev pub text_or_digits : List ℕ → List ℕ
 text_or_digits xs = if is_json_text xs then text_json xs else digits_json xs
 

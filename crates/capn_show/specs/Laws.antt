@@ -1,4 +1,4 @@
--- The law that JSON with strings loses nothing. (Own.)
+-- The law that JSON with strings loses nothing. (Our own.)
 use Rattle.std.specs.Prelude.{◌≡◌, ℕ, List}
 use Rattle.hex.specs.Hex.{IsBytes}
 use Rattle.capn_show.specs.JsonTexts.{text_or_digits}

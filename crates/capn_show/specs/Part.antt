@@ -1,4 +1,4 @@
--- The part of a value at a path of numbers, and its text. (Own.)
+-- The part of a value at a path of numbers, and its text. (Our own.)
 use Rattle.std.specs.Prelude.{◌≡◌, ℕ, zero, suc, List, [], ◌∷◌, Option, Some, None, codes, refl}
 use Rattle.capn_value.specs.NumberWidth.{oct}
 use Rattle.capn_value.specs.Tree.{Tree, nil, node, numbers, links, rows, cap, Trees, no_trees, tree, Bodies, no_bodies}
@@ -25,7 +25,7 @@ step_down (links ts) i = nth_tree ts i
 step_down (rows bs) i = nth_row bs i
 step_down _ i = None
 
--- The value that the steps of a path lead to, as long as each step leads somewhere.
+-- The value that a path leads to from `found`, or `None` if a step leads nowhere.
 abbrev pub follow : List ℕ → Option Tree → Option Tree
 follow [] found = found
 follow (i ∷ path) None = None

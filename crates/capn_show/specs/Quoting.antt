@@ -1,4 +1,5 @@
--- The text of a tree in lines, where lists of bytes are written as digits, or between quotes if they are texts. (Own.)
+-- The text of a tree in lines, where lists of bytes are written as digits, or between quotes if they are texts. (Our
+-- own.)
 use Rattle.std.specs.Prelude.{◌≡◌, ℕ, ◌+◌, List, [], ◌∷◌, ◌++◌, length, codes, Bool, true, false, ◌&&◌, ◌||◌, ◌==◌}
 use Rattle.std.specs.Prelude.{nat_le, if◌then◌else◌, refl}
 use Rattle.hex.specs.Hex.{encode_lower}
@@ -21,7 +22,7 @@ is_text (b ∷ c ∷ bs) = is_printable b && is_text (c ∷ bs)
 abbrev pub escaped : ℕ → List ℕ
 escaped b = if b == 34 then 92 ∷ 34 ∷ [] else if b == 92 then 92 ∷ 92 ∷ [] else if b == 0 then 92 ∷ 48 ∷ [] else b ∷ []
 
--- The bytes that stand between quotes for a text, where `escaped_as` gives those of one byte.
+-- The bytes that stand between quotes for a text. `escaped_as` gives the bytes for one byte of the text.
 module _ (escaped_as : ℕ → List ℕ) where
   abbrev pub escapes_by : List ℕ → List ℕ
   escapes_by [] = []
@@ -30,7 +31,7 @@ module _ (escaped_as : ℕ → List ℕ) where
 abbrev pub escapes : List ℕ → List ℕ
 escapes = escapes_by escaped
 
--- The lines of a list of bytes in digits: its first line, and the digits below it.
+-- The lines of a list of bytes in digits: a first line with the length, and a line with the digits.
 abbrev pub plain_bytes : ℕ → List ℕ → List ℕ
 plain_bytes level xs =
     line level (named (codes "bytes") (length xs)) ++ one_line (level + 1) (length xs) (encode_lower xs)
@@ -39,11 +40,11 @@ plain_bytes level xs =
 abbrev pub quoted_line : ℕ → List ℕ → List ℕ
 quoted_line level xs = line level (named (codes "bytes") (length xs) ++ 32 ∷ 34 ∷ (escapes xs ++ 34 ∷ []))
 
--- The lines of a list of bytes: between quotes if it is a text, and in digits otherwise.
+-- The lines of the list of bytes `xs`, between quotes if `xs` is a text, and in digits otherwise.
 abbrev pub quoted_bytes : ℕ → List ℕ → List ℕ
 quoted_bytes level xs = if is_text xs then quoted_line level xs else plain_bytes level xs
 
--- The lines of a tree, where `bytes_at` gives those of a list of bytes.
+-- The lines of a tree. `bytes_at` gives the lines of a list of bytes at a level.
 module _ (bytes_at : ℕ → List ℕ → List ℕ) where
   abbrev mutual
     pub shown_by : ℕ → Tree → List ℕ

@@ -25,12 +25,12 @@ use Rattle.capn_show.specs.declared.fault.ShowFault.TheVariants as ends
 use Rattle.capn_show.specs.declared.fault.Broken.{Broken}
 use Rattle.capn_show.specs.declared.fault.Broken.TheVariants as broken
 
--- The fault of a text that breaks off for this reason.
+-- The `ShowFault` of a text that breaks off for the given reason.
 abbrev pub as_fault : Broken → ShowFault
 as_fault broken.Io = ends.Io
 as_fault broken.Memory = ends.Memory
 
--- A word holds elements of this width as numbers.
+-- The elements of a list of this width are numbers: they have at least one bit, and are neither pointers nor structs.
 abbrev pub HasNumbers : Width → Type 0
 HasNumbers W0 = ⊥
 HasNumbers Link = ⊥
@@ -61,12 +61,12 @@ abbrev pub json_style : Bool → Style
 json_style false = styles.Json
 json_style true = styles.JsonText
 
--- The first part of the line of a list of `n` bytes, up to the first quote of their text.
+-- The first part of the line of a list of `n` bytes, up to and including the first quote.
 abbrev pub quoted_front : ℕ → ℕ → List ℕ
 quoted_front level n = replicate (2 * level) 32 ++ (codes "bytes " ++ ((decimal n ++ 32 ∷ []) ++ 34 ∷ []))
 
 module _ (m : List (List ℕ)) where
-  -- ---- the values there
+  -- ---- the values at places
 
   -- The data words at word `w` of segment `s` begin with `ws`.
   abbrev pub AreDataWords : ℕ → ℕ → List ℕ → Type 0
@@ -85,7 +85,7 @@ module _ (m : List (List ℕ)) where
   AreRowsAt s w a b bs = (i : ℕ) → i < count_rows bs
       → ShowsStruct m (struct_at s (w + i * (a + b)) a b) (words_of_row bs i) (slots_of_row bs i)
 
-  -- ---- that there is something to show, at most this number of objects high
+  -- ---- places and targets with a value of a height of at most `depth`
 
   -- A value of a height of at most `depth` is at `at`.
   pub record IsReady (at : Place) (depth : ℕ) : Type 0 where
@@ -129,16 +129,17 @@ module _ (m : List (List ℕ)) where
   abbrev pub HasValue : Target → Type 0
   HasValue found = (v : Tree) × Shows m found v
 
-  -- The value `below` another, `v`, is there, is that of the target `found`, and is no higher than `v`.
+  -- `below` is some value, which is that of the target `found` and is no higher than `v`.
   pub record LeadsTo (v : Tree) (below : Option Tree) (found : Target) : Type 0 where
     pub value : Tree
     pub is : below ≡ Some value
     pub shown : Shows m found value
     pub low : height value ≤ height v
 
-  -- ---- statements `Says` on a text, such as that it is added, by the way in which lists of bytes are written
+  -- ---- statements that `Says` holds of a text, for instance that the text was added
 
-  -- `Says` holds of the text of the value with the target `found`.
+  -- `Says` holds of the lines of the value with the target `found` at `level`, in which `by` gives the lines of a list
+  -- of bytes.
   abbrev pub IsFoundShown : (ℕ → List ℕ → List ℕ) → Target → ℕ → (List ℕ → Type 0) → Type 0
   IsFoundShown by found level Says = (v : Tree) → Shows m found v → Says (shown_by by level v)
 
@@ -152,10 +153,10 @@ module _ (m : List (List ℕ)) where
   BitsShown s w number text Says = (xs : List Bool) → AreNumbers s w W1 (map from_bool xs) → length xs ≡ number
       → Says (text xs)
 
-  -- `Says` holds of the text of the value with the target `found`, in a style.
+  -- `Says` holds of the text of the value with the target `found`, in `style`.
   abbrev pub IsThereShown : Style → Target → (List ℕ → Type 0) → Type 0
   IsThereShown style found Says = (v : Tree) → Shows m found v → Says (part_in style (Some v))
 
-  -- `Says` holds of the text of the part at a path from the root, in a style.
+  -- `Says` holds of the text of the part at `path` from the root, in `style`.
   abbrev pub IsPartShown : Style → List ℕ → (List ℕ → Type 0) → Type 0
   IsPartShown style path Says = (v : Tree) → IsAt m root v → Says (styled style path v)

@@ -1,4 +1,4 @@
--- The text of the part of a value at a path of numbers, in a style. (Own.)
+-- The text of the part of a value at a path of numbers, in a style. (Our own.)
 use Rattle.std.specs.Prelude.{◌≡◌, ℕ, List, [], ◌∷◌, ◌++◌, Option, Some, None, codes, refl}
 use Rattle.std.specs.Str.{chars, is_utf8}
 use Rattle.capn_value.specs.NumberWidth.{byte}
@@ -11,7 +11,7 @@ use Rattle.capn_show.specs.JsonTexts.{text_or_digits}
 use Rattle.capn_show.specs.declared.style.Style.{Style}
 use Rattle.capn_show.specs.declared.style.Style.TheVariants as styles
 
--- The text of a part in a style. If there is no part, it is one line.
+-- The text of a part in a style. If there is no part, the text is one line.
 abbrev pub part_in : Style → Option Tree → List ℕ
 part_in styles.Lines part = part_text part
 part_in styles.Quoted None = line 0 (codes "none")

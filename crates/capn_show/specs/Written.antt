@@ -1,5 +1,5 @@
--- The outcome of a call that adds the text of a message's value. `text_of` gives the text, which goes from `p` to `q`.
--- (Own.)
+-- The outcome of a call that adds the text of a message's value. `text_of` gives the text of a value. The output is `p`
+-- before the call and `q` after it. (Our own.)
 use Rattle.std.specs.Prelude.{◌≡◌, ◌⊎◌, ℕ, List}
 use Rattle.capn_value.specs.Tree.{Tree}
 use Rattle.capn_target.specs.declared.target.Fault.TheVariants as faults
@@ -24,8 +24,8 @@ module _ (m : List (List ℕ)) (limits : Bounds) (text_of : Tree → List ℕ) w
     pub is : IsValueOf m limits value
     pub text : BreaksOff p q e (text_of value)
 
-  -- The message is refused, or the survey was refused memory, and nothing was added. Or the message is accepted, and
-  -- the text of its value breaks off.
+  -- The survey stopped, at a fault or because an allocation was refused, and nothing was added. Or the message is
+  -- accepted, and the text of its value breaks off.
   abbrev pub IsUnwritten : ShowFault → Outgoing → Outgoing → Type 0
   IsUnwritten (ends.Stopped s) p q = (q ≡ p)
       × ((s.fault ≡ faults.Memory) ⊎ IsWalkRefused m limits s.fault s.place s.paid s.visits)

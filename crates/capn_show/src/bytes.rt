@@ -1,4 +1,4 @@
-//! The text of a list of bytes, which is its digits, or a text between quotes.
+//! The text of a list of bytes, either as digits or as a text between quotes.
 
 ghost use Rattle.std.specs.Prelude.{◌≡◌, ◌<◌, ◌+◌, ◌^◌, ◌||◌, ◌==◌, IfErr, OnOk};
 ghost use Rattle.capn_words.specs.Message.{IsMessage};
@@ -30,7 +30,7 @@ fn is_printable(byte: u8) -> bool
     32 <= byte && byte <= 126
 }
 
-/// Returns `true` if `byte` may be the last byte of a text: it is printable or zero.
+/// Returns `true` if `byte` is printable or zero, so that `byte` may be the last byte of a text.
 fn ends_text(byte: u8) -> bool
     ensures { result ≡ (quoting.is_printable byte || byte == 0) }
 {
@@ -54,7 +54,7 @@ pub fn is_text(bytes: &[u8]) -> bool
     ends_text(bytes[last])
 }
 
-/// Appends the first part of the line of a text of `count` bytes to `text`, at this `level`, up to its first quote.
+/// Appends the line of a text of `count` bytes to `text`, at this `level`, up to and including the first quote.
 fn quoted_front<W: Write, A: Allocator>(
     text: &mut Vec<u8, A>,
     writer: &mut Watched<W>,
@@ -89,8 +89,8 @@ pub fn show_quoted<W: Write, A: Allocator>(
     put(text, writer, b"\"\n")
 }
 
-/// Appends the list of `count` bytes at `start` to `text` in digits, at this `level`. The mark of the list has been
-/// written.
+/// Appends the list of `count` bytes at `start` to `text` in digits, at this `level`. The caller has written the mark
+/// of the list.
 fn show_digits<S: Space, W: Write, A: Allocator, E: Emitter>(
     text: &mut Vec<u8, A>,
     writer: &mut Watched<W>,
@@ -117,8 +117,8 @@ fn show_digits<S: Space, W: Write, A: Allocator, E: Emitter>(
     show_bytes(text, writer, emitter, space, start, count, level + 1)
 }
 
-/// Appends the list of `count` bytes at `start` to `text`, at this `level`. It is written as a text if `emitter` does
-/// so with these bytes, and in digits otherwise. The mark of the list has been written.
+/// Appends the list of `count` bytes at `start` to `text`, at this `level`. The list is written as a text if
+/// `emitter.is_text` accepts its bytes, and in digits otherwise. The caller has written the mark of the list.
 pub fn show_byte_list<S: Space, W: Write, A: Allocator, E: Emitter>(
     text: &mut Vec<u8, A>,
     writer: &mut Watched<W>,

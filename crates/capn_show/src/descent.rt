@@ -15,7 +15,7 @@ use capn_walk::laws::views_show_values;
 use capn_walk::{Shape, Target, resolve};
 use capn_words::{Place, Space, Width};
 
-/// A value in a message, by its place and its target.
+/// The place and the target of a value in a message.
 #[derive(Clone, Copy, Debug, PartialEq, Eq)]
 pub struct Part {
     /// The slot with the pointer to the value, or the first word of a row.
@@ -24,8 +24,8 @@ pub struct Part {
     pub found: Target,
 }
 
-/// Steps down from the target `found` to the slot, element or row of this `number`. Returns `None` if the target has no
-/// such part.
+/// Steps down from the target `found` to the slot, element or row with this `number`. Returns `None` if `found` has no
+/// part with this number.
 pub fn step_down<S: Space>(space: &S, found: Target, number: u64) -> Option<Part>
     requires message { IsMessage (S.message space.now) }
     requires inside { IsInMessage (S.message space.now) found }
@@ -98,7 +98,7 @@ pub fn step_down<S: Space>(space: &S, found: Target, number: u64) -> Option<Part
     }
 }
 
-/// Returns the target of the pointer at `at`. The caller has to know that a value is there.
+/// Returns the target of the pointer at `at`. The caller has to know that there is a value at `at`.
 pub fn named<S: Space>(space: &S, at: Place) -> Target
     requires message { IsMessage (S.message space.now) }
     requires place { IsPlace (S.message space.now) at }
@@ -110,7 +110,7 @@ pub fn named<S: Space>(space: &S, at: Place) -> Target
     views_show_values();
     match resolve(space, at) {
         Ok(found) => found,
-        // The precondition says that a value is here, so the pointer has a target.
+        // The precondition says that there is a value at `at`, so the pointer has a target.
         Err(_) => unreachable!(),
     }
 }

@@ -14,17 +14,17 @@ use capn_words::{Place, Space, Watched};
 use std::alloc::Allocator;
 use std::io::Write;
 
-/// An emitter of a text. It puts a mark, or nothing, before each item, and writes the pieces. It also keeps the path to
-/// the value that is being written.
+/// An emitter of a text. An emitter puts a mark, or nothing, before each item, and writes the pieces. An emitter also
+/// keeps the path to the value that is being written.
 pub trait Emitter {
     /// The rule of the text: a mark for each item, and the bytes of each piece.
     ghost rule: { Self → Rule };
 
     /// The path to the value that is being written, as bytes of text (`0.3.1`), not as a list of numbers. An emitter
-    /// whose marks show no path need not keep it up to date.
+    /// whose marks show no path need not keep the path up to date.
     ghost path: { Self → List ℕ };
 
-    /// The emitter was made for this message, given by its segments.
+    /// The statement that the emitter was made for a message, given by the list of its segments.
     ghost is_of: { Self → List (List ℕ) → Type 0 };
 
     /// Returns `true` if the list `bytes` is to be written as a text.
@@ -57,8 +57,8 @@ pub trait Emitter {
         ensures cut { IfErr result (λ e. BreaksOff (outgoing W.contents writer.old text.old.items)
             (outgoing W.contents writer.new text.new.items) e ((rule self.now).piece level piece)) };
 
-    /// Returns the byte at which the word at `at` lies, which may also be the end of a segment. An emitter whose marks
-    /// show no offsets may return 0.
+    /// Returns the offset in bytes of the word at `at`. The place `at` may also be the end of a segment. An emitter
+    /// whose marks show no offsets may return 0.
     fn byte_of<S: Space>(&self, space: &S, at: Place) -> u128
         requires message { IsMessage (S.message space.now) }
         requires of { is_of self.now (S.message space.now) }
@@ -67,8 +67,8 @@ pub trait Emitter {
         ensures is { result ≡ (rule self.now).lies (S.message space.now) at }
         ensures small { result < 2 ^ 66 };
 
-    /// Appends the mark of an item to `text`. `number` counts the items before it in its object, and `byte` is where it
-    /// lies. The mark may also show the path that the emitter keeps.
+    /// Appends the mark of an item to `text`. `number` is the number of items before this one in the same object, and
+    /// `byte` is the offset of the item. The mark may also show the path that the emitter keeps.
     fn put_mark<W: Write, A: Allocator>(
         &self,
         text: &mut Vec<u8, A>,
@@ -101,7 +101,7 @@ pub trait Emitter {
 }
 
 /// The emitter of lines without marks. `QUOTED` says whether a list of bytes that is a text is written between quotes.
-/// It has no fields, so it takes no memory.
+/// The type has no fields, so an emitter takes no memory.
 #[derive(Drop)]
 pub struct Lines<const QUOTED: bool>;
 

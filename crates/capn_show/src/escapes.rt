@@ -17,7 +17,7 @@ use std::io::Write;
 /// The length of the longest run of unescaped bytes that is appended at once.
 const PIECE: usize = 4096;
 
-/// Returns `true` if `byte` has to be escaped between quotes, in JSON if `json`, else in lines.
+/// Returns `true` if `byte` has to be escaped between quotes, in JSON if `json` is set, else in lines.
 fn is_escaped(json: bool, byte: u8) -> bool
     ensures { result ≡ places.is_escaped json byte }
 {
@@ -68,7 +68,7 @@ fn put_json_escaped<W: Write, A: Allocator>(
     }
 }
 
-/// Appends `byte` to `text` as it is written between quotes, in JSON if `json`, else in lines.
+/// Appends `byte` to `text` as it is written between quotes, in JSON if `json` is set, else in lines.
 fn put_escaped<W: Write, A: Allocator>(
     text: &mut Vec<u8, A>,
     writer: &mut Watched<W>,
@@ -87,7 +87,8 @@ fn put_escaped<W: Write, A: Allocator>(
     }
 }
 
-/// Returns the number of bytes at the front of `bytes` that need no escape, but at most `PIECE`.
+/// Returns the number of bytes at the front of `bytes` that need no escape, in JSON if `json` is set, else in lines.
+/// The result is at most `PIECE`.
 fn bare_run(json: bool, bytes: &[u8]) -> usize
     ensures within { result ≤ length bytes.now }
     ensures bare { escapes_by (escaped_of json) (take result bytes.now) ≡ take result bytes.now }
@@ -103,8 +104,8 @@ fn bare_run(json: bool, bytes: &[u8]) -> usize
     bytes.len()
 }
 
-/// Appends `bytes` to `text` as they are written between quotes, in JSON if `json`, else in lines. Each turn of the
-/// loop appends a run of bytes that need no escape, and then the byte after it.
+/// Appends `bytes` to `text` as they are written between quotes, in JSON if `json` is set, else in lines. Each turn of
+/// the loop appends a run of bytes that need no escape, and then the byte after the run.
 pub fn put_escapes<W: Write, A: Allocator>(
     text: &mut Vec<u8, A>,
     writer: &mut Watched<W>,

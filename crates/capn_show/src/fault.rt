@@ -10,13 +10,14 @@ use thiserror::Error;
 /// The reason why the text of a message is not written, or only in part.
 #[derive(Clone, Copy, Debug, PartialEq, Eq, Error)]
 pub enum ShowFault {
-    /// The message is not accepted within the limits, or the survey was refused memory. Nothing was added to the text.
+    /// The message is not accepted within the limits, or an allocation of the survey was refused. Nothing was added to
+    /// the text.
     #[error("{0}")]
     Stopped(Stopped),
-    /// The writer failed. It has taken a first part of the text that was kept and of the message's text.
+    /// The writer failed. The writer has taken a prefix of the kept text followed by the message's text.
     #[error("the writer failed")]
     Io,
-    /// A growth of the kept text was refused memory. A first part of the message's text was added to it.
+    /// An allocation for the kept text was refused. A first part of the message's text was added to the kept text.
     #[error("out of memory")]
     Memory,
 }
@@ -26,7 +27,7 @@ pub enum ShowFault {
 pub enum Broken {
     /// The writer failed.
     Io,
-    /// A growth of the kept text was refused memory.
+    /// An allocation for the kept text was refused.
     Memory,
 }
 

@@ -14,8 +14,8 @@ use capn_words::{Place, Space, Watched};
 use std::alloc::Allocator;
 use std::io::Write;
 
-/// The emitter of JSON. `QUOTED` says whether a list of bytes that is a text is written as a string. It has no fields,
-/// so it takes no memory.
+/// The emitter of JSON. `QUOTED` says whether a list of bytes that is a text is written as a string. The type has no
+/// fields, so an emitter takes no memory.
 #[derive(Drop)]
 pub struct Json<const QUOTED: bool>;
 

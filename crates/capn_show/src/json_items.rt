@@ -85,7 +85,7 @@ pub fn put_value<W: Write, A: Allocator>(
     put_plain(text, writer, n)
 }
 
-/// Returns `true` if the numbers of a list of this `width` are written between quotes. Only those of 64 bits are.
+/// Returns `true` if the numbers of a list of this `width` are written between quotes. Only numbers of 64 bits are.
 pub fn is_quoted(width: Width) -> bool
     ensures { result ≡ places.is_quoted width }
 {

@@ -1,4 +1,4 @@
-//! Lists of bytes that JSON has as strings: how they are recognised, and written.
+//! Lists of bytes that JSON writes as strings: the test for such lists, and their output.
 
 ghost use Rattle.std.specs.Prelude.{◌≡◌, IfErr, OnOk};
 ghost use Rattle.std.specs.Str.{is_utf8};
@@ -20,14 +20,15 @@ fn is_control(byte: u8) -> bool
     (byte <= 31 && !(byte == b'\t' || byte == b'\n' || byte == b'\r')) || byte == 127
 }
 
-/// Returns `true` if the bytes `first` and `second` of a UTF-8 text are a control character from U+0080 to U+009F.
+/// Returns `true` if `first` and `second`, two consecutive bytes of a UTF-8 text, encode a control character from
+/// U+0080 to U+009F.
 fn is_long_control(first: u8, second: u8) -> bool
     ensures { result ≡ texts.is_long_control first second }
 {
     first == 194 && second <= 159
 }
 
-/// Returns `true` if `bytes`, as UTF-8, have a control character other than tab, newline and carriage return.
+/// Returns `true` if `bytes`, read as UTF-8, contain a control character other than tab, newline and carriage return.
 fn has_control(bytes: &[u8]) -> bool
     ensures { result ≡ texts.has_control bytes.now }
 {
@@ -69,7 +70,7 @@ pub fn is_json_text(bytes: &[u8]) -> bool
     is_well_formed(front) && !has_control(front)
 }
 
-/// Appends the JSON of the list `bytes` to `text` as a string, which leaves out the last byte.
+/// Appends the JSON of the list `bytes` to `text`: an object that holds the bytes, without the last, as a string.
 pub fn json_text<W: Write, A: Allocator>(
     text: &mut Vec<u8, A>,
     writer: &mut Watched<W>,

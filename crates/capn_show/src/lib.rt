@@ -1,10 +1,10 @@
 //! The text of a message, written without making its value.
 //!
-//! [`show_message`] surveys a message within limits, and writes nothing if it is refused. The text of an accepted
-//! message is what `capn_value::show` writes of the value that `capn_walk::walk` returns. It is written slot by slot,
-//! in the order of the walk, and each line is added to a text that the caller keeps, so that small texts of many
-//! messages make one write. A kept text of 65,536 bytes or more is written and emptied, so the memory for it does not
-//! grow with a message. [`show_part`] does the same for the value at a path of numbers from the root, in one of four
+//! [`show_message`] surveys a message within limits, and writes nothing if the message is refused. The text of an
+//! accepted message is what `capn_value::show` writes for the value that `capn_walk::walk` returns. The text is written
+//! slot by slot, in the order of the walk. Each line is added to a text that the caller keeps, so that small texts of
+//! many messages make one write. A kept text of 65,536 bytes or more is written and emptied, so the memory for the kept
+//! text does not grow with a message. [`show_part`] writes the value at a path of numbers from the root, in one of four
 //! styles.
 //!
 //! ```text

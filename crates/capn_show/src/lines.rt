@@ -17,7 +17,7 @@ use capn_words::{Watched, Width};
 use std::alloc::Allocator;
 use std::io::Write;
 
-/// The spaces of 32 levels, two for each.
+/// The indent of 32 levels, with two spaces for each level.
 const SPACES: [u8; 64] = [b' '; 64];
 
 /// Appends the indent of `level` to `text`, which is two spaces a level.
@@ -52,7 +52,7 @@ pub fn end_line<W: Write, A: Allocator>(
     put(text, writer, b"\n")
 }
 
-/// Appends the number `n` in decimal digits to `text`, and the byte `after` behind it.
+/// Appends the number `n` in decimal digits to `text`, and then the byte `after`.
 pub fn put_number<W: Write, A: Allocator>(
     text: &mut Vec<u8, A>,
     writer: &mut Watched<W>,
@@ -69,7 +69,7 @@ pub fn put_number<W: Write, A: Allocator>(
     put(text, writer, &digits[start..])
 }
 
-/// Appends a line with `word` alone to `text`, at this `level`.
+/// Appends a line with only `word` to `text`, at this `level`.
 pub fn plain_line<W: Write, A: Allocator>(
     text: &mut Vec<u8, A>,
     writer: &mut Watched<W>,
@@ -105,7 +105,7 @@ pub fn named_line<W: Write, A: Allocator>(
     put_number(text, writer, n as u64, b'\n')
 }
 
-/// Appends the first line of a struct to `text`, at this `level`, with its number of data `words` and of `slots`.
+/// Appends the first line of a struct with these numbers of data `words` and `slots` to `text`, at this `level`.
 pub fn body_line<W: Write, A: Allocator>(
     text: &mut Vec<u8, A>,
     writer: &mut Watched<W>,
@@ -140,7 +140,7 @@ pub fn number_line<W: Write, A: Allocator>(
     put_number(text, writer, n, b'\n')
 }
 
-/// Returns the line of a data `word`. Its 16 hexadecimal digits begin with the most significant one.
+/// Returns the line of a data `word`. The 16 hexadecimal digits of `word` begin with the most significant one.
 fn word_bytes(word: u64) -> [u8; 22]
     ensures { result ≡ codes "word " ++ (form.hex16 word ++ 10 ∷ []) }
 {

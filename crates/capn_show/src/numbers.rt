@@ -1,4 +1,4 @@
-//! The pieces of lists of numbers and of data words, which are read from the words of the message.
+//! The text of lists of numbers and of data words, made from the words of the message.
 
 ghost use Rattle.std.specs.Prelude.{◌≡◌, ◌+◌, ◌/◌, ◌++◌, IfErr, OnOk};
 ghost use Rattle.capn_words.specs.Message.{IsMessage};
@@ -20,8 +20,8 @@ use capn_words::{Place, Space, Watched, Width};
 use std::alloc::Allocator;
 use std::io::Write;
 
-/// Returns element `i` of the list whose content starts at `start`. Its elements have 1, 8, 16, 32 or 64 bits, by their
-/// `width`.
+/// Returns element `i` of a list with elements of this `width`, whose content starts at `start`. An element has 1, 8,
+/// 16, 32 or 64 bits.
 pub fn number_at<S: Space>(space: &S, start: Place, width: Width, i: u32) -> u64
     requires message { IsMessage (S.message space.now) }
     requires there { IsContent (S.message space.now) start (i / seen.per_word width + 1) }
@@ -36,8 +36,8 @@ pub fn number_at<S: Space>(space: &S, start: Place, width: Width, i: u32) -> u64
     digit(width, word, i % many)
 }
 
-/// Appends the mark of an item to `text`, and then `piece`, at this `level`. `number` counts the items before it in its
-/// object, and `byte` is where it lies.
+/// Appends the mark of an item to `text`, and then `piece`, at this `level`. `number` is the number of items before
+/// this one in the same object, and `byte` is the offset of the item.
 #[inline(always)]
 fn put_item<W: Write, A: Allocator, E: Emitter>(
     text: &mut Vec<u8, A>,
@@ -115,7 +115,7 @@ pub fn show_words<S: Space, W: Write, A: Allocator, E: Emitter>(
     emitter.put_piece(text, writer, level, Piece::EndWords)
 }
 
-/// Returns the size in bytes of an element of this `width`, if that is at least a byte.
+/// Returns the size in bytes of an element of this `width`, which has at least 8 bits.
 fn element_bytes(width: Width) -> u128
     ensures is { result ≡ 8 / seen.per_word width }
 {

@@ -1,4 +1,4 @@
-//! The output of a text: it is kept until it is long enough, and is then written at once.
+//! The output of a text, which is kept until it is long enough and is then written at once.
 
 ghost use Rattle.std.specs.Prelude.{◌≡◌, [], ◌||◌, is_err, IfErr, OnOk};
 ghost use Rattle.std.specs.Io.KnownBytes.{Appends};
@@ -14,7 +14,7 @@ use std::io::Write;
 /// The length in bytes at which the kept text is written.
 const BLOCK: usize = 65536;
 
-/// Writes `text` to `writer`, and empties it.
+/// Writes `text` to `writer`, and then empties `text`.
 #[inline(never)]
 fn send<W: Write, A: Allocator>(
     text: &mut Vec<u8, A>,
@@ -36,7 +36,7 @@ fn send<W: Write, A: Allocator>(
     }
 }
 
-/// Writes `text` to `writer` and empties it, if it has reached `BLOCK` bytes.
+/// Writes `text` to `writer` and empties `text`, if `text` has reached `BLOCK` bytes.
 #[inline]
 fn settle<W: Write, A: Allocator>(
     text: &mut Vec<u8, A>,

@@ -28,8 +28,8 @@ use std::io::Write;
 /// If there is no value at `path`, the text is the line `none`, or an empty line in JSON.
 ///
 /// A number leads from a struct to a slot, from a list of pointers to an element, and from a list of structs to a row,
-/// which is written as a struct. The whole message is surveyed within `limits` first. The text is added, kept and
-/// written as by [`show_message`](crate::show_message).
+/// which is written as a struct. The whole message is surveyed within `limits` first. The caller keeps `text` between
+/// calls, and `text` is written and emptied as [`show_message`](crate::show_message) says.
 pub fn show_part<S: Space, W: Write, A: Allocator, B: Allocator + Copy>(
     alloc: B,
     text: &mut Vec<u8, A>,
@@ -42,7 +42,9 @@ pub fn show_part<S: Space, W: Write, A: Allocator, B: Allocator + Copy>(
     // If `result` is `Ok`, the message is accepted, and the text of the value at `path` was added.
     ensures shown { OnOk result (IsWritten (S.message space.now) limits (styled style path.now)
         (outgoing W.contents writer.old text.old.items) (outgoing W.contents writer.new text.new.items)) }
-    // If `result` is an `Err`, it is one that `show_message` could have given.
+    // If the survey returns a refusal, `result` is that refusal (`Stopped`), and nothing was added. Any other refusal
+    // is of an accepted message: the writer failed after a first part of the text, or an allocation was refused after a
+    // first part was added.
     ensures refused { IfErr result (λ fault. IsUnwritten (S.message space.now) limits (styled style path.now) fault
         (outgoing W.contents writer.old text.old.items) (outgoing W.contents writer.new text.new.items)) }
 {
@@ -55,7 +57,8 @@ pub fn show_part<S: Space, W: Write, A: Allocator, B: Allocator + Copy>(
     }
 }
 
-/// Appends the text of the value at `path` from the root to `text`, or the text for no value.
+/// Appends the text of the value at `path` from the root to `text`. If there is no value at `path`, appends the line
+/// that stands for no value.
 fn write_part<S: Space, W: Write, A: Allocator>(
     text: &mut Vec<u8, A>,
     writer: &mut Watched<W>,
@@ -80,7 +83,7 @@ fn write_part<S: Space, W: Write, A: Allocator>(
     }
 }
 
-/// Follows `path` from the target `found`. Returns the target at its end, or `None` if a step leads nowhere.
+/// Follows `path` from the target `found`. Returns the target at the end of `path`, or `None` if a step leads nowhere.
 fn follow<S: Space>(space: &S, found: Target, path: &[u64]) -> Option<Target>
     requires message { IsMessage (S.message space.now) }
     requires inside { IsInMessage (S.message space.now) found }

@@ -1,8 +1,8 @@
-//! The pieces of a text, except for a list of bytes that is written as a text.
+//! The pieces from which an emitter makes a text. A list of bytes that is written as a text is not a piece.
 
 use capn_words::Width;
 
-/// A piece of a text, from which an emitter makes bytes.
+/// A piece of a text, which an emitter turns into bytes.
 #[derive(Clone, Copy, Debug, PartialEq, Eq)]
 pub enum Piece {
     /// A null pointer.
@@ -17,23 +17,23 @@ pub enum Piece {
     EndWords,
     /// The end of slots, rows, or a list of numbers.
     EndItems,
-    /// The head of a list of pointers, with their number.
+    /// The head of a list of pointers, with its length.
     Links(u32),
     /// The head of a list of structs, with the number of rows.
     Rows(u32),
-    /// A list of elements without bits, with their number.
+    /// A list of elements of zero bits, with its length.
     Voids(u32),
-    /// The head of a list of bits, with their number.
+    /// The head of a list of bits, with its length.
     Bits(u32),
-    /// The head of a list of bytes in digits, with their number.
+    /// The head of a list of bytes in digits, with its length.
     Bytes(u32),
-    /// The head of a list of 16-bit numbers, with their number.
+    /// The head of a list of 16-bit numbers, with its length.
     Pairs(u32),
-    /// The head of a list of 32-bit numbers, with their number.
+    /// The head of a list of 32-bit numbers, with its length.
     Quads(u32),
-    /// The head of a list of 64-bit numbers, with their number.
+    /// The head of a list of 64-bit numbers, with its length.
     Octs(u32),
-    /// A number in a list of elements of this width.
+    /// A number in a list of numbers, with the width of an element.
     Number(Width, u64),
     /// The text before the digits of bits or bytes.
     Digits,

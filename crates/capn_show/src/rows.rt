@@ -60,8 +60,8 @@ pub fn show_slots<S: Space, W: Write, A: Allocator, E: Emitter>(
     emitter.put_piece(text, writer, level, Piece::EndItems)
 }
 
-/// Appends the text of the value of the slot at `at` to `text`. The slot has this `number` in its object, which is
-/// appended to the path of `emitter` meanwhile.
+/// Appends the text of the value in the slot at `at` to `text`. The slot has this `number` in its object, and `number`
+/// ends the path of `emitter` while the value is written.
 #[cycle(slots)]
 fn show_below<S: Space, W: Write, A: Allocator, E: Emitter>(
     text: &mut Vec<u8, A>,
@@ -131,8 +131,8 @@ pub fn show_rows<S: Space, W: Write, A: Allocator, E: Emitter>(
     emitter.put_piece(text, writer, level, Piece::EndItems)
 }
 
-/// Appends the text of the row that starts at `start` to `text`. The row has this `number` in its list, which is
-/// appended to the path of `emitter` meanwhile.
+/// Appends the text of the row that starts at `start` to `text`. The row has this `number` in its list, and `number`
+/// ends the path of `emitter` while the row is written.
 #[cycle(slots)]
 #[inline(always)]
 fn show_row<S: Space, W: Write, A: Allocator, E: Emitter>(

@@ -1,4 +1,4 @@
-//! The walk over a message that writes its text: a slot's value, with everything below it.
+//! The walk over a message that writes its text: the value in a slot, with everything below the value.
 
 ghost use Rattle.std.specs.Prelude.{◌≡◌, ℕ, ◌<◌, ◌+◌, ◌*◌, ◌^◌, IfErr, OnOk};
 ghost use Rattle.capn_words.specs.Message.{IsMessage, IsPlace};
@@ -20,7 +20,7 @@ use std::alloc::Allocator;
 use std::io::Write;
 
 /// Appends the mark and the text of the value in the slot at `at` to `text`, at this `level`. The slot has this
-/// `number` in its object, and the path of `emitter` already leads to it.
+/// `number` in its object, and the path of `emitter` already leads to the slot.
 #[cycle(slots)]
 #[inline(always)]
 pub fn show_slot<S: Space, W: Write, A: Allocator, E: Emitter>(
@@ -51,13 +51,13 @@ pub fn show_slot<S: Space, W: Write, A: Allocator, E: Emitter>(
     views_show_values();
     match resolve(space, at) {
         Ok(found) => show_found(text, writer, emitter, space, found, level, depth),
-        // The precondition says that a value is here, so the pointer has a target.
+        // The precondition says that there is a value at `at`, so the pointer has a target.
         Err(_) => unreachable!(),
     }
 }
 
-/// Appends the text of the value with the target `found` to `text`, at this `level`. Its mark has been written, and the
-/// path of `emitter` leads to it.
+/// Appends the text of the value with the target `found` to `text`, at this `level`. The caller has written the mark of
+/// the value, and the path of `emitter` leads to the value.
 #[cycle(slots)]
 #[inline(always)]
 pub fn show_found<S: Space, W: Write, A: Allocator, E: Emitter>(
@@ -150,8 +150,8 @@ pub fn show_found<S: Space, W: Write, A: Allocator, E: Emitter>(
     }
 }
 
-/// Appends the text of the struct of this `size` that starts at `start` to `text`, at this `level`. Its mark has been
-/// written.
+/// Appends the text of the struct of this `size` that starts at `start` to `text`, at this `level`. The caller has
+/// written the mark of the struct.
 #[cycle(slots)]
 #[inline(always)]
 pub fn show_body<S: Space, W: Write, A: Allocator, E: Emitter>(

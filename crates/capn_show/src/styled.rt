@@ -45,7 +45,7 @@ pub fn show_there<S: Space, W: Write, A: Allocator>(
 }
 
 /// Appends the lines of the value with the target `found` to `text`. A list of bytes that is a text is written between
-/// quotes if `QUOTED`.
+/// quotes if `QUOTED` is set.
 fn show_lines<S: Space, W: Write, A: Allocator, const QUOTED: bool>(
     text: &mut Vec<u8, A>,
     writer: &mut Watched<W>,
@@ -66,7 +66,7 @@ fn show_lines<S: Space, W: Write, A: Allocator, const QUOTED: bool>(
 }
 
 /// Appends the line of JSON of the value with the target `found` to `text`. A list of bytes that is a text is written
-/// as a string if `QUOTED`.
+/// as a string if `QUOTED` is set.
 fn show_json<S: Space, W: Write, A: Allocator, const QUOTED: bool>(
     text: &mut Vec<u8, A>,
     writer: &mut Watched<W>,

@@ -1,5 +1,5 @@
--- The growth of a text that is kept and written, and its breaking off. (For `bits.rt`, `byte_digits.rt`, `bytes.rt`,
--- capn_commands and capn_marks.)
+-- Lemmas on text that is added to an output or breaks off. (For `bits.rt`, `byte_digits.rt`, `bytes.rt`, capn_commands
+-- and capn_marks.)
 use Rattle.std.proofs.Common.{◌≡◌, ℕ, ◌+◌, Bool, List, IsErrAnd, [], ◌++◌, length, take, drop}
 use Rattle.std.proofs.Common.{refl, ◌∙◌, sym, ap, subst, append_assoc}
 use Rattle.std.specs.Prelude.{Option, Result, Ok, Err, OnOk, IfErr, is_err, true, false, ◌||◌}
@@ -62,7 +62,7 @@ module _ {T : Type 0} (p q : Outgoing) where
     f ∙ or-true p.failed,
   )
 
--- Memory is refused, and nothing is added.
+-- An allocation is refused, and nothing is added.
 pub refused : (p q : Outgoing) (t : List ℕ) (e : Broken) → e ≡ broken.Memory → q.taken ≡ p.taken → q.failed ≡ p.failed
     → q.kept ≡ p.kept → BreaksOff p q e t
 refused p q t e is h f k =

@@ -28,7 +28,7 @@ kind_in (numbers a xs) = kind_of_list (list_width a)
 kind_in (links ts) = kinds.Links
 kind_in (rows bs) = kinds.Rows
 
--- The width of the numbers of a list of a kind, if it holds numbers.
+-- The width of the numbers in a list of a kind, or `None` if lists of that kind hold no numbers.
 abbrev number_kind : Kind → Option NumberWidth
 number_kind kinds.Bits = Some bit
 number_kind kinds.Bytes = Some byte
@@ -44,18 +44,18 @@ number_kind-list pair = refl
 number_kind-list quad = refl
 number_kind-list oct = refl
 
--- A value of any other kind is not a list of numbers.
+-- A kind without a width of numbers is not the kind of a list of numbers.
 no-numbers : (a : NumberWidth) (k : Kind) → number_kind k ≡ None → k ≡ kind_of_list (list_width a) → ⊥
 no-numbers a k none e = let same : None ≡ Some a = sym none ∙ ap number_kind e ∙ number_kind-list a in absurd cc
 
--- The value is a list of numbers of this width.
+-- The value `v` is a list of `n` numbers of the kind `a`, of which `Are` holds.
 pub record IsNumbers (a : NumberWidth) (Are : List ℕ → Type 0) (n : ℕ) (v : Tree) : Type 0 where
   pub items : List ℕ
   pub is : v ≡ numbers a items
   pub count : length items ≡ n
   pub are : Are items
 
--- The value is a list of bits, which are these digits.
+-- The value `v` is a list of `n` bits, of which, as numbers, `Are` holds.
 pub record IsBits (Are : List ℕ → Type 0) (n : ℕ) (v : Tree) : Type 0 where
   pub digits : List Bool
   pub is : v ≡ numbers bit (map from_bool digits)

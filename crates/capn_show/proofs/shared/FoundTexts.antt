@@ -14,7 +14,7 @@ use Rattle.capn_walk.specs.ShownValue.{Shows}
 use Rattle.capn_show.specs.ReadyPlaces.{IsFound, IsBody, AreReady, AreRows}
 use Rattle.capn_show.proofs.shared.FoundKinds.{as-node, as-links, as-rows}
 
--- The value of content is at least one object high.
+-- The value of a target with content has a height of at least 1.
 high : (m : List (List ℕ)) (s w pads : ℕ) (shape : Shape) (v : Tree)
     → Shows m (targets.Content s w shape pads) v → 1 ≤ height v
 high m s w pads shape nil h = absurd (cc)
@@ -25,7 +25,7 @@ high m s w pads shape (numbers a xs) h = omega arith
 high m s w pads shape (links ts) h = omega arith
 high m s w pads shape (rows bs) h = omega arith
 
--- The content of a target, and the values below it.
+-- Facts on the content of the target `found`, and on the values below it.
 module _ (m : List (List ℕ)) (found : Target) (s w pads : ℕ) (shape : Shape)
     (e : found ≡ targets.Content s w shape pads) where
   pub inside : IsInMessage m found → IsContent m (record { segment = s; word = w }) (extent shape) × RowsFit shape

@@ -17,7 +17,7 @@ module _ {T : Type 0} (p q r : Outgoing) (x y : List ℕ) (h : Adds p q x) where
   err-then (Ok z) k = tt
   err-then (Err e) k = then-broken p q r e x y h k
 
--- Memory is refused before anything is added.
+-- An allocation is refused before anything is added.
 pub unbegun : (p : Outgoing) (t : List ℕ) (e : Broken) → e ≡ broken.Memory → BreaksOff p p e t
 unbegun p t e is = refused p p t e is refl refl refl
 

@@ -9,7 +9,7 @@ use Rattle.capn_show.specs.JsonTexts.{is_json_text, text_json, text_or_digits}
 use Rattle.capn_show.specs.declared.piece.Piece.{Piece}
 use Rattle.capn_show.specs.declared.piece.Piece.TheVariants as pieces
 
--- The comma before item `i`, if it has one.
+-- The comma before item `i`, or nothing before item 0.
 abbrev pub comma : ℕ → List ℕ
 comma zero = []
 comma (suc i) = 44 ∷ []
@@ -19,7 +19,7 @@ abbrev pub is_quoted : Width → Bool
 is_quoted W64 = true
 is_quoted _ = false
 
--- A number, between quotes or not.
+-- The decimal digits of a number, between quotes if the first argument is true.
 abbrev pub number_item : Bool → ℕ → List ℕ
 number_item true = number_text
 number_item false = decimal
@@ -56,7 +56,7 @@ json_rule quoted = record {
   piece = λ level p. json_piece p;
 }
 
--- The JSON of a list of bytes. The first argument says whether one that is a text is written as a string.
+-- The JSON of a list of bytes. The first argument says whether a list that is a text is written as a string.
 abbrev pub bytes_json_of : Bool → List ℕ → List ℕ
 bytes_json_of false = digits_json
 bytes_json_of true = text_or_digits
