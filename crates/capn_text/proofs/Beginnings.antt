@@ -87,7 +87,7 @@ begun (suc level) front rest t e h =
 abbrev pub Never : List ℕ → Type 0
 Never front = (rest : List ℕ) → quoted_at (front ++ rest) ≡ None
 
--- A line with a prefix that begins no line between quotes is not one.
+-- A line whose prefix begins no line between quotes is not a line between quotes.
 pub never : (front : List ℕ) → may_begin (take looked_at front) ≡ false → Never front
 never front other rest = by (quoted_at (front ++ rest)) refl where
   by : (r : Option (ℕ × List ℕ)) → quoted_at (front ++ rest) ≡ r → r ≡ None

@@ -26,7 +26,7 @@ read_on : (h : Head) (first : List ℕ) (w : List ℕ) (v : Tree) → head_at 0 
 unfolding tree_at
 read_on h first w v head below = ap (λ o. o >>= λ k. content_at (tree_at 0) 0 k.0 k.1) head ∙ below
 
--- A first line that was read begins some value.
+-- A first line that was read is the first line of some value.
 pub begins : (t : List ℕ) (x : Head × List ℕ) → head_at 0 t ≡ Some x → (v : Tree) × BeginsAs t v
 begins t x e =
     let p = head_takes 0 t x.0 x.1 e in
@@ -40,7 +40,7 @@ first_or : (b : Bool) (n : ℕ) (x y : List ℕ) → 0 < cond b 1 0 + n → (0 <
 first_or true n x y some same = refl
 first_or false n x y some same = same (omega arith)
 
--- Texts that begin with the same line have the same first line.
+-- Texts that begin with the same bytes, in which a line ends, have the same first line.
 same_first : (front x y : List ℕ) → 0 < ended_lines front → first_lines 1 (front ++ x) ≡ first_lines 1 (front ++ y)
 same_first [] x y some = absurd (omega arith)
 same_first (c ∷ cs) x y some =

@@ -26,7 +26,7 @@ exact_front front y lines =
     let k : ended_lines front ≡ ended_lines front + 0 = omega arith in
     ap (λ n. first_lines n (front ++ y)) k ∙ lines 0 y ∙ append-nil front
 
--- A value whose text begins with given whole lines.
+-- A value that is read from whole lines `front` and bytes `y` has them as its text, and is showable.
 pub completed : (room : ℕ) (front y : List ℕ) (v : Tree) → tree_at room 0 (front ++ y) ≡ Some (v, [])
     → (show_text v ≡ front ++ y) × IsShowable v
 completed room front y v e =
@@ -94,11 +94,12 @@ module _ (t : List ℕ) (v : Tree) (after : List ℕ) (e : tree_at 256 0 t ≡ S
             other (ap (first_lines 1) r.1 ∙ q.2),
       )
 
-  -- The line after a text is wrong, for a text alone.
+  -- The line after the text of a value is the first wrong one, if the text is read without its line `end`.
   pub more_wrong : (after ≡ [] → ⊥) → IsFirstWrong show_text (ended_lines (show_text v) + 1) t
   more_wrong more = next_wrong show_text [] (λ w. sym (append-nil (show_text w))) (nothing_first after more)
 
-  -- The line after a text is wrong, for a text with its end, if it is not the end.
+  -- The line after the text of a value is the first wrong one, if the text is read with its line `end` and the line is
+  -- not `end`.
   pub no_end_wrong : strip end_line after ≡ None → IsFirstWrong ended_text (ended_lines (show_text v) + 1) t
   no_end_wrong none = next_wrong ended_text end_line (λ w. refl) (λ same.
       let f = first_front 1 after in

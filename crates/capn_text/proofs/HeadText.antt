@@ -129,7 +129,7 @@ sizes_again w s rest fw fs =
     ∙ ap (λ (r : Option (ℕ × List ℕ)). r >>= λ j. strip (10 ∷ []) j.1 >>= λ z. Some (heads.Struct w j.0, z))
     (decimal_again s 10 rest fs refl)
 
--- The first line that is read after its indent.
+-- A first line that was written is read after its indent.
 after_indent : (h : Head) (rest : List ℕ) → Holds h
     → null_or (strip (codes "null\n") (head_text h ++ 10 ∷ rest)) (head_text h ++ 10 ∷ rest) ≡ Some (h, rest)
 after_indent heads.Null rest fits = refl
@@ -146,7 +146,7 @@ unfolding head_at
 head_again level h rest fits =
     in_line level (head_text h) rest (λ l. null_or (strip (codes "null\n") l) l) ∙ after_indent h rest fits
 
--- The text, after its indent, from which a first line was read.
+-- The text `t`, after its indent, consists of the first line `x.0` and the bytes `x.1`.
 abbrev Lined : List ℕ → Head × List ℕ → Type 0
 Lined t x = (t ≡ head_text x.0 ++ 10 ∷ x.1) × Holds x.0
 

@@ -26,7 +26,7 @@ use Rattle.capn_text.proofs.TokenText.{encode_one, encode_none, encode_more}
 use Rattle.hex.specs.Hex.{encode_lower}
 use Rattle.std.specs.Int.{to_be_bytes, w64}
 
--- If `t`, with bytes after it, begins with `x`, and is at least as long, `t` itself begins with `x`.
+-- If `t ++ z` begins with `x`, and `t` is at least as long as `x`, then `t` begins with `x`.
 pub split : (t x s z : List ℕ) → t ++ z ≡ x ++ s → length x ≤ length t → (u : List ℕ) × (t ≡ x ++ u)
 split t [] s z e low = (t, refl)
 split [] (c ∷ cs) s z e low = absurd (omega arith)
@@ -49,7 +49,7 @@ module _ {X : Type 0} (read : List ℕ → Option (X × List ℕ)) (show : X →
       absurd cc
   by_answer t z none long None is = is
 
-  -- A text as long as any line is not read, whatever follows, if it is not read now.
+  -- If a text as long as any line is not read now, it is not read whatever follows.
   pub long_lost : (t : List ℕ) → read t ≡ None → ((x : X) → P x → length (show x) ≤ length t) → IsLineLost read t
   long_lost t none long z = by_answer t z none long (read (t ++ z)) refl
 
@@ -64,7 +64,7 @@ module _ {X : Type 0} (read : List ℕ → Option (X × List ℕ)) (show : X →
       let high = ltb-false (length t) few is in
       (none, refl, long_lost t none (λ x q. let s = short x q in omega arith))
 
-  -- The stop on a line that is not read.
+  -- The stop on a line that is not read is `stop_in`.
   pub line_stop : (some : X) → P some → ((x : X) → P x → length (show x) ≤ few) → (t : List ℕ) → read t ≡ None
       → LineFails (stop_in t) read t
   line_stop some p short t none = by_length (nat_lt (length t) few) t refl some p none short

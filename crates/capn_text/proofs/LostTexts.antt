@@ -70,7 +70,7 @@ is_few t short = let low = ltb-true (length t) few (sym short) in omega arith
 
 -- ---- refused whatever follows
 
--- If reading stops for good, it stops at the same line of a longer text.
+-- If reading stops whatever follows, it stops at the same line of a longer text.
 stops_on : (t : List ℕ) (n : ℕ) → Stops (tree_by 0) 256 t n → IsLost (tree_by 0) 256 t → (more : List ℕ)
     → Stops (tree_by 0) 256 (t ++ more) (n + length more)
 stops_on t n h lost more = (

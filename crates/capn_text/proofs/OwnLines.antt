@@ -91,7 +91,7 @@ digits_last n before (c ∷ cs) quiet = last-by (c == 10) refl (digits_last n (b
 abbrev step : Bool → ℕ → List ℕ → List ℕ
 step q n cs = cond q ((n + 1) ∷ []) [] ++ digits_after (n + cond q 2 1) [] cs
 
--- No line of digits is before the second line.
+-- No line of digits comes before the second line of the plain form.
 pub none_before : (text before : List ℕ) (l n : ℕ) → n ≤ l → count_to n (digits_after l before text) ≡ 0
 none_before [] before l n low = refl
 none_before (c ∷ cs) before l n low =
@@ -183,7 +183,7 @@ first_lines_of front first fits quiet e = ap ended_lines e ∙ line_lines front 
 -- ---- the line of the text
 
 -- The line of `text` to which a line of the plain form belongs. `text` begins at line `l` of the plain form, and the
--- line is `i` lines after that.
+-- line of the plain form is line `l + i`.
 abbrev own_after : ℕ → List ℕ → ℕ → ℕ
 own_after l text i = suc i - count_to (l + i) (digits_after l [] text)
 

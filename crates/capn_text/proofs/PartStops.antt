@@ -143,7 +143,7 @@ module _ (level : ℕ) where
   abbrev headed : Reads Tree
   headed = both (λ r. head_at level) (content_by level)
 
-  -- A statement on reading contents at a height holds of reading values one higher.
+  -- A statement on reading the contents of values at a height holds of reading whole values at a height one greater.
   from : (m : ℕ) (s : List ℕ) (v : Option (Tree × List ℕ)) → ((r : ℕ) → m ≤ r → headed r s ≡ v)
       → (r : ℕ) → suc m ≤ r → tree_at r level s ≡ v
   unfolding tree_at
@@ -213,7 +213,7 @@ of_stop : (b : Bool) (n : ℕ) (P : Stop → Type 0) → (b ≡ true → P (stop
 of_stop true n P cut left = cut refl
 of_stop false n P cut left = left
 
--- A line that stops is lost, or short.
+-- A line at which reading stops cannot be completed, or is short.
 short_or_lost : {X : Type 0} (read : List ℕ → Option (X × List ℕ)) (t : List ℕ) (e : Stop) → e ≡ stop_in t
     → LineFails e read t → (P : Stop → Type 0) → (length t ≤ few → P (stops.Cut (length t)))
     → (IsLineLost read t → P (stops.Left (length t))) → P e

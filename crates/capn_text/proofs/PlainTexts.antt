@@ -20,7 +20,7 @@ pair q = Some q
 some_not : (q : ℕ × List ℕ) → pair q ≡ None → ⊥
 some_not q e = absurd cc
 
--- The plain form that is found for a line is one.
+-- The plain form that is found for a line is a plain form of the line.
 line_by : (text : List ℕ) → length text < 2 ^ 64 → (r : Option (ℕ × List ℕ)) → quoted_at text ≡ r
     → IsPlainLine (text ++ 10 ∷ []) (plain_or r text)
 line_by text fits (Some q) e = inl (q.0, q.1, was_read text q.0 q.1 e, refl)

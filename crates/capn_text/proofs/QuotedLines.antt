@@ -87,7 +87,7 @@ in_takes t xs e =
 abbrev counted_after : ℕ × List ℕ → Option (List ℕ)
 counted_after n = strip (codes " \"") n.1 >>= λ rest. text_in rest >>= λ xs. cond (length xs == n.0) (Some xs) None
 
--- A number begins with a digit, not with a quote.
+-- The list of bytes is read again from its count and its quoted bytes, since a number begins with no quote.
 count_again : (xs : List ℕ) → length xs < 2 ^ 64 → is_text xs ≡ true
     → counted_text (with_count (length xs) (inside xs)) ≡ Some xs
 count_again xs fits p =
@@ -155,7 +155,7 @@ quoted_again level rest xs e =
     (levels_again level (codes "ytes " ++ rest))
     ∙ ap (λ (r : Option (List ℕ)). r >>= λ ys. Some (level, ys)) e
 
--- A decimal number does not begin with a quote.
+-- The digits `ds` of `n`, whatever follows them, do not begin with a quote.
 abbrev HasNoQuote : ℕ → List ℕ → Type 0
 HasNoQuote n ds = (rest : List ℕ) → strip (34 ∷ []) (ds ++ rest) ≡ None
 
@@ -230,7 +230,7 @@ escapes_size (x ∷ xs) =
 within : (a b : List ℕ) → length b ≤ length (a ++ b)
 within a b = let h = length-append a b in omega arith
 
--- The bytes between quotes are no more than the bytes of their line.
+-- The number of bytes between quotes is no greater than the length of their line, so it is below 2^64.
 pub has_size : (level : ℕ) (text xs : List ℕ) → length text < 2 ^ 64 → IsQuoted (text ++ 10 ∷ []) level xs
     → length xs < 2 ^ 64
 has_size level text xs fits (p, inl e) =

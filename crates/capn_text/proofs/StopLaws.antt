@@ -207,7 +207,7 @@ local_all one room near (suc n) =
     (λ x. local_both (all one n) (λ xs. given (x ∷ xs)) room (local_all one room near n)
     (λ xs. local_given (x ∷ xs) room))
 
--- If the items that are left fail, all items do: the fact that a loop keeps.
+-- If the items that are left fail, all items fail. A loop keeps this fact as its invariant.
 abbrev pub PassesOn : {X : Type 0} → Reads X → ℕ → ℕ → ℕ → List ℕ → List ℕ → Type 0
 PassesOn one room count i rest text = (e : Stop) → FailsAt (all one (count - i)) room e rest
     → FailsAt (all one count) room e text

@@ -24,7 +24,7 @@ line_number m n e = cc
 one_end : (rest : List ℕ) → ended_lines (end_line ++ rest) ≡ 1 + ended_lines rest
 one_end rest = lines_append end_line rest
 
--- A fault at another line is at a later one.
+-- If line `a + n` is not line `b`, which equals line `a`, then `n` is not 0.
 pub later : (a n b : ℕ) → a ≡ b → (faults.Line (a + n) ≡ faults.Line b → ⊥) → 0 < n
 later a zero b same other = absurd (other (ap (λ k. faults.Line k) (omega arith)))
 later a (suc n) b same other = omega arith

@@ -32,7 +32,7 @@ use Rattle.capn_text.proofs.HeadText.{head_text, head_takes}
 use Rattle.capn_text.proofs.TreeOfText.{count-trees, count-rows, body_text, row_text, each_text, rows_text}
 use Rattle.capn_text.proofs.TreeOfText.{rows_text-cons}
 
--- The text from which a tree was read.
+-- The text `t` is that of the tree `x.0` at `level`, followed by `x.1`, and the tree is showable.
 abbrev pub Spelled : ℕ → List ℕ → Tree × List ℕ → Type 0
 Spelled level t x = (t ≡ shown level x.0 ++ x.1) × IsShowable x.0
 

@@ -251,7 +251,7 @@ tree_again (suc room) level (rows bs) rest low s =
 tree_again (suc room) level (cap k) rest low s =
     plain room level (heads.Named names.Cap k) rest (omega arith)
 
--- No text of a value begins another's.
+-- No text of a value begins the text of another value.
 pub apart : (level : ℕ) (v w : Tree) (x y : List ℕ) → IsShowable v → IsShowable w
     → shown level v ++ x ≡ shown level w ++ y → (v ≡ w) × (x ≡ y)
 apart level v w x y sv sw e =

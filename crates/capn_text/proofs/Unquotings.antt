@@ -17,7 +17,7 @@ use Rattle.capn_text.proofs.shared.Counts.{count_append}
 
 -- ---- numbers counted
 
--- One more line of digits is before `line`.
+-- If one more line of digits is before `line`, it is also counted.
 pub gone_more : (qs : List ℕ) (i line : ℕ) → i < length qs → slice_index qs i < line
     → ((n : ℕ) → line ≤ n → count_to n (take i qs) ≡ i) → (n : ℕ) → line ≤ n → count_to n (take (i + 1) qs) ≡ i + 1
 gone_more qs i line below low so_far n at =
@@ -104,11 +104,11 @@ both_pieces u v w a b x y first next = record {
   passed = next.passed ∙ first.passed;
 }
 
--- `bytes` were taken, and what was added to the plain form went from `old` to `new`.
+-- `bytes` were taken, and the converter, which went from `u` to `v`, extended the plain form `old` to `new`.
 abbrev pub Adds : Unquoting → Unquoting → List ℕ → List ℕ → List ℕ → Type 0
 Adds u v bytes old new = (added : List ℕ) × (new ≡ old ++ added) × Unquotes u v bytes added
 
--- A line ends that was kept from its beginning.
+-- A line that was kept from its beginning ends.
 pub line_kept : (u v : Unquoting) (old new : List ℕ) → u.through ≡ false → v.through ≡ u.through → v.front ≡ []
     → v.line ≡ u.line + lines_of u.front → v.digits ≡ u.digits ++ digits_of u.line u.front → v.passed ≡ u.passed
     → new ≡ old ++ plain_line u.front → Adds u v (10 ∷ []) old new
@@ -131,7 +131,7 @@ line_kept u v old new kept same front line digits passed is =
       },
     )
 
--- A line ends whose front was given.
+-- A line whose front was given ends.
 pub line_given : (u v : Unquoting) (old new : List ℕ) → u.through ≡ true → v.through ≡ false → v.front ≡ []
     → v.line ≡ u.line + 1 → v.digits ≡ u.digits → v.passed ≡ u.passed → new ≡ old ++ 10 ∷ []
     → Adds u v (10 ∷ []) old new
@@ -188,7 +188,7 @@ part_given u text old new quiet given is = (
   },
 )
 
--- The front of a line is given, since the line cannot be one between quotes.
+-- The front of a line is given, since the line cannot have bytes between quotes.
 pub front_given : (u v : Unquoting) (old new : List ℕ) → u.through ≡ false → v.through ≡ true
     → may_begin (take looked_at u.front) ≡ false → v.line ≡ u.line → v.digits ≡ u.digits → v.passed ≡ u.passed
     → new ≡ old ++ u.front → Adds u v [] old new

@@ -39,7 +39,7 @@ by_end : (k : Bool) (n m : ℕ) (x y : ℕ → List ℕ) → suc n ≤ cond k 1 
 by_end true n m x y low h = h n (omega arith)
 by_end false n m x y low h = h (suc n) (omega arith)
 
--- The first lines of `x` and what follows are those of `x`, if `x` has as many.
+-- The first `n` lines of `x` with bytes `y` after it are those of `x`, if `x` has `n` lines or more.
 pub within : (n : ℕ) (x y : List ℕ) → n ≤ ended_lines x → first_lines n (x ++ y) ≡ first_lines n x
 within zero x y low = refl
 within (suc n) [] y low = absurd (omega arith)
@@ -52,7 +52,7 @@ by_rest : (k : Bool) (n m : ℕ) (x : ℕ → List ℕ) (y : List ℕ) → cond 
 by_rest true n m x y more h = h n (omega arith)
 by_rest false n m x y more h = h (suc n) (omega arith)
 
--- The first lines of `x` and what follows begin with all of `x`, if `x` has fewer.
+-- The first `n` lines of `x` with bytes `y` after it begin with all of `x`, if `x` has fewer than `n` lines.
 pub beyond : (n : ℕ) (x y : List ℕ) → ended_lines x < n → (z : List ℕ) × (first_lines n (x ++ y) ≡ x ++ z)
 beyond n [] y more = (first_lines n y, refl)
 beyond zero (c ∷ cs) y more = absurd (omega arith)

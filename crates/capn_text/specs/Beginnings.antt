@@ -1,4 +1,4 @@
--- Prefixes of a line of bytes between quotes. (Own.)
+-- Prefixes of a line of bytes between quotes. (Our own.)
 use Rattle.std.specs.Prelude.{◌≡◌, ℕ, List, [], ◌∷◌, codes, ◌==◌, ◌||◌, Bool, true, false, Option, Some, None, refl}
 use Rattle.capn_text.specs.inner.Tokens.{strip, is_digit}
 use Rattle.capn_text.specs.inner.QuotedLines.{levels_at}
@@ -16,18 +16,18 @@ abbrev pub may_follow : List ℕ → Bool
 may_follow [] = true
 may_follow (c ∷ cs) = c == 34 || is_digit c
 
--- True if there are bytes after a name, and they may follow it.
+-- True if there are bytes after a name, and `may_follow` is true of these bytes.
 abbrev pub may_follow_in : Option (List ℕ) → Bool
 may_follow_in (Some rest) = may_follow rest
 may_follow_in None = false
 
--- True if a line that begins with `front` may be one of bytes between quotes. Such a line has an indent, `bytes `, and
--- then a quote or a digit, and `front` may end before that.
+-- True if a line that begins with `front` may have bytes between quotes. Such a line has an indent, `bytes `, and then
+-- a quote or a digit, and `front` may end before that.
 abbrev pub may_begin : List ℕ → Bool
 may_begin front = begins (codes " ") (levels_at front).1
     || (begins (codes "bytes ") (levels_at front).1 || may_follow_in (strip (codes "bytes ") (levels_at front).1))
 
--- The number of bytes by which an unfinished line is judged. The indents of a text of 256 levels have fewer.
+-- The number of bytes that decide on an unfinished line. The indents of a text of 256 levels have fewer bytes.
 abbrev pub looked_at : ℕ
 looked_at = 1024
 

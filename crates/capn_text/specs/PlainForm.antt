@@ -1,11 +1,11 @@
--- The plain form of a text, found from left to right, and the line of the text to which each of its lines belongs.
--- (Own.)
+-- The plain form of a text, found from left to right, and the line of the text to which each line of the plain form
+-- belongs. (Our own.)
 use Rattle.std.specs.Prelude.{◌≡◌, ℕ, ◌+◌, ◌-◌, List, [], ◌∷◌, ◌++◌, codes, cond, ◌==◌, nat_le, Bool, true, false}
 use Rattle.std.specs.Prelude.{Option, Some, None, refl}
 use Rattle.capn_show.specs.Quoting.{plain_bytes}
 use Rattle.capn_text.specs.inner.QuotedLines.{quoted_at}
 
--- The lines of a list of bytes, if there is one, or else the line itself.
+-- The lines of a list of bytes, if there is a list, or else the line `text` itself.
 abbrev pub plain_or : Option (ℕ × List ℕ) → List ℕ → List ℕ
 plain_or (Some q) text = plain_bytes q.0 q.1
 plain_or None text = text ++ 10 ∷ []
@@ -23,7 +23,7 @@ plain_after front (c ∷ cs) =
 abbrev pub plain : List ℕ → List ℕ
 plain text = plain_after [] text
 
--- The rest of a line as it is, and then the plain form of the lines after it.
+-- The rest of a line unchanged, and then the plain form of the lines after that line.
 abbrev pub plain_through : List ℕ → List ℕ
 plain_through [] = []
 plain_through (c ∷ cs) = c ∷ cond (c == 10) (plain cs) (plain_through cs)
@@ -40,8 +40,8 @@ is_quoted text = is_there (quoted_at text)
 abbrev pub lines_of : List ℕ → ℕ
 lines_of text = cond (is_quoted text) 2 1
 
--- The number of the line of digits that the plain form of a line adds, if it adds one. The plain form begins at line
--- `n`.
+-- The number of the line of digits in the plain form of a line, if the line has bytes between quotes. The plain form
+-- begins at line `n`.
 abbrev pub digits_of : ℕ → List ℕ → List ℕ
 digits_of n text = cond (is_quoted text) ((n + 1) ∷ []) []
 
@@ -52,12 +52,12 @@ digits_after n front [] = []
 digits_after n front (c ∷ cs) =
     cond (c == 10) (digits_of n front ++ digits_after (n + lines_of front) [] cs) (digits_after n (front ++ c ∷ []) cs)
 
--- The numbers of the lines of digits that are added after a line, numbered `n`, whose rest stays as it is.
+-- The numbers of the lines of digits that are added after line `n`, whose rest is unchanged.
 abbrev pub digits_through : ℕ → List ℕ → List ℕ
 digits_through n [] = []
 digits_through n (c ∷ cs) = cond (c == 10) (digits_after (n + 1) [] cs) (digits_through n cs)
 
--- The number of elements that are at most `n`.
+-- The number of elements of a list that are at most `n`.
 abbrev pub count_to : ℕ → List ℕ → ℕ
 count_to n [] = 0
 count_to n (q ∷ qs) = cond (nat_le q n) 1 0 + count_to n qs

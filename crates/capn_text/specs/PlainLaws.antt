@@ -13,7 +13,7 @@ abbrev pub quoted_stream : List Tree → List ℕ
 quoted_stream [] = []
 quoted_stream (v ∷ vs) = shown_by quoted_bytes 0 v ++ (end_line ++ quoted_stream vs)
 
--- The plain form of the texts of values with lists between quotes is their texts without quotes.
+-- The plain form of the texts of values with lists between quotes is the texts of the values without quotes.
 abbrev pub QuotedIsPlain : Type 0
 QuotedIsPlain = (vs : List Tree) → AllByRecursion IsShowable vs → IsPlain (quoted_stream vs) (stream_text vs)
 

@@ -1,24 +1,25 @@
--- Texts in which a list of bytes may stand between quotes on one line, and their plain form. (Own.)
+-- Texts in which a list of bytes may stand between quotes on one line, and their plain form. (Our own.)
 use Rattle.std.specs.Prelude.{◌≡◌, ◌⊎◌, ◌≤◌, ℕ, suc, ◌+◌, List, [], ◌∷◌, ◌++◌, codes, true, refl}
 use Rattle.capn_value.specs.Text.{line, named}
 use Rattle.capn_show.specs.Quoting.{is_text, escapes, quoted_line, plain_bytes}
 use Rattle.capn_text.specs.Streams.{ended_lines}
 
--- The line of a text between quotes, without its count.
+-- The line of a text between quotes, without the length of the text.
 abbrev pub uncounted_line : ℕ → List ℕ → List ℕ
 uncounted_line level xs = line level (codes "bytes " ++ 34 ∷ (escapes xs ++ 34 ∷ []))
 
--- The line `text`, with its newline, has the bytes `xs` between quotes, with their count or without it.
+-- The line `text`, with its newline, has the bytes `xs` between quotes at `level`, with or without the length of `xs`.
 abbrev pub IsQuoted : List ℕ → ℕ → List ℕ → Type 0
 IsQuoted text level xs = (is_text xs ≡ true) × ((text ≡ quoted_line level xs) ⊎ (text ≡ uncounted_line level xs))
 
--- The plain form of a line: the lines of digits if it has bytes between quotes, and the line itself otherwise.
+-- `plain` is the plain form of the line `text`. If `text` has bytes between quotes, `plain` is their lines of digits,
+-- and otherwise `plain` is `text`.
 abbrev pub IsPlainLine : List ℕ → List ℕ → Type 0
 IsPlainLine text plain = ((level : ℕ) × (xs : List ℕ) × IsQuoted text level xs × (plain ≡ plain_bytes level xs))
     ⊎ ((plain ≡ text) × ((level : ℕ) (xs : List ℕ) → IsQuoted text level xs → ⊥))
 
--- `plain` is the plain form of `text`, whose lines are the given ones, without their newlines. It has the plain form of
--- each line, and then the bytes after the last line as they are.
+-- `plain` is the plain form of `text`, which has the given lines, without their newlines. `plain` has the plain form of
+-- each line, and then the bytes after the last line unchanged.
 abbrev pub IsPlainBy : List (List ℕ) → List ℕ → List ℕ → Type 0
 IsPlainBy [] text plain = (ended_lines text ≡ 0) × (plain ≡ text)
 IsPlainBy (front ∷ fronts) text plain = (ended_lines front ≡ 0) × (first : List ℕ) × (after : List ℕ)
@@ -29,9 +30,9 @@ IsPlainBy (front ∷ fronts) text plain = (ended_lines front ≡ 0) × (first : 
 abbrev pub IsPlain : List ℕ → List ℕ → Type 0
 IsPlain text plain = (fronts : List (List ℕ)) × IsPlainBy fronts text plain
 
--- Line `n` of the plain form of a text of the given lines belongs to line `m` of the text, both counted from 1. The
--- lines of the plain form of the first line belong to line 1, and the others to lines after it. After the last line
--- both count the same.
+-- Line `n` of the plain form of a text with the given lines belongs to line `m` of the text, both counted from 1. The
+-- lines of the plain form of the first line belong to line 1, and the others to later lines. After the last of the
+-- given lines, `n` and `m` advance together.
 abbrev pub IsOwnBy : List (List ℕ) → ℕ → ℕ → Type 0
 IsOwnBy [] n m = m ≡ n
 IsOwnBy (front ∷ fronts) n m = (first : List ℕ) × IsPlainLine (front ++ 10 ∷ []) first

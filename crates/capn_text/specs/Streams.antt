@@ -1,4 +1,4 @@
--- Texts one after the other, each followed by the line `end`, as a stream of messages is shown. (Own.)
+-- Texts one after the other, each followed by the line `end`, as a stream of messages is shown. (Our own.)
 use Rattle.std.specs.Prelude.{ℕ, zero, suc, ◌≡◌, ◌≢◌, ◌⊎◌, ◌≤◌, ◌<◌}
 use Rattle.std.specs.Prelude.{◌+◌, List, [], ◌∷◌, ◌++◌, codes, cond, ◌==◌, length}
 use Rattle.capn_value.specs.Tree.{Tree}
@@ -9,16 +9,16 @@ use Rattle.capn_text.specs.Showable.{IsShowable}
 use Rattle.capn_text.specs.declared.fault.TextFault.{TextFault}
 use Rattle.capn_text.specs.declared.fault.TextFault.TheVariants as faults
 
--- the line that ends each text
+-- The line that ends each text.
 abbrev pub end_line : List ℕ
 end_line = codes "end\n"
 
--- The texts of values, each followed by its end.
+-- The texts of values, each followed by the line `end`.
 abbrev pub stream_text : List Tree → List ℕ
 stream_text [] = []
 stream_text (v ∷ vs) = show_text v ++ (end_line ++ stream_text vs)
 
--- The text of a value, and its end.
+-- The text of a value, followed by the line `end`.
 abbrev pub ended_text : Tree → List ℕ
 ended_text v = show_text v ++ end_line
 
@@ -38,13 +38,14 @@ pub record Place : Type 0 where
   pub rest : List ℕ
   pub line : ℕ
 
--- The first line of `text` is the first line of the text of `v`: both begin with the same bytes, in which a line ends.
+-- The first line of `text` is the first line of the text of `v`, since both begin with the same bytes, in which a line
+-- ends.
 abbrev pub BeginsAs : List ℕ → Tree → Type 0
 BeginsAs text v = IsShowable v × (front : List ℕ) × (rest : List ℕ) × (more : List ℕ) × (text ≡ front ++ rest)
     × (show_text v ≡ front ++ more) × (0 < ended_lines front)
 
 -- Line `n` of `text` is the first wrong one. Some value of at most 256 levels, as `spell` writes it, has the lines
--- before it, and no value of any height has these lines and line `n`.
+-- before line `n`, and no value of any height has those lines and line `n`.
 abbrev pub IsFirstWrong : (Tree → List ℕ) → ℕ → List ℕ → Type 0
 IsFirstWrong spell n text = (k : ℕ) × (n ≡ k + 1)
     × (v : Tree) × IsShowable v × (height v ≤ most_height) × (first_lines k (spell v) ≡ first_lines k text)
@@ -54,7 +55,7 @@ IsFirstWrong spell n text = (k : ℕ) × (n ≡ k + 1)
 abbrev pub Names : TextFault → ℕ → Type 0
 Names e n = (e ≡ faults.Line n) ⊎ (e ≡ faults.Cut n)
 
--- Only a line of the digits of a list has more bytes than this.
+-- The greatest number of bytes in a line, except for a line with the digits of a list.
 abbrev pub few : ℕ
 few = 2048
 
@@ -64,13 +65,13 @@ MayGoOn text = (front : List ℕ) × (last : List ℕ) × (text ≡ front ++ las
     × (v : Tree) × (more : List ℕ) × IsShowable v × InRange v × (height v ≤ most_height)
     × (front ++ more ≡ ended_text v)
 
--- `text` does not begin with the text and end of a value of at most 256 levels, and line `n` is its first wrong one.
--- Its lines are counted from `line` on.
+-- `text` does not begin with the text and end of a value of at most 256 levels, and line `n` is the first wrong line of
+-- `text`, whose lines are counted from `line` on.
 abbrev pub IsWrongAt : ℕ → List ℕ → ℕ → Type 0
 IsWrongAt line text n = ((v : Tree) (rest : List ℕ) → IsShowable v → height v ≤ most_height
     → text ≢ show_text v ++ (end_line ++ rest)) × (k : ℕ) × (n + 1 ≡ line + k) × IsFirstWrong ended_text k text
 
--- `text` goes too deep, whatever follows the first `n` of its lines: some value has these lines, and each value that
+-- `text` goes too deep, whatever follows the first `n` of its lines. Some value has these lines, and each value that
 -- has them is higher than 256 levels.
 abbrev pub GoesTooDeep : List ℕ → Type 0
 GoesTooDeep text = (n : ℕ) × (n ≤ ended_lines text)

@@ -16,7 +16,7 @@ use capn_value::{Body, Items, Value};
 use std::alloc::Allocator;
 
 /// Reads the value at the front of `text`, whose first line is at this `level` and whose height is at most `room`.
-/// Returns it with the bytes after it.
+/// Returns the value with the bytes after it.
 #[cycle(value_at)]
 pub fn value_at<'t, A: Allocator + Copy>(
     alloc: A,

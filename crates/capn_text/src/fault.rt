@@ -1,4 +1,4 @@
-//! The reasons why no tree is read from a text, and those for which the parser stops.
+//! The reasons why no tree is read from a text, and the reasons why the parser stops.
 
 ghost use Rattle.std.specs.Prelude.{◌≡◌};
 ghost use Rattle.capn_text.specs.declared.fault.Stop.TheVariants.{Memory};
@@ -9,28 +9,29 @@ use std::alloc::{AllocError, AllocFailed};
 /// The reason why no tree is read from a text.
 #[derive(Clone, Copy, Debug, PartialEq, Eq)]
 pub enum TextFault {
-    /// A growth of memory was refused.
+    /// An allocation was refused.
     Memory,
-    /// The first wrong line, counted from 1: the lines before it begin the text of some value, but no text of a value
-    /// has that line, too. If a line is missing, it is the line after the last. [`crate::Texts`] returns this only if
-    /// it is true whatever bytes follow.
+    /// The number of the first wrong line, counted from 1. The lines before that line begin the text of some value, but
+    /// no text of a value has the wrong line after them. If a line is missing, the number is that of the line after the
+    /// last. [`crate::Texts`] returns this only if it is true whatever bytes follow.
     Line(u64),
-    /// The first line, counted from 1, that is wrong if no bytes follow. More bytes may make the text that of a value.
+    /// The number of the first line, counted from 1, that is wrong if no bytes follow. More bytes may complete the
+    /// text.
     Cut(u64),
-    /// The text is that of a value that fits into no message. It is `Tall` if the text goes deeper than any value that
-    /// fits, whatever bytes follow.
+    /// The text is that of a value that fits into no message. The misfit is `Tall` if the text goes deeper than any
+    /// value that fits, whatever bytes follow.
     Misfit(Misfit),
 }
 
 /// The reason why the parser stops within a text.
 #[derive(Clone, Copy)]
 pub enum Stop {
-    /// A growth of memory was refused.
+    /// An allocation was refused.
     Memory,
-    /// A line is wrong. The number is that of the bytes from the beginning of that line to the end of the text.
-    /// Functions that read a part of a line may count from any place on it.
+    /// A line is wrong. The field is the number of bytes from the beginning of that line to the end of the text.
+    /// Functions that read a part of a line may count from any place on the line.
     Left(usize),
-    /// A line is unfinished. The number is that of the bytes from its beginning to the end of the text.
+    /// A line is unfinished. The field is the number of bytes from the beginning of that line to the end of the text.
     Cut(usize),
     /// A value is deeper than any that fits into a message.
     Deep,

@@ -40,7 +40,7 @@ pub enum Head {
     Named(Name, u64),
 }
 
-/// Reads the first line of a value at this `level`, at the front of `text`. Returns it with the bytes after it.
+/// Reads the first line of a value at this `level`, at the front of `text`. Returns the line with the bytes after it.
 pub fn head_at(level: u32, text: &[u8]) -> Result<(Head, &[u8]), Stop>
     requires { level ≤ 600 }
     ensures value { GivesLine (λ x. (x.0, x.1.now)) result (values.head_at level) text.now }

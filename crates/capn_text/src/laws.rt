@@ -6,16 +6,16 @@ ghost use Rattle.capn_text.specs.Laws.{WrongLineStays, NoTextGoesOn, DeepStays, 
 ghost use Rattle.capn_text.specs.PlainLaws.{QuotedIsPlain, OnePlain, PlainIsFound, OwnLineIsFound};
 
 /// States that no text of a value begins the text of another value. If the texts of two values begin one text, the
-/// values are equal, and so are the bytes after them. So a text has at most one value that fits and is in range.
+/// values are equal, and so are the bytes after their texts. So a text has at most one value that fits and is in range.
 pub fn texts()
     ensures apart { TextsAreApart }
     ensures showable { FittingIsShowable }
     ensures one { OneValue }
 {}
 
-/// States that a stream of texts has at most one list of values, and that a text with its end, read after a stream,
-/// makes it a stream with one more. So a loop that calls [`crate::Texts`] until the end knows that the values it read,
-/// and the bytes that are left, make up the input.
+/// States that a stream of texts has at most one list of values, and that a stream followed by a text with its end is a
+/// stream with one more value. So a loop that calls [`crate::Texts`] until the end knows that the values that were
+/// read, and the bytes that are left, make up the input.
 pub fn streams()
     ensures one { OneStream }
     ensures goes_on { StreamGoesOn }
@@ -29,8 +29,8 @@ pub fn refusals()
     ensures high { DeepIsHigh }
 {}
 
-/// States three facts that whole lines of a text decide whatever bytes follow. One of these lines is the first wrong
-/// line, the text goes too deep, or its first line begins no value.
+/// States that some facts, once whole lines of a text decide them, hold whatever bytes follow. The facts are that one
+/// of these lines is the first wrong line, that the text goes too deep, and that its first line begins no value.
 pub fn whole_lines()
     ensures wrong { WrongLineStays }
     ensures none { NoTextGoesOn }

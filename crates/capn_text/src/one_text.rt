@@ -26,7 +26,7 @@ use crate::tokens::is_short;
 use capn_value::{MOST_HEIGHT, Misfit, Tree, Value};
 use std::alloc::Allocator;
 
-/// Reads `text` as a tree: the one for which [`capn_value::show`] writes this text.
+/// Reads `text` as the tree for which [`capn_value::show`] writes this text.
 ///
 /// Refuses with [`TextFault::Line`] if the bytes are not the text of a value, then with [`TextFault::Misfit`] if that
 /// value fits into no message. A text of more than 256 levels is `Tall`, whatever bytes follow. Takes time linear in
@@ -35,7 +35,7 @@ use std::alloc::Allocator;
 pub fn read<A: Allocator + Copy>(alloc: A, text: &[u8]) -> Result<Tree<A>, TextFault>
     // If a tree is returned, `text` is its text.
     ensures found { IfOk result (λ t. text.now ≡ show_text t) }
-    // If `text` is the text of a tree, that tree is returned, unless memory runs out.
+    // If `text` is the text of a tree, that tree is returned, unless an allocation is refused.
     ensures only { (v : trees.Tree) → Fits v → InRange v → text.now ≡ show_text v →
         MatchResult result (λ t. t ≡ v) (λ e. e ≡ faults.Memory) }
     // If a line is refused, `text` is not the text of any value of at most 256 levels, even of one that does not fit.
@@ -45,8 +45,8 @@ pub fn read<A: Allocator + Copy>(alloc: A, text: &[u8]) -> Result<Tree<A>, TextF
     ensures begun { IfErr result (λ e. e ≢ faults.Line 1 → (v : trees.Tree) × BeginsAs text.now v) }
     // If a line is refused, it is the first wrong line of `text`.
     ensures first { IfErr result (λ e. (n : ℕ) → e ≡ faults.Line n → IsFirstWrong show_text n text.now) }
-    // If there is a misfit, it is that of the value of at most 256 levels with this text, or the text goes too deep
-    // whatever bytes follow.
+    // A misfit is that of the value of at most 256 levels with this text, or the text goes too deep whatever bytes
+    // follow.
     ensures misfit { IfErr result (λ e. (m : Misfit) → e ≡ faults.Misfit m →
         ((m ≡ Tall) × GoesTooDeep text.now) ⊎ ((v : trees.Tree) × InRange v × IsShowable v
         × (height v ≤ most_height) × (text.now ≡ show_text v) × (misfit v ≡ Some m))) }
@@ -63,7 +63,7 @@ pub fn read<A: Allocator + Copy>(alloc: A, text: &[u8]) -> Result<Tree<A>, TextF
     Ok(tree)
 }
 
-// Converts the fault of a text to the one it has if no bytes follow: a `Cut` line is wrong.
+// Converts the fault of a text to the fault that the text has if no bytes follow. A `Cut` line is then a wrong line.
 fn ended(fault: TextFault) -> TextFault
     ensures memory { fault ≡ faults.Memory → result ≡ faults.Memory }
     ensures line { (n : ℕ) → result ≡ faults.Line n → Names fault n }
@@ -89,8 +89,8 @@ pub fn has_more(rest: &[u8]) -> bool
     }
 }
 
-/// Reads the value whose text is at the front of `text`, even one that fits into no message. Returns it with the bytes
-/// after that text.
+/// Reads the value whose text is at the front of `text`, even one that fits into no message. Returns the value with the
+/// bytes after its text.
 pub fn first_value<A: Allocator + Copy>(
     alloc: A,
     text: &[u8],
@@ -99,32 +99,33 @@ pub fn first_value<A: Allocator + Copy>(
     ensures range { IfOk result (λ x. InRange (tree_of x.0)) }
     ensures showable { IfOk result (λ x. IsShowable (tree_of x.0)) }
     ensures low { IfOk result (λ x. height (tree_of x.0) ≤ most_height) }
-    // If the text of a value of at most 256 levels is at the front, that value is read, unless memory runs out.
+    // If the text of a value of at most 256 levels is at the front, that value is read, unless an allocation is
+    // refused.
     ensures only { (v : trees.Tree) (rest : List ℕ) → IsShowable v → height v ≤ most_height →
         text.now ≡ show_text v ++ rest →
         MatchResult result (λ x. (tree_of x.0 ≡ v) × (x.1.now ≡ rest)) (λ e. e ≡ faults.Memory) }
-    // If a line is refused, it is one of `text`, or the line after its last.
+    // If a line is refused, it is a line of `text`, or the line after the last.
     ensures place { IfErr result (λ e. (n : ℕ) → Names e n → (1 ≤ n) × (n ≤ ended_lines text.now + 1)) }
     // If the first line of `text` begins no value, line 1 is refused, which takes no memory.
     ensures begins { IfOk result (λ x. (v : trees.Tree) × BeginsAs text.now v) }
     ensures begun { IfErr result (λ e. (Names e 1 → ⊥) → (v : trees.Tree) × BeginsAs text.now v) }
-    // If a line is refused, it is the first wrong line, both of a text alone and of a text with its line `end`.
+    // If a line is refused, that line is the first wrong one, both of a text without and of a text with its line `end`.
     ensures first { IfErr result (λ e. (n : ℕ) → Names e n → IsFirstWrong show_text n text.now) }
     ensures first_ended { IfErr result (λ e. (n : ℕ) → Names e n → IsFirstWrong ended_text n text.now) }
-    // If the fault is `Line`, that is so whatever bytes follow. If it is `Cut`, all of the text except for a few bytes
-    // at its end can still be completed.
+    // If the fault is `Line`, the line is wrong whatever bytes follow. If the fault is `Cut`, all of the text except
+    // for a few bytes at its end can still be completed.
     ensures lost { IfErr result (λ e. (n : ℕ) → e ≡ faults.Line n → (more : List ℕ) →
         IsFirstWrong ended_text n (text.now ++ more)) }
     ensures none { IfErr result (λ e. (n : ℕ) → e ≡ faults.Line n → (more : List ℕ) → (v : trees.Tree)
         (rest : List ℕ) → IsShowable v → height v ≤ most_height → text.now ++ more ≢ show_text v ++ rest) }
     ensures open { IfErr result (λ e. (n : ℕ) → e ≡ faults.Cut n → MayGoOn text.now) }
-    // If bytes follow the value that was read, their first line is the first wrong one of `text` as a text alone.
-    // Unless they begin with the line `end`, that also holds for a text with its end.
+    // If bytes follow the value that was read, their first line is the first wrong line of `text` as a text without its
+    // end. Unless these bytes begin with the line `end`, that also holds for a text with its end.
     ensures more { IfOk result (λ x. x.1.now ≢ [] →
         IsFirstWrong show_text (ended_lines (show_text (tree_of x.0)) + 1) text.now) }
     ensures no_end { IfOk result (λ x. (more : List ℕ) → strip end_line (x.1.now ++ more) ≡ None →
         IsFirstWrong ended_text (ended_lines (show_text (tree_of x.0)) + 1) (text.now ++ more)) }
-    // If there is a misfit, the text goes too deep whatever bytes follow.
+    // If the fault is a misfit, the text goes too deep whatever bytes follow.
     ensures tall { IfErr result (λ e. (m : Misfit) → e ≡ faults.Misfit m → m ≡ Tall) }
     ensures deep { IfErr result (λ e. (m : Misfit) → e ≡ faults.Misfit m → GoesTooDeep text.now) }
 {
@@ -141,15 +142,15 @@ pub fn first_value<A: Allocator + Copy>(
     }
 }
 
-/// Tests that the first line of `text` begins a value. Otherwise the fault is `Cut` if more bytes may make it do so,
-/// and `Line` if not.
+/// Tests that the first line of `text` begins a value. If it does not, the fault is `Cut` if more bytes may complete
+/// the line, and `Line` otherwise.
 pub fn first_line(text: &[u8]) -> Result<(), TextFault>
     ensures some { OnOk result ((v : trees.Tree) × BeginsAs text.now v) }
     ensures other { OnErr result ((v : trees.Tree) → BeginsAs text.now v → ⊥) }
     ensures none { OnErr result (values.head_at 0 text.now ≡ None) }
     ensures line { IfErr result (λ e. Names e 1) }
-    // If the fault is `Line`, the line begins no value whatever bytes follow. If it is `Cut`, `text` has at most 2,048
-    // bytes.
+    // If the fault is `Line`, the line begins no value whatever bytes follow. If the fault is `Cut`, `text` has at most
+    // 2,048 bytes.
     ensures lost { IfErr result (λ e. e ≡ faults.Line 1 → IsLineLost (values.head_at 0) text.now) }
     ensures open { IfErr result (λ e. e ≡ faults.Cut 1 → length text.now ≤ few) }
 {
@@ -165,7 +166,7 @@ pub fn first_line(text: &[u8]) -> Result<(), TextFault>
     }
 }
 
-/// Makes a tree of `value`. If it fits into no message, the fault is its misfit.
+/// Makes a tree of `value`. If `value` fits into no message, the fault is its misfit.
 pub fn fitting<A: Allocator>(value: Value<A>) -> Result<Tree<A>, TextFault>
     ensures found { IfOk result (λ t. t ≡ tree_of value) }
     ensures fits { IfOk result (λ t. Fits t) }

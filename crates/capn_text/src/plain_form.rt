@@ -1,5 +1,5 @@
-//! The plain form of a text: the lines that stand for its lists of bytes between quotes, and all other lines as they
-//! are.
+//! The plain form of a text, in which the lines of digits stand for lists of bytes between quotes, and other lines are
+//! unchanged.
 
 ghost use Rattle.std.specs.Prelude.{◌≡◌, ◌≢◌, ◌≤◌, ◌<◌, ◌+◌, ◌*◌, ◌^◌, [], ◌∷◌, ◌++◌, length, replicate};
 ghost use Rattle.std.specs.Prelude.{IfOk, OnOk, OnErr, MatchOption};
@@ -54,7 +54,8 @@ fn push_digits<A: Allocator>(out: &mut Vec<u8, A>, bytes: &[u8]) -> Result<(), A
     Ok(())
 }
 
-/// Appends the two lines of the list `bytes` at this `level` to `out`: its count, and its digits.
+/// Appends the two lines of the list `bytes` at this `level` to `out`: the line with its length, and the line of its
+/// digits.
 fn push_bytes<A: Allocator>(
     out: &mut Vec<u8, A>,
     level: usize,
@@ -73,8 +74,8 @@ fn push_bytes<A: Allocator>(
     Ok(())
 }
 
-/// Appends the plain form of `line` to `out`. `line` is given without its newline. Returns `true` if it is a line of
-/// bytes between quotes. Takes memory for the lines that are added and for the bytes of a quoted line.
+/// Appends the plain form of `line` to `out`. `line` is given without its newline. Returns `true` if `line` has bytes
+/// between quotes. Takes memory for the lines that are added and for the bytes of a quoted line.
 pub fn push_plain<A: Allocator + Copy>(
     alloc: A,
     out: &mut Vec<u8, A>,
@@ -97,8 +98,8 @@ pub fn push_plain<A: Allocator + Copy>(
     }
 }
 
-/// Splits `text` into its first line, without the newline, and the bytes after that. Returns `None` if no line ends in
-/// `text`. Takes no memory.
+/// Splits `text` into its first line, without the newline, and the bytes after that newline. Returns `None` if no line
+/// ends in `text`. Takes no memory.
 pub fn next_line(text: &[u8]) -> Option<(&[u8], &[u8])>
     ensures { MatchOption result (ended_lines text.now ≡ 0)
         (λ x. (text.now ≡ x.0.now ++ 10 ∷ x.1.now) × (ended_lines x.0.now ≡ 0)) }
@@ -114,7 +115,7 @@ pub fn next_line(text: &[u8]) -> Option<(&[u8], &[u8])>
 /// Writes the plain form of `text`, in which a list of bytes may stand between quotes, as a line `bytes N "T"` or
 /// `bytes "T"`. Such a line becomes the lines that [`capn_value::show`] writes for the bytes of T, and any other line
 /// stays as it is. T has at least one byte. Its bytes are from 0x20 to 0x7e, except that the last may be zero. In T a
-/// quote is `\"`, a backslash `\\`, a last zero `\0`. (Own.)
+/// quote is `\"`, a backslash `\\`, a last zero `\0`. (Our own.)
 ///
 /// Takes time linear in the text. Takes memory of `alloc` for the plain form, up to twice as much while it grows, and
 /// for the bytes of one line.
@@ -136,7 +137,7 @@ pub fn plain_text<A: Allocator + Copy>(alloc: A, text: &[u8]) -> Result<Vec<u8, 
     Ok(out)
 }
 
-/// Returns the number of `lines` that are at most `n`. Takes no memory.
+/// Returns the number of elements of `lines` that are at most `n`. Takes no memory.
 #[tactic(auto, using(crate::proofs::OwnLines::count_within))]
 pub fn count_to(lines: &[u64], n: u64) -> u64
     ensures exact { result ≡ form.count_to n lines.now }

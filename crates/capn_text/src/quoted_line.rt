@@ -64,7 +64,7 @@ pub fn unquoted<A: Allocator>(alloc: A, text: &[u8]) -> Result<Vec<u8, A>, Stop>
     Err(Stop::Left(0))
 }
 
-/// Reads the bytes of `text`, which begins after the opening quote. There has to be at least one.
+/// Reads the bytes of `text`, which begins after the opening quote. There has to be at least one byte.
 fn text_in<A: Allocator>(alloc: A, text: &[u8]) -> Result<Vec<u8, A>, Stop>
     ensures found { Gives (λ x. x.items) result (quotes.text_in text.now) }
     ensures some { IfOk result (λ x. 0 < length x.items) }
@@ -76,8 +76,8 @@ fn text_in<A: Allocator>(alloc: A, text: &[u8]) -> Result<Vec<u8, A>, Stop>
     Ok(bytes)
 }
 
-/// Reads the count at the front of `text`, and the bytes between quotes behind it. There has to be at least one byte,
-/// and their number has to be the count.
+/// Reads the count at the front of `text`, and the bytes between quotes behind the count. There has to be at least one
+/// byte, and the number of bytes has to be the count.
 fn counted_text<A: Allocator>(alloc: A, text: &[u8]) -> Result<Vec<u8, A>, Stop>
     ensures found { Gives (λ x. x.items) result (quotes.counted_text text.now) }
     ensures some { IfOk result (λ x. 0 < length x.items) }
@@ -91,8 +91,8 @@ fn counted_text<A: Allocator>(alloc: A, text: &[u8]) -> Result<Vec<u8, A>, Stop>
     Ok(bytes)
 }
 
-/// Counts the levels of a line by its spaces at the front, two for each. Returns the number of levels and the bytes
-/// behind the spaces.
+/// Counts the levels of a line by the spaces at its front, two for each level. Returns the number of levels and the
+/// bytes behind the spaces.
 fn levels_at(text: &[u8]) -> (usize, &[u8])
     ensures levels { (result.0, result.1.now) ≡ quotes.levels_at text.now }
     ensures within { 2 * result.0 ≤ length text.now }
@@ -106,7 +106,7 @@ fn levels_at(text: &[u8]) -> (usize, &[u8])
     (level, rest)
 }
 
-/// Reads `text`, a line of bytes between quotes without its newline. Returns its level and its bytes.
+/// Reads `text`, a line of bytes between quotes without its newline. Returns the level and the bytes of the line.
 #[tactic(auto, unfolding(crate::specs::inner::QuotedLines::quoted_at))]
 pub fn quoted_at<A: Allocator>(alloc: A, text: &[u8]) -> Result<(usize, Vec<u8, A>), Stop>
     ensures found { Gives (λ x. (x.0, x.1.items)) result (quotes.quoted_at text.now) }
@@ -122,8 +122,8 @@ pub fn quoted_at<A: Allocator>(alloc: A, text: &[u8]) -> Result<(usize, Vec<u8, 
     Ok((level, bytes))
 }
 
-/// Returns the first 1,024 bytes of `line`, or all of it if it has fewer. By these bytes it is decided whether an
-/// unfinished line may be one of bytes between quotes.
+/// Returns the first 1,024 bytes of `line`, or all of `line` if it has fewer. They decide whether an unfinished line
+/// may have bytes between quotes.
 pub fn looked_at(line: &[u8]) -> &[u8]
     ensures { result.now ≡ take beginnings.looked_at line.now }
 {
@@ -144,7 +144,8 @@ fn begins(whole: &[u8], front: &[u8]) -> bool
     }
 }
 
-/// Returns `true` if `rest` is empty, or begins with a quote or a digit, as it must after the name of a list of bytes.
+/// Returns `true` if `rest` is empty, or begins with a quote or a digit. The bytes after the name of a list of bytes
+/// have to.
 fn may_follow(rest: &[u8]) -> bool
     ensures { result ≡ beginnings.may_follow rest.now }
 {
@@ -154,7 +155,7 @@ fn may_follow(rest: &[u8]) -> bool
     }
 }
 
-/// Returns `true` if a line that begins with `front` may be one of bytes between quotes.
+/// Returns `true` if a line that begins with `front` may have bytes between quotes.
 pub fn may_begin(front: &[u8]) -> bool
     ensures { result ≡ beginnings.may_begin front.now }
 {

@@ -54,7 +54,7 @@ impl<'t> Texts<'t> {
     }
 
     /// Creates a reader of `input`, which is the rest of a longer input from the beginning of `line` on. Returns `None`
-    /// if the number of its last line might pass 64 bits. Takes no memory.
+    /// if the number of the last line of `input` might pass 64 bits. Takes no memory.
     pub fn from_line(input: &'t [u8], line: u64) -> Option<Texts<'t>>
         ensures found { IfSome result (λ t. t ≡ record { rest = input.now; line = line }) }
         ensures only { line + length input.now < 2 ^ 64 → IsSome result }
@@ -65,8 +65,8 @@ impl<'t> Texts<'t> {
         Some(Texts { rest: input, line })
     }
 
-    /// Returns the line at which the next text begins, or the line after the last one at the end. Lines are counted
-    /// from 1 over the whole input.
+    /// Returns the number of the line at which the next text begins. At the end of the input, that is the line after
+    /// the last. Lines are counted from 1 over the whole input.
     pub fn line(&self) -> u64
         ensures { result ≡ self.now.line }
     {
@@ -99,8 +99,8 @@ impl<'t> Texts<'t> {
         }
     }
 
-    /// Returns `true` if the next line does not begin a value yet, but more bytes may make it do so. Then only a few
-    /// bytes are left. Takes no memory.
+    /// Returns `true` if the next line does not begin a value yet, but more bytes may complete a line that does. Then
+    /// only a few bytes are left. Takes no memory.
     pub fn may_begin(&self) -> bool
         ensures lost { result ≡ false → ((v : trees.Tree) → BeginsAs self.now.rest v → ⊥) →
             (more : List ℕ) (v : trees.Tree) → BeginsAs (self.now.rest ++ more) v → ⊥ }
@@ -116,14 +116,15 @@ impl<'t> Texts<'t> {
     ///
     /// A text is read together with its line `end`. If another line stands in place of `end`, that line is refused
     /// before a misfit is. A text of more than 256 levels is `Tall`, whatever bytes follow. After a refusal the reader
-    /// has not moved, so each later call returns the same. The line of a refusal is counted over the whole input. A
-    /// misfit is that of the text that begins at [`Texts::line`]. Takes memory of `alloc` as [`crate::read`] does.
+    /// has not moved, so each later call returns the same refusal. The line of a refusal is counted over the whole
+    /// input. A misfit is that of the text that begins at [`Texts::line`]. A call takes memory of `alloc` for the tree,
+    /// and up to twice as much for lists while they grow.
     pub fn read_next<A: Allocator + Copy>(&mut self, alloc: A) -> Result<Option<Tree<A>>, TextFault>
-        // If a tree is returned, the input had its text and the line `end` next, and the bytes behind them are left. If
-        // `None` is returned, no bytes were left.
+        // If a tree is returned, the input had the text of that tree and the line `end` next, and the bytes behind
+        // `end` are left. If `None` is returned, no bytes were left.
         ensures found { IfOk result (λ o. MatchOption o ((self.old.rest ≡ []) × (self.new ≡ self.old))
             (λ t. self.old.rest ≡ show_text t ++ (end_line ++ self.new.rest))) }
-        // If the text of a tree and its end are next, that tree is read, unless memory runs out.
+        // If the text of a tree and its end are next, that tree is read, unless an allocation is refused.
         ensures only { (v : trees.Tree) (rest : List ℕ) → Fits v → InRange v →
             self.old.rest ≡ show_text v ++ (end_line ++ rest) →
             MatchResult result (λ o. (o ≡ Some v) × (self.new.rest ≡ rest)) (λ e. e ≡ faults.Memory) }
@@ -137,11 +138,11 @@ impl<'t> Texts<'t> {
         // even of one that does not fit.
         ensures line { IfErr result (λ e. (n : ℕ) → Names e n → (v : trees.Tree) (rest : List ℕ) →
             IsShowable v → height v ≤ most_height → self.old.rest ≢ show_text v ++ (end_line ++ rest)) }
-        // A line that is refused is not before the next text, and at most the one after the last line of the input.
+        // A line that is refused is not before the next text, and at most the line after the last of the input.
         ensures place { IfErr result (λ e. (n : ℕ) → Names e n →
             (self.old.line ≤ n) × (n ≤ self.old.line + ended_lines self.old.rest)) }
-        // If the text of a value of at most 256 levels is next, and a line is refused, it is the line after that text,
-        // where `end` is missing. The value need not fit into a message.
+        // If the text of a value of at most 256 levels is next, and a line is refused, that line is the one after the
+        // text, where `end` is missing. The value need not fit into a message.
         ensures end { (v : trees.Tree) (rest : List ℕ) → IsShowable v → height v ≤ most_height →
             self.old.rest ≡ show_text v ++ rest →
             IfErr result (λ e. (n : ℕ) → Names e n → n ≡ self.old.line + ended_lines (show_text v)) }
@@ -151,13 +152,13 @@ impl<'t> Texts<'t> {
         // A line that is refused is the first wrong line of a text with its end.
         ensures first { IfErr result (λ e. (n : ℕ) → Names e n →
             (k : ℕ) × (n + 1 ≡ self.old.line + k) × IsFirstWrong ended_text k self.old.rest) }
-        // If the fault is `Line`, the line is wrong whatever bytes follow. If it is `Cut`, all of the input except for
-        // a few bytes at its end can still be completed.
+        // If the fault is `Line`, the line is wrong whatever bytes follow. If the fault is `Cut`, all of the input
+        // except for a few bytes at its end can still be completed.
         ensures lost { IfErr result (λ e. (n : ℕ) → e ≡ faults.Line n → (more : List ℕ) →
             IsWrongAt self.old.line (self.old.rest ++ more) n) }
         ensures open { IfErr result (λ e. (n : ℕ) → e ≡ faults.Cut n → MayGoOn self.old.rest) }
-        // If there is a misfit, it is that of the value of at most 256 levels whose text and end are next, or the text
-        // goes too deep whatever bytes follow.
+        // A misfit is that of the value of at most 256 levels whose text and end are next, or the text goes too deep
+        // whatever bytes follow.
         ensures misfit { IfErr result (λ e. (m : Misfit) → e ≡ faults.Misfit m →
             ((m ≡ Tall) × GoesTooDeep self.old.rest) ⊎ ((v : trees.Tree) × (rest : List ℕ) × InRange v
             × IsShowable v × (height v ≤ most_height) × (self.old.rest ≡ show_text v ++ (end_line ++ rest))
@@ -182,7 +183,7 @@ impl<'t> Texts<'t> {
     }
 }
 
-// Converts the fault of a text that begins at `line` to one whose line is counted over the whole input.
+// Converts the fault of a text that begins at `line` to a fault whose line is counted over the whole input.
 fn counted_from(line: u64, fault: TextFault) -> TextFault
     requires { (n : ℕ) → Names fault n → line + (n - 1) < 2 ^ 64 }
     ensures memory { fault ≡ faults.Memory → result ≡ faults.Memory }
@@ -200,8 +201,8 @@ fn counted_from(line: u64, fault: TextFault) -> TextFault
     }
 }
 
-// Returns the fault of a text that is not followed by its line `end`, where `after` follows at `line`. It is `Cut` if
-// `after` is too short for that line.
+// Returns the fault of a text that is not followed by its line `end`. The bytes `after` follow the text instead, from
+// `line` on. The fault is `Cut` if `after` is too short for the line `end`.
 fn end_fault(line: u64, after: &[u8]) -> TextFault
     ensures named { (n : ℕ) → Names result n → n ≡ line }
     ensures line { (n : ℕ) → result ≡ faults.Line n → 4 ≤ length after.now }

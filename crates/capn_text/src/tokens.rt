@@ -1,4 +1,5 @@
-//! The tokens of a line, read from left to right. Each function returns what it reads with the bytes after it.
+//! The tokens of a line, read from left to right. Each function returns the token that was read with the bytes after
+//! it.
 
 ghost use Rattle.std.specs.Prelude.{◌≡◌, ◌≤◌, ◌<◌, nat_lt, length, MatchOption, IfOk, IfSome, Some, None};
 ghost use Rattle.capn_text.specs.Streams.{few};
@@ -178,7 +179,7 @@ pub fn word_at(text: &[u8]) -> Result<(u64, &[u8]), Stop>
     Ok((u64::from_be_bytes(bytes), rest))
 }
 
-/// The most bytes that a line can have, except for a line with the digits of a list.
+/// The greatest number of bytes in a line, except for a line with the digits of a list.
 const FEW: usize = 2048;
 
 /// Returns `true` if `text` has fewer than [`FEW`] bytes.
@@ -188,8 +189,8 @@ pub fn is_short(text: &[u8]) -> bool
     text.len() < FEW
 }
 
-/// Returns the stop for a `text` that does not begin with the line that was expected. That line has at most [`FEW`]
-/// bytes. The stop is `Cut` if `text` has fewer, so that more bytes may make it the line, and `Left` if not.
+/// Returns the stop for a `text` that does not begin with the line that was expected, which has at most [`FEW`] bytes.
+/// The stop is `Cut` if `text` has fewer bytes, so that more may complete the line, and `Left` otherwise.
 pub fn stop_in(text: &[u8]) -> Stop
     ensures { result ≡ spec.stop_in text.now }
 {

@@ -15,8 +15,8 @@ use std::marker::Model;
 /// A converter of a text with lists of bytes between quotes to its plain form. The text may arrive in chunks that are
 /// cut anywhere.
 ///
-/// The unfinished line is kept while its first 1,024 bytes can begin a line of bytes between quotes. A line number of
-/// the plain form can be converted to one of the text. That takes eight bytes of memory for each line between quotes,
+/// The unfinished line is kept while its first 1,024 bytes can begin a line of bytes between quotes. The converter
+/// finds the line of the text for a line of the plain form. For that it keeps eight bytes for each line between quotes,
 /// until [`Unquoter::forget`] drops them.
 #[derive(Debug, Drop)]
 pub struct Unquoter<A: Allocator + Copy> {
@@ -100,7 +100,8 @@ impl<A: Allocator + Copy> Unquoter<A> {
         self.front.extend_from_slice(part)
     }
 
-    /// Takes `part`, in which no line ends. It is appended to `out` if the front of its line was, and kept otherwise.
+    /// Takes `part`, in which no line ends. Appends `part` to `out` if the front of its line was given to `out`, and
+    /// keeps it otherwise.
     fn take(&mut self, part: &[u8], out: &mut Vec<u8, A>) -> Result<(), AllocError>
         requires { ended_lines part.now ≡ 0 }
         ensures { OnOk result ((added : List ℕ) × (out.new.items ≡ out.old.items ++ added)
@@ -137,8 +138,8 @@ impl<A: Allocator + Copy> Unquoter<A> {
         Ok(())
     }
 
-    /// Ends the unfinished line, and appends to `out` what has not been given of its plain form. Also fails if the
-    /// number of a line would pass 64 bits.
+    /// Ends the unfinished line, and appends to `out` the part of its plain form that is not in `out` yet. Also fails
+    /// if the number of a line would pass 64 bits.
     fn end_line(&mut self, out: &mut Vec<u8, A>) -> Result<(), AllocError>
         ensures { OnOk result ((added : List ℕ) × (out.new.items ≡ out.old.items ++ added)
             × Unquotes self.old self.new (10 ∷ []) added) }
@@ -157,7 +158,7 @@ impl<A: Allocator + Copy> Unquoter<A> {
         Ok(())
     }
 
-    /// Appends the unfinished line to `out` as it is, if it cannot be one of bytes between quotes.
+    /// Appends the unfinished line to `out` unchanged, if the line cannot have bytes between quotes.
     fn pass_on(&mut self, out: &mut Vec<u8, A>) -> Result<(), AllocError>
         ensures read { OnOk result ((added : List ℕ) × (out.new.items ≡ out.old.items ++ added)
             × Unquotes self.old self.new [] added) }
@@ -178,9 +179,9 @@ impl<A: Allocator + Copy> Unquoter<A> {
         Ok(())
     }
 
-    /// Takes the next chunk, `piece`, and appends the plain form of each line that it completes to `out`. The
-    /// unfinished line is appended as far as it has arrived, if its first bytes, at most 1,024, show that it is not one
-    /// of bytes between quotes. After a failure the state of the converter is unspecified.
+    /// Takes the next chunk, `piece`, and appends the plain form of each line that `piece` completes to `out`. The
+    /// arrived part of the unfinished line is also appended, if its first bytes, at most 1,024, show that the line has
+    /// no bytes between quotes. After a failure the state of the converter is unspecified.
     pub fn push(&mut self, piece: &[u8], out: &mut Vec<u8, A>) -> Result<(), AllocError>
         ensures quiet { OnOk result (ended_lines self.new.front ≡ 0) }
         ensures empty { OnOk result (self.new.through ≡ true → self.new.front ≡ []) }
@@ -199,7 +200,7 @@ impl<A: Allocator + Copy> Unquoter<A> {
         Ok(())
     }
 
-    /// Appends the rest of a text that has ended to `out`, which is a last line without its newline.
+    /// Appends the last line, which has no newline, of a text that has ended to `out`.
     pub fn finish(&self, out: &mut Vec<u8, A>) -> Result<(), AllocError>
         ensures memory { OnErr result (self.now.front ≢ []) }
         ensures added { OnOk result (out.new.items ≡ out.old.items ++ self.now.front) }
@@ -207,7 +208,7 @@ impl<A: Allocator + Copy> Unquoter<A> {
         out.extend_from_slice(&self.front)
     }
 
-    /// Forgets the numbers that are kept for lines of digits before this `line` of the plain form. Takes no memory.
+    /// Drops the numbers that are kept for lines of digits before this `line` of the plain form. Takes no memory.
     pub fn forget(&mut self, line: u64)
         ensures { Forgets line self.old self.new }
     {
@@ -216,8 +217,8 @@ impl<A: Allocator + Copy> Unquoter<A> {
         self.passed += gone as u64;
     }
 
-    /// Returns the line of the text to which this `line` of the plain form belongs. `line` must not be before one that
-    /// was given to [`Unquoter::forget`]. Takes no memory.
+    /// Returns the line of the text to which this `line` of the plain form belongs. `line` must not be before a line
+    /// that was given to [`Unquoter::forget`]. Takes no memory.
     pub fn own_line(&self, line: u64) -> u64
         ensures { result ≡ spec.own_at self.now line }
     {

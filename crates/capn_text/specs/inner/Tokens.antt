@@ -1,4 +1,4 @@
--- The reading of the tokens of a line, from left to right. Each is given with the bytes after it. (Own.)
+-- The reading of the tokens of a line, from left to right. Each token is given with the bytes after it. (Our own.)
 use Rattle.std.specs.Prelude.{◌≡◌, ℕ, zero, suc, ◌+◌, ◌-◌, ◌*◌, ◌^◌, List, [], ◌∷◌, Option, Some, None, Result, Ok}
 use Rattle.std.specs.Prelude.{Err, Bool}
 use Rattle.std.specs.Prelude.{nat_lt, nat_le, ◌==◌, ◌&&◌, ◌||◌, cond, codes, ⊤}
@@ -6,13 +6,14 @@ use Rattle.std.specs.Int.{from_be_bytes, w64}
 use Rattle.capn_text.specs.declared.fault.Stop.{Stop}
 use Rattle.capn_text.specs.declared.fault.Stop.TheVariants as stops
 
--- The second step, applied to what the first step gives, or nothing if that gives nothing.
+-- The result of the step `f` on what the first step read, or `None` if the first step read nothing.
 infixl 10 ◌>>=◌
 abbrev pub ◌>>=◌ : {A B : Type 0} → Option A → (A → Option B) → Option B
 (Some x) >>= f = f x
 None >>= f = None
 
--- A function returned what `read` gives, as `view` shows it, unless memory was refused.
+-- A function returned, through `view`, what `read` gives (`Gives`). Or the function failed because an allocation was
+-- refused or `read` gives nothing (`Fails`).
 abbrev pub Fails : {Y : Type 0} → Stop → Option Y → Type 0
 Fails stops.Memory read = ⊤
 Fails (stops.Left n) read = read ≡ None
@@ -23,7 +24,8 @@ abbrev pub Gives : {X Y : Type 0} → (X → Y) → Result X Stop → Option Y �
 Gives view (Ok x) read = read ≡ Some (view x)
 Gives view (Err e) read = Fails e read
 
--- A function that takes no memory returned what `read` gives, as `view` shows it.
+-- A function that takes no memory returned, through `view`, what `read` gives (`GivesIdly`), or failed because `read`
+-- gives nothing (`FailsIdly`).
 abbrev pub FailsIdly : {Y : Type 0} → Stop → Option Y → Type 0
 FailsIdly stops.Memory read = ⊥
 FailsIdly (stops.Left n) read = read ≡ None
@@ -34,13 +36,13 @@ abbrev pub GivesIdly : {X Y : Type 0} → (X → Y) → Result X Stop → Option
 GivesIdly view (Ok x) read = read ≡ Some (view x)
 GivesIdly view (Err e) read = FailsIdly e read
 
--- The bytes after a prefix, if the text begins with that.
+-- The bytes after a prefix, or `None` if the text does not begin with the prefix.
 abbrev pub strip : List ℕ → List ℕ → Option (List ℕ)
 strip [] text = Some text
 strip (c ∷ cs) [] = None
 strip (c ∷ cs) (d ∷ ds) = cond (c == d) (strip cs ds) None
 
--- The bytes after two spaces for each level.
+-- The bytes after an indent of two spaces for each level, or `None` if there is no such indent.
 abbrev pub indent_at : ℕ → List ℕ → Option (List ℕ)
 indent_at zero text = Some text
 indent_at (suc level) text = strip (codes "  ") text >>= indent_at level
@@ -49,19 +51,19 @@ indent_at (suc level) text = strip (codes "  ") text >>= indent_at level
 abbrev pub is_digit : ℕ → Bool
 is_digit c = nat_le 48 c && nat_le c 57
 
--- The number whose digits follow those of `n`, if it is below 2^64.
+-- The number that begins with the digits of `n` and continues with the digits that follow, if it is below 2^64.
 abbrev pub digits_at : ℕ → List ℕ → Option (ℕ × List ℕ)
 digits_at n [] = Some (n, [])
 digits_at n (c ∷ cs) = cond (is_digit c)
     (cond (nat_lt (n * 10 + (c - 48)) (2 ^ 64)) (digits_at (n * 10 + (c - 48)) cs) None)
     (Some (n, c ∷ cs))
 
--- A number in decimal digits. If its first digit is 0, that is its only one.
+-- A number in decimal digits. If its first digit is 0, that digit is the only one.
 abbrev pub decimal_at : List ℕ → Option (ℕ × List ℕ)
 decimal_at [] = None
 decimal_at (c ∷ cs) = cond (c == 48) (Some (0, cs)) (cond (is_digit c) (digits_at 0 (c ∷ cs)) None)
 
--- the value of a hexadecimal digit in lower case
+-- The value of a hexadecimal digit in lower case.
 abbrev pub nibble : ℕ → Option ℕ
 nibble c = cond (nat_le 48 c && nat_le c 57) (Some (c - 48))
     (cond (nat_le 97 c && nat_le c 102) (Some (c - 87)) None)

@@ -1,4 +1,4 @@
--- The reading of a tree from its text: the first line of a value, and then the values in it. (Own.)
+-- The reading of a tree from its text: the first line of a value, and then the values in it. (Our own.)
 use Rattle.std.specs.Prelude.{ℕ, zero, suc, ◌+◌, List, [], ◌∷◌, Option, Some, None, nat_le, cond, codes, length, map}
 use Rattle.std.specs.Prelude.{◌==◌, ◌≤◌, ◌<◌, ◌^◌, ⊤}
 use Rattle.std.specs.Int.{from_bool}
@@ -15,7 +15,7 @@ use Rattle.capn_text.specs.declared.heads.Name.TheVariants as names
 use Rattle.capn_text.specs.declared.heads.Head.{Head}
 use Rattle.capn_text.specs.declared.heads.Head.TheVariants as heads
 
--- The name `name` if its bytes were at the front, and `other` if not.
+-- The name `name` if its bytes were found at the front, and `other` otherwise.
 abbrev pub or_else : Option (List ℕ) → Name → Option (Name × List ℕ) → Option (Name × List ℕ)
 or_else (Some rest) name other = Some (name, rest)
 or_else None name other = other
@@ -39,7 +39,8 @@ sizes_at text =
     decimal_at text >>= λ w. strip (32 ∷ []) w.1 >>= λ gap. decimal_at gap >>= λ s. strip (10 ∷ []) s.1
     >>= λ rest. Some (heads.Struct w.0 s.0, rest)
 
--- The greatest number after a name. For a list of elements without bits, and for a capability, it has 32 bits.
+-- The greatest number that a name admits. For a list of elements without bits, and for a capability, this number has 32
+-- bits.
 abbrev pub greatest_number : Name → ℕ
 greatest_number names.Links = 18446744073709551615
 greatest_number names.Rows = 18446744073709551615
@@ -51,7 +52,7 @@ greatest_number (names.Leaf leaves.Pairs) = 18446744073709551615
 greatest_number (names.Leaf leaves.Quads) = 18446744073709551615
 greatest_number (names.Leaf leaves.Octs) = 18446744073709551615
 
--- The numbers of a first line are no greater than it admits.
+-- The numbers of a first line are no greater than its kind admits.
 abbrev pub Holds : Head → Type 0
 Holds heads.Null = ⊤
 Holds (heads.Struct w s) = (w < 2 ^ 64) × (s < 2 ^ 64)
@@ -63,12 +64,12 @@ named_at line =
     name_at line >>= λ name. decimal_at name.1 >>= λ n. strip (10 ∷ []) n.1
     >>= λ rest. cond (nat_le n.0 (greatest_number name.0)) (Some (heads.Named name.0 n.0, rest)) None
 
--- A struct if the word `struct` was there, and a name with its number if not.
+-- The sizes of a struct if the word `struct` was found, and a name with its number otherwise.
 abbrev pub struct_or : Option (List ℕ) → List ℕ → Option (Head × List ℕ)
 struct_or (Some text) line = sizes_at text
 struct_or None line = named_at line
 
--- Null if its line was there, and any other first line if not.
+-- Null if its line was found, and any other first line otherwise.
 abbrev pub null_or : Option (List ℕ) → List ℕ → Option (Head × List ℕ)
 null_or (Some rest) line = Some (heads.Null, rest)
 null_or None line = struct_or (strip (codes "struct ") line) line
@@ -77,7 +78,7 @@ null_or None line = struct_or (strip (codes "struct ") line) line
 unfoldable pub head_at : ℕ → List ℕ → Option (Head × List ℕ)
 head_at level text = indent_at level text >>= λ line. null_or (strip (codes "null\n") line) line
 
--- A list of a kind that holds no other values, with `n` elements. Its first line was at this level.
+-- A list of `n` elements of a kind that holds no other values. The first line of the list was at this level.
 unfoldable pub leaf_at : ℕ → Leaf → ℕ → List ℕ → Option (Tree × List ℕ)
 leaf_at level leaves.Voids n text = Some (voids n, text)
 leaf_at level leaves.Bits n text =
@@ -131,6 +132,6 @@ unfoldable pub tree_at : ℕ → ℕ → List ℕ → Option (Tree × List ℕ)
 tree_at zero level text = head_at level text >>= λ h. low_at h.0 h.1
 tree_at (suc room) level text = head_at level text >>= λ h. content_at (tree_at room) level h.0 h.1
 
--- A value of at most 256 levels, if nothing follows it.
+-- The value of at most 256 levels that the text is, or `None` if bytes follow the value.
 unfoldable pub whole : List ℕ → Option Tree
 whole text = tree_at 256 0 text >>= λ x. cond (length x.1 == 0) (Some x.0) None
