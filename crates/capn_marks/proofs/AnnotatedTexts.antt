@@ -21,7 +21,7 @@ use Rattle.capn_marks.specs.Marked.{mark, offset_mark, path_mark, below, byte_at
 use Rattle.capn_marks.specs.Marked.{marked_digits, marked_numbers, digit_lines, text_or_digits, word_line, number_line}
 use Rattle.capn_marks.specs.Marked.{unmarked, marked_slots, marked_rows}
 
--- Two paths give the same mark: they are equal, or no mark shows them.
+-- The paths `v` and `w` give the same mark: they are equal, or no mark shows them.
 abbrev pub Agree : Bool → List ℕ → List ℕ → Type 0
 Agree true v w = v ≡ w
 Agree false v w = ⊤

@@ -1,4 +1,4 @@
--- The text of a message with marks: before each line stand the byte of its subject, and the path to it. (Own.)
+-- The text of a message with marks: before each line stand the byte of its subject, and the path to it. (Our own.)
 use Rattle.std.specs.Prelude.{◌≡◌, ℕ, zero, suc, ◌+◌, ◌*◌, ◌/◌, Bool, true, false, List, [], ◌∷◌, ◌++◌}
 use Rattle.std.specs.Prelude.{length, take, map, codes, if◌then◌else◌, refl}
 use Rattle.std.specs.Fmt.{decimal, digits}
@@ -20,7 +20,7 @@ use Rattle.capn_marks.specs.declared.marks.Marks.{Marks}
 
 -- ---- paths and places
 
--- The text of a path, from that of the path above it and its last number.
+-- The text of a path, from the text of the path above it and its last number `i`.
 abbrev pub below : List ℕ → ℕ → List ℕ
 below [] i = decimal i
 below (c ∷ path) i = (c ∷ path) ++ 46 ∷ decimal i
@@ -30,21 +30,22 @@ abbrev pub path_name : List ℕ → List ℕ
 path_name [] = codes "root"
 path_name (c ∷ path) = c ∷ path
 
--- The byte of the first word of a message, behind its table.
+-- The offset in bytes of the first word of a message, which follows the table.
 abbrev pub first_byte : Marks → ℕ
 first_byte marks = marks.offset + 8 * marks.table
 
--- The byte of a word of a message whose first word lies at the byte `start`. The segments lie one after the other.
+-- The offset in bytes of the word at `at` of a message `m` whose first word lies at `start`. The segments lie one after
+-- the other.
 abbrev pub byte_of : ℕ → List (List ℕ) → Place → ℕ
 byte_of start m at = start + 8 * (total (take at.segment m) + at.word)
 
 -- ---- marks
 
--- The mark with the byte of a line's subject, if there are offsets.
+-- The mark with the offset of a line's subject, which is empty if `offsets` is not set.
 abbrev pub offset_mark : Bool → ℕ → List ℕ
 offset_mark offsets lies = if offsets then decimal lies ++ 9 ∷ [] else []
 
--- The mark with the path to a line's subject, if there are ways.
+-- The mark with the path to a line's subject, which is empty if `ways` is not set.
 abbrev pub path_mark : Bool → List ℕ → List ℕ
 path_mark ways path = if ways then path_name path ++ 9 ∷ [] else []
 
@@ -63,7 +64,7 @@ abbrev pub number_line : ℕ → ℕ → List ℕ
 number_line level n = line level (decimal n)
 
 module _ (marks : Marks) where
-  -- A line with its marks for each number. The first of them lies at the byte `first`, and each takes `size` bytes.
+  -- A line with its marks for each number. The first number lies at the byte `first`, and each takes `size` bytes.
   abbrev pub marked_lines : ℕ → (ℕ → List ℕ) → List ℕ → ℕ → List ℕ → List ℕ
   marked_lines size line_of path first [] = []
   marked_lines size line_of path first (x ∷ xs) =
@@ -80,8 +81,8 @@ module _ (marks : Marks) where
       line level (named (codes "bytes") (length xs))
       ++ marked_digits (level + 1) path first (length xs) (encode_lower xs)
 
-  -- The lines of a list of bytes, without the mark of the first line: between quotes if it is a text, and in digits
-  -- otherwise.
+  -- The lines of the list of bytes `xs`, without the mark of the first line. They show a text between quotes if `xs` is
+  -- one, and digits otherwise.
   abbrev pub text_or_digits : ℕ → List ℕ → ℕ → List ℕ → List ℕ
   text_or_digits level path first xs =
       if is_text xs then quoted_line level xs else digit_lines level path first xs
@@ -100,7 +101,7 @@ module _ (marks : Marks) where
 -- ---- the text
 
 module _ (m : List (List ℕ)) (marks : Marks) where
-  -- The byte of the word at `at`.
+  -- The offset in bytes of the word at `at`.
   abbrev pub byte_at : Place → ℕ
   byte_at at = byte_of (first_byte marks) m at
 
@@ -120,8 +121,8 @@ module _ (m : List (List ℕ)) (marks : Marks) where
         line level (named (codes "rows") (count_rows bs)) ++ marked_rows (level + 1) path (row_of found) 0 bs
     unmarked level path found (cap k) = line level (named (codes "capability") k)
 
-    -- The lines of the values in slots, from item `i` on. `place` gives the place of each slot, whose byte is in its
-    -- mark.
+    -- The lines of the values in slots, from item `i` on. `place` gives the place of each slot, and the mark of the
+    -- slot has the offset of that place.
     pub marked_slots : ℕ → List ℕ → (ℕ → Place) → ℕ → Trees → List ℕ
     marked_slots level path place i no_trees = []
     marked_slots level path place i (tree t ts) =
@@ -129,7 +130,7 @@ module _ (m : List (List ℕ)) (marks : Marks) where
         ++ unmarked level (below path i) (named_by (target m (place i))) t)
         ++ marked_slots level path place (suc i) ts
 
-    -- The lines of rows, from item `i` on. The mark of a row has the byte at which it begins.
+    -- The lines of rows, from item `i` on. The mark of a row has the offset at which the row begins.
     pub marked_rows : ℕ → List ℕ → (ℕ → Target) → ℕ → Bodies → List ℕ
     marked_rows level path row i no_bodies = []
     marked_rows level path row i (body ws ss bs) =

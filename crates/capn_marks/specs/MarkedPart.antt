@@ -1,4 +1,4 @@
--- The text with marks of the part of a message's value at a path of numbers. (Own.)
+-- The text with marks of the part of a message's value at a path of numbers. (Our own.)
 use Rattle.std.specs.Prelude.{◌≡◌, ℕ, List, [], ◌∷◌, ◌++◌, Option, Some, None, codes, if◌then◌else◌, Bool, true}
 use Rattle.std.specs.Prelude.{false, refl}
 use Rattle.capn_words.specs.declared.space.Place.{Place}
@@ -14,7 +14,7 @@ use Rattle.capn_marks.specs.declared.marks.Marks.{Marks}
 use Rattle.capn_show.specs.declared.style.Style.{Style}
 use Rattle.capn_show.specs.declared.style.Style.TheVariants as styles
 
--- A part of a message: its slot, or the first word of a row, its target, its value, and the path to it.
+-- A part of a message: the place of its slot or of the first word of a row, its target, its value, and the path to it.
 pub record There : Type 0 where
   pub at : Place
   pub found : Target
@@ -27,7 +27,7 @@ none_line marks =
     (if marks.offsets then 9 ∷ [] else []) ++ ((if marks.ways then 9 ∷ [] else []) ++ line 0 (codes "none"))
 
 module _ (m : List (List ℕ)) where
-  -- The part one step below another, if there is a value.
+  -- The part one step, with the number `i`, below the part `there`, if there is a value at the end of the step.
   abbrev pub stepped : There → ℕ → Option Tree → Option There
   stepped there i None = None
   stepped there i (Some t) = Some (record {
@@ -37,7 +37,7 @@ module _ (m : List (List ℕ)) where
     path = below there.path i;
   })
 
-  -- The part that the steps of a path lead to, as long as each step leads somewhere.
+  -- The part that a path leads to from `there`, or `None` if a step leads nowhere.
   abbrev pub led : List ℕ → Option There → Option There
   led [] there = there
   led (i ∷ numbers) None = None

@@ -1,4 +1,4 @@
-//! The emitter of lines with marks, for the walk of `capn_show`.
+//! The emitter of lines with marks, which the walk of `capn_show` drives.
 
 ghost use Rattle.std.specs.Prelude.{IfErr};
 ghost use Rattle.capn_marks.specs.Annotation.{rule_of};
@@ -11,7 +11,7 @@ use capn_words::{Place, Space, Watched};
 use std::alloc::Allocator;
 use std::io::Write;
 
-/// The emitter of lines with marks before them.
+/// The emitter of lines, each with its marks before it.
 #[derive(Drop)]
 pub struct Annotated<'a, A: Allocator> {
     /// The marks that each line gets.

@@ -28,9 +28,10 @@ use std::io::Write;
 /// Appends the text of the value at a `path` of numbers from the root of `message` to `text`, with `marks` before each
 /// line.
 ///
-/// Without the marks, the text is what `capn_show::show_part` writes in lines. As there, the message is surveyed within
-/// `limits` first, and the text is added, kept and written. A call also takes memory of `alloc` for the path to the
-/// current line. If the message has several segments, it takes 4 bytes for each of them.
+/// Without the marks, the text is what `capn_show::show_part` writes in lines. The message is surveyed within `limits`
+/// first. The caller keeps `text` between calls, and `text` is written to `writer` and emptied whenever it has 65,536
+/// bytes or more. A call also takes memory of `alloc` for the path to the current line. If the message has several
+/// segments, the call takes 4 bytes more for each segment.
 pub fn show_marked<S: Space, W: Write, A: Allocator + Copy>(
     alloc: A,
     text: &mut Vec<u8, A>,
@@ -44,7 +45,9 @@ pub fn show_marked<S: Space, W: Write, A: Allocator + Copy>(
     ensures shown { OnOk result (IsWritten (S.message message.now) limits
         (marked_at (S.message message.now) marks path.now)
         (outgoing W.contents writer.old text.old.items) (outgoing W.contents writer.new text.new.items)) }
-    // If `result` is an `Err`, it is one that `capn_show::show_message` could have given.
+    // If the survey returns a refusal, `result` is that refusal (`Stopped`), and nothing was added. Any other refusal
+    // is of an accepted message: the writer failed after a first part of the text, or an allocation was refused after a
+    // first part was added.
     ensures refused { IfErr result (λ fault. IsUnwritten (S.message message.now) limits
         (marked_at (S.message message.now) marks path.now) fault
         (outgoing W.contents writer.old text.old.items) (outgoing W.contents writer.new text.new.items)) }
@@ -58,7 +61,7 @@ pub fn show_marked<S: Space, W: Write, A: Allocator + Copy>(
     }
 }
 
-/// Appends the text of the value at the path of `numbers` from the root to `text`.
+/// Appends the text with marks of the value at the path of `numbers` from the root to `text`.
 fn mark_part<S: Space, W: Write, A: Allocator + Copy>(
     alloc: A,
     text: &mut Vec<u8, A>,
@@ -86,8 +89,8 @@ fn mark_part<S: Space, W: Write, A: Allocator + Copy>(
     mark_counted(alloc, text, writer, space, &before, marks, numbers, depth)
 }
 
-/// Appends the text of the value at the path of `numbers` from the root to `text`. For each segment, `before` has the
-/// number of words before it.
+/// Appends the text with marks of the value at the path of `numbers` from the root to `text`. Element `s` of `before`
+/// is the number of words before segment `s`.
 fn mark_counted<S: Space, W: Write, A: Allocator>(
     alloc: A,
     text: &mut Vec<u8, A>,
@@ -123,8 +126,8 @@ fn mark_counted<S: Space, W: Write, A: Allocator>(
     }
 }
 
-/// Appends the text of the value `found` to `text`, or the line for no value. The path of `annotated` leads to the
-/// value.
+/// Appends the text with marks of the value `found` to `text`, or the line for no value. The path of `annotated` leads
+/// to the value.
 fn mark_led<S: Space, W: Write, A: Allocator>(
     text: &mut Vec<u8, A>,
     writer: &mut Watched<W>,
@@ -153,7 +156,7 @@ fn mark_led<S: Space, W: Write, A: Allocator>(
 }
 
 /// Follows `numbers` from the root, and appends their path to `path`, which is empty at first. Returns the value at the
-/// end, or `None` if a step leads nowhere.
+/// end of the path, or `None` if a step leads nowhere.
 fn lead<S: Space, A: Allocator>(
     path: &mut Vec<u8, A>,
     space: &S,
@@ -184,7 +187,7 @@ fn lead<S: Space, A: Allocator>(
     Ok(Some(part))
 }
 
-/// Appends the text of the value `part` to `text`. The path of `annotated` leads to it.
+/// Appends the text with marks of the value `part` to `text`. The path of `annotated` leads to the value.
 fn mark_there<S: Space, W: Write, A: Allocator>(
     text: &mut Vec<u8, A>,
     writer: &mut Watched<W>,

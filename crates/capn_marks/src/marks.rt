@@ -18,7 +18,8 @@ use std::io::Write;
 pub struct Marks {
     /// Set if a line begins with the offset of its subject, in decimal digits, and a tab.
     pub offsets: bool,
-    /// Set if the path to the subject of a line, and a tab, stand before it. They follow the offset, if there is one.
+    /// Set if the path to the subject of a line, and a tab, stand before the line. The path follows the offset, if
+    /// there is one.
     pub ways: bool,
     /// Set if a list of bytes that is a text is written between quotes, as in `capn_show::Style::Quoted`.
     pub quoted: bool,
@@ -113,7 +114,7 @@ fn path_name(path: &[u8]) -> &[u8]
 /// The longest name, in bytes, that fits into a block.
 const MOST: usize = 42;
 
-/// Returns a block with `name` from byte 21 on. A tab stands before it, at byte 20, and one behind it.
+/// Returns a block with `name` from byte 21 on. Byte 20, before the name, and the byte behind the name are tabs.
 #[inline(always)]
 fn name_block(name: &[u8]) -> [u8; 64]
     requires short { length name.now ≤ 42 }
@@ -142,7 +143,7 @@ fn put_named<W: Write, A: Allocator>(
     put(text, writer, b"\t")
 }
 
-/// Appends the digits of `byte`, a tab, `name` and a tab to `text` by a single call, from one block.
+/// Appends the digits of `byte`, a tab, `name` and a tab to `text` by a single call, from one block of bytes.
 #[inline(always)]
 fn put_block<W: Write, A: Allocator>(
     text: &mut Vec<u8, A>,
@@ -161,8 +162,8 @@ fn put_block<W: Write, A: Allocator>(
     put(text, writer, &block[start..22 + name.len()])
 }
 
-/// Appends the digits of `byte`, a tab, `name` and a tab to `text` one by one, for numbers and names too long for a
-/// block.
+/// Appends the digits of `byte`, a tab, `name` and a tab to `text` one by one. This is for numbers and names that are
+/// too long for a block.
 #[cold]
 fn put_apart<W: Write, A: Allocator>(
     text: &mut Vec<u8, A>,
@@ -251,7 +252,7 @@ fn push_digits<A: Allocator>(path: &mut Vec<u8, A>, number: u64) -> Result<(), B
     }
 }
 
-/// Appends `number` to `path`, behind a dot if it is not the first.
+/// Appends `number` to `path`, with a dot before it unless `path` is empty.
 pub fn push_number<A: Allocator>(path: &mut Vec<u8, A>, number: u64) -> Result<(), Broken>
     ensures below { OnOk result (path.new.items ≡ spec.below path.old.items number) }
     ensures memory { IfErr result (λ e. e ≡ broken.Memory) }

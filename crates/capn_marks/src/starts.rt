@@ -1,4 +1,5 @@
-//! The offsets in bytes at which the words of a message lie.
+//! The offsets in bytes, in the stream of a message, at which the words of the message lie, and the number of words
+//! before each segment.
 
 ghost use Rattle.std.specs.Prelude.{◌≡◌, ◌≤◌, ◌<◌, ◌^◌, length, IfOk};
 ghost use Rattle.capn_words.specs.Message.{IsMessage, segment_at};
@@ -9,7 +10,8 @@ use crate::marks::Marks;
 use capn_words::{Place, Space};
 use std::alloc::{AllocError, Allocator};
 
-/// Returns, for each segment of the message `space`, the number of words before it. The message has several segments.
+/// Returns a vector in which element `s` is the number of words before segment `s` of the message `space`. The message
+/// has several segments.
 #[tactic(auto, using(crate::proofs::Before::one_more, crate::proofs::Before::next, crate::proofs::Before::within))]
 pub fn words_before<S: Space, A: Allocator>(alloc: A, space: &S) -> Result<Vec<u32, A>, AllocError>
     requires message { IsMessage (S.message space.now) }
@@ -28,7 +30,7 @@ pub fn words_before<S: Space, A: Allocator>(alloc: A, space: &S) -> Result<Vec<u
     Ok(before)
 }
 
-/// Returns the offset at which the first word of a message lies, behind its table.
+/// Returns the offset in bytes, in its stream, of the first word of a message. That word follows the table.
 #[inline(always)]
 fn first_byte(marks: &Marks) -> u128
     ensures is { result ≡ spec.first_byte marks.now }
@@ -37,8 +39,8 @@ fn first_byte(marks: &Marks) -> u128
     marks.offset as u128 + 8 * marks.table as u128
 }
 
-/// Returns the offset at which the word at `at` lies, which may also be the end of a segment. For each segment,
-/// `before` has the number of words before it.
+/// Returns the offset in bytes, in the stream, of the word at `at`. The place `at` may also be the end of a segment.
+/// Element `s` of `before` is the number of words before segment `s`.
 #[tactic(auto, using(crate::proofs::Before::within))]
 #[inline(always)]
 pub fn byte_of<S: Space>(space: &S, marks: &Marks, before: &[u32], at: Place) -> u128
