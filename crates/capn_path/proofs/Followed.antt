@@ -1,5 +1,4 @@
--- The slot to which a path is followed is the one to which it leads. (For `followed`, `held`, `holder_of` and
--- `holders`.)
+-- Following a path reaches the slot to which the path leads. (For `followed`, `held`, `holder_of` and `holders`.)
 use Rattle.std.proofs.Common.{◌≡◌, ℕ, zero, suc, ◌+◌, ◌<◌, ◌≤◌, List, [], ◌∷◌, ◌++◌, length, Result, Ok, Err}
 use Rattle.std.proofs.Common.{refl, ap, sym, ◌∙◌, arith, append_assoc, length-append, Option, Some, None}
 use Rattle.std.proofs.lemmas.List.{append-nil}
@@ -86,7 +85,7 @@ module _ (m : List (List ℕ)) where
   all-done n x [] r e z = sym (at-end n x) ∙ e
   all-done n x (i ∷ path) r e z = absurd (omega arith)
 
-  -- ---- a path that leads to a slot is followed to it
+  -- ---- following a path that leads to a slot reaches that slot
 
   record Follows (fuel : ℕ) (here : Spot) (path : List ℕ) (to : Place) (more : List ℕ) : Type 0 where
     x : Spot
@@ -131,7 +130,7 @@ module _ (m : List (List ℕ)) where
   led base (suc d) here (i ∷ path) to n h fuel more k =
       descends base d (λ x w p j l f r e. led base d x w p j l f r e) here (i ∷ path) to n h fuel more k (omega arith)
 
-  -- a path to a slot that an object holds is followed to that slot, and the object is its holder
+  -- following a path to a slot that an object holds reaches that slot, with that object as the holder
   last-step : (left : ℕ) (x : Spot) (numbers : List ℕ) (slot : Place) (holder : Holder) → 0 < length numbers
       → length numbers ≤ left
       → ((rest : List ℕ) → step_by (target m x.place) (numbers ++ rest) ≡ Some (spot holder slot, rest))
@@ -181,7 +180,7 @@ module _ (m : List (List ℕ)) where
       held = t.held;
     }
 
-    -- the first step of the path is followed by others
+    -- the first step of the path is followed by further steps
     before-others : (to : Place) (holder : Holder) → Holds m x.place rest to holder → Holds m at path to holder
     before-others to holder g =
         let between = 1 + length (visits_of m g.base g.depth t.before) + g.between in
@@ -332,7 +331,7 @@ module _ (m : List (List ℕ)) where
       let held = ap (λ (x : Spot). x.holder) same in
       (some-one other holder (sym held), ap (λ (x : Spot). x.place) (sym same))
 
--- a segment without words has the word 0 at its beginning
+-- the first word of a segment without words counts as 0
 first-word : (ws : List ℕ) → length ws ≡ 0 → slice_index ws 0 ≡ 0
 first-word [] e = refl
 first-word (w ∷ ws) e = absurd (omega arith)

@@ -39,7 +39,7 @@ slot-there s w (suc n) (q ∷ before) p behind e =
     let small = r.1 in
     (rw z at r.0, omega arith)
 
--- a slot with the slots before and behind it
+-- a slot, with the slots before and the slots after that slot
 pub record Around (ps : List Place) (number : ℕ) (p : Place) : Type 0 where
   pub before : List Place
   pub behind : List Place

@@ -1,4 +1,4 @@
--- Searches among visits, as they are under way. (For the cycle `seek`.)
+-- The state of a search among visits. (For the cycle `seek`.)
 use Rattle.std.proofs.Common.{◌≡◌, ℕ, zero, suc, ◌+◌, ◌-◌, ◌*◌, ◌<◌, List, [], ◌∷◌, ◌++◌, length, Option, Some, None}
 use Rattle.std.proofs.Common.{take, Ok, Err, Result, refl, ap, sym, subst, ◌∙◌, arith, append_assoc, length-append}
 use Rattle.std.proofs.lemmas.List.{append-nil}

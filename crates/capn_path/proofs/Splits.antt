@@ -1,4 +1,4 @@
--- An element of a list that is joined from two lists. (For `Followed`, `Holding` and `Unique`.)
+-- An element of two lists that are joined. (For `Followed`, `Holding` and `Unique`.)
 use Rattle.std.proofs.Common.{◌≡◌, ◌⊎◌, inl, inr, List, [], ◌∷◌, ◌++◌, length}
 use Rattle.std.proofs.Common.{refl, ap, ap₂, sym, arith, length-append}
 

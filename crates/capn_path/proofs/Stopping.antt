@@ -1,5 +1,5 @@
--- The slot of a visit, given its number, and that of the visit at which a walk stops. (For `path_of_stop` and
--- `path_of_visit`.)
+-- The slot of a visit, given the visit's number, and the slot of the visit at which a walk stops. (For `path_of_stop`
+-- and `path_of_visit`.)
 use Rattle.std.proofs.Common.{◌≡◌, inl, inr, ℕ, zero, suc, ◌+◌, ◌-◌, ◌≤◌, ◌==◌, List, [], ◌∷◌, ◌++◌, length, map}
 use Rattle.std.proofs.Common.{Option, Some}
 use Rattle.std.proofs.Common.{None, Result, Ok, Err, refl, ap, sym, ◌∙◌, arith}
@@ -26,14 +26,15 @@ use Rattle.capn_path.specs.inner.Numbered.{found_at, one_less}
 
 -- ---- visits are counted down
 
--- if nothing is found at a slot, a visit is left to come before it
+-- if nothing is found at a slot, the visit to be found is not the visit of that slot
 counted-here : (aim : Numbered) (at : Place) (named : Result Target Fault) → found_at aim at named ≡ None
     → aim.left ≡ 0 → ⊥
 counted-here aim at named e z =
     pick (λ (o : Option Place). o ≡ None → ⊥) (aim.left == 0) (Some at) None
     (λ t f. absurd cc) (λ t f. absurd (grind (arith, nat_tests))) e
 
--- if something is found at a slot, no visit is left to come before it
+-- if something is found at a slot, no visit is left to come before the visit of that slot, and the find is the slot's
+-- place
 found-here : (aim : Numbered) (at : Place) (named : Result Target Fault) (x : Place) → found_at aim at named ≡ Some x
     → (aim.left ≡ 0) × (at ≡ x)
 found-here aim at named x =
@@ -99,7 +100,7 @@ module _ (m : List (List ℕ)) (limits : Bounds) (n : ℕ) where
   abbrev b : ℕ
   b = base limits.tariff
 
-  -- the aim that finds the visit after n others
+  -- the aim that finds the visit after n other visits
   abbrev aim : Numbered
   aim = record { left = n }
 

@@ -1,4 +1,4 @@
--- The first find of a search among the visits of a walk. (Own.)
+-- The first find of a search among the visits of a walk. (Our own.)
 use Rattle.std.specs.Prelude.{◌≡◌, ℕ, List, [], ◌∷◌, ◌++◌, length, Option, Some, None, Result}
 use Rattle.capn_words.specs.declared.space.Place.{Place}
 use Rattle.capn_target.specs.declared.target.Target.{Target}
@@ -9,13 +9,14 @@ use Rattle.capn_walk.specs.Index.{place_of}
 use Rattle.capn_path.specs.Paths.{Leads}
 
 module _ {G F : Type 0} (m : List (List ℕ)) (finds : G → Place → Result Target Fault → Option F) (next : G → G) where
-  -- nothing is found at the slots of the visits if the search begins with `aim`, and `after` is the aim that is left
+  -- a search that begins with `aim` finds nothing at the slots of the visits, and `after` is the aim after these visits
   abbrev pub IsPassed : G → List Visit → G → Type 0
   IsPassed aim [] after = after ≡ aim
   IsPassed aim (v ∷ vs) after =
       (finds aim (place_of v) (target m (place_of v)) ≡ None) × IsPassed (next aim) vs after
 
-  -- `x` is found at the slot of one of the visits, nothing is found at those before it, and the path leads to that slot
+  -- `x` is found at the slot of one of the visits, nothing is found at the slots of the visits before, and the path
+  -- leads to that slot
   pub record Meets (vs : List Visit) (Onward : List ℕ → Place → ℕ → Type 0) (aim : G) (path : List ℕ) (x : F)
       : Type 0 where
     pub to : Place
@@ -29,12 +30,11 @@ module _ {G F : Type 0} (m : List (List ℕ)) (finds : G → Place → Result Ta
     pub found : finds last to (target m to) ≡ Some x
     pub leads : Onward path to (length before)
 
-  -- `x` is the first find among the visits from the slot at `at` on, at most `depth` objects deep, whatever their
-  -- prices
+  -- `x` is the first find among the visits from the slot at `at` on, at most `depth` objects deep, with any prices
   abbrev pub IsFirstFind : ℕ → Place → G → List ℕ → F → Type 0
   IsFirstFind depth at aim path x =
       (base : ℕ) → Meets (visits m base depth at) (Leads m base depth at) aim path x
 
-  -- nothing is found among the visits from the slot at `at` on, at most `depth` objects deep, whatever their prices
+  -- nothing is found among the visits from the slot at `at` on, at most `depth` objects deep, with any prices
   abbrev pub IsWithoutFind : ℕ → Place → G → Type 0
   IsWithoutFind depth at aim = (base : ℕ) → (after : G) × IsPassed aim (visits m base depth at) after

@@ -19,8 +19,8 @@ place s w = record { segment = s; word = w }
 abbrev pub row_start : ℕ → ℕ → ℕ → ℕ → ℕ
 row_start start a b row = start + 1 + row * (a + b)
 
--- the holder of the slot to which the numbers lead from an object: the struct, the list of pointers, or the row of a
--- list of structs
+-- `holder` is the holder of the slot to which the numbers lead from an object: the struct, the list of pointers, or the
+-- row of a list of structs
 abbrev pub IsHeldIn : Target → List ℕ → Holder → Type 0
 IsHeldIn (targets.Content s start (shapes.Node a b) pads) numbers holder = holder ≡ Struct a b (place s start)
 IsHeldIn (targets.Content s start (shapes.Many width n) pads) numbers holder = holder ≡ Pointers n (place s start)
@@ -29,7 +29,7 @@ IsHeldIn (targets.Content s start (shapes.Rows n a b span) pads) (row ∷ slot �
 IsHeldIn found numbers holder = ⊥
 
 -- the path leads from the slot at `start` to a slot that `holder` holds: the front of the path leads to the slot that
--- names the object, and its last numbers lead to the slot in the object
+-- names the object, and the last numbers of the path lead from the object to the slot at `to`
 pub record Holds (message : List (List ℕ)) (start : Place) (path : List ℕ) (to : Place) (holder : Holder)
     : Type 0 where
   pub base : ℕ
@@ -52,12 +52,13 @@ pub record Holds (message : List (List ℕ)) (start : Place) (path : List ℕ) (
 abbrev pub IsHolder : List (List ℕ) → List ℕ → Place → Holder → Type 0
 IsHolder message path to holder = Holds message root path to holder
 
--- the holder of the slot to which the path leads, or none for the root's slot
+-- the holder holds the slot at `to`, to which the path leads from the root; or there is no holder, and the path is
+-- empty
 abbrev pub IsHolderOrRoot : List (List ℕ) → List ℕ → Place → Option Holder → Type 0
 IsHolderOrRoot message path to (Some holder) = IsHolder message path to holder
 IsHolderOrRoot message path to None = path ≡ []
 
--- ---- examples: a struct of two words holds its slot, and the second row of three holds its own
+-- ---- examples: a struct of two words holds the struct's slot, and the second of three rows holds the row's slot
 
 struct_holds : IsHeldIn (targets.Content 0 4 (shapes.Node 2 1) 0) (0 ∷ []) (Struct 2 1 (place 0 4))
 struct_holds = refl

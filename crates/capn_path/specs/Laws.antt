@@ -11,7 +11,7 @@ abbrev pub PathsAreOne : Type 0
 PathsAreOne = (message : List (List ℕ)) (limits : Bounds) (number : ℕ) (path other : List ℕ) (at to : Place)
     → IsPathTo message limits number path at → IsPathTo message limits number other to → (path ≡ other) × (at ≡ to)
 
--- exactly one object holds the slot of a visit, unless it is the root's slot
+-- exactly one object holds the slot of a visit, unless that slot is the root's slot
 abbrev pub HoldersAreOne : Type 0
 HoldersAreOne = (message : List (List ℕ)) (limits : Bounds) (number : ℕ) (path : List ℕ) (to : Place)
     → IsPathTo message limits number path to → 0 < length path

@@ -1,5 +1,5 @@
--- The path to a slot: the numbers that lead to it from another slot, and the number of visits of a walk that come
--- between.
+-- The path to a slot: the numbers that lead from one slot to another, and the number of visits of a walk between the
+-- two slots.
 use Rattle.std.specs.Prelude.{◌≡◌, ◌⊎◌, ℕ, zero, suc, ◌+◌, ◌-◌, ◌*◌, ◌<◌, ◌≤◌, List, [], ◌∷◌, ◌++◌, length, Ok}
 use Rattle.capn_words.specs.Message.{segment_at}
 use Rattle.capn_words.specs.declared.space.Place.{Place}
@@ -15,8 +15,8 @@ use Rattle.capn_walk.specs.Accepted.{root, visits_within, number_of_visits, IsWa
 use Rattle.capn_walk.specs.Limits.{Bounds}
 use Rattle.capn_walk.specs.declared.walk_answer.Stopped.{Stopped}
 
--- the numbers lead to the slot of an object before which k of its slots come: the slot's number, or for a list of
--- structs the number of the row and then that of the slot in the row
+-- the numbers lead to slot k of an object, counted over all rows: the numbers are the slot's number, or for a list of
+-- structs the number of the row and the number of the slot in the row
 abbrev pub AreNumbersOf : Target → ℕ → List ℕ → Type 0
 AreNumbersOf (targets.Content s start (shapes.Rows n a b span) pads) k (row ∷ slot ∷ []) =
     (slot < b) × (k ≡ row * b + slot)
@@ -24,8 +24,9 @@ AreNumbersOf (targets.Content s start (shapes.Rows n a b span) pads) k numbers =
 AreNumbersOf found k (slot ∷ []) = k ≡ slot
 AreNumbersOf found k numbers = ⊥
 
--- a step leads from the slot at `from` to one of the slots below its target, and a path from there on; `between` counts
--- the visit at `from`, those of the slots before that slot, and those on the path
+-- a step leads from the slot at `from` to a slot of the object that this slot names, and the rest of the path leads
+-- from that slot on to the slot at `to`; `between` counts the visit at `from`, the visits of the object's slots before,
+-- and the visits along the rest of the path
 pub record Descends (message : List (List ℕ)) (base depth : ℕ) (leads : Place → List ℕ → Place → ℕ → Type 0)
     (from : Place) (path : List ℕ) (to : Place) (between : ℕ) : Type 0 where
   pub found : Target
@@ -43,8 +44,8 @@ pub record Descends (message : List (List ℕ)) (base depth : ℕ) (leads : Plac
   pub count : between ≡ 1 + length (visits_of message base depth before) + later
 
 module _ (message : List (List ℕ)) (base : ℕ) where
-  -- the path leads from the slot at `from` to the slot at `to`; from the visit of the first on, a walk at most `depth`
-  -- objects deep makes `between` visits before that of the second
+  -- the path leads from the slot at `from` to the slot at `to`; a walk at most `depth` objects deep makes `between`
+  -- visits from the visit at `from` on, before the visit at `to`
   abbrev pub Leads : ℕ → Place → List ℕ → Place → ℕ → Type 0
   Leads zero from [] to between = (to ≡ from) × (between ≡ 0)
   Leads zero from (i ∷ path) to between = ⊥
@@ -56,7 +57,7 @@ module _ (message : List (List ℕ)) (base : ℕ) where
 abbrev pub IsPathTo : List (List ℕ) → Bounds → ℕ → List ℕ → Place → Type 0
 IsPathTo message limits number path place = Leads message (base limits.tariff) limits.depth root path place number
 
--- the walk makes a visit after `number` others, of the slot at `at`, to which the path leads
+-- after `number` other visits the walk visits the slot at `at`, to which the path leads
 pub record IsVisited (message : List (List ℕ)) (limits : Bounds) (number : ℕ) (path : List ℕ)
     (at : Place) : Type 0 where
   pub before : List Visit
@@ -72,7 +73,7 @@ abbrev pub IsNotVisited : List (List ℕ) → Bounds → ℕ → Type 0
 IsNotVisited message limits number =
     (length (segment_at message 0) ≡ 0) ⊎ (number_of_visits message limits ≤ number)
 
--- the message is refused, and the path leads to the slot at which its walk stopped; without a root the path is empty
+-- the message is refused, and the path leads to the slot at which the walk stopped; without a root the path is empty
 pub record IsRefusedAt (message : List (List ℕ)) (limits : Bounds) (stopped : Stopped) (path : List ℕ) : Type 0 where
   pub refused : IsWalkRefused message limits stopped.fault stopped.place stopped.paid stopped.visits
   pub leads : 0 < stopped.visits → IsPathTo message limits (stopped.visits - 1) path stopped.place

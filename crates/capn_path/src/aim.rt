@@ -8,19 +8,19 @@ ghost use Rattle.capn_target.specs.declared.target.Fault.{Fault as Faults};
 use capn_target::{Fault, Target};
 use capn_words::Place;
 
-/// The aim of a search. It tests the slots that a walk visits, in preorder, until it finds something at one of them.
+/// The aim of a search, which tests the slots that a walk visits, in preorder, up to the first find.
 pub trait Aim: Drop {
     /// The type of a find.
     type Found: Drop;
 
-    /// The find at the slot at a place, given its target or the fault of its pointer.
+    /// The find at the slot at a place, given the target or the fault of the slot's pointer.
     ghost finds: { Self → Places → Results Targets Faults → Options Self.Found };
 
     /// The aim after a slot at which nothing was found.
     ghost next: { Self → Self };
 
-    /// Tests the slot at `at`, whose pointer has the target or the fault `named`. Returns the find there, if there is
-    /// one.
+    /// Tests the slot at `at`, whose pointer has the target or the fault `named`. Returns the find at that slot, or
+    /// `None` if nothing is found.
     fn test(&mut self, at: Place, named: Result<Target, Fault>) -> Option<Self::Found>
         ensures found { result ≡ finds self.old at named }
         ensures next { IfNone result (self.new ≡ next self.old) };

@@ -17,18 +17,18 @@ use capn_words::{Place, Space, Width};
 pub enum Holder {
     /// A struct.
     Struct {
-        /// The number of its data words.
+        /// The number of data words of the struct.
         words: u16,
-        /// The number of its slots.
+        /// The number of slots of the struct.
         slots: u16,
-        /// The place of its first word, which is that of its first slot if it has no data words.
+        /// The place of the first data word, or of the first slot if there are no data words.
         at: Place,
     },
     /// A list of pointers.
     Pointers {
-        /// The number of its elements.
+        /// The number of elements of the list.
         count: u32,
-        /// The place of its first element.
+        /// The place of the first element.
         at: Place,
     },
     /// A struct of a list of structs.
@@ -37,7 +37,7 @@ pub enum Holder {
         row: u32,
         /// The number of structs in the list.
         count: u32,
-        /// The place of its first word, which is that of its first slot if it has no data words.
+        /// The place of the first data word, or of the first slot if there are no data words.
         at: Place,
     },
 }
@@ -53,16 +53,16 @@ pub struct Spot {
 
 /// Finds the object that holds the slot to which `path` leads from the root.
 ///
-/// Returns `None` if `path` leads to no slot, and if it is empty, since nothing holds the root's slot. It follows
-/// `path` from the root, and reads at most four words for each step. It takes no memory, and looks at no limits.
+/// Returns `None` if `path` leads to no slot, or if `path` is empty, since nothing holds the root's slot. `path` is
+/// followed from the root, with at most four words read for each step. No memory is taken, and no limits apply.
 pub fn holder_of<S: Space>(space: &S, path: &[u32]) -> Option<Holder>
-    // If `result` is `Some`, that object holds the slot to which `path` leads.
+    // If `result` is `Some`, the object in it holds the slot to which `path` leads.
     ensures some { IfSome result (λ holder. (to : Place) × IsHolder (S.message space.now) path.now to holder) }
     // If `result` is `None`, no object holds a slot to which `path` leads.
     ensures none { IfNone result
         ((to : Place) (holder : Holder) → IsHolder (S.message space.now) path.now to holder → ⊥) }
-    // If `path` leads to the slot of a visit, `result` is that slot's holder. This includes the visit at which a walk
-    // stopped.
+    // If `path` leads to the slot of a visit, `result` is the holder of that slot. The visit can be the one at which a
+    // walk stopped.
     ensures visit { (limits : Bounds) (number : ℕ) (to : Place)
         → IsPathTo (S.message space.now) limits number path.now to
         → IsHolderOrRoot (S.message space.now) path.now to result }
@@ -87,7 +87,7 @@ fn held<S: Space>(space: &S, path: &[u32]) -> Option<Holder>
     }
 }
 
-/// Follows `path` from the slot `from`. Returns the slot to which it leads, or `None` if it leads to no slot.
+/// Follows `path` from the slot `from`. Returns the slot to which `path` leads, or `None` if `path` leads to no slot.
 fn followed<S: Space>(space: &S, from: Spot, path: &[u32]) -> Option<Spot>
     requires place { IsPlace (S.message space.now) from.place }
     ensures { result ≡ spec.follow (S.message space.now) (length path.now) from path.now }
@@ -106,7 +106,7 @@ fn followed<S: Space>(space: &S, from: Spot, path: &[u32]) -> Option<Spot>
     Some(spot)
 }
 
-/// Follows `path` one step from the slot at `at`. Returns the slot there and the rest of `path`.
+/// Follows `path` one step from the slot at `at`. Returns the slot after that step and the rest of `path`.
 fn step<'w, S: Space>(space: &S, at: Place, path: &'w [u32]) -> Option<(Spot, &'w [u32])>
     requires place { IsPlace (S.message space.now) at }
     ensures place { IfSome result (λ x. IsPlace (S.message space.now) x.0.place) }
@@ -182,7 +182,7 @@ fn step_in<'w, S: Space>(
     }
 }
 
-/// Follows `path` one step among the slots of `count` rows behind the tag at `start`. Each row has `words` words and
+/// Follows `path` one step among the slots of `count` rows after the tag at `start`. Each row has `words` words and
 /// `slots` slots.
 fn step_in_rows<'w, S: Space>(
     space: &S,
@@ -222,7 +222,7 @@ fn step_in_rows<'w, S: Space>(
     step_among(space, holder, first, slots as u32, others)
 }
 
-/// Follows `path` one step among the `count` consecutive slots of `holder`, the first of which is at `first`.
+/// Follows `path` one step among the `count` consecutive slots of `holder` from `first` on.
 fn step_among<'w, S: Space>(
     space: &S,
     holder: Holder,

@@ -7,7 +7,7 @@ pub fn paths()
     ensures { PathsAreOne }
 {}
 
-/// States that exactly one object holds the slot of a visit, unless it is the root's slot.
+/// States that exactly one object holds the slot of a visit, unless that slot is the root's slot.
 pub fn holders()
     ensures { HoldersAreOne }
 {}

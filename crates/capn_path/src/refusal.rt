@@ -9,22 +9,21 @@ use capn_walk::{Limits, Stopped, survey};
 use capn_words::{Memory, Space};
 use std::alloc::{Allocator, Global};
 
-/// The refusal of a message: the place and the reason at which its walk stopped, and the path to the slot that was
-/// visited.
+/// The refusal of a message: the stop of the walk, and the path to the slot that was visited at the stop.
 #[derive(Debug, Drop)]
 pub struct Refused<A: Allocator = Global> {
-    /// The place and the reason, as [`survey`] returns them.
+    /// The stop of the walk, as [`survey`] returns it: the reason, the place, the number of words paid, and the number
+    /// of visits.
     pub stopped: Stopped,
-    /// The numbers that lead to the slot from the root. There are none if it is the root's slot, or if there is no
-    /// root.
+    /// The numbers that lead to the slot from the root. The path is empty for the root's slot, and if there is no root.
     pub path: Vec<u32, A>,
 }
 
-/// Tests whether the message `space` is refused within `limits`, and finds the path to the slot at which its walk
+/// Tests whether the message `space` is refused within `limits`, and finds the path to the slot at which the walk
 /// stopped. Returns `None` if the message is accepted.
 ///
-/// It surveys the message, and if that is refused, it repeats the visits up to the refused one. Memory: the path on
-/// `alloc`, which has at most two numbers for each level of the depth limit.
+/// The message is surveyed, and if it is refused, the visits up to the refused visit are repeated. Memory: the path, on
+/// `alloc`, with at most two numbers for each level of the depth limit.
 pub fn path_of_refusal<S: Space, A: Allocator + Copy>(
     alloc: A,
     space: &S,
@@ -43,11 +42,12 @@ pub fn path_of_refusal<S: Space, A: Allocator + Copy>(
     }
 }
 
-/// Finds the path to the slot at which the walk of the message `space` stopped. The path is empty if that is the root's
-/// slot, or if there is no root.
+/// Finds the path to the slot at which the walk of the message `space` stopped. The path is empty for the root's slot,
+/// and if there is no root.
 ///
-/// `stopped` is the stop of the walk of this message within `limits`, as [`survey`] returns it. The visits up to the
-/// refused one are repeated, without a survey. Memory: that of [`path_of_refusal`].
+/// `stopped` is the stop of the walk of `space` within `limits`, which [`survey`] returned. The visits up to the
+/// refused visit are repeated, without a survey. Memory: the path, on `alloc`, with at most two numbers for each level
+/// of the depth limit.
 pub fn path_of_stop<S: Space, A: Allocator + Copy>(
     alloc: A,
     space: &S,

@@ -19,9 +19,9 @@ use std::alloc::Allocator;
 /// Finds the first visit at whose slot `aim` finds something, from the root of the message `space` on and at most
 /// `depth` objects deep. Returns the find and the path to the slot, or `None` if nothing is found at any visit.
 ///
-/// It makes the visits up to the find, and reads at most four words for each in addition to what `aim` reads. It looks
-/// at no price and no budget. `Memory` is returned only if a growth of the path on `alloc` was refused. The path has at
-/// most two numbers for each level of `depth`. (Own.)
+/// The visits up to the find are made, with at most four words read for each visit in addition to the reads of `aim`.
+/// Prices and budgets play no part. `Memory` is returned only if an allocation for the path on `alloc` was refused. The
+/// path has at most two numbers for each level of `depth`. (Our own.)
 pub fn seek<S: Space, G: Aim, A: Allocator + Copy>(
     alloc: A,
     space: &S,
@@ -29,13 +29,13 @@ pub fn seek<S: Space, G: Aim, A: Allocator + Copy>(
     aim: G,
 ) -> Result<Option<(G::Found, Vec<u32, A>)>, Memory>
     requires root { 0 < length (segment_at (S.message space.now) 0) }
-    // If `result` has a find, it is the first.
+    // If `result` has a find, the find is the first among the visits.
     ensures found { IfOk result (λ r. IfSome r
         (λ x. IsFirstFind (S.message space.now) G.finds G.next depth root aim x.1.items x.0)) }
     // If `result` has no find, nothing is found at any visit.
     ensures none { IfOk result (λ r. IfNone r (IsWithoutFind (S.message space.now) G.finds G.next depth root aim)) }
-    // The root's slot itself needs no memory. If memory is refused, nothing was found there, and `depth` allows
-    // objects.
+    // No memory is taken for the root's slot. So if `Memory` is returned, nothing was found at the root's slot, and
+    // `depth` is greater than 0.
     ensures memory { OnErr result ((G.finds aim root (target (S.message space.now) root) ≡ None) × (0 < depth)) }
 {
     let mut aim = aim;

@@ -10,10 +10,10 @@ use capn_walk::Limits;
 use capn_words::{Memory, Place, Space};
 use std::alloc::{Allocator, Global};
 
-/// A slot that a walk visits, and the path to it.
+/// A slot that a walk visits, and the path to that slot.
 #[derive(Debug, Drop)]
 pub struct Visited<A: Allocator = Global> {
-    /// The numbers that lead to the slot from the root. There are none to the root's slot.
+    /// The numbers that lead to the slot from the root. The path to the root's slot has no numbers.
     pub path: Vec<u32, A>,
     /// The place of the slot.
     pub place: Place,
@@ -22,7 +22,7 @@ pub struct Visited<A: Allocator = Global> {
 /// The aim that finds one visit by its number.
 #[derive(Drop)]
 struct Numbered {
-    /// The number of visits that still come before it.
+    /// The number of visits that are still to come before the visit to be found.
     left: u32,
 }
 
@@ -44,12 +44,13 @@ impl Aim for Numbered {
     }
 }
 
-/// Finds the slot that the walk of the message `space` visits after `number` others, and the path to it. Returns `None`
-/// if there is no such visit.
+/// Finds the slot that the walk of the message `space` visits after `number` other visits, and the path to that slot.
+/// Returns `None` if there are at most `number` visits.
 ///
-/// It repeats the visits up to that one, and reads at most four words for each. It looks only at the depth of `limits`,
-/// at no price and no budget. So `number` should be below the number of visits that a survey returned, accepted or
-/// refused. Memory: the path on `alloc`, which has at most two numbers for each level of the depth limit.
+/// The visits up to the visit to be found are repeated, with at most four words read for each visit. Of `limits` only
+/// the depth is used, and neither prices nor the budget play a part. So `number` should be below the number of visits
+/// that a survey returned, accepted or refused. Memory: the path, on `alloc`, with at most two numbers for each level
+/// of the depth limit.
 pub fn path_of_visit<S: Space, A: Allocator + Copy>(
     alloc: A,
     space: &S,
@@ -59,7 +60,7 @@ pub fn path_of_visit<S: Space, A: Allocator + Copy>(
     ensures found { IfOk result (λ r. IfSome r
         (λ v. IsVisited (S.message space.now) limits number v.path.items v.place)) }
     ensures none { IfOk result (λ r. IfNone r (IsNotVisited (S.message space.now) limits number)) }
-    // The path to the root's slot, which is visited first, needs no memory.
+    // No memory is taken for the path to the root's slot, which is visited first.
     ensures memory { OnErr result (0 < number) }
 {
     if segment_length(space, Place::ROOT.segment) == 0 {

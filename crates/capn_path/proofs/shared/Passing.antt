@@ -12,14 +12,14 @@ use Rattle.capn_walk.proofs.shared.Walks.{visits-null, visits-cap, visits-fault,
 use Rattle.capn_path.specs.Finds.{IsPassed}
 
 module _ {G F : Type 0} (m : List (List ℕ)) (finds : G → Place → Result Target Fault → Option F) (next : G → G) where
-  -- nothing is found at two lists of visits, one after the other
+  -- if nothing is found at either of two lists of visits, nothing is found at the two lists joined
   pub passed-append : (aim between after : G) (xs ys : List Visit) → IsPassed m finds next aim xs between
       → IsPassed m finds next between ys after → IsPassed m finds next aim (xs ++ ys) after
   passed-append aim between after [] ys h g = rw (← h) g
   passed-append aim between after (v ∷ xs) ys h g =
       (h.0, passed-append (next aim) between after xs ys h.1 g)
 
-  -- nothing is found at both of two lists of visits
+  -- nothing is found at either of two lists of visits
   pub record Both (aim after : G) (xs ys : List Visit) : Type 0 where
     pub between : G
     pub front : IsPassed m finds next aim xs between

@@ -1,4 +1,4 @@
--- Numbers that lead from a slot to one of those below it, and on from there. (For `Followed`, `Holding`, `Searches` and
+-- Numbers that lead from a slot to a slot below, and on from that slot. (For `Followed`, `Holding`, `Searches` and
 -- capn_mismatch.)
 use Rattle.std.proofs.Common.{◌≡◌, ℕ, zero, suc, ◌+◌, ◌-◌, ◌*◌, ◌<◌, List, [], ◌∷◌, ◌++◌, length, Ok}
 use Rattle.std.proofs.Common.{refl, ap, sym, ◌∙◌, arith, append_assoc, length-append}
@@ -25,7 +25,7 @@ length-rows s w a b (suc n) =
     let q = length-rows s (w + a + b) a b n in
     omega arith
 
--- the slots of the rows before row i, the slots of row i, and those of the rows after it
+-- the slots of the rows before row i, the slots of row i, and the slots of the rows after row i
 pub row-split : (s w a b i n : ℕ) → i < n
     → row_places s w a b n
     ≡ row_places s w a b i
@@ -40,7 +40,7 @@ pub middle : {A : Type 0} (xs before : List A) (x : A) (behind ys : List A)
 middle xs before x behind ys =
     ap (λ zs. xs ++ zs) (append_assoc before (x ∷ behind) ys) ∙ sym (append_assoc xs before (x ∷ (behind ++ ys)))
 
--- the numbers lead to a slot of the object, and there are some
+-- the numbers lead to a slot of the object, and there is at least one number
 numbers-of : (shape : Shape) (s start pads k : ℕ) (numbers : List ℕ) → AreNumbersIn shape k numbers
     → AreNumbersOf (targets.Content s start shape pads) k numbers × (0 < length numbers)
 numbers-of (shapes.Node a b) s start pads k numbers h = rw h (refl, omega arith)
@@ -53,7 +53,7 @@ module _ (m : List (List ℕ)) (base : ℕ) where
   stays zero at = (refl, refl)
   stays (suc left) at = (refl, refl)
 
-  -- a step, followed by a path from there on, is a path
+  -- a step followed by a path is a path
   pub goes : (left : ℕ) (at : Place) (path : List ℕ) (to : Place) (n : ℕ) → 0 < length path
       → Descends m base left (Leads m base left) at path to n → Leads m base (suc left) at path to n
   goes left at [] to n h g = absurd (omega arith)

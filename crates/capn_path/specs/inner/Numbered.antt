@@ -5,7 +5,7 @@ use Rattle.capn_target.specs.declared.target.Target.{Target}
 use Rattle.capn_target.specs.declared.target.Fault.{Fault}
 use Rattle.capn_path.specs.declared.visit.Numbered.{Numbered}
 
--- the place of a slot, if no further visit has to come before it
+-- the place of a slot, if no further visit has to come before the visit to be found, else `None`
 abbrev pub found_at : Numbered → Place → Result Target Fault → Option Place
 found_at aim at named = if aim.left == 0 then Some at else None
 

@@ -1,4 +1,4 @@
--- The outcome of a search among visits: the first find and the path to its slot, or none.
+-- The outcome of a search among visits: the first find and the path to the find's slot, or no find.
 use Rattle.std.specs.Prelude.{◌≡◌, ℕ, List, ◌++◌, Option, Some, None, Result}
 use Rattle.capn_words.specs.declared.space.Place.{Place}
 use Rattle.capn_target.specs.declared.target.Target.{Target}
@@ -10,8 +10,8 @@ use Rattle.capn_path.specs.Paths.{Leads}
 
 module _ {G F : Type 0} (m : List (List ℕ)) (finds : G → Place → Result Target Fault → Option F) (next : G → G)
     (base : ℕ) where
-  -- either `x` is the first find and the new path continues the old one to its slot, or nothing is found, `after` is
-  -- the aim that is left, and the path is as it was
+  -- either `x` is the first find and the path `new` continues the path `old` to the slot of `x`, or nothing is found,
+  -- `after` is the aim after the visits, and the path is unchanged
   abbrev pub SeeksIn : List Visit → (List ℕ → Place → ℕ → Type 0) → G → G → List ℕ → List ℕ → Option F → Type 0
   SeeksIn vs leads aim after old new (Some x) =
       (rest : List ℕ) × (new ≡ old ++ rest) × Meets m finds next vs leads aim rest x
