@@ -1,5 +1,5 @@
--- Lemmas for `slot_lines` and `text_of_holder`: a path leads to a slot in range, and the object that holds it begins at
--- a place in range.
+-- Lemmas for `slot_lines` and `text_of_holder`. A path leads to a slot in range, and the object that holds the slot
+-- begins at a place in range.
 use Rattle.std.proofs.Common.{◌≡◌, inl, inr, ℕ, zero, suc, ◌+◌, ◌*◌, ◌<◌, ◌≤◌, List, [], ◌∷◌, ◌++◌, length}
 use Rattle.std.proofs.Common.{◌-◌, Ok, refl, ap, sym, subst, arith, length-append}
 use Rattle.std.proofs.lemmas.Nat.{row_fits, row_below_turned, div-mul-add}
@@ -45,7 +45,7 @@ some-of ps before p behind e = let l = length-append before (p ∷ behind) in le
 no-slot : (before : List Place) (p : Place) (behind : List Place) → [] ≡ before ++ p ∷ behind → ⊥
 no-slot before p behind e = let n = some-of [] before p behind e in omega arith
 
--- A slot of `n` rows is in one of them.
+-- A slot of `n` rows of `b` slots lies in one of the rows.
 low-row : (row slot b n : ℕ) → slot < b → row * b + slot < n * b → row < n
 low-row row slot b n h k =
     let q = row_below_turned (row * b + slot) b n b k (omega arith) in rw (div-mul-add row b slot h) at q.1

@@ -31,13 +31,14 @@ abbrev pub listed : List ℕ → List ℕ
 listed [] = codes ""
 listed (n ∷ ns) = decimal n ++ behind_commas ns
 
--- The sizes of segments, which are shown if there are two or more. Those of the first eight are listed.
+-- The text of the sizes of segments, which is empty if there are fewer than two. It lists at most the first eight
+-- sizes.
 abbrev pub sizes_text : ℕ → List ℕ → List ℕ
 sizes_text count first =
     if nat_lt count 2 then codes ""
     else codes ": " ++ (listed (take (min count 8) first) ++ (if nat_lt 8 count then codes ", .." else codes ""))
 
--- The sizes of the segments of a message. Behind the last segment the size is 0.
+-- The sizes of the segments of a message. The size of a segment that does not exist is 0.
 abbrev pub segments_of : List (List ℕ) → SegmentsText
 segments_of message = record {
   count = length message;
@@ -47,17 +48,17 @@ segments_of message = record {
       ∷ length (segment_at message 6) ∷ length (segment_at message 7) ∷ [];
 }
 
--- The number of segments, the number of words in all, and the sizes.
+-- The text of the number of segments, the number of words in all, and the sizes.
 abbrev pub segments_text : SegmentsText → List ℕ
 segments_text s =
     decimal s.count ++ (codes " of " ++ (decimal s.words ++ (codes " words" ++ sizes_text s.count s.first)))
 
--- The line of the segments, if all sizes are known.
+-- The line of the segments, which is empty if the sizes are not known.
 abbrev pub segments_line : Option SegmentsText → List ℕ
 segments_line (Some segments) = line (codes "segments: ") (segments_text segments)
 segments_line None = codes ""
 
--- The number of a message, counted from 1, its offset, and its segments.
+-- The lines of the number of a message, counted from 1, its offset, and its segments.
 abbrev pub head_lines : MessageHead → List ℕ
 head_lines head =
     codes "message: " ++ (decimal (head.index + 1) ++ (codes " at " ++ (decimal head.offset ++ (codes "\n"
@@ -65,7 +66,7 @@ head_lines head =
 
 -- ---- a message that is refused in its walk
 
--- The lines of the slot, if there is a root.
+-- The lines of the slot, which are empty if there is no root.
 abbrev pub some_slot : Option SlotLines → List ℕ
 some_slot (Some slot) = slot_lines slot.path.now slot.holder slot.examined
 some_slot None = codes ""
@@ -77,7 +78,7 @@ refused_lines head stopped slot =
 
 -- ---- a message whose frame, packing or length is refused
 
--- The line of the sizes behind a refusal, if it has one.
+-- The line of the sizes behind a refusal, which is empty if the refusal has no such line.
 abbrev pub key_line : FrameKey → List ℕ
 key_line keys.Nothing = codes ""
 key_line (keys.There came) = codes "there: " ++ (decimal came ++ codes " bytes\n")
@@ -96,11 +97,11 @@ frame_lines head fault key =
 
 -- ---- a message that is accepted
 
--- A word as its bytes, and as the pointer that they are.
+-- The text of a word as its bytes, and as the pointer that they encode.
 abbrev pub word_says : ℕ → List ℕ
 word_says word = word_text word ++ (codes " (" ++ (pointer_text (pointer_of word) ++ codes ")"))
 
--- The line `yes` if the message is canonical, and the reason if it is not.
+-- The text `yes` if the message is canonical, and the reason if the message is not canonical.
 abbrev pub canonical_text : CanonicalText → List ℕ
 canonical_text forms.Yes = codes "yes"
 canonical_text (forms.Segments count) = codes "no: " ++ (decimal count ++ codes " segments")
@@ -119,7 +120,8 @@ canonical_text (forms.After byte word) =
     codes "no: at byte " ++ (decimal byte ++ (codes ": " ++ (word_text word
     ++ codes ", canonical nothing, after the value")))
 
--- The line of two lengths, if they are known: that of the message's contents, and that of its canonical bytes.
+-- The line of two lengths, of the message's contents and of its canonical bytes. The line is empty if they are not
+-- known.
 abbrev pub lengths_line : Option (ℕ × ℕ) → List ℕ
 lengths_line (Some lengths) =
     codes "lengths: " ++ (decimal lengths.0 ++ (codes " bytes, canonical " ++ (decimal lengths.1 ++ codes "\n")))
@@ -127,7 +129,7 @@ lengths_line None = codes ""
 
 -- ---- no message
 
--- The reason why no message is explained.
+-- The text that says why no message is explained.
 abbrev pub count_text : CountText → List ℕ
 count_text (counts.NoneRefused count) = decimal count ++ codes " messages, none refused"
 count_text (counts.Fewer count) = decimal count ++ codes " messages"

@@ -1,4 +1,4 @@
--- The whole explanation of a message that is refused in its walk. (Own.)
+-- The whole explanation of a message that is refused in its walk. (Our own.)
 use Rattle.std.specs.Prelude.{◌≡◌, ℕ, ◌<◌, List, [], ◌∷◌, length, Option, Some, None, codes, refl}
 use Rattle.std.specs.Fmt.{digits}
 use Rattle.capn_words.specs.Message.{segment_at}
@@ -20,20 +20,20 @@ use Rattle.capn_diagnostics.specs.declared.holder_text.HolderText.{HolderText}
 use Rattle.capn_diagnostics.specs.declared.holder_text.HolderText.TheVariants as texts
 use Rattle.capn_diagnostics.specs.declared.message_text.MessageHead.{MessageHead}
 
--- The place at which the words of a struct, the elements of a list of pointers, or a row begin.
+-- The place at which a holder begins: a struct, a list of pointers, or a row.
 abbrev pub beginning : Holder → Place
 beginning (holders.Struct words slots at) = at
 beginning (holders.Pointers count at) = at
 beginning (holders.Row row count at) = at
 
 module _ (message : List (List ℕ)) (offset table : ℕ) where
-  -- An object that holds a slot, with the byte at which it begins.
+  -- An object that holds a slot, with the offset in bytes at which the object begins.
   abbrev pub with_byte : Holder → HolderText
   with_byte (holders.Struct words slots at) = texts.Struct words slots (place_byte offset table message at)
   with_byte (holders.Pointers count at) = texts.Pointers count (place_byte offset table message at)
   with_byte (holders.Row row count at) = texts.Row row count (place_byte offset table message at)
 
-  -- The object that holds a slot with its byte, if there is one.
+  -- An object that holds a slot, with its offset in bytes, if there is an object.
   abbrev pub with_byte_if : Option Holder → Option HolderText
   with_byte_if (Some holder) = Some (with_byte holder)
   with_byte_if None = None
@@ -49,32 +49,33 @@ module _ (message : List (List ℕ)) (offset table : ℕ) where
     limit = slots.limit_of message limits stopped.place stopped.paid stopped.fault;
   }
 
-  -- `path` leads to the slot at `to`, and `text` is the text of the object that holds this slot. It is `None` for the
-  -- slot of the root.
+  -- `path` leads to the slot at `to`, and `text` is the text of the object that holds this slot. `text` is `None` for
+  -- the slot of the root.
   pub record IsHolderText (path : List ℕ) (to : Place) (text : Option HolderText) : Type 0 where
     pub holder : Option Holder
     pub holds : IsHolderOrRoot message path to holder
     pub is : text ≡ with_byte_if holder
 
-  -- `lines` are those of the slot at which the walk stopped: the path to it, the object that holds it, and the
-  -- findings.
+  -- `lines` are those of the slot at which the walk stopped: the path `path` to the slot, the object that holds the
+  -- slot, and the findings about the slot.
   pub record AreLinesOf (limits : Bounds) (path : List ℕ) (stopped : Stopped) (lines : SlotLines) : Type 0 where
     pub numbers : lines.path.now ≡ path
     pub holder : IsHolderText path stopped.place lines.holder
     pub examined : lines.examined ≡ examined_at limits stopped
 
-  -- The given lines are those of the slot at which the walk stopped. There are none if the message has no root.
+  -- The given lines are those of the slot at which the walk stopped. No lines are given if the message has no root.
   abbrev pub AreLinesIf : Bounds → List ℕ → Stopped → Option SlotLines → Type 0
   AreLinesIf limits path stopped (Some lines) =
       (0 < length (segment_at message 0)) × AreLinesOf limits path stopped lines
   AreLinesIf limits path stopped None = length (segment_at message 0) ≡ 0
 
--- The head of the lines: the number of messages before this one, the byte at which its table begins, and its segments.
+-- The head of the lines, with the number `index` of messages before this one, the offset of the message's table, and
+-- the segments.
 abbrev pub head : List (List ℕ) → ℕ → ℕ → MessageHead
 head message index offset = record { index = index; offset = offset; segments = Some (segments_of message) }
 
--- `message` is refused, and `text` has the lines that explain it: its head, the refusal, and the lines of the slot at
--- which the walk stopped, if it has a root.
+-- `message` is refused, and `text` has the lines that explain the refusal. These are the head, the refusal, and the
+-- lines of the slot at which the walk stopped, if the message has a root.
 pub record IsRefusalTold (message : List (List ℕ)) (limits : Bounds) (index offset table : ℕ) (stopped : Stopped)
     (text : List ℕ) : Type 0 where
   pub path : List ℕ

@@ -59,39 +59,39 @@ word_as_tag s = word_at_text s.byte s.place s.word (tag_text s.word)
 abbrev pub line : List ℕ → List ℕ → List ℕ
 line key text = key ++ (text ++ codes "\n")
 
--- The line of the object that holds the slot. It is empty for the slot of the root.
+-- The line `in:`, which shows the object that holds the slot; empty for the slot of the root.
 abbrev pub holder_line : Option HolderText → List ℕ
 holder_line (Some holder) = line (codes "in: ") (holder_text holder)
 holder_line None = codes ""
 
--- The lines of the words of the landing pad.
+-- The lines `pad:`, one for each word of the landing pad; empty if there is no pad to show.
 abbrev pub pad_lines : Pad → List ℕ
 pad_lines pads.Absent = codes ""
 pad_lines (pads.One word) = line (codes "pad: ") (word_as_pointer word)
 pad_lines (pads.Two first second) =
     line (codes "pad: ") (word_as_pointer first) ++ line (codes "pad: ") (word_as_pointer second)
 
--- The line of the tag.
+-- The line `tag:`, which shows the tag of the list of structs; empty if there is none.
 abbrev pub tag_line : Option SlotText → List ℕ
 tag_line (Some word) = line (codes "tag: ") (word_as_tag word)
 tag_line None = codes ""
 
--- The line of the content, or of a landing pad, that is not inside its segment.
+-- The line `content:`, which shows content or a landing pad with its segment; empty if there is none.
 abbrev pub content_line : Option Stretch → List ℕ
 content_line (Some s) = line (codes "content: ") (stretch_text s)
 content_line None = codes ""
 
--- The line of the rows.
+-- The line `rows:`, which shows the rows that have no room; empty if there are none.
 abbrev pub rows_line : Option RowWords → List ℕ
 rows_line (Some r) = line (codes "rows: ") (rows_text r)
 rows_line None = codes ""
 
--- The line of the limit.
+-- The line `limit:`, which shows the limit that the refusal is about; empty if there is none.
 abbrev pub limit_line : Option Limit → List ℕ
 limit_line (Some limit) = line (codes "limit: ") (limit_text limit)
 limit_line None = codes ""
 
--- The lines of the findings, with the path to the slot and the object that holds it.
+-- The lines of the findings, after the line of the path to the slot.
 abbrev pub slot_lines : List ℕ → Option HolderText → Examined → List ℕ
 slot_lines path holder e =
     line (codes "way: ") (path_text path) ++ (line (codes "slot: ") (word_as_pointer e.slot) ++ (holder_line holder

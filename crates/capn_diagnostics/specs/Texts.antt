@@ -48,7 +48,7 @@ pointer_text (Far true word segment) = codes "double far to " ++ place_text segm
 pointer_text (Cap index) = codes "capability " ++ decimal index
 pointer_text (Reserved word) = codes "reserved"
 
--- The text of a word as the tag of a list of structs, if it has the kind of a struct, and as a pointer if not.
+-- The text of a word as the tag of a list of structs if the word has the kind of a struct, and as a pointer otherwise.
 abbrev pub tag_text : ℕ → List ℕ
 tag_text word =
     if field 0 2 word == 0
@@ -58,11 +58,11 @@ tag_text word =
 
 -- ---- words and slots
 
--- The bytes of a word in the order in which they lie, as two hexadecimal digits each.
+-- The bytes of a word in their order in the message, as two hexadecimal digits each.
 abbrev pub word_text : ℕ → List ℕ
 word_text word = encode_lower (word_bytes word)
 
--- The text of a word with its byte, its place, its bytes, and the text `says`.
+-- The text of a word: its offset in bytes, its place, its bytes, and the text `says`.
 abbrev pub word_at_text : ℕ → Place → ℕ → List ℕ → List ℕ
 word_at_text byte at word says =
     codes "byte " ++ (decimal byte ++ (codes ", " ++ (place_text at.segment at.word ++ (codes ": "

@@ -26,7 +26,7 @@ pub fn place_byte<S: Space>(space: &S, offset: u64, table: u32, at: Place) -> u6
     offset + 8 * (table as u64 + before as u64 + at.word as u64)
 }
 
-/// Returns the byte of a stream at which the word at `at` lies, as `place_byte` does. The place has to be in range, and
+/// Returns the byte of a stream at which the word at `at` lies, like `place_byte`. The place has to be in range, and
 /// the byte may pass 64 bits.
 #[tactic(auto, using(crate::proofs::PlaceWithin::before_end, crate::proofs::PlaceWithin::has_segment))]
 pub(crate) fn long_place_byte<S: Space>(space: &S, offset: u64, table: u32, at: Place) -> u128

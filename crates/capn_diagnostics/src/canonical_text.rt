@@ -11,24 +11,25 @@ use std::fmt;
 pub enum CanonicalText<'a> {
     /// The message is canonical.
     Yes,
-    /// The message has more than one segment. The number is that of its segments.
+    /// The message has more than one segment. The field is the number of its segments.
     Segments(u32),
     /// The message has a capability, with this index and the path to it.
     Capability(u32, &'a [u32]),
-    /// A word differs from the canonical one, and is a pointer. Its byte, the word, the canonical word, and the path to
-    /// the pointer's slot follow.
+    /// A word differs from the canonical one, and is a pointer. The fields are the offset in bytes of the word, the
+    /// word, the canonical word, and the path to the pointer's slot.
     Pointer(u128, u64, u64, &'a [u32]),
-    /// A word differs from the canonical one, and is a tag. Its byte, the word, the canonical word, and the path to the
-    /// list's slot follow.
+    /// A word differs from the canonical one, and is a tag. The fields are the offset in bytes of the word, the word,
+    /// the canonical word, and the path to the list's slot.
     Tag(u128, u64, u64, &'a [u32]),
-    /// A word differs from the canonical one, and is the last of a list. Its byte, the word, the canonical word, and
-    /// the path to the list's slot follow.
+    /// A word differs from the canonical one, and is the last word of a list. The fields are the offset in bytes of the
+    /// word, the word, the canonical word, and the path to the list's slot.
     LastWord(u128, u64, u64, &'a [u32]),
-    /// A word stands behind the end of the canonical bytes. Its byte, and the word, follow.
+    /// A word stands behind the end of the canonical bytes. The fields are the offset in bytes of the word, and the
+    /// word.
     After(u128, u64),
 }
 
-/// A word, displayed as its bytes and then as the pointer that they are.
+/// A word, displayed as its bytes and then as the pointer that they encode.
 #[derive(Drop)]
 struct WordSays(u64);
 

@@ -1,13 +1,13 @@
-//! The line of a run that finds no message to explain.
+//! The line that says why no message is explained.
 
 use std::fmt;
 
 /// The reason why no message is explained, displayed in one line without its newline.
 #[derive(Clone, Copy, Debug, PartialEq, Eq)]
 pub enum CountText {
-    /// No message is refused. The number is that of all messages.
+    /// No message is refused. The field is the number of all messages.
     NoneRefused(u64),
-    /// There is no message with the number that was given. The number is that of all messages.
+    /// There is no message with the given number. The field is the number of all messages.
     Fewer(u64),
 }
 

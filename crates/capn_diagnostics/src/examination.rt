@@ -15,7 +15,7 @@ use capn_target::{Fault, pointer_at, segment_length};
 use capn_walk::{Limits, Stopped};
 use capn_words::{Place, Pointer, Space};
 
-/// Returns the word that lies `offset` words after the word `from`.
+/// Returns the number of the word that lies `offset` words after word `from`.
 fn led(from: u64, offset: i32) -> i64
     requires { from < 2 ^ 42 }
     ensures { result ≡ (pos from +ℤ offset) }
@@ -23,7 +23,7 @@ fn led(from: u64, offset: i32) -> i64
     from as i64 + offset as i64
 }
 
-/// Returns the words that the reference `told` of a pointer covers.
+/// Returns the words that the reference `told` of a pointer refers to.
 fn stretch_of<S: Space>(space: &S, told: Telling) -> Stretch
     requires { told.from ≤ 2 ^ 32 }
     ensures { result ≡ spec.stretch (S.message space.now) told }
@@ -37,7 +37,7 @@ fn stretch_of<S: Space>(space: &S, told: Telling) -> Stretch
     }
 }
 
-/// Returns the words that the reference `told` of a pointer covers, if there is a reference.
+/// Returns the words that the reference `told` of a pointer refers to, or `None` if there is no reference.
 fn stretch_told<S: Space>(space: &S, told: Option<Telling>) -> Option<Stretch>
     requires { IfSome told (λ t. t.from ≤ 2 ^ 32) }
     ensures { result ≡ spec.stretch_told (S.message space.now) told }
@@ -48,8 +48,8 @@ fn stretch_told<S: Space>(space: &S, told: Option<Telling>) -> Option<Stretch>
     }
 }
 
-/// Returns the words that the `fault` of the slot at `at` is about. They are content that is not inside its segment or
-/// has no room for its rows, or a landing pad that is not inside its segment.
+/// Returns the words that the `fault` of the slot at `at` is about. If the fault is `Range` or `TagOverrun`, they are
+/// the content, and if it is `PadRange`, the landing pad. Returns `None` for any other fault.
 fn content_of<S: Space>(
     space: &S,
     at: Place,
@@ -87,7 +87,7 @@ fn limit_of<S: Space>(space: &S, limits: Limits, stopped: Stopped) -> Option<Lim
     }
 }
 
-/// Returns the word at `at` with its byte, if `at` is a place.
+/// Returns the word at `at` with its offset in bytes, or `None` if `at` is `None`.
 fn placed_some<S: Space>(space: &S, offset: u64, table: u32, at: Option<Place>) -> Option<SlotText>
     requires { IfSome at (λ at. IsPlace (S.message space.now) at) }
     ensures { result ≡ spec.placed_some (S.message space.now) offset table at }

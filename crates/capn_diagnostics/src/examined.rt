@@ -13,7 +13,7 @@ pub enum Pad {
     Two(SlotText, SlotText),
 }
 
-/// The words of a segment that a pointer refers to. They may lie outside the segment, even before its first word.
+/// The words of a segment that a pointer refers to. Some may lie outside the segment, even before its first word.
 #[derive(Clone, Copy, Debug, PartialEq, Eq)]
 pub struct Stretch {
     /// The number of the segment.
@@ -31,11 +31,11 @@ pub struct Stretch {
 pub struct RowWords {
     /// The number of rows.
     pub count: u32,
-    /// The words of one row.
+    /// The number of words of one row.
     pub each: u32,
-    /// The words of all rows.
+    /// The number of words of all rows together.
     pub words: u64,
-    /// The words that the list's pointer gives to the rows, without the tag.
+    /// The number of words that the list's pointer gives to the rows, without the tag.
     pub span: u32,
 }
 
@@ -44,7 +44,7 @@ pub struct RowWords {
 pub enum Limit {
     /// The limit on depth, in objects.
     Depth(u32),
-    /// The price of the visit, what was left of the budget, and the budget, all in words.
+    /// The price of the visit, the words that were left of the budget, and the budget, all in words.
     Budget(u64, u32, u32),
     /// The number of segments of the message.
     Segments(u32),
@@ -59,7 +59,8 @@ pub struct Examined {
     pub pad: Pad,
     /// The tag of the list of structs to which the slot leads, if the tag is inside its segment.
     pub tag: Option<SlotText>,
-    /// The words of the content, if the fault is `Range` or `TagOverrun`, or of the landing pad, if it is `PadRange`.
+    /// The words of the content if the fault is `Range` or `TagOverrun`, or of the landing pad if the fault is
+    /// `PadRange`.
     pub content: Option<Stretch>,
     /// The rows, if the fault is `TagOverrun`.
     pub rows: Option<RowWords>,

@@ -1,4 +1,5 @@
-//! The lines about a refused slot: its word, its landing pads, its tag, its content, and the limit that it passes.
+//! The lines about a refused slot: its word, its landing pads, its tag, its content, and the limit that the refusal is
+//! about.
 
 use crate::examined::{Examined, Limit, Pad, RowWords, Stretch};
 use crate::holder_text::HolderText;
@@ -84,7 +85,7 @@ impl fmt::Display for TagAt {
     }
 }
 
-/// The line `in:`, about the object that holds a slot, or nothing.
+/// The line `in:`, which shows the object that holds a slot; empty if there is none.
 #[derive(Drop)]
 struct HolderLine(Option<HolderText>);
 
@@ -102,7 +103,7 @@ impl fmt::Display for HolderLine {
     }
 }
 
-/// The lines `pad:`, one for each word of a landing pad, or nothing.
+/// The lines `pad:`, one for each word of a landing pad; empty if there is no pad to show.
 #[derive(Drop)]
 struct PadLines(Pad);
 
@@ -124,7 +125,7 @@ impl fmt::Display for PadLines {
     }
 }
 
-/// The line `tag:`, or nothing.
+/// The line `tag:`, which shows the tag of a list of structs; empty if there is none.
 #[derive(Drop)]
 struct TagLine(Option<SlotText>);
 
@@ -142,7 +143,8 @@ impl fmt::Display for TagLine {
     }
 }
 
-/// The line `content:`, about words outside their segment, or nothing.
+/// The line `content:`, which shows words outside their segment or without room for their rows; empty if there are
+/// none.
 #[derive(Drop)]
 struct ContentLine(Option<Stretch>);
 
@@ -160,7 +162,7 @@ impl fmt::Display for ContentLine {
     }
 }
 
-/// The line `rows:`, about rows that have no room, or nothing.
+/// The line `rows:`, which shows rows that have no room; empty if there are none.
 #[derive(Drop)]
 struct RowsLine(Option<RowWords>);
 
@@ -178,7 +180,7 @@ impl fmt::Display for RowsLine {
     }
 }
 
-/// The line `limit:`, or nothing.
+/// The line `limit:`, which shows the limit of a refusal; empty if there is none.
 #[derive(Drop)]
 struct LimitLine(Option<Limit>);
 

@@ -10,14 +10,14 @@ use std::{fmt, str};
 pub enum FrameKey {
     /// Nothing, since the fault has no such line.
     Nothing,
-    /// The bytes of a bare message that were read.
+    /// The number of bytes of a bare message that were read.
     There(u64),
-    /// The bytes of a framed message that were read, and the number that it has at least.
+    /// The number of bytes of a framed message that were read, and the least number that the message has.
     AtLeast(u64, u64),
-    /// The segments or words that a table announces, and the most that are allowed.
+    /// The number of segments or words that a table announces, and the greatest number that is allowed.
     Announced(u64, u64),
-    /// A group of a packed input: the byte at which it begins, its tag, the bytes that it has at least, and those that
-    /// were read.
+    /// A group of a packed input: the offset in bytes at which the group begins, its tag, the least number of bytes
+    /// that the group has, and the number of bytes that were read.
     Group(u64, u8, u64, u64),
 }
 

@@ -12,18 +12,18 @@ use std::fmt;
 /// The object that holds a slot, displayed in one line without its newline.
 #[derive(Clone, Copy, Debug, PartialEq, Eq)]
 pub enum HolderText {
-    /// A struct, with its data words, its slots, and the byte at which it begins.
+    /// A struct, with the numbers of its data words and its slots, and the offset in bytes at which the struct begins.
     Struct(u16, u16, u128),
-    /// A list of pointers, with their number, and the byte of the first.
+    /// A list of pointers, with its length, and the offset in bytes of the first pointer.
     Pointers(u32, u128),
-    /// A row of a list of structs, with its number, counted from 0, the number of rows, and the byte at which it
-    /// begins.
+    /// A row of a list of structs, with the number of the row, counted from 0, the number of rows, and the offset in
+    /// bytes at which the row begins.
     Row(u32, u32, u128),
 }
 
 impl HolderText {
-    /// Returns the text of `holder`, an object of the message `space` that holds a slot. It has to begin at a place in
-    /// range.
+    /// Returns the text of `holder`, an object of the message `space` that holds a slot. The object has to begin at a
+    /// place in range.
     ///
     /// `offset` is the byte of the stream at which the message's table begins, and `table` is the number of words that
     /// the table takes, which is 0 for a bare segment.

@@ -1,14 +1,15 @@
 //! The texts that explain a message: its place and size, the refused slot, and the words that lead to its content.
 //!
 //! - [`PointerText`] displays a word as a pointer, and [`TagText`] as the tag of a list of structs.
-//! - [`WordText`] displays the bytes of a word, in the order in which they lie.
-//! - [`SlotText`] displays a slot: the byte and the place of its word, its bytes, and the pointer that they are.
+//! - [`WordText`] displays the bytes of a word, in their order in the message.
+//! - [`SlotText`] displays a slot: the offset in bytes and the place of its word, the bytes of the word, and
+//!   the pointer that they encode.
 //! - [`PathText`] displays the path from the root to a slot.
 //! - [`place_byte`] returns the byte of a stream at which a word of a message lies.
-//! - [`examine`] examines the slot at which the walk over a message was refused. It finds the words that lead to the
-//!   slot's content, the place of the content, and the limit that the refusal is about.
+//! - [`examine`] examines the slot at which the walk over a message was refused. The call finds the words that
+//!   lead to the slot's content, the place of the content, and the limit that the refusal is about.
 //! - [`explain_stop`] returns all lines that explain a message at which the walk has stopped.
-//! - [`RefusedLines`] and [`FrameLines`] display all lines that explain a refused message. Their parts are
+//! - [`RefusedLines`] and [`FrameLines`] display all lines that explain a refused message. The lines are made of
 //!   [`MessageHead`], [`SegmentsText`], [`SlotLines`], [`HolderText`] and [`FrameKey`].
 //! - [`CountText`] displays the line of a run that finds no message to explain.
 //! - [`CanonicalText`] displays whether an accepted message is canonical, or why it is not.

@@ -17,7 +17,7 @@ pub struct MessageHead {
     pub segments: Option<SegmentsText>,
 }
 
-/// The line `segments:`, or nothing.
+/// The line `segments:`, which shows the sizes of a message; empty if they are not known.
 #[derive(Drop)]
 struct SegmentsLine(Option<SegmentsText>);
 
@@ -64,7 +64,7 @@ pub struct RefusedLines<'a> {
     pub slot: Option<SlotLines<'a>>,
 }
 
-/// The lines about a slot, or nothing.
+/// The lines about a slot; empty if there is no root.
 #[derive(Drop)]
 struct SomeSlot<'a>(Option<SlotLines<'a>>);
 

@@ -1,4 +1,4 @@
-//! The landing pad of a slot's pointer.
+//! The landing pad of a slot's pointer, as `explain` shows it.
 
 ghost use Rattle.std.specs.Prelude.{◌≡◌};
 ghost use Rattle.capn_diagnostics.specs.Slot as spec;
@@ -9,7 +9,7 @@ use crate::telling::has_words;
 use capn_target::segment_length;
 use capn_words::{Place, Pointer, Space};
 
-/// Returns the `count` words of `segment` that begin at `word`.
+/// Returns the `count` words of `segment` that begin at word number `word`.
 fn words_at<S: Space>(space: &S, segment: u32, word: u32, count: u32) -> Stretch
     ensures { result ≡ spec.words_at (S.message space.now) segment word count }
 {
@@ -42,7 +42,8 @@ pub(crate) fn pad_stretch<S: Space>(space: &S, pointer: Pointer) -> Option<Stret
     }
 }
 
-/// Returns the landing pad of `pointer`, if it is inside its segment.
+/// Returns the landing pad of `pointer`. Returns `Absent` if `pointer` is not far, or if the pad is not inside its
+/// segment.
 pub(crate) fn pad_by<S: Space>(space: &S, offset: u64, table: u32, pointer: Pointer) -> Pad
     ensures { result ≡ spec.pad_by (S.message space.now) offset table pointer }
 {
@@ -62,7 +63,7 @@ pub(crate) fn pad_by<S: Space>(space: &S, offset: u64, table: u32, pointer: Poin
     }
 }
 
-/// Returns the landing pad of one word at `word` of `segment`, if it is inside the segment.
+/// Returns the landing pad of one word at `word` of `segment`, or `Absent` if the word is not inside the segment.
 fn one_word<S: Space>(space: &S, offset: u64, table: u32, segment: u32, word: u32) -> Pad
     ensures { result ≡ spec.pad_of_one (S.message space.now) offset table segment word }
 {
@@ -73,7 +74,7 @@ fn one_word<S: Space>(space: &S, offset: u64, table: u32, segment: u32, word: u3
     }
 }
 
-/// Returns the landing pad of two words at `word` of `segment`, if both are inside the segment.
+/// Returns the landing pad of two words at `word` of `segment`, or `Absent` if not both are inside the segment.
 fn two_words<S: Space>(space: &S, offset: u64, table: u32, segment: u32, word: u32) -> Pad
     ensures { result ≡ spec.pad_of_two (S.message space.now) offset table segment word }
 {

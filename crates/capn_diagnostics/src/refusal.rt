@@ -31,10 +31,10 @@ pub struct Explanation<A: Allocator = Global> {
 /// Explains why the walk over the message `space` was refused with `stopped`, and returns the lines.
 ///
 /// `stopped` has to be the refusal of this message within `limits`, as [`survey`](capn_walk::survey) returns it.
-/// `index` is the number of messages before it. `offset` is the byte of the stream at which its table begins, and
-/// `table` is the number of words that the table takes, which is 0 for a bare segment. The call makes the visits up to
-/// the refused one again, and no survey. It takes memory of `alloc` for the text and for the path, which has at most
-/// two numbers for each level of the depth limit. (Own.)
+/// `index` is the number of messages before this one. `offset` is the byte of the stream at which the message's table
+/// begins, and `table` is the number of words that the table takes, which is 0 for a bare segment. The call repeats the
+/// visits up to the refused one, but makes no survey. The call takes memory of `alloc` for the text and for the path,
+/// which has at most two numbers for each level of the depth limit. (Our own.)
 pub fn explain_stop<S: Space, A: Allocator + Copy>(
     alloc: A,
     space: &S,
@@ -55,7 +55,7 @@ pub fn explain_stop<S: Space, A: Allocator + Copy>(
     tell(alloc, space, index, offset, table, limits, &refused)
 }
 
-/// Explains a message whose walk was `refused`, by the path to the slot at which it stopped.
+/// Explains a message whose walk was `refused`. The refusal has the path to the slot at which the walk stopped.
 fn tell<S: Space, A: Allocator + Copy>(
     alloc: A,
     space: &S,
@@ -80,7 +80,7 @@ fn tell<S: Space, A: Allocator + Copy>(
     Ok(Explanation { stopped, text })
 }
 
-/// Writes all `lines` to memory of `alloc`.
+/// Writes all `lines` to a vector in memory of `alloc`.
 fn text_of<'w, A: Allocator>(alloc: A, lines: RefusedLines<'w>) -> Result<Vec<u8, A>, Memory>
     ensures { IfOk result (λ text. text.items ≡ refused_lines lines.entry.head lines.entry.stopped
         lines.entry.slot) }
@@ -100,8 +100,8 @@ fn head_of<S: Space>(space: &S, index: u64, offset: u64) -> MessageHead
     }
 }
 
-/// Examines the slot at which the walk over the message `space` stopped, to which `path` leads. Returns `None` if there
-/// is no root.
+/// Examines the slot at which the walk over the message `space` stopped. `path` leads to the slot. Returns `None` if
+/// there is no root.
 fn slot_lines<'w, S: Space>(
     space: &S,
     offset: u64,

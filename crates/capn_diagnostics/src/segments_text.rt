@@ -30,15 +30,15 @@ impl<'a> fmt::Display for Listed<'a> {
     }
 }
 
-/// The segments of a message, displayed in one line without its newline: their number, and the words of all together.
-/// If there are two or more, the words of each of the first eight follow.
+/// The segments of a message, displayed in one line without its newline: the number of segments, and the number of
+/// words of all together. If there are two or more segments, the number of words of each of the first eight follows.
 #[derive(Clone, Copy, Debug, PartialEq, Eq)]
 pub struct SegmentsText {
     /// The number of segments.
     pub count: u32,
-    /// The words of all segments together.
+    /// The number of words of all segments together.
     pub words: u64,
-    /// The words of each of the first eight segments. Elements past the number of segments are not displayed.
+    /// The number of words of each of the first eight segments. Elements past the number of segments are not displayed.
     pub first: [u32; 8],
 }
 

@@ -10,8 +10,8 @@ use crate::word_text::WordText;
 use capn_words::{Place, Space};
 use std::fmt;
 
-/// A slot, displayed in one line without its newline: the byte and the place of its word, the word's bytes, and the
-/// pointer that they are.
+/// A slot, displayed in one line without its newline: the offset in bytes and the place of its word, the bytes of the
+/// word, and the pointer that they encode.
 #[derive(Clone, Copy, Debug, PartialEq, Eq)]
 pub struct SlotText {
     /// The byte of the stream at which the word begins.

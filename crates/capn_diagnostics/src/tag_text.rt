@@ -4,7 +4,7 @@ use crate::pointer_text::PointerText;
 use std::fmt;
 
 /// A word read as the tag of a list of structs, displayed in one line without its newline: the number of structs, and
-/// their size. A word without the kind of a struct is displayed as a pointer.
+/// the size of one. A word without the kind of a struct is displayed as a pointer.
 #[derive(Clone, Copy, Debug, PartialEq, Eq)]
 pub struct TagText(pub u64);
 

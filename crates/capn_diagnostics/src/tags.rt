@@ -1,4 +1,4 @@
-//! The tag of the list of structs to which a slot leads, and the rows that it counts.
+//! The tag of the list of structs to which a slot leads, and the rows that the tag counts.
 
 ghost use Rattle.std.specs.Prelude.{◌≡◌, ◌<◌, ◌≤◌, ◌^◌, IfSome};
 ghost use Rattle.capn_words.specs.Message.{IsPlace};
@@ -9,7 +9,8 @@ use crate::telling::{Telling, has_words};
 use capn_target::Fault;
 use capn_words::{Place, Pointer, Space, Width};
 
-/// Returns the word that lies `offset` words after the word `from`, or `None` if that is before word 0.
+/// Returns the number of the word that lies `offset` words after word `from`. Returns `None` if that would be before
+/// word 0.
 fn begins(from: u64, offset: i32) -> Option<u64>
     requires { from ≤ 2 ^ 32 }
     ensures value { result ≡ spec.begins from offset }
@@ -19,7 +20,8 @@ fn begins(from: u64, offset: i32) -> Option<u64>
     if start < 0 { None } else { Some(start as u64) }
 }
 
-/// Returns the place of a tag at word `start` of `segment`, if it and the `span` words after it are inside the segment.
+/// Returns the place of a tag at word `start` of `segment`. Returns `None` if the tag and the `span` words after it are
+/// not all inside the segment.
 fn tag_from<S: Space>(space: &S, segment: u32, span: u32, start: Option<u64>) -> Option<Place>
     requires { IfSome start (λ word. word < 2 ^ 34) }
     ensures value { result ≡ spec.tag_from (S.message space.now) segment span start }
@@ -47,7 +49,7 @@ pub(crate) fn tag_in<S: Space>(space: &S, told: Option<Telling>) -> Option<Place
     tag_told(space, told)
 }
 
-/// Returns the place of the tag to which the reference `told` leads, if it is one to a list of structs inside its
+/// Returns the place of the tag to which the reference `told` leads, if `told` refers to a list of structs inside its
 /// segment.
 fn tag_told<S: Space>(space: &S, told: Telling) -> Option<Place>
     requires { told.from ≤ 2 ^ 32 }
@@ -70,7 +72,7 @@ fn tag_told<S: Space>(space: &S, told: Telling) -> Option<Place>
     }
 }
 
-/// Returns the rows that `tag` counts, if the pointer `form` is one to a list of structs.
+/// Returns the rows that `tag` counts, if the pointer `form` is a pointer to a list of structs.
 fn rows_by(tag: u64, form: Pointer) -> Option<RowWords>
     ensures { result ≡ spec.rows_by tag form }
 {
@@ -87,7 +89,7 @@ fn rows_by(tag: u64, form: Pointer) -> Option<RowWords>
     }
 }
 
-/// Returns the rows that `tag` counts, in a list whose pointer gives them `span` words.
+/// Returns the rows that `tag` counts, in a list whose pointer gives `span` words to the rows.
 fn row_words(tag: u64, span: u32) -> RowWords
     ensures { result ≡ spec.row_words tag span }
 {
@@ -103,7 +105,8 @@ fn row_words(tag: u64, span: u32) -> RowWords
     }
 }
 
-/// Returns the rows of the list of structs to which the slot at `at` leads, if its `fault` is that they have no room.
+/// Returns the rows of the list of structs to which the slot at `at` leads, if the `fault` is that the rows have no
+/// room.
 pub(crate) fn rows_of<S: Space>(
     space: &S,
     at: Place,

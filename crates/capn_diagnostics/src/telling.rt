@@ -1,4 +1,4 @@
-//! The reference of a pointer to its content, directly or over a landing pad.
+//! The reference of a pointer to its content, directly or over a landing pad, as `explain` shows it.
 
 ghost use Rattle.std.specs.Prelude.{◌≡◌, ◌<◌, ◌≤◌, ◌+◌, ◌^◌, IsTrue, Some, None, IfSome, if◌then◌else◌};
 ghost use Rattle.capn_target.specs.Target.{pointer_in};
@@ -41,7 +41,7 @@ pub(crate) fn words_told(form: Pointer) -> u64
     }
 }
 
-/// Returns the reference of `pointer`, which lies at `word` of `segment`, if it is one to a struct or list.
+/// Returns the reference of `pointer`, which lies at `word` of `segment`, if `pointer` is one to a struct or list.
 fn told_near(segment: u32, word: u32, pointer: Pointer) -> Option<Telling>
     ensures value { result ≡ spec.told_near segment word pointer }
     ensures small { IfSome result (λ t. t.from ≤ 2 ^ 32) }
@@ -73,7 +73,7 @@ fn told_near(segment: u32, word: u32, pointer: Pointer) -> Option<Telling>
 }
 
 /// Returns the reference of a landing pad of two words: content at `word` of `segment`, with the kind and size of the
-/// tag `form`. Returns `None` if there is no such segment.
+/// tag `form`. Returns `None` if the message has no segment with this number.
 fn told_there<S: Space>(space: &S, segment: u32, word: u32, form: Pointer) -> Option<Telling>
     ensures value { result ≡ spec.told_there (S.message space.now) segment word form }
     ensures small { IfSome result (λ t. t.from ≤ 2 ^ 32) }
@@ -90,7 +90,8 @@ fn told_there<S: Space>(space: &S, segment: u32, word: u32, form: Pointer) -> Op
     }
 }
 
-/// Returns the reference of a landing pad of two words, which are `first` and `second`, if they are valid.
+/// Returns the reference of a landing pad with the words `first` and `second`. Returns `None` if they are not a valid
+/// pad.
 fn told_two<S: Space>(space: &S, first: Pointer, second: Pointer) -> Option<Telling>
     ensures value { result ≡ spec.told_two (S.message space.now) first second }
     ensures small { IfSome result (λ t. t.from ≤ 2 ^ 32) }
@@ -119,7 +120,7 @@ fn told_two<S: Space>(space: &S, first: Pointer, second: Pointer) -> Option<Tell
     }
 }
 
-/// Returns `true` if the `count` words of `segment` that begin at `word` are inside it.
+/// Returns `true` if the `count` words of `segment` that begin at `word` are inside the segment.
 pub(crate) fn has_words<S: Space>(space: &S, segment: u32, word: u64, count: u64) -> bool
     requires word { word < 2 ^ 40 }
     requires count { count < 2 ^ 40 }
@@ -130,7 +131,8 @@ pub(crate) fn has_words<S: Space>(space: &S, segment: u32, word: u64, count: u64
     end <= segment_length(space, segment) as u64
 }
 
-/// Returns the reference of the landing pad of one word at `word` of `segment`, if there is one.
+/// Returns the reference of the landing pad of one word at `word` of `segment`. Returns `None` if the pad is not inside
+/// its segment, or is no pointer to a struct or list.
 fn behind_one<S: Space>(space: &S, segment: u32, word: u32) -> Option<Telling>
     ensures value { result ≡ (if spec.has_words (S.message space.now) segment word 1
         then spec.told_near segment word (pointer_in (S.message space.now) segment word) else None) }
@@ -143,7 +145,8 @@ fn behind_one<S: Space>(space: &S, segment: u32, word: u32) -> Option<Telling>
     }
 }
 
-/// Returns the reference of the landing pad of two words at `word` of `segment`, if there is one.
+/// Returns the reference of the landing pad of two words at `word` of `segment`. Returns `None` if the pad is not
+/// inside its segment, or is not valid.
 fn behind_two<S: Space>(space: &S, segment: u32, word: u32) -> Option<Telling>
     ensures value { result ≡ (if spec.has_words (S.message space.now) segment word 2
         then spec.told_two (S.message space.now) (pointer_in (S.message space.now) segment word)
@@ -159,7 +162,7 @@ fn behind_two<S: Space>(space: &S, segment: u32, word: u32) -> Option<Telling>
     }
 }
 
-/// Returns the reference of the `pointer` at `at`, or that of its landing pad if it is far.
+/// Returns the reference of the `pointer` at `at`. If `pointer` is far, returns the reference of its landing pad.
 pub(crate) fn told_by<S: Space>(space: &S, at: Place, pointer: Pointer) -> Option<Telling>
     ensures value { result ≡ spec.told_by (S.message space.now) at.segment at.word pointer }
     ensures small { IfSome result (λ t. t.from ≤ 2 ^ 32) }

@@ -6,7 +6,7 @@ ghost use Rattle.hex.specs.Hex.{encode_lower};
 
 use std::{fmt, str};
 
-/// Returns the hexadecimal digits of the bytes of `word`, in the order in which they lie.
+/// Returns the hexadecimal digits of the bytes of `word`, in their order in the message.
 fn digits_of(word: u64) -> [u8; 16]
     ensures { result ≡ encode_lower (to_le_bytes w64 word) }
 {
@@ -16,7 +16,7 @@ fn digits_of(word: u64) -> [u8; 16]
     digits
 }
 
-/// The bytes of a word in the order in which they lie, displayed as two hexadecimal digits each, in lower case.
+/// The bytes of a word in their order in the message, displayed as two hexadecimal digits each, in lower case.
 #[derive(Clone, Copy, Debug, PartialEq, Eq)]
 pub struct WordText(pub u64);
 
