@@ -1,5 +1,5 @@
--- Lemmas that other crates may cite: the lengths of a layout and of what it keeps, the room for it, and words of a
--- message as they are copied.
+-- Lemmas that other crates may cite: the lengths of a layout and of the kept parts, the room for a layout, and the
+-- words that are copied from a message.
 pub mod Fronts
 pub mod KeptLengths
 pub mod LayLengths

@@ -1,4 +1,4 @@
--- The one writer: its buffers of words, the layout that they grow to, and what a tree and a message give it.
+-- The one writer: the buffers of words, the layout to which a buffer grows, and the slots of a tree and of a message.
 pub mod Bytes
 pub mod PackedBits
 pub mod PackedBytes

@@ -17,8 +17,8 @@ use Rattle.capn_target.specs.Target.{content_words, list_width}
 abbrev pub row_size : Bodies → ℕ
 row_size bs = kept_words_of_rows bs + kept_slots_of_rows bs
 
--- the number of words of a value's own content: what is kept of a struct, the elements of a list, a tag before rows
--- (pages: structs, lists)
+-- the number of words of a value's own content: the kept part of a struct, the elements of a list, or the tag and the
+-- rows (pages: structs, lists)
 abbrev pub own : Tree → ℕ
 own (node ws ss) = kept_words ws + kept_slots ss
 own (numbers width xs) = content_words (list_width width) (length xs)
@@ -26,7 +26,7 @@ own (links ts) = count ts
 own (rows bs) = 1 + count_rows bs * row_size bs
 own _ = 0
 
--- the number of words of a value's content with all that is below it (Own.)
+-- the number of words of a value's content and of everything below (Our own.)
 abbrev mutual
   pub size : Tree → ℕ
   size (node ws ss) = own (node ws ss) + sizes ss
@@ -47,8 +47,8 @@ abbrev mutual
 abbrev pub list_to : (from to : ℕ) → Width → (n : ℕ) → ℕ
 list_to from to width n = word_of (Many (pos (to - suc from)) width n)
 
--- the pointer to a struct; if the struct has no words, its offset is -1, so that it isn't null (Page:
--- canonicalization.)
+-- the pointer at word `from` to a struct whose content starts at word `to`; the pointer to a struct without words and
+-- pointers has offset -1, so that the pointer isn't null (Page: canonicalization.)
 abbrev pub struct_to : (from to data_words pointers : ℕ) → ℕ
 struct_to from to data_words pointers = word_of (if (data_words == 0) && (pointers == 0) then Node (negsuc 0) 0 0
     else Node (pos (to - suc from)) data_words pointers)
@@ -63,24 +63,24 @@ point (links ts) from to = list_to from to Link (count ts)
 point (rows bs) from to = list_to from to Rows (count_rows bs * row_size bs)
 point (cap k) from to = word_of (Cap k)
 
--- the pointers to consecutive values, whose contents follow one another, each with all that is below it (Page:
--- canonicalization, preorder.)
+-- the pointers, from word `from` on, to consecutive values, whose contents with everything below start at word `to` and
+-- follow one another (Page: canonicalization, preorder.)
 abbrev pub points : Trees → (from to : ℕ) → List ℕ
 points no_trees from to = []
 points (tree t ts) from to = point t from to ∷ points ts (suc from) (to + size t)
 
--- the number whose digits in a base are the list, the first one lowest (Page: lists.)
+-- the number whose digits in the base are the list, the first digit lowest (Page: lists.)
 abbrev pub number : ℕ → List ℕ → ℕ
 number base [] = 0
 number base (x ∷ xs) = x + base * number base xs
 
--- n words, each of which packs `many` elements of `bits` bits; missing bits of the last word are 0 (Own.)
+-- n words, each of which packs `many` elements of `bits` bits; missing bits of the last word are 0 (Our own.)
 abbrev pub packed : (many bits n : ℕ) → List ℕ → List ℕ
 packed many bits zero xs = []
 packed many bits (suc n) xs = number (2 ^ bits) (take many xs) ∷ packed many bits n (drop many xs)
 
--- the own content of rows that are cut to these sizes; what their slots name starts at word `to` (Page: lists,
--- composite.)
+-- the own content of rows that start at word `from` and are cut to `data_words` words and `pointers` pointers; the
+-- contents that the slots name start at word `to` (Page: lists, composite.)
 abbrev pub row_contents : (data_words pointers : ℕ) → Bodies → (from to : ℕ) → List ℕ
 row_contents data_words pointers no_bodies from to = []
 row_contents data_words pointers (body ws ss bs) from to =
@@ -88,8 +88,7 @@ row_contents data_words pointers (body ws ss bs) from to =
     ++ (take pointers (points ss (from + data_words) to)
     ++ row_contents data_words pointers bs (from + data_words + pointers) (to + sizes ss))
 
--- the content of a value at word `at`, followed by the contents of all that is below it (Page: canonicalization,
--- preorder.)
+-- the content of a value at word `at`, followed by the contents of everything below (Page: canonicalization, preorder.)
 abbrev mutual
   pub lay : Tree → ℕ → List ℕ
   lay (node ws ss) at =
@@ -113,11 +112,11 @@ abbrev mutual
   lays_in_rows no_bodies at = []
   lays_in_rows (body ws ss bs) at = lays ss at ++ lays_in_rows bs (at + sizes ss)
 
--- the canonical words: the pointer to the root in word 0, and the root's content from word 1 on (Page:
+-- the canonical words of a value: the pointer to the root in word 0, and the root's content from word 1 on (Page:
 -- canonicalization.)
 unfoldable pub words : Tree → List ℕ
 words v = point v 0 1 ∷ lay v 1
 
--- the canonical bytes (Page: canonicalization.)
+-- the canonical bytes of a value (Page: canonicalization.)
 abbrev pub canon : Tree → List ℕ
 canon v = bytes (words v)

@@ -1,4 +1,4 @@
--- The values that slots, numbers and rows of a message have.
+-- The values of slots, numbers and rows of a message.
 use Rattle.std.specs.Prelude.{◌≡◌, ℕ, ◌+◌, ◌*◌, ◌^◌, ◌<◌, List, length}
 use Rattle.capn_words.specs.Message.{IsMessage, segment_at}
 use Rattle.capn_words.specs.declared.space.Place.{Place}
@@ -9,21 +9,21 @@ use Rattle.capn_target.specs.Shapes.{IsContent}
 use Rattle.capn_layout.specs.FirstBits.{first_bits}
 
 module _ (m : List (List ℕ)) where
-  -- `v` is the value in the slot at word w of segment s (Own.)
+  -- `v` is the value in the slot at word w of segment s (Our own.)
   pub record HasSlot (s w : ℕ) (v : Tree) : Type 0 where
     pub message : IsMessage m
     pub exists : s < length m
     pub place : w < length (segment_at m s)
     pub at : IsAt m (record { segment = s; word = w }) v
 
-  -- the words `ws` are the first `bits` bits of the words from `start` on (Own.)
+  -- the words `ws` are the first `bits` bits of the words from `start` on (Our own.)
   pub record PacksBits (start : Place) (bits : ℕ) (ws : List ℕ) : Type 0 where
     pub message : IsMessage m
     pub content : IsContent m start (words_for bits)
     pub few : bits < 2 ^ 36
     pub is : ws ≡ first_bits bits (words_from m start.segment start.word)
 
-  -- the bodies `bs` are those of n rows of a words and b slots from `start` on (Own.)
+  -- the bodies `bs` are the bodies of n rows of a words and b slots each, from `start` on (Our own.)
   pub record AreRows (start : Place) (n a b : ℕ) (bs : Bodies) : Type 0 where
     pub message : IsMessage m
     pub content : IsContent m start (n * (a + b))

@@ -1,5 +1,5 @@
-//! Lists of bits, packed in words.
-//! A change of what this writes changes canonical bytes: it is a new version of the form.
+//! Lists of bits, packed in words. Any change here that alters canonical bytes makes a new version of the canonical
+//! form.
 
 ghost use Rattle.std.specs.Prelude.{◌≡◌, ◌+◌, ◌*◌, ◌≤◌, length, map};
 ghost use Rattle.std.specs.Int.{from_bool};
@@ -9,7 +9,7 @@ ghost use Rattle.capn_layout.specs.inner.Draft.{Appends};
 
 use crate::draft::push;
 
-/// Returns the word whose lowest bit is the first of `bits`. Its bits past the last of `bits` are 0.
+/// Returns the word whose lowest bits are `bits`, the first bit lowest. All other bits of the word are 0.
 fn word_of_bits(bits: &[bool]) -> u64
     requires { length bits.now ≤ 64 }
     ensures { result ≡ number 2 (map from_bool bits.now) }

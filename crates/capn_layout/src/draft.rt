@@ -1,6 +1,6 @@
-//! The writing of words into a slice of bytes, one after the other.
-//! A change of what this writes changes canonical bytes: it is a new version of the form.
-//! Calls that append take the number of words that are written so far, `len`, and return the new number.
+//! The functions that write words into a slice of bytes, one after the other. Any change here that alters canonical
+//! bytes makes a new version of the canonical form. A function that appends takes the number of words written so far,
+//! `len`, and returns the new number.
 
 ghost use Rattle.std.specs.Prelude.{◌≡◌, ℕ, ◌+◌, ◌*◌, ◌/◌, ◌%◌, ◌<◌, ◌≤◌, [], ◌∷◌, length, replicate};
 ghost use Rattle.std.specs.List.{flat_map};
@@ -13,7 +13,7 @@ ghost use Rattle.capn_layout.specs.inner.Draft.{Writes, Appends, Puts};
 use byteorder::{ByteOrder, LittleEndian};
 use capn_target::counted::PaidBytes;
 
-/// Writes the bytes `xs` over those of `out` from offset `at` on.
+/// Writes the bytes `xs` over the bytes of `out` from offset `at` on.
 #[inline(always)]
 fn write(out: &mut [u8], at: usize, xs: &[u8])
     requires { at + length xs.now ≤ length out.old }
@@ -42,7 +42,7 @@ pub fn push(out: &mut [u8], len: usize, word: u64) -> usize
     len + 1
 }
 
-/// Writes the bytes `xs` of a message over those of `out` from offset `at` on.
+/// Writes the bytes `xs` of a message over the bytes of `out` from offset `at` on.
 #[inline(always)]
 fn write_paid(out: &mut [u8], at: usize, xs: PaidBytes<'_>)
     requires { at + length xs ≤ length out.old }

@@ -1,5 +1,5 @@
-//! Bytes, appended in one growth as zero-padded words.
-//! A change of what this writes changes canonical bytes: it is a new version of the form.
+//! The functions that append bytes as zero-padded words, with one allocation. Any change here that alters canonical
+//! bytes makes a new version of the canonical form.
 
 ghost use Rattle.std.specs.Prelude.{◌≡◌, ◌+◌, ◌*◌, ◌^◌, ◌<◌, ◌++◌, length, replicate, IfOk, OnOk, OnErr};
 ghost use Rattle.capn_layout.specs.inner.PaddedBytes.{pad, padded};
@@ -7,7 +7,7 @@ ghost use Rattle.capn_layout.specs.inner.PaddedBytes.{pad, padded};
 use capn_value::Memory;
 use std::alloc::Allocator;
 
-/// Appends `size` zeros to `bytes`, and more up to a whole word. Returns the offset of the first.
+/// Appends `size` zeros to `bytes`, and further zeros up to a whole word. Returns the offset of the first zero.
 fn append_room<A: Allocator>(bytes: &mut Vec<u8, A>, size: usize) -> Result<usize, Memory>
     ensures start { IfOk result (λ start. start ≡ length bytes.old.items) }
     ensures small { OnOk result (length bytes.old.items + size < 2 ^ 63) }
@@ -20,7 +20,7 @@ fn append_room<A: Allocator>(bytes: &mut Vec<u8, A>, size: usize) -> Result<usiz
     Ok(start)
 }
 
-/// Appends the bytes `xs` to `bytes`, with zeros up to a whole word.
+/// Appends the bytes `xs` to `bytes`, and then zeros up to a whole word.
 pub fn append_bytes<A: Allocator>(bytes: &mut Vec<u8, A>, xs: &[u8]) -> Result<(), Memory>
     ensures ok { OnOk result (bytes.new.items ≡ bytes.old.items ++ padded xs.now) }
     ensures err { OnErr result (bytes.new.items ≡ bytes.old.items) }

@@ -1,5 +1,5 @@
-//! The lengths to which structs and rows are cut, found in the message itself.
-//! A change of what this writes changes canonical bytes: it is a new version of the form.
+//! The lengths to which structs and rows are cut, read from the words of a message. Any change here that alters
+//! canonical bytes makes a new version of the canonical form.
 
 ghost use Rattle.std.specs.Prelude.{◌≡◌, ◌+◌, ◌*◌, ◌<◌, ◌≤◌, max, take};
 ghost use Rattle.capn_layout.specs.RowWords.{kept_each};
@@ -42,8 +42,9 @@ pub fn kept_above<S: Space, L: Ledger>(
     kept_below(space.again(), at, count - 1, least, reads)
 }
 
-/// Returns what [`kept_above`] does, by a loop. It is a call of its own, since its variables would otherwise lie on the
-/// stack at each level of depth.
+/// Returns the number of words that are kept of the `count` words from `at` on, by a loop. The result is that of
+/// [`kept_above`]. The loop is a call of its own, so that the loop's variables don't lie on the stack at each level of
+/// depth.
 #[inline(never)]
 fn kept_below<S: Space, L: Ledger>(
     space: CountedSpace<'_, S, L>,
@@ -74,7 +75,7 @@ fn kept_below<S: Space, L: Ledger>(
 }
 
 /// Returns the greatest length that is kept of one part of `count` rows, which begin every `step` words from `start`
-/// on. The part begins `inset` words into its row and has `size` words. Each read is counted, and each row.
+/// on. The part begins `inset` words into the row and has `size` words. `reads` counts each read and each row.
 pub fn kept_each_counted<S: Space, L: Ledger>(
     space: CountedSpace<'_, S, L>,
     start: Place,

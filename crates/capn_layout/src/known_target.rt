@@ -11,7 +11,7 @@ use capn_walk::{Shape, Target};
 use capn_words::{Place, Pointer, Space, Width, split};
 use std::sync::ledger::Ledger;
 
-/// Returns the word to which `offset` leads from the pointer at `word`.
+/// Returns the word at which content starts, for a pointer at `word` with the offset `offset`.
 #[inline(always)]
 fn start_of(word: u32, offset: i32) -> u32
     requires { (start : ℕ) × (spec.content_start word offset ≡ Ok start) × (start < 2 ^ 32) }
@@ -64,7 +64,7 @@ pub fn target_at<S: Space, L: Ledger>(
 }
 
 /// Returns the target of the pointer at `at`, of any kind. The result of the call has a variable of its own. So only
-/// this result passes through memory, and its place on the stack is needed only here.
+/// that result passes through memory, and takes space on the stack only in this function.
 #[inline(always)]
 fn followed<S: Space, L: Ledger>(
     space: &CountedSpace<'_, S, L>,
@@ -186,8 +186,8 @@ fn content_of<S: Space, L: Ledger>(
     }
 }
 
-/// Returns the composite list of `span` words behind the tag at word `start` of `segment`. It is known to be a
-/// composite list, so nothing is tested again.
+/// Returns the composite list of `span` words after the tag at word `start` of `segment`. The tag was already tested,
+/// so nothing is tested again.
 #[tactic(auto, using(std::proofs::lemmas::Grind::common_steps))]
 #[inline(always)]
 fn rows_of<S: Space, L: Ledger>(
@@ -264,7 +264,7 @@ fn behind_two<S: Space, L: Ledger>(
 }
 
 /// Returns the content that the two words of a landing pad name. `first` is a far pointer to the start of the content,
-/// and `second` gives its form.
+/// and `second` describes the content.
 #[inline(always)]
 fn named_by_two<S: Space, L: Ledger>(
     space: &CountedSpace<'_, S, L>,

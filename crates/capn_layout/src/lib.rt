@@ -1,20 +1,23 @@
-//! The canonical layout of values and messages: one segment, its objects in preorder, every struct cut to what it
-//! keeps.
+//! The canonical layout of values and messages: one segment with the objects in preorder. A struct is cut after the
+//! last word that is not zero and the last pointer that is not null, and all rows of a list are cut to one size.
 //!
-//! - [`layout`] writes the canonical bytes of a tree. A tree with a capability has none, and is refused with the index
-//!   of its first capability.
-//! - [`surveyed_layout`] writes the canonical bytes of a message that was surveyed, whose value it reads in place.
+//! - [`layout`] writes the canonical bytes of a tree. A tree with a capability has no canonical bytes, and is refused
+//!   with the index of the first capability.
+//! - [`surveyed_layout`] writes the canonical bytes of a message that was surveyed, and reads the message's value in
+//!   place.
 //! - [`surveyed_length`] returns the number of words in the canonical bytes.
-//! - [`surveyed_layout_counted`] and [`surveyed_length_counted`] do the same to a message whose reads are counted. The
-//!   cost of its value bounds the number of reads. [`surveyed_layout_into_counted`] writes the bytes into a buffer.
+//! - [`surveyed_layout_counted`] and [`surveyed_length_counted`] write and count the canonical bytes of a message whose
+//!   reads are counted. The cost of the message's value bounds the number of reads. [`surveyed_layout_into_counted`]
+//!   writes the bytes into a buffer.
 //! - [`target_at`] returns the target of a pointer of a surveyed message, and tests nothing again.
 //! - [`Patch`] is a buffer of words, and of holes for words that are not known yet, such as the pointer to an object
-//!   that has no place so far. Nothing here writes to it.
-//! - [`list_pointer`], [`tag_word`] and [`bits_of`] give the words of a layout, for callers that compare bytes with it.
+//!   that has no place yet. No layout uses a `Patch`.
+//! - [`list_pointer`], [`tag_word`] and [`bits_of`] give the words of a layout and the sizes of elements, for callers
+//!   that compare bytes with a layout.
 //!
-//! A tree and a message are laid out by one writer, over what they have in common: slots with their values. The first
-//! pass counts the bytes, and the second writes them. In between their memory is allocated at once. If it is refused,
-//! the result is `Memory`.
+//! A tree and a message are laid out by one writer, which reads slots and the values of slots. The first pass counts
+//! the bytes. Then the memory for all bytes is allocated at once, and the result is `Memory` if that allocation is
+//! refused. The second pass writes the bytes.
 #![tactic(auto)]
 
 mod bits;

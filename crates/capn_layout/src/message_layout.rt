@@ -1,5 +1,5 @@
-//! The canonical layout of a message's value, read in place.
-//! A change of what this writes changes canonical bytes: it is a new version of the form.
+//! The canonical layout of a message's value, read in place. Any change here that alters canonical bytes makes a new
+//! version of the canonical form.
 
 ghost use Rattle.std.specs.Prelude.{◌≡◌, ℕ, ◌+◌, ◌*◌, ◌<◌, ◌≤◌, ◌++◌, length, drop, IfOk};
 ghost use Rattle.capn_value.specs.Tree.{Tree as Value};
@@ -24,7 +24,7 @@ use std::sync::ledger::{Blank, Ledger};
 /// Returns the number of words in the canonical bytes of the value at the root of `space`. The message was surveyed:
 /// the value is at most `depth` objects deep and has no capability.
 ///
-/// It reads the message as the layout does, and takes no memory. (Page: canonicalization.)
+/// The message is read in the order of the layout, and no memory is taken. (Page: canonicalization.)
 pub fn surveyed_length<S: Space>(space: &S, depth: u32) -> u32
     requires { IsReady (HasSlot (S.message space.now)) 0 0 depth 1 }
     ensures { (v : Value) → IsAt (S.message space.now) root v → 8 * result ≡ length (canon v) }
@@ -32,7 +32,7 @@ pub fn surveyed_length<S: Space>(space: &S, depth: u32) -> u32
     length_with_ledger::<S, Brand>(space, depth, Blank::new(1))
 }
 
-/// Returns what [`surveyed_length`] does, with a count in the new ledger `blank`.
+/// Returns the result of [`surveyed_length`], and counts reads in the new ledger `blank`.
 fn length_with_ledger<S: Space, L: Ledger>(space: &S, depth: u32, blank: Blank) -> u32
     requires name { blank.name ≡ L.name }
     requires parts { blank.parts ≡ L.parts }
@@ -44,12 +44,11 @@ fn length_with_ledger<S: Space, L: Ledger>(space: &S, depth: u32, blank: Blank) 
     surveyed_length_counted(&space, depth, &mut reads)
 }
 
-/// Returns what [`surveyed_length`] does, and counts its reads in `reads`, as
-/// [`survey_counted`](capn_walk::survey_counted) does. Each turn of its loops counts as a read, too. The value of the
-/// message `space` is at most `depth` objects deep.
+/// Returns the number of words in the canonical bytes of the value at the root of `space`, and counts reads and loop
+/// turns in `reads`. The value is at most `depth` objects deep and has no capability.
 ///
-/// The count grows by at most twenty for each word that the value costs, under either tariff, and by eleven more. A
-/// walk pays at least that cost. It takes no memory.
+/// The count grows by at most twenty for each word that the value costs, under either tariff, plus eleven. A walk pays
+/// at least that cost. No memory is taken.
 pub fn surveyed_length_counted<S: Space, L: Ledger>(
     space: &CountedSpace<'_, S, L>,
     depth: u32,
@@ -57,7 +56,7 @@ pub fn surveyed_length_counted<S: Space, L: Ledger>(
 ) -> u32
     requires { IsReady (HasSlot space.now) 0 0 depth 1 }
     ensures length { (v : Value) → IsAt space.now root v → 8 * result ≡ length (canon v) }
-    // The count of reads and turns grows by at most twenty for each word of the cost, and by eleven more.
+    // The count of reads and turns grows by at most twenty for each word of the cost, plus eleven.
     ensures reads { (v : Value) → IsAt space.now root v → (base : ℕ)
         → reads.new ≤ reads.old + 20 * cost base v + 11 }
 {
@@ -68,12 +67,12 @@ pub fn surveyed_length_counted<S: Space, L: Ledger>(
     1 + size_of_slot(&source, 0, depth, reads)
 }
 
-/// Writes the canonical bytes of the value at the root of `space` to the beginning of `out`, and returns their number.
-/// The bytes after them stay as they were. The message was surveyed: the value is at most `depth` objects deep and has
-/// no capability.
+/// Writes the canonical bytes of the value at the root of `space` to the beginning of `out`, and returns the number of
+/// bytes written. The other bytes of `out` stay as they were. The message was surveyed: the value is at most `depth`
+/// objects deep and has no capability.
 ///
-/// It reads the message in place and tests nothing again. It counts its reads in `reads`, with the bound of
-/// [`surveyed_length_counted`]. It takes no memory but the stack. (Page: canonicalization.)
+/// The message is read in place, and nothing is tested again. Reads and loop turns are counted in `reads`, with the
+/// bound of [`surveyed_length_counted`]. No memory is taken except the stack. (Page: canonicalization.)
 pub fn surveyed_layout_into_counted<S: Space, L: Ledger>(
     space: &CountedSpace<'_, S, L>,
     depth: u32,
@@ -84,7 +83,7 @@ pub fn surveyed_layout_into_counted<S: Space, L: Ledger>(
     requires fits { (v : Value) → IsAt space.now root v → length (canon v) ≤ length out.old }
     ensures written { (v : Value) → IsAt space.now root v
         → (result ≡ length (canon v)) × (out.new ≡ canon v ++ drop (length (canon v)) out.old) }
-    // The count of reads and turns grows by at most twenty for each word of the cost, and by eleven more.
+    // The count of reads and turns grows by at most twenty for each word of the cost, plus eleven.
     ensures reads { (v : Value) → IsAt space.now root v → (base : ℕ)
         → reads.new ≤ reads.old + 20 * cost base v + 11 }
 {
@@ -97,9 +96,9 @@ pub fn surveyed_layout_into_counted<S: Space, L: Ledger>(
     8 * words
 }
 
-/// Returns a number of bytes that is enough for the canonical bytes of a message that was surveyed. This is the size of
-/// `paid` words and one more, if that is no more than twice the message, else exactly the number of canonical bytes.
-/// The size of the message is that of its first `paid` segments.
+/// Returns a number of bytes that is enough for the canonical bytes of a message that was surveyed. The number is the
+/// size of `paid + 1` words, if `paid + 1` is at most twice the number of words in the first `paid` segments. Otherwise
+/// the number is exactly that of the canonical bytes.
 fn room_for<S: Space, L: Ledger>(
     space: &CountedSpace<'_, S, L>,
     depth: u32,
@@ -124,11 +123,11 @@ fn room_for<S: Space, L: Ledger>(
 }
 
 /// Writes the canonical bytes of the value at the root of `space`. The message was surveyed: the value is at most
-/// `depth` objects deep and has no capability, and its walk paid `paid` words.
+/// `depth` objects deep and has no capability, and `paid` is the number of words that the walk pays.
 ///
-/// It reads the message in place and tests nothing again. The memory is allocated on `alloc` at once: `paid` words and
-/// one more, if that is no more than twice the message (its first `paid` segments). Else the bytes are counted first.
-/// `Memory` is returned only if the allocation was refused. (Page: canonicalization.)
+/// The message is read in place, and nothing is tested again. The memory is allocated on `alloc` at once: `paid + 1`
+/// words, if `paid + 1` is at most twice the number of words in the first `paid` segments. Otherwise the bytes are
+/// counted first. `Memory` is returned only if the allocation was refused. (Page: canonicalization.)
 pub fn surveyed_layout<S: Space, A: Allocator>(
     alloc: A,
     space: &S,
@@ -142,7 +141,7 @@ pub fn surveyed_layout<S: Space, A: Allocator>(
     layout_with_ledger::<S, A, Brand>(alloc, space, depth, paid, Blank::new(1))
 }
 
-/// Writes what [`surveyed_layout`] does, with a count in the new ledger `blank`.
+/// Writes the canonical bytes of [`surveyed_layout`], and counts reads in the new ledger `blank`.
 fn layout_with_ledger<S: Space, A: Allocator, L: Ledger>(
     alloc: A,
     space: &S,
@@ -161,11 +160,11 @@ fn layout_with_ledger<S: Space, A: Allocator, L: Ledger>(
     surveyed_layout_counted(alloc, &space, depth, paid, &mut reads)
 }
 
-/// Writes what [`surveyed_layout`] does of the message `space`, and counts its reads in `reads`, as
-/// [`surveyed_length_counted`] does. The value is at most `depth` objects deep.
+/// Writes the canonical bytes of the value at the root of `space`, and counts reads and loop turns in `reads`. The
+/// value is at most `depth` objects deep and has no capability, and `paid` is the number of words that the walk pays.
+/// The memory is that of [`surveyed_layout`].
 ///
-/// The count grows by at most two for each word that was `paid`, by forty for each word that the value costs, and by 23
-/// more.
+/// The count grows by at most two for each of the `paid` words, plus forty for each word that the value costs, plus 23.
 pub fn surveyed_layout_counted<S: Space, A: Allocator, L: Ledger>(
     alloc: A,
     space: &CountedSpace<'_, S, L>,
@@ -176,8 +175,8 @@ pub fn surveyed_layout_counted<S: Space, A: Allocator, L: Ledger>(
     requires ready { IsReady (HasSlot space.now) 0 0 depth 1 }
     requires paid { (v : Value) → IsAt space.now root v → length (canon v) ≤ 8 * (paid + 1) }
     ensures laid { IfOk result (λ bytes. (v : Value) → IsAt space.now root v → bytes.items ≡ canon v) }
-    // The count of reads and turns grows by at most two for each word paid, by forty for each word of the cost, and by
-    // 23 more, whatever is returned.
+    // The count of reads and turns grows by at most two for each word paid, plus forty for each word of the cost, plus
+    // 23, for any result.
     ensures reads { (v : Value) → IsAt space.now root v → (base : ℕ)
         → reads.new ≤ reads.old + 2 * paid + 40 * cost base v + 23 }
 {

@@ -1,5 +1,5 @@
-//! The slots of a surveyed message, as a source of a layout.
-//! A change of what this writes changes canonical bytes: it is a new version of the form.
+//! The slots of a surveyed message, as a source of a layout. Any change here that alters canonical bytes makes a new
+//! version of the canonical form.
 
 ghost use Rattle.std.specs.Prelude.{ℕ, ◌+◌};
 ghost use Rattle.capn_words.specs.Message.{IsMessage};

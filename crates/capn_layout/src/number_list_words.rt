@@ -1,5 +1,5 @@
-//! Lists of elements without pointers, copied from the message.
-//! A change of what this writes changes canonical bytes: it is a new version of the form.
+//! Lists of elements without pointers, copied from the message. Any change here that alters canonical bytes makes a new
+//! version of the canonical form.
 
 ghost use Rattle.std.specs.Prelude.{◌≡◌, ◌^◌, ◌<◌, ◌+◌, ◌*◌, ◌≤◌, length};
 ghost use Rattle.capn_words.specs.Message.{IsMessage};
@@ -30,8 +30,8 @@ pub fn bits_of(width: Width) -> u64
     }
 }
 
-/// Appends the first `bits` bits of the words from `start` on after the first `len` words of `out`. The bits past them,
-/// up to a whole word, are 0. Returns the new number of words.
+/// Copies the first `bits` bits of the message's words from `start` on. The bits are written after the first `len`
+/// words of `out`, and further bits, up to a whole word, are 0. Returns the new number of words.
 pub fn append_bits<S: Space, L: Ledger>(
     space: &CountedSpace<'_, S, L>,
     start: Place,

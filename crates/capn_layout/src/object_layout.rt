@@ -1,5 +1,5 @@
-//! The layout of values, object by object, in preorder.
-//! A change of what this writes changes canonical bytes: it is a new version of the form.
+//! The layout of values, object by object, in preorder. Any change here that alters canonical bytes makes a new version
+//! of the canonical form.
 
 ghost use Rattle.std.specs.Prelude.{◌≡◌, ℕ, ◌+◌, ◌*◌, ◌/◌, ◌^◌, ◌<◌, ◌≤◌, ◌++◌, List, length, drop, IfOk};
 ghost use Rattle.capn_words.specs.Message.{words_in};
@@ -25,7 +25,7 @@ use capn_words::{Pointer, join};
 use std::alloc::Allocator;
 
 /// Returns the canonical bytes of the value in the first slot of `source`, which is at most `depth` objects deep. The
-/// bytes are counted first, and their memory is allocated on `alloc` at once.
+/// bytes are counted first, and the memory for all bytes is allocated on `alloc` at once.
 pub fn canonical_bytes<S: Source, A: Allocator>(
     alloc: A,
     source: S,
@@ -41,9 +41,9 @@ pub fn canonical_bytes<S: Source, A: Allocator>(
     Ok(bytes)
 }
 
-/// Writes the canonical bytes of the value in the first slot of `source` to `out`: the pointer to it and then its
-/// content. Returns the number of words written. The bytes after them stay as they were. The value is at most `depth`
-/// objects deep.
+/// Writes the canonical bytes of the value in the first slot of `source` to `out`: the pointer to the value and then
+/// the value's content. Returns the number of words written. The other bytes of `out` stay as they were. The value is
+/// at most `depth` objects deep.
 pub fn lay_root<S: Source>(source: &S, depth: u32, out: &mut [u8], reads: &mut S::Reads) -> usize
     requires ready { IsReadyIn S.has source.now 0 depth 1 (length out.old / 8) }
     requires short { length out.old ≤ 2 ^ 32 }
@@ -55,8 +55,8 @@ pub fn lay_root<S: Source>(source: &S, depth: u32, out: &mut [u8], reads: &mut S
     lay_slot(source, 0, 0, depth, out, len, reads)
 }
 
-/// Writes the pointer to the value in `slot` over word `from`, and appends its content with all below it. The value is
-/// at most `depth` objects deep.
+/// Writes the pointer to the value in `slot` over word `from`, and appends the value's content and everything below.
+/// The value is at most `depth` objects deep.
 #[cycle(objects)]
 #[inline(always)]
 fn lay_slot<S: Source>(
@@ -119,8 +119,9 @@ fn lay_slot<S: Source>(
     }
 }
 
-/// Writes the pointer to a list of `count` structs over word `from`, and appends its content with all below it, at most
-/// `depth` objects deep. It is a call of its own, so that its stack frame is not kept at each level of depth.
+/// Writes the pointer to a list of `count` structs over word `from`, and appends the list's content and everything
+/// below, at most `depth` objects deep. The function is a call of its own, so that its stack frame is not kept at each
+/// level of depth.
 #[cycle(objects)]
 #[inline(never)]
 fn lay_list<S: Source>(
@@ -157,8 +158,8 @@ fn lay_list<S: Source>(
     )
 }
 
-/// Writes the pointers of the first `count` slots of `source` over the words from `first` on, and appends their
-/// contents with all below them.
+/// Writes the pointers of the first `count` slots of `source` over the words from `first` on, and appends the contents
+/// of the slots and everything below.
 #[cycle(objects)]
 #[inline(always)]
 fn lay_each<S: Source>(
@@ -186,7 +187,8 @@ fn lay_each<S: Source>(
     end
 }
 
-/// Does what [`lay_each`] does, as a call of its own.
+/// Lays out the first `count` slots of `source` by [`lay_each`]. The function is not inlined, so it has a stack frame
+/// of its own.
 #[cycle(objects)]
 #[inline(never)]
 fn lay_slots<S: Source>(
@@ -209,8 +211,8 @@ fn lay_slots<S: Source>(
     lay_each(source, count, first, depth, out, len, reads)
 }
 
-/// Writes the pointers of the slots of `count` rows over their words, row by row, and appends their contents with all
-/// below them. The rows begin at word `first`, and each has `words` words and `slots` slots.
+/// Writes the pointers of the slots of `count` rows over the slots' words, row by row, and appends the contents of the
+/// slots and everything below. The rows begin at word `first`, and each has `words` words and `slots` slots.
 #[cycle(objects)]
 #[inline(always)]
 fn lay_rows<S: Source>(

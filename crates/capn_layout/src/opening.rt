@@ -1,5 +1,6 @@
-//! The opening of an object: the pointer to it and its own words are written before what its slots name.
-//! A change of what this writes changes canonical bytes: it is a new version of the form.
+//! The functions that open an object: they write the pointer to the object and the object's own words, before the
+//! contents that the object's slots name. Any change here that alters canonical bytes makes a new version of the
+//! canonical form.
 
 ghost use Rattle.std.specs.Prelude.{◌^◌, ◌+◌, ◌*◌, ◌<◌, ◌≤◌, length};
 ghost use Rattle.capn_value.specs.Tree.{Tree, Bodies, count_rows, row_words};
@@ -15,7 +16,7 @@ use crate::pointer_words::{list_pointer, struct_pointer, tag_word};
 use crate::source::Source;
 use capn_words::Width;
 
-/// An object whose own words are written: the word at which its first row begins, the end of all rows, and the numbers
+/// An object whose own words are written: the word at which the first row begins, the end of all rows, and the numbers
 /// of words and of slots that are kept of each row.
 #[derive(Clone, Copy)]
 pub struct Opened {
@@ -25,7 +26,7 @@ pub struct Opened {
     pub slots: u32,
 }
 
-/// Writes the pointer to the struct `row` over word `from`, and appends what is kept of the struct after the first
+/// Writes the pointer to the struct `row` over word `from`, and appends the kept part of the struct after the first
 /// `len` words of `out`.
 #[inline(always)]
 pub fn open_struct<S: Source>(
@@ -59,8 +60,8 @@ pub fn open_struct<S: Source>(
     }
 }
 
-/// Writes the pointer to a list of `count` pointers over word `from`, and appends words in place of its elements after
-/// the first `len` words of `out`.
+/// Writes the pointer to a list of `count` pointers over word `from`, and appends words in place of the list's elements
+/// after the first `len` words of `out`.
 #[inline(always)]
 pub fn open_links<S: Source>(
     row: &S::Rows,
@@ -91,9 +92,9 @@ pub fn open_links<S: Source>(
     }
 }
 
-/// Writes the pointer to the list of `count` structs `rows` over word `from`, and appends its tag and what is kept of
-/// each row after the first `len` words of `out`. All rows are cut to the same size. It is a call of its own, so that
-/// its stack frame is not kept at each level of depth.
+/// Writes the pointer to the list of `count` structs `rows` over word `from`, and appends the tag and the kept part of
+/// each row after the first `len` words of `out`. All rows are cut to the same size. The function is a call of its own,
+/// so that its stack frame is not kept at each level of depth.
 #[inline(never)]
 pub fn open_rows<S: Source>(
     rows: &S::Rows,

@@ -16,7 +16,7 @@ use std::marker::Model;
 
 /// A list of words and holes. A hole is a word that is not known yet.
 ///
-/// The words are stored as their bytes, and in addition each word has a bit that says whether it is a hole.
+/// The words are stored as bytes. In addition each word has a bit that says whether the word is a hole.
 #[derive(Debug, Drop)]
 pub struct Patch<A: Allocator = Global> {
     bytes: Vec<u8, A>,
@@ -55,7 +55,7 @@ pub(crate) fn write_at<A: Allocator>(bytes: &mut Vec<u8, A>, start: usize, word:
 }
 
 impl<A: Allocator + Copy> Patch<A> {
-    /// Returns an empty buffer, which takes no memory of `alloc` until something is appended.
+    /// Returns an empty buffer, which takes no memory on `alloc` until something is appended.
     pub fn new(alloc: A) -> Patch<A>
         ensures { result ≡ [] }
     {
@@ -98,7 +98,7 @@ impl<A: Allocator> Patch<A> {
 
     /// Appends `word`.
     ///
-    /// Returns `Memory` if a growth was refused, and then nothing has changed.
+    /// Returns `Memory` if an allocation was refused. The buffer is then unchanged.
     pub fn push(&mut self, word: u64) -> Result<(), Memory>
         ensures ok { OnOk result (self.new ≡ self.old ++ Some word ∷ []) }
         ensures err { OnErr result (self.new ≡ self.old) }
@@ -110,9 +110,9 @@ impl<A: Allocator> Patch<A> {
         Ok(())
     }
 
-    /// Appends `n` holes. Returns the place of the first, which is the length that the buffer had.
+    /// Appends `n` holes. Returns the place of the first hole, which is the length of the buffer before the call.
     ///
-    /// Returns `Memory` if a growth was refused, and then nothing has changed.
+    /// Returns `Memory` if an allocation was refused. The buffer is then unchanged.
     #[inline(always)]
     pub fn leave(&mut self, n: usize) -> Result<usize, Memory>
         ensures ok { IfOk result (λ at. (at ≡ length self.old)
@@ -131,8 +131,8 @@ impl<A: Allocator> Patch<A> {
         Ok(at)
     }
 
-    /// Appends the bytes `xs`, packed eight to a word. Returns `Memory` if a growth was refused, and then nothing has
-    /// changed.
+    /// Appends the bytes `xs`, packed eight to a word. Returns `Memory` if an allocation was refused. The buffer is
+    /// then unchanged.
     pub fn extend_bytes(&mut self, xs: &[u8]) -> Result<(), Memory>
         ensures ok { OnOk result (self.new
             ≡ self.old ++ whole (packed 8 8 (words_for (8 * length xs.now)) xs.now)) }
@@ -155,8 +155,8 @@ impl<A: Allocator> Patch<A> {
 
     /// Returns the bytes of the words, if no hole is left.
     ///
-    /// The buffer is moved, so nothing is copied and no memory is taken. `Memory`, which would hand the buffer back, is
-    /// never returned.
+    /// The buffer is moved, so nothing is copied and no memory is taken. An `Err`, which would return the buffer with
+    /// `Memory`, never occurs.
     pub fn finish(self) -> Result<Vec<u8, A>, (Patch<A>, Memory)>
         requires { IsWhole self }
         ensures ok { IfOk result (λ v. v.items ≡ bytes_of_words (filled self)) }

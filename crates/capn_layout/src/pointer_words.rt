@@ -1,5 +1,5 @@
-//! The pointer words of a layout.
-//! A change of what this writes changes canonical bytes: it is a new version of the form.
+//! The pointer words of a layout. Any change here that alters canonical bytes makes a new version of the canonical
+//! form.
 
 ghost use Rattle.std.specs.Prelude.{◌≡◌, ◌^◌, ◌<◌, ◌≤◌, pos};
 ghost use Rattle.capn_words.specs.Pointers.{word_of};
@@ -26,7 +26,7 @@ pub fn list_pointer(from: usize, to: usize, width: Width, count: usize) -> u64
 }
 
 /// Returns the pointer that leads from word `from` to the content at word `to` of a struct with `words` words and
-/// `slots` slots. The pointer to a struct that has neither has offset -1.
+/// `slots` slots. The pointer to a struct without words and without slots has offset -1.
 #[inline(always)]
 pub fn struct_pointer(from: usize, to: usize, words: usize, slots: usize) -> u64
     requires order { from < to }

@@ -1,4 +1,4 @@
-//! The source of a layout: slots with their values.
+//! The source of a layout: slots with values.
 
 ghost use Rattle.std.specs.Prelude.{◌≡◌, ℕ, ◌+◌, ◌*◌, ◌^◌, ◌<◌, ◌≤◌, List, length};
 ghost use Rattle.capn_value.specs.Tree.{Tree, Bodies, count, count_rows, row_words, tree_at};
@@ -11,33 +11,33 @@ ghost use Rattle.capn_layout.specs.Sound.{AreWide};
 
 use capn_words::Width;
 
-/// The content of a slot.
+/// The content of a slot, by kind.
 #[derive(Drop)]
 pub enum Item<N, R> {
     /// Null.
     Nil,
     /// A capability, by its index.
     Cap(u32),
-    /// A list of numbers: the numbers, their width and their count.
+    /// A list of numbers: the numbers, the width, and the number of elements.
     Numbers(N, Width, u32),
-    /// A struct: one row.
+    /// A struct, as one row.
     Struct(R),
     /// A list of pointers: a row that has only slots, and the number of slots.
     Links(R, u32),
-    /// A list of structs: its rows, and their number.
+    /// A list of structs: the rows, and the number of rows.
     Rows(R, u32),
 }
 
-/// Consecutive slots, each with its value.
+/// Consecutive slots, each with a value.
 ///
 /// There are two sources: the slots of a [`Value`](capn_value::Value), and the words of a message that was surveyed.
-/// The source over a message counts its reads, and with them the turns of loops.
+/// The source over a message counts reads and loop turns.
 pub trait Source: Drop {
     /// The type that refers to the numbers of a list.
     type Numbers: Drop;
-    /// The type that refers to rows of equal sizes, each with its words and its slots.
+    /// The type that refers to rows of equal sizes, each with words and slots.
     type Rows: Drop;
-    /// The type that counts reads of the message. It takes no bytes.
+    /// The type that counts reads of the message, which takes no bytes.
     type Reads;
 
     /// The statement that a slot has a value.
@@ -56,11 +56,11 @@ pub trait Source: Drop {
     fn tick(reads: &mut Self::Reads)
         ensures { spent reads.new ≤ spent reads.old + 1 };
 
-    /// Returns `rows` again, for a function that takes them by value.
+    /// Returns a copy of `rows`, for a function that takes rows by value.
     fn again(rows: &Self::Rows) -> Self::Rows
         ensures { result ≡ rows.now };
 
-    /// Returns the content of `slot`, and counts its reads in `reads`.
+    /// Returns the content of `slot`, and counts the reads for it in `reads`.
     fn item(&self, slot: u32, reads: &mut Self::Reads) -> Item<Self::Numbers, Self::Rows>
         requires { (v : Tree) × has self.now slot v }
         ensures is { (v : Tree) → has self.now slot v → IsItem packs are result v }
@@ -83,22 +83,22 @@ pub trait Source: Drop {
         requires { (ws : List ℕ) × packs numbers.now ws × (length ws ≤ 2 ^ 29) }
         ensures { (ws : List ℕ) → packs numbers.now ws → result ≡ length ws };
 
-    /// Returns the number of words that are kept of each of `rows`, if all are cut to the same size.
+    /// Returns the number of words that are kept of each of `rows`, if all rows are cut to the same size.
     fn kept_words(rows: &Self::Rows, reads: &mut Self::Reads) -> u32
         requires { (bs : Bodies) × are rows.now bs }
         ensures kept { (bs : Bodies) → are rows.now bs → result ≡ kept_words_of_rows bs }
         ensures reads { (bs : Bodies) → are rows.now bs
             → spent reads.new ≤ spent reads.old + count_rows bs + 2 * row_words bs };
 
-    /// Returns the number of slots that are kept of each of `rows`, if all are cut to the same size.
+    /// Returns the number of slots that are kept of each of `rows`, if all rows are cut to the same size.
     fn kept_slots(rows: &Self::Rows, reads: &mut Self::Reads) -> u32
         requires { (bs : Bodies) × are rows.now bs }
         ensures kept { (bs : Bodies) → are rows.now bs → result ≡ kept_slots_of_rows bs }
         ensures reads { (bs : Bodies) → are rows.now bs
             → spent reads.new ≤ spent reads.old + count_rows bs + 2 * row_words bs };
 
-    /// Appends each of `rows` after the first `len` words of `out`: its first `words` words, and then any words in
-    /// place of its first `slots` slots. Returns the new number of words.
+    /// Appends each of `rows` after the first `len` words of `out`: the first `words` words of the row, and then any
+    /// words in place of the first `slots` slots. Returns the new number of words.
     fn append_rows(
         rows: &Self::Rows,
         words: u32,

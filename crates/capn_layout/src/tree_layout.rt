@@ -1,5 +1,5 @@
-//! The canonical layout of a tree.
-//! A change of what this writes changes canonical bytes: it is a new version of the form.
+//! The canonical layout of a tree. Any change here that alters canonical bytes makes a new version of the canonical
+//! form.
 
 ghost use Rattle.std.specs.Prelude.{◌≡◌, ℕ, Some, None, IfOk, IfErr, OnOk};
 ghost use Rattle.capn_value.specs.FirstCap as caps;
@@ -16,9 +16,9 @@ use std::fmt;
 /// The reason why a tree has no layout.
 #[derive(Clone, Copy, Debug, PartialEq, Eq)]
 pub enum LayoutFault {
-    /// A growth was refused.
+    /// An allocation was refused.
     Memory,
-    /// The tree has a capability, which canonical bytes can't hold. The index is that of the first capability in
+    /// The tree has a capability, which canonical bytes can't hold. The number is the index of the first capability in
     /// preorder.
     Capability(u32),
 }
@@ -42,14 +42,15 @@ impl Error for LayoutFault {}
 /// The greatest height of a tree.
 const MOST_HEIGHT: u32 = 256;
 
-/// Writes the canonical bytes of `tree`: one segment, its objects in preorder, every struct cut to what it keeps.
+/// Writes the canonical bytes of `tree`: one segment with the objects in preorder. A struct is cut after the last word
+/// that is not zero and the last pointer that is not null, and all rows of a list are cut to one size.
 ///
-/// `Capability` is returned exactly if the tree has a capability, before any memory is taken. It has the index of the
-/// first in preorder. `Memory` is returned only if the memory for the bytes, which is allocated on `alloc` at once, was
+/// `Capability` is returned exactly if the tree has a capability, before any memory is taken, with the index of the
+/// first capability in preorder. `Memory` is returned only if the one allocation on `alloc`, for all bytes, was
 /// refused.
 ///
-/// Page: canonicalization. Own: bits past a list's last element are 0, and a list without content points at the next
-/// free word.
+/// Page: canonicalization. Our own: bits past a list's last element are 0, and a list without content points at the
+/// next free word.
 pub fn layout<A: Allocator + Copy, B: Allocator>(
     alloc: A,
     tree: &Tree<B>,

@@ -1,5 +1,5 @@
-//! The slots of values in memory, as a source of a layout.
-//! A change of what this writes changes canonical bytes: it is a new version of the form.
+//! The slots of values in memory, as a source of a layout. Any change here that alters canonical bytes makes a new
+//! version of the canonical form.
 
 ghost use Rattle.std.specs.Prelude.{◌≡◌, ◌+◌, ◌*◌, ◌≤◌, ◌++◌, length, take, replicate};
 ghost use Rattle.std.proofs.Common.{◌∙◌, sym};
@@ -18,7 +18,7 @@ use capn_value::{Body, Value, kept_slots, kept_slots_of_rows, kept_words, kept_w
 use capn_words::Width;
 use std::alloc::Allocator;
 
-/// The numbers of a list.
+/// The numbers of a list, by width.
 #[derive(Clone, Copy)]
 pub enum TreeNumbers<'a> {
     Voids,
@@ -29,7 +29,7 @@ pub enum TreeNumbers<'a> {
     Octs(&'a [u64]),
 }
 
-/// The rows of a list of structs, or one row: a struct, or slots alone.
+/// The rows of a list of structs, or one row: a struct, or only slots.
 #[derive_where(Clone, Copy)]
 pub enum TreeRows<'a, B: Allocator> {
     Bodies(&'a [Body<B>]),
@@ -37,7 +37,7 @@ pub enum TreeRows<'a, B: Allocator> {
     Slots(&'a [Value<B>]),
 }
 
-/// The slots of a value, or one slot that has a value.
+/// The slots of a value, or one slot with a value.
 #[derive_where(Clone, Copy)]
 pub enum TreeSlots<'a, B: Allocator> {
     Root(&'a Value<B>),
@@ -57,7 +57,7 @@ impl<'a, B: Allocator> Source for TreeSlots<'a, B> {
 
     ghost are = { λ x bs. AreBodies x bs };
 
-    // A tree is not a message, so no reads are counted.
+    // No reads are counted, since a tree is not a message.
     ghost spent = { λ _. 0 };
 
     fn tick(_reads: &mut ()) {}
@@ -144,7 +144,7 @@ impl<'a, B: Allocator> Source for TreeSlots<'a, B> {
     ghost one = { λ s k v w hv hw. hv.is ∙ sym hw.is };
 }
 
-/// Appends the first `words` words of a row, and zeros in place of its first `slots` slots.
+/// Appends the first `words` words of the row `body`, and zeros in place of the first `slots` slots.
 fn push_body<B: Allocator>(
     body: &Body<B>,
     words: usize,
@@ -160,7 +160,7 @@ fn push_body<B: Allocator>(
     extend_zeros(out, end, slots)
 }
 
-/// Appends the first `words` words of each row, each followed by zeros in place of its first `slots` slots.
+/// Appends, for each row of `bodies`, the first `words` words and then zeros in place of the first `slots` slots.
 fn push_bodies<B: Allocator>(
     bodies: &[Body<B>],
     words: usize,
@@ -179,7 +179,7 @@ fn push_bodies<B: Allocator>(
     end
 }
 
-/// Returns `value` as the item of a slot.
+/// Returns the item of a slot that has `value`.
 #[tactic(auto, using(capn_value::specs::Views::views))]
 fn item_of<B: Allocator>(value: &Value<B>) -> Item<TreeNumbers<'_>, TreeRows<'_, B>>
     requires { Sound (tree_of value.now) }

@@ -8,13 +8,13 @@ use std::alloc::Allocator;
 /// The number of zeros that are copied at once.
 const BLOCK: usize = 512;
 
-/// A block of zeros, from which others are copied.
+/// A block of zeros, from which zeros are copied.
 static ZEROS: [u8; 512] = [0; 512];
 
 /// Returns a vector of `size` zeros. The memory is allocated on `alloc` at once, and `Memory` is returned only if that
-/// was refused.
+/// allocation was refused.
 ///
-/// The zeros are copied a block at a time, which is faster than to write each.
+/// The zeros are copied a block at a time, which is faster than one by one.
 pub fn zeros<A: Allocator>(alloc: A, size: usize) -> Result<Vec<u8, A>, Memory>
     ensures { IfOk result (λ bytes. length bytes.items ≡ size) }
 {

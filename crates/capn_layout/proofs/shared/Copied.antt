@@ -36,7 +36,7 @@ copied-words m s w n is h =
     let k : length (bytes_at m (record { segment = s; word = w }) (8 * n)) / 8 ≡ length ws = omega arith in
     ap₂ words_in k e ∙ words_of_bytes ws (below-take n (drop w seg) (below-drop w seg (is.each s)))
 
--- the bytes of n words are appended as those words
+-- appending the bytes of n words appends the n words
 pub copy-of : (m : List (List ℕ)) (s w n : ℕ) (p q : List ℕ) (bs : List ℕ) → IsMessage m
     → w + n ≤ length (segment_at m s) → bs ≡ bytes_at m (record { segment = s; word = w }) (8 * n) →
     q ≡ p ++ words_in (length bs / 8) bs → q ≡ p ++ take n (words_from m s w)
@@ -55,7 +55,7 @@ whole-bytes m s w n bs h e =
     let l = ap length e ∙ length-bytes_at m (record { segment = s; word = w }) (8 * n) (omega arith) in
     omega arith
 
--- the bytes of n words are 8 * n
+-- n words have 8 * n bytes
 pub length-copied : (m : List (List ℕ)) (s w n : ℕ) (bs : List ℕ) → w + n ≤ length (segment_at m s)
     → bs ≡ bytes_at m (record { segment = s; word = w }) (8 * n) → length bs ≡ 8 * n
 length-copied m s w n bs h e = ap length e ∙ length-bytes_at m (record { segment = s; word = w }) (8 * n) (omega arith)
@@ -88,7 +88,7 @@ length-parts m s w x a b h k =
     let v = length-part m s x b k in
     omega arith
 
--- one more row lies inside all rows
+-- row i lies inside the n rows
 pub row-room : (n i k : ℕ) → i < n → i * k + k ≤ n * k
 row-room n i k lt =
     let z : n ≡ suc i + (n - suc i) = omega arith in

@@ -1,5 +1,5 @@
--- The reads of a message by a layout are bounded by the cost of its value, under either tariff. (For `kept.rt`,
--- `message_layout.rt`, `message_slots.rt` and others.)
+-- The reads of a message by a layout are bounded by the cost of the message's value, under either tariff. (For
+-- `kept.rt`, `message_layout.rt`, `message_slots.rt` and others.)
 use Rattle.std.proofs.Common.{◌≡◌, ℕ, zero, suc, ◌+◌, ◌-◌, ◌*◌, ◌<◌, ◌≤◌, ◌==◌, List, length, max, cond, ap, arith}
 use Rattle.std.proofs.lemmas.Bool.Decides.{nat_tests}
 use Rattle.capn_words.specs.Message.{IsMessage, segment_at}
@@ -25,7 +25,7 @@ times-le i n k le =
     let d : (i + (n - i)) * k ≡ i * k + (n - i) * k = omega arith in
     omega arith
 
--- rows of equal sizes have as many words as one of them times their number
+-- the number of words of rows of equal sizes is the number of rows times the words of a row
 pub rows-words : (m : List (List ℕ)) (bs : Bodies) (a b s w : ℕ) → RowsAt m a b s w bs
     → row_words bs ≡ count_rows bs * (a + b)
 rows-words m no_bodies a b s w i = omega arith
@@ -104,7 +104,7 @@ module _ (m : List (List ℕ)) (base : ℕ) where
         let y = weights-rows bs a b s (w + a + b) i.4 in
         omega arith
 
--- a value at a word of a message is in the slot there
+-- a value at a word of a message is the value of the slot at that word
 pub at-slot : (m : List (List ℕ)) (s w : ℕ) (v : Tree) → IsMessage m → s < length m → w < length (segment_at m s)
     → IsAt m (record { segment = s; word = w }) v → HasSlot m s w v
 at-slot m s w v message exists place at = record { message = message; exists = exists; place = place; at = at }

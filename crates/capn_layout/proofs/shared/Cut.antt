@@ -63,7 +63,7 @@ module _ (seg : List ℕ) (w count : ℕ) where
           from (inl a) = at-part k a ∙ h k l a
           from (inr b) = past-part (drop w seg) count k b
 
-  -- if the words of a part from the n-th on are zero and the one before isn't, n words are kept
+  -- if the words of a part from word n on are zero and word n - 1 isn't zero, n words are kept
   pub kept-found : (least n : ℕ) → least < n → n ≤ count → AreZeros n → slice_index seg (w + (n - 1)) ≢ 0
       → n ≡ max least (kept_words part)
   kept-found least n l le h ne =
@@ -78,7 +78,7 @@ module _ (seg : List ℕ) (w count : ℕ) where
       let a = cut n h in
       omega arith
 
--- zeros at the end of a part do not change what is kept
+-- zeros at the end of a part do not change the number of words that are kept
 zeros-after : (k n : ℕ) (xs : List ℕ) → k ≤ n → ((j : ℕ) → k ≤ j → j < n → slice_index xs j ≡ 0)
     → kept_words (take k xs) ≡ kept_words (take n xs)
 zeros-after zero n xs l h =
@@ -88,7 +88,7 @@ zeros-after (suc k) (suc n) [] l h = refl
 zeros-after (suc k) (suc n) (x ∷ xs) l h =
     ap (kept_behind (x == 0)) (zeros-after k n xs (omega arith) (λ j a b. h (suc j) (omega arith) (omega arith)))
 
--- the last word of a part does not change what is kept if it is zero
+-- if the last word of a part is zero, the last word does not change the number of words that are kept
 pub last-cut : (seg : List ℕ) (w count : ℕ) → 0 < count → slice_index seg (w + (count - 1)) ≡ 0
     → kept_words (take (count - 1) (drop w seg)) ≡ kept_words (take count (drop w seg))
 last-cut seg w count some z =
@@ -109,7 +109,7 @@ take-less (suc k) zero xs h = absurd (omega arith)
 take-less (suc k) (suc n) [] h = refl
 take-less (suc k) (suc n) (x ∷ xs) h = ap (λ (ys : List ℕ). x ∷ ys) (take-less k n xs (omega arith))
 
--- all of some words are kept if and only if the last of them isn't zero
+-- all words of a part are kept if and only if the last word isn't zero
 module _ (seg : List ℕ) (w count : ℕ) (some : 0 < count) where
   pub all-kept : slice_index seg (w + (count - 1)) ≢ 0 → kept_words (take count (drop w seg)) ≡ count
   all-kept h =

@@ -53,7 +53,7 @@ module _ (m : List (List ℕ)) where
       let e = ap (kept_each m s w size step) z in
       omega arith
 
-  -- the cells of rows begin with those of all n rows
+  -- before the first row all n rows are left
   pub cells-begin : (s w step inset a b n : ℕ) (p : List ℕ)
       → p ++ row_cells m s w step inset a b (n - 0) ≡ p ++ row_cells m s w step inset a b n
   cells-begin s w step inset a b n p = let z : n - 0 ≡ n = omega arith in
@@ -78,7 +78,7 @@ module _ (m : List (List ℕ)) where
       let z : n - i ≡ 0 = omega arith in
       sym (append-nil p) ∙ ap (λ (x : ℕ). p ++ row_cells m s w step inset a b x) (sym z) ∙ h
 
-  -- the greatest kept length of the rows' words is what their bodies keep
+  -- the number of words kept of each body is the greatest kept length of the rows' words in the message
   pub kept-rows-words : (bs : Bodies) (a b s w n : ℕ) → RowsAt m a b s w bs → count_rows bs ≡ n
       → kept_words_of_rows bs ≡ kept_each m s w a (a + b) n
   kept-rows-words no_bodies a b s w zero h e = refl
@@ -104,7 +104,7 @@ module _ (m : List (List ℕ)) where
       (kept-rows-slots bs a b s (w + a + b) n h.4 (omega arith) (omega arith)
       ∙ ap (λ (x : ℕ). kept_each m s x b (a + b) n) z)
 
-  -- the cells of rows are the first words of each row, followed by as many words as it keeps slots
+  -- the cells of rows are the first x words of each row, followed by y words in place of slots
   pub cells-over : (bs : Bodies) (a b s w n x y : ℕ) → RowsAt m a b s w bs → count_rows bs ≡ n → AreWide x y bs
       → w + n * (a + b) ≤ length (segment_at m s) → AreRowsOver x y bs (row_cells m s w (a + b) a x y n)
   cells-over no_bodies a b s w zero x y h e wide i = refl
@@ -176,7 +176,7 @@ cells-piece m s w step inset a b (suc n) p q h e =
     ∙ ap (λ (x : List ℕ). p ++ x) (sym (cells-whole m s w a b (suc n)))
     ∙ ap₂ (λ (x y : ℕ). p ++ row_cells m s w x y a b (suc n)) k.1 k.0
 
--- two parts that follow one another, the first of them whole, are consecutive words
+-- two parts of a row are consecutive words, if the first part is kept whole
 pub copy-parts : (m : List (List ℕ)) (s w a b size : ℕ) (p q : List ℕ) → a ≡ size
     → q ≡ p ++ take (a + b) (words_from m s w)
     → q ≡ (p ++ take a (words_from m s w)) ++ take b (words_from m s (w + size))

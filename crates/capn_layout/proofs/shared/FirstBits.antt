@@ -1,5 +1,5 @@
--- Elements that are packed into words are the first bits of the words that they are read from. (For `append_bits`,
--- capn_canon and capn_mismatch.)
+-- Elements that are packed into words are the first bits of the words from which the elements are read. (For
+-- `append_bits`, capn_canon and capn_mismatch.)
 use Rattle.std.proofs.Common.{◌≡◌, ◌≢◌, ℕ, zero, suc, ◌+◌, ◌*◌, ◌/◌, ◌%◌, ◌^◌, ◌<◌, ◌≤◌, List, []}
 use Rattle.std.proofs.Common.{◌∷◌, ◌++◌, length, take, drop, slice_index, refl, ap, ap₂, sym, subst, ◌∙◌}
 use Rattle.std.proofs.Common.{arith, append-nil, append_assoc, length-drop}
@@ -182,7 +182,8 @@ whole-words ws n k e =
     let b : 0 ≡ k % 64 = omega arith in
     sym (append-nil (take n ws)) ∙ ap₂ (λ (q r : ℕ). take q ws ++ last_bits r (drop q ws)) a b
 
--- the content of a list of numbers is the first bits of its words, and its pointer is that of a list
+-- the content of a list of numbers is the first bits of the list's words, and the pointer to the value is a list
+-- pointer
 module _ (m : List (List ℕ)) (width : Width) (n s w : ℕ) (plain : IsPlain width) (below : (i : ℕ)
     → slice_index (words_from m s w) i < 2 ^ 64)
     (inside : words_for (element_bits width * n) ≤ length (words_from m s w)) where

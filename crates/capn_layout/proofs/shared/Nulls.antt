@@ -68,7 +68,7 @@ module _ (m : List (List ℕ)) where
   null-word at (links ts) h = is-other (word_at m at) (λ z. let e = zero-target at z in let f = h.is in cc)
   null-word at (rows bs) h = is-other (word_at m at) (λ z. let e = zero-target at z in let f = h.3.is in cc)
 
-  -- what is kept of slots is what is kept of their words
+  -- the number of slots that are kept is the number that is kept of the slots' words
   pub kept-slots : (ss : Trees) (s w : ℕ) → AreAt m s w ss → w + count ss ≤ length (segment_at m s)
       → kept_slots ss ≡ kept_words (take (count ss) (words_from m s w))
   kept-slots no_trees s w h le = refl

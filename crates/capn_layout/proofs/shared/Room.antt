@@ -52,8 +52,8 @@ unfolding words
 length_words v h = let a = length-lay v 1 h in let c : length (point v 0 1 ∷ lay v 1) ≡ suc (length (lay v 1)) = refl in
     omega arith
 
--- The canonical words of a value that fits are at most one more than its cost, under either tariff, and so 2^28 + 1
--- at most.
+-- The number of canonical words of a value that fits is at most one more than the value's cost, under either tariff,
+-- and so at most 2^28 + 1.
 pub room : (v : Tree) → Fits v → InRange v → (length (words v) ≡ 1 + size v) × ((base : ℕ) → size v ≤ cost base v)
     × (length (words v) ≤ 2 ^ 28 + 1)
 room v f r =

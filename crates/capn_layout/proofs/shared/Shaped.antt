@@ -59,7 +59,7 @@ module _ (m : List (List ℕ)) where
       same-start : (t u p : ℕ) (x : Shape) → target m at ≡ Ok (targets.Content t u x p) → u ≡ start
       same-start t u p x f = cc
 
-      -- if the target is content, the value is inside it
+      -- if the target is content, the value is inside that content
       pub inside-of : (v : Tree) → IsAt m at v → IsInside m shape s start v
       inside-of nil h = cc
       inside-of (cap k) h = cc
@@ -90,7 +90,7 @@ module _ (m : List (List ℕ)) where
             (same-segment n.segment n.start n.pads _ n.is) (same-start n.segment n.start n.pads _ n.is) n.inside,
       )
 
--- a value inside a struct's content is a struct with these words and slots
+-- a value inside the content of a struct is a struct with a words and b slots
 pub record IsNode (m : List (List ℕ)) (a b s w : ℕ) (v : Tree) : Type 0 where
   pub words : List ℕ
   pub slots : Trees

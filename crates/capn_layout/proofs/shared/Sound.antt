@@ -57,7 +57,7 @@ even-wide a b w s (body ws ss bs) ha hb h =
       even-wide a b w s bs ha hb p.1,
     )
 
--- each of the even rows of a list has the words and slots that are kept of them all
+-- if a list of structs isn't ragged, each row has at least the words and slots that are kept of every row
 pub wide-rows : (bs : Bodies) → is_ragged (rows bs) ≡ false → AreWide (kept_words_of_rows bs) (kept_slots_of_rows bs) bs
 wide-rows no_bodies h = tt
 wide-rows (body ws ss bs) h =
@@ -71,7 +71,7 @@ wide-rows (body ws ss bs) h =
           a b e,
     )
 
--- rows cut to a words and b slots take no more than they have
+-- rows cut to a words and b slots take no more words than the rows have
 pub wide-words : (a b : ℕ) (bs : Bodies) → AreWide a b bs → count_rows bs * (a + b) ≤ row_words bs
 wide-words a b no_bodies h = omega arith
 wide-words a b (body ws ss bs) h =

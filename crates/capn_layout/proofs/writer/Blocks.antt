@@ -136,7 +136,7 @@ point-rows n v bs from to h =
     ap (λ (x : Tree). point x from to) h.0
     ∙ ap (λ (k : ℕ). list_to from to Rows (k * (kept_words_of_rows bs + kept_slots_of_rows bs))) h.1
 
--- ---- what is below the rows is laid out
+-- ---- the contents below the rows are laid out
 
 one-row : (a b : ℕ) (bs : Bodies) (at : ℕ) (p : List ℕ) → count_rows bs ≡ 1
     → laid_rows a b bs at p ≡ laid_slots b (slots_at bs 0) (at + a) p
@@ -158,7 +158,7 @@ module _ (v : Tree) (bs : Bodies) (from : ℕ) (p q : List ℕ) (first a b depth
       let k = length-set p from (point v from (length p)) in
       length-append pointed o.tag ∙ omega arith
 
-  -- the rows reach to the end of what was appended
+  -- the rows reach to the end of the appended words
   pub opened-length : length q ≡ first + count_rows bs * (a + b)
   opened-length =
       let l = length-tagged in

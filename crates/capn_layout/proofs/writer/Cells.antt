@@ -1,4 +1,4 @@
--- A buffer of words and holes, as the list that its bytes and marks stand for. (For `Patched`.)
+-- A buffer of words and holes, as the list for which the bytes and marks stand. (For `Patched`.)
 use Rattle.std.proofs.Common.{◌≡◌, ℕ, zero, suc, ◌+◌, ◌*◌, ◌^◌, ◌<◌, ◌≤◌, List, [], ◌∷◌, ◌++◌, length, take, drop, set}
 use Rattle.std.proofs.Common.{refl, ap, sym, ◌∙◌, arith, append_assoc, append-nil, length-append, length-drop, Bool}
 use Rattle.std.proofs.Common.{true, false, Option, Some, None}
@@ -14,7 +14,7 @@ unfolding cells
 length-cells [] bs = refl
 length-cells (h ∷ hs) bs = ap suc (length-cells hs (drop 8 bs))
 
--- one more word in front
+-- a word in front of the cells
 cells-cons : (h : Bool) (hs : List Bool) (xs ys : List ℕ) → length xs ≡ 8
     → cells (h ∷ hs) (xs ++ ys) ≡ cell h (word_number xs) ∷ cells hs ys
 unfolding cells
@@ -106,7 +106,7 @@ cells-fill (suc at) (h ∷ hs) bs w l lt k =
     ∙ ap (λ (xs : List (Option ℕ)). cell h (word_number (take 8 bs)) ∷ xs) ih
     ∙ ap (λ (xs : List (Option ℕ)). set xs (suc at) (Some w)) (sym (cells-step h hs bs))
 
--- if there are no holes, the bytes are those of the words
+-- if there are no holes, the bytes are the bytes of the words
 pub cells-whole : (hs : List Bool) (bs : List ℕ) → AreBytes bs → length bs ≡ 8 * length hs → IsWhole (cells hs bs)
     → bs ≡ bytes (filled (cells hs bs))
 unfolding cells

@@ -1,4 +1,4 @@
--- The words at the beginning of bytes, as bytes are written over them. (For `bits.rt`, `draft.rt`,
+-- The words at the beginning of bytes, after bytes are written over some of them. (For `bits.rt`, `draft.rt`,
 -- `number_list_words.rt` and others.)
 use Rattle.std.proofs.Common.{◌≡◌, ℕ, zero, suc, ◌+◌, ◌-◌, ◌*◌, ◌^◌, ◌<◌, ◌≤◌, List, [], ◌∷◌, ◌++◌, length, take}
 use Rattle.std.proofs.Common.{drop, set, replicate}
@@ -14,13 +14,13 @@ use Rattle.capn_layout.specs.inner.Draft.{Writes, IsKept, Appends, Puts}
 use Rattle.capn_layout.proofs.writer.Bytes.{AreBytes-take}
 use Rattle.capn_layout.proofs.writer.PackedBytes.{little_from-number, number-zeros, words-packed, packed-padded}
 
--- the number of a word depends on its 8 bytes alone
+-- the number of a word depends only on the word's 8 bytes
 word-front : (xs ys : List ℕ) → 8 ≤ length xs → word_number (xs ++ ys) ≡ word_number xs
 unfolding word_number
 word-front xs ys h =
     little_from-number 8 (xs ++ ys) ∙ ap (number 256) (take-append-le 8 xs ys h) ∙ sym (little_from-number 8 xs)
 
--- the first n words depend on the first 8 * n bytes alone
+-- the first n words depend only on the first 8 * n bytes
 words-front : (n : ℕ) (xs ys : List ℕ) → 8 * n ≤ length xs → words_in n (xs ++ ys) ≡ words_in n xs
 unfolding words_in
 words-front zero xs ys h = refl
@@ -62,7 +62,7 @@ words-begin n bs h =
     sym (words-front n (take (8 * n) bs) (drop (8 * n) bs) (omega arith))
     ∙ ap (words_in n) (take-append-drop (8 * n) bs)
 
--- bytes are written over others
+-- the bytes xs are written over bytes of p
 module _ (at : ℕ) (xs p q : List ℕ) (room : at + length xs ≤ length p) (h : Writes at xs p q) where
   written-same : length q ≡ length p
   written-same =
@@ -163,7 +163,7 @@ first-bytes n bs h l =
     ∙ ap (λ (x : List ℕ). x ++ drop (8 * n) bs)
     (sym (bytes_of_words n (take (8 * n) bs) (AreBytes-take (8 * n) bs h) t) ∙ ap bytes (words-begin n bs l))
 
--- what is kept by two steps, one after the other, is kept by both
+-- words that are kept by two steps are kept by the two steps together
 pub kept-then : (n m : ℕ) (p q r : List ℕ) → n ≤ m → IsKept n p q → IsKept m q r → IsKept m p r
 kept-then n m p q r le a b = record {
   same = b.same ∙ a.same;
@@ -197,7 +197,7 @@ appends-none n p = record {
 
 -- ---- bytes are written over zeros
 
--- bytes are written over the beginning of other bytes that were written
+-- bytes are written over the beginning of bytes that were written before
 pub written-over : (at : ℕ) (zs xs p q r : List ℕ) → at + length zs ≤ length p → length xs ≤ length zs
     → Writes at zs p q → Writes at xs q r → Writes at (xs ++ drop (length xs) zs) p r
 written-over at zs xs p q r room le h k =
@@ -239,7 +239,7 @@ zeros-appended n k m p q room em h =
     subst (λ (x : List ℕ). Appends n m x p q) (words-zeros k)
     (appended n k m (replicate (8 * k) 0) p q (omega arith) l em h)
 
--- bytes that are filled up with zeros to words are appended
+-- bytes that are padded with zeros to whole words are appended
 pub padded-appended : (n k m : ℕ) (xs p q r : List ℕ) → 8 * (n + k) ≤ length p → length xs ≤ 8 * k → m ≡ n + k
     → Writes (8 * n) (replicate (8 * k) 0) p q → Writes (8 * n) xs q r → Appends n m (packed 8 8 k xs) p r
 padded-appended n k m xs p q r room le em h g =

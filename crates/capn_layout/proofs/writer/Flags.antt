@@ -60,7 +60,7 @@ flags-set i (suc n) (suc j) b ms ns e h =
     ap₂ (λ (c : Bool) (bs : List Bool). c ∷ bs) (h i (omega arith))
     (flags-set (suc i) n j b ms ns (ap (λ (k : ℕ). is_marked ns k) z ∙ e) (λ k ne. h k (λ q. ne (q ∙ sym z))))
 
--- the mark of a word, in a number that is written
+-- the mark of a word, after the number with that mark is written
 module _ (ms : List ℕ) (at new : ℕ) (lt : at < 64 * length ms) where
   pub marked-here : is_marked (set ms (at / 64) new) at ≡ (bit_at new (at % 64) == 1)
   marked-here = ap (λ (m : ℕ). bit_at m (at % 64) == 1) (get_or-set_same ms (at / 64) new 0 (omega arith))

@@ -1,4 +1,4 @@
--- The own words of an object, as they are appended. (For the cycle `sizes`, `open_links`, `open_rows` and
+-- The steps that append the own words of an object. (For the cycle `sizes`, `open_links`, `open_rows` and
 -- `open_struct`.)
 use Rattle.std.proofs.Common.{◌≡◌, ℕ, ◌+◌, ◌*◌, ◌^◌, ◌<◌, ◌≤◌, List, [], ◌∷◌, ◌++◌, length, set, ap, ap₂, sym}
 use Rattle.std.proofs.Common.{subst, ◌∙◌, arith, append-nil, length-append}

@@ -6,7 +6,7 @@ use Rattle.std.proofs.lemmas.List.{drop_more, drop-map, drop-drop, take-map, tak
 use Rattle.std.specs.Int.{from_bool}
 use Rattle.capn_layout.specs.Layout.{number, packed}
 
--- the number of the last i + 1 bits, given that of the last i
+-- the number of the last i + 1 bits, given the number of the last i bits
 pub bits-next : (bits : List Bool) (i : ℕ) → i < length bits
     → number 2 (map from_bool (drop (length bits - (i + 1)) bits)) ≡ from_bool (get_or bits (length bits - 1 - i) false)
     + 2 * number 2 (map from_bool (drop (length bits - i) bits))
@@ -22,7 +22,7 @@ pub one-bit : (b : Bool) → from_bool b ≤ 1
 one-bit true = omega arith
 one-bit false = omega arith
 
--- one bit more keeps a number below the next power
+-- a number with one more bit is below the next power of 2
 pub bit-below : (w i : ℕ) (b : Bool) → w < 2 ^ i → w * 2 + from_bool b < 2 ^ (i + 1)
 bit-below w i b lt =
     let e : 2 ^ (i + 1) ≡ 2 * 2 ^ i = ap (λ (k : ℕ). 2 ^ k) (omega arith) ∙ pow-succ' 2 i in
@@ -45,7 +45,7 @@ packed-next bits n i lt =
     (drop-map from_bool 64 (drop (64 * i) bits)
     ∙ ap (map from_bool) (drop-drop 64 (64 * i) bits ∙ ap (λ (k : ℕ). drop k bits) b))
 
--- the next chunk is 64 bits, or all that are left
+-- the next chunk is the next 64 bits, or all bits that are left
 pub chunk-is : (bits : List Bool) (start end : ℕ) → end ≡ min (length bits) (start + 64)
     → map from_bool (take (end - start) (drop start bits)) ≡ take 64 (map from_bool (drop start bits))
 chunk-is bits start end e =

@@ -1,4 +1,4 @@
--- Packed lists, given by their bytes. (For `append_bytes`, `extend_octs`, `extend_pairs` and `extend_quads`.)
+-- Packed lists, given as bytes. (For `append_bytes`, `extend_octs`, `extend_pairs` and `extend_quads`.)
 use Rattle.std.proofs.Common.{◌≡◌, ℕ, zero, suc, ◌+◌, ◌-◌, ◌*◌, ◌^◌, ◌<◌, List, [], ◌∷◌, ◌++◌, length, take, drop}
 use Rattle.std.proofs.Common.{replicate, slice_index, refl, ap, ap₂, sym, ◌∙◌, arith, append-nil, length-append, false}
 use Rattle.std.proofs.Common.{Option, Some}
@@ -14,7 +14,7 @@ use Rattle.capn_layout.specs.Patch.{cells, whole}
 use Rattle.capn_words.proofs.shared.Words.{AreBytes-append}
 use Rattle.capn_layout.proofs.writer.Bytes.{low_first-bytes}
 
--- ---- a word is the number of its bytes
+-- ---- a word is the number that the word's bytes represent
 
 little_from-none : (i n : ℕ) → little_from i n [] ≡ 0
 little_from-none i zero = refl
@@ -29,7 +29,7 @@ word-number : (bs : List ℕ) → word_number (take 8 bs) ≡ number 256 (take 8
 unfolding word_number
 word-number bs = little_from-number 8 (take 8 bs) ∙ ap (number 256) (take-take 8 8 bs (omega arith))
 
--- bytes without holes are the words that they pack
+-- bytes without holes are the words that the bytes pack
 pub cells-words : (k : ℕ) (bs : List ℕ) → cells (replicate k false) bs ≡ whole (packed 8 8 k bs)
 unfolding cells
 cells-words zero bs = refl
@@ -156,7 +156,7 @@ AreAllBelow-take base (suc n) [] h i = h i
 AreAllBelow-take base (suc n) (x ∷ xs) h zero = h 0
 AreAllBelow-take base (suc n) (x ∷ xs) h (suc i) = AreAllBelow-take base n xs (λ j. h (suc j)) i
 
--- the bytes of numbers pack the same words as the numbers do, if a word has the bytes of `each` of them
+-- the bytes of numbers pack the same words as the numbers, if a word has the bytes of `each` numbers
 pub packed-numbers : (w each width k : ℕ) (xs : List ℕ) → 8 ≡ each * w → 256 ^ w ≡ 2 ^ width → AreAllBelow (256 ^ w) xs
     → packed 8 8 k (flat_map (little_bytes w) xs) ≡ packed each width k xs
 packed-numbers w each width zero xs e b h = refl
@@ -174,7 +174,7 @@ pub packed-words : (xs : List ℕ) → packed 1 64 (length xs) xs ≡ xs
 packed-words [] = refl
 packed-words (x ∷ xs) = ap₂ (λ (y : ℕ) (ys : List ℕ). y ∷ ys) (omega arith) (packed-words xs)
 
--- ---- zeros that are written over
+-- ---- zeros over which bytes are written
 
 pub written_over : (old items held ys : List ℕ) (start size p n : ℕ) → items ≡ old ++ replicate (size + p) 0
     → held ≡ items → start ≡ length old → length ys ≡ size → n ≡ length items

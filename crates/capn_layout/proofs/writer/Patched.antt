@@ -1,4 +1,4 @@
--- The words and holes for which a buffer's marks and bytes stand, as they change. (For `patch.rt`.)
+-- The words and holes for which a buffer's marks and bytes stand, after each change. (For `patch.rt`.)
 use Rattle.std.proofs.Common.{◌≡◌, ◌≢◌, ℕ, zero, suc, ◌+◌, ◌*◌, ◌/◌, ◌^◌, ◌<◌, ◌≤◌, List, [], ◌∷◌, ◌++◌, length, take}
 use Rattle.std.proofs.Common.{drop, set, replicate, refl, ap, ap₂, sym, subst, ◌∙◌, ◌-◌, arith, append_assoc}
 use Rattle.std.proofs.Common.{length-append, Bool, true, false, Option, Some, None}
@@ -100,7 +100,7 @@ patched-open ms ns bs at others here =
     ∙ here) (λ k ne. others k (λ e. ne (e ∙ sym z))))
     ∙ cells-open at (flags 0 (length bs / 8) ms) bs
 
--- the bytes of a word are written, and its mark is cleared
+-- the bytes of word `at` are written, and the mark of that word is cleared
 module _ (ms ns bs cs : List ℕ) (at w : ℕ) (is : IsPatched ms bs) (lt : at < length bs / 8) (fits : w < 2 ^ 64)
     (len : length ns ≡ length ms)
     (written : cs ≡ take (8 * at) bs ++ (word_bytes w ++ drop (8 * at + 8) bs))
@@ -127,7 +127,7 @@ module _ (ms ns bs cs : List ℕ) (at w : ℕ) (is : IsPatched ms bs) (lt : at <
       written
       ∙ cells-fill at (flags 0 n ms) bs w e (omega arith) fits
 
--- if there are no holes, the bytes are those of the words
+-- if there are no holes, the bytes are the bytes of the words
 pub patched-whole : (ms bs : List ℕ) → IsPatched ms bs → IsWhole (patched ms bs) → bs ≡ bytes (filled (patched ms bs))
 patched-whole ms bs is h =
     let lf = length-flags 0 (length bs / 8) ms in
@@ -138,14 +138,14 @@ pub OnErr-always : {T E P : Type 0} (r : Result T E) → P → OnErr r P
 OnErr-always (Ok x) p = tt
 OnErr-always (Err e) p = p
 
--- bytes that are filled up with zeros
+-- bytes that are padded with k zeros
 pub filled_up : (bs : List ℕ) (to k : ℕ) → to ≡ length bs + k
     → take to bs ++ replicate (to - length bs) 0 ≡ bs ++ replicate k 0
 filled_up bs to k e =
     let d : to - length bs ≡ k = omega arith in
     ap₂ (λ (xs : List ℕ) (j : ℕ). xs ++ replicate j 0) (take_all to bs (omega arith)) d
 
--- the next of the words that are left is made a hole
+-- the next of the words appended is made a hole
 pub next_hole : (p : List (Option ℕ)) (n i at : ℕ) → i < n → at ≡ length p + i
     → set (p ++ (replicate i None ++ replicate (n - i) (Some 0))) at None ≡ p
     ++ (replicate (i + 1) None ++ replicate (n - (i + 1)) (Some 0))
@@ -163,7 +163,7 @@ next_hole p n i at lt e =
     (sym (append_assoc (replicate i None) (None ∷ []) (replicate (n - (i + 1)) (Some 0)))
     ∙ ap (λ (xs : List (Option ℕ)). xs ++ replicate (n - (i + 1)) (Some 0)) (replicate_more i None))
 
--- bytes that are filled up to whole words are appended
+-- bytes that are padded to whole words are appended
 module _ (ms ns bs content : List ℕ) (k : ℕ) (is : IsPatched ms bs) (same : (i : ℕ)
     → is_marked ns i ≡ is_marked ms i) (l : 8 * k ≡ length content + pad (length content)) where
   padded-length : length (padded content) ≡ 8 * k
@@ -182,7 +182,7 @@ module _ (ms ns bs content : List ℕ) (k : ℕ) (is : IsPatched ms bs) (same : 
       is-appended ms ns bs (padded content) k is padded-length same room
       (AreBytes-append content (replicate (pad (length content)) 0) are (AreBytes-zeros (pad (length content))))
 
--- the bytes have grown by the content and its zeros
+-- the content and the zeros after it are appended to the bytes
 module _ (ms ns bs content items : List ℕ) (k : ℕ) (is : IsPatched ms bs) (same : (i : ℕ)
     → is_marked ns i ≡ is_marked ms i) (l : 8 * k ≡ length content + pad (length content))
     (grown : items ≡ bs ++ padded content) where

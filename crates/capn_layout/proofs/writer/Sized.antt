@@ -11,7 +11,7 @@ use Rattle.capn_layout.specs.Sound.{AreWide, SoundRows}
 use Rattle.capn_layout.proofs.writer.Stepwise.{rows-over}
 use Rattle.capn_layout.proofs.writer.Laid.{nothing-below, one-fewer, past-next, row-at, sound-at, height-at}
 
--- the slots past those that are kept have nothing below them
+-- nothing is below the slots past the kept slots
 pub past-kept : (n : ℕ) (ts : Trees) → kept_slots ts ≤ n → sizes (past n ts) ≡ 0
 past-kept zero ts h = (nothing-below ts 0 h).1
 past-kept (suc n) no_trees h = refl
@@ -22,7 +22,7 @@ kept-at i b no_bodies h lt = absurd (omega arith)
 kept-at zero b (body ws ss bs) h lt = omega arith
 kept-at (suc i) b (body ws ss bs) h lt = kept-at i b bs (omega arith) (omega arith)
 
--- rows of which no slot is kept have nothing below them
+-- if no slot of any row is kept, nothing is below the rows
 pub rows-nothing : (bs : Bodies) → kept_slots_of_rows bs ≤ 0 → sizes_in_rows bs ≡ 0
 rows-nothing no_bodies h = refl
 rows-nothing (body ws ss bs) h =
@@ -30,7 +30,7 @@ rows-nothing (body ws ss bs) h =
     let b = rows-nothing bs (omega arith) in
     omega arith
 
--- the words below the only row are those below its slots
+-- the words below the only row are the words below that row's slots
 one-sizes : (bs : Bodies) → count_rows bs ≡ 1 → sizes_in_rows bs ≡ sizes (slots_at bs 0)
 one-sizes no_bodies e = absurd (omega arith)
 one-sizes (body ws ss no_bodies) e = omega arith

@@ -1,4 +1,4 @@
--- Slots are laid out one after the other, and so are rows. (For the cycle `objects` and `lay_root`.)
+-- The steps by which slots and rows are laid out, one after the other. (For the cycle `objects` and `lay_root`.)
 use Rattle.std.proofs.Common.{◌≡◌, ℕ, zero, suc, ◌+◌, ◌-◌, ◌*◌, ◌<◌, ◌≤◌, List, [], ◌∷◌, ◌++◌, length, set, refl}
 use Rattle.std.proofs.Common.{ap, sym, subst, ◌∙◌, arith, append-nil}
 use Rattle.std.proofs.lemmas.List.{length-set}
@@ -172,7 +172,7 @@ pub rows-end : (a b i : ℕ) (bs : Bodies) (at : ℕ) (p : List ℕ) → count_r
     → laid_rows a b (rows_past i bs) at p ≡ p
 rows-end a b i bs at p h = ap (λ (x : Bodies). laid_rows a b x at p) (rows-over i bs h) ∙ rows-none a b at p
 
--- rows without slots have nothing below them
+-- nothing is below rows without slots
 pub rows-empty : (a b : ℕ) (bs : Bodies) (at : ℕ) (p : List ℕ) → b ≡ 0 → p ≡ laid_rows a b bs at p
 rows-empty a b no_bodies at p e = sym (rows-none a b at p)
 rows-empty a b (body ws ss bs) at p e =
@@ -188,7 +188,7 @@ unfolding words
 laid-words t p q e h =
     h ∙ ap (λ (x : List ℕ). laid t (set x 0 (point t 0 (length x)))) e ∙ laid-is t (point t 0 1 ∷ [])
 
--- a value with nothing below it is laid out
+-- a value without anything below is laid out
 pub laid-plain : (v : Tree) (from word : ℕ) (ws p q r : List ℕ) → point v from (length p) ≡ word
     → ((at : ℕ) → lay v at ≡ ws) → q ≡ set p from word → r ≡ q ++ ws
     → r ≡ laid v (set p from (point v from (length p)))
@@ -213,7 +213,7 @@ laid-cap v k word from p q e w eq =
     laid-plain v from word [] p q q (ap (λ (x : Tree). point x from (length p)) e ∙ sym w)
     (λ at. ap (λ (x : Tree). lay x at) e) eq (sym (append-nil q))
 
--- the next row lies inside the rows that are left
+-- the end of the next row is within the bound for the rows that are left
 pub one-more : (next a b n i most : ℕ) → i < n → next + (n - i) * (a + b) ≤ most → next + a + b ≤ most
 one-more next a b n i most lt h =
     let z : n - i ≡ suc (n - (i + 1)) = omega arith in

@@ -29,7 +29,7 @@ pub rows-weigh : (n : ℕ) (v : Tree) (bs : Bodies) → AreStructs n v bs
     → (n + weights_in_rows bs ≤ weight v) × (row_words bs + weights_in_rows bs ≤ weight v)
 rows-weigh n v bs is = let a = ap weight is.0 in let b = is.1 in (omega arith, omega arith)
 
--- the reads of the slots of the only row are within its weight
+-- the reads of the slots of the only row are within the weight of the row
 pub one-weighed : {S : Type 0} (has : S → ℕ → Tree → Type 0) (source : S) (bs : Bodies) (a b t n : ℕ)
     → count_rows bs ≡ 1 → AreWide a b bs → SoundRows bs
     → ((k : ℕ) → k < count (slots_at bs 0) → has source k (tree_at (slots_at bs 0) k))
@@ -42,7 +42,7 @@ one-weighed has source (body ws ss bs) a b t n e w s are h =
     let l = w.1 in
     omega arith
 
--- the reads of the next slot are within its weight
+-- the reads of the next slot are within the slot's weight
 pub slot-weighed : {S : Type 0} (has : S → ℕ → Tree → Type 0) (source : S) (n i o l t k : ℕ) → i < n
     → ((ts : Trees) → n ≤ count ts → ((k : ℕ) → k < n → has source k (tree_at ts k))
     → l + 20 * weights (past i ts) ≤ o + 12 * i + 20 * weights ts)
@@ -65,7 +65,7 @@ slots-weighed n i o l ts le ge h =
     let y = ap (λ (j : ℕ). weights (past j ts)) e in
     omega arith
 
--- the reads of the next row are within its weight
+-- the reads of the next row are within the row's weight
 pub row-weighed : {S R : Type 0} (has : S → ℕ → Tree → Type 0) (are : R → Bodies → Type 0) (rows : R) (source : S)
     (a b i o l t n : ℕ)
     → ((bs : Bodies) → are rows bs → (k : ℕ) → k < count (slots_at bs i) → has source k (tree_at (slots_at bs i) k))

@@ -1,4 +1,4 @@
--- The values that slots, numbers and rows of a tree in memory have.
+-- The values of slots, numbers and rows of a tree in memory.
 use Rattle.std.specs.Prelude.{◌≡◌, ℕ, ◌*◌, ◌^◌, ◌<◌, List, [], ◌∷◌, length, map}
 use Rattle.std.specs.Int.{from_bool}
 use Rattle.capn_value.specs.Tree.{Tree, tree_at, Bodies, no_bodies, body}
@@ -15,7 +15,7 @@ use Rattle.capn_layout.specs.declared.tree_slots.TreeSlots.TheVariants as places
 use Rattle.capn_layout.specs.Layout.{packed}
 use Rattle.capn_layout.specs.Sound.{Sound, SoundRows}
 
--- the words `ws` pack the numbers (Own.)
+-- the words `ws` are the packed numbers (Our own.)
 abbrev pub PacksNumbers : TreeNumbers → List ℕ → Type 0
 PacksNumbers Voids ws = ws ≡ []
 PacksNumbers (Bits xs) ws = ws ≡ packed 64 1 (words_for (length xs.now)) (map from_bool xs.now)
@@ -25,24 +25,24 @@ PacksNumbers (Quads xs) ws = ws ≡ packed 2 32 (words_for (32 * length xs.now))
 PacksNumbers (Octs xs) ws = ws ≡ xs.now
 
 module _ {B : Type 0} where
-  -- slot k has the value `v` (Own.)
+  -- slot k has the value `v` (Our own.)
   pub record HasValue (slots : List (Value B)) (k : ℕ) (v : Tree) : Type 0 where
     pub inside : k < length slots
     pub is : v ≡ tree_at (trees_of slots) k
     pub sound : Sound v
 
-  -- the values in the slots, or the one value (Own.)
+  -- the values in the slots, or the one value (Our own.)
   abbrev pub values_of : TreeSlots B → List (Value B)
   values_of (places.Root v) = v.now ∷ []
   values_of (places.Slots vs) = vs.now
 
-  -- the bodies of the rows, or of the one row (Own.)
+  -- the bodies of the rows, or the body of the one row (Our own.)
   abbrev pub bodies_of : TreeRows B → Bodies
   bodies_of (kinds.Bodies rows) = rows_of rows.now
   bodies_of (kinds.Body row) = body row.now.words (trees_of row.now.slots) no_bodies
   bodies_of (kinds.Slots slots) = body [] (trees_of slots.now) no_bodies
 
-  -- `bs` are the bodies of the rows, and their kept parts are short (Own.)
+  -- `bs` are the bodies of the rows, and the numbers of kept words and kept slots are below 2^32 (Our own.)
   pub record AreBodies (rows : TreeRows B) (bs : Bodies) : Type 0 where
     pub are : bs ≡ bodies_of rows
     pub sound : SoundRows bs

@@ -510,7 +510,7 @@ lay_rows-returns-clause-laid g t c bs is e w s =
     (let f = c.loop-row-test.false in omega arith))
     ∙ c.loop-row.invariant.rest bs is e w s
 
--- ---- what is read
+-- ---- the number of reads
 
 pub lay_slot-returns-in-Numbers-clause-reads : goal.lay_slot-returns-in-Numbers-clause-reads
 lay_slot-returns-in-Numbers-clause-reads g t c w h =

@@ -292,7 +292,7 @@ size_of_rows-returns-clause-size g t c bs is e kept w s =
     rows-sized c.loop-row.row c.loop-row.size bs (let f = c.loop-row-test.false in omega arith)
     (c.loop-row.invariant.size bs is e kept w s)
 
--- ---- what is read
+-- ---- the number of reads
 
 pub size_of_slot-returns-in-Struct-clause-reads : goal.size_of_slot-returns-in-Struct-clause-reads
 size_of_slot-returns-in-Struct-clause-reads g t c w h =
