@@ -1,10 +1,10 @@
-//! Tasks on two messages, which are read only by calls that count.
+//! Tasks on two messages, where every read of a message is counted.
 //!
-//! [`Asked`](capn_target::counted::Asked) does this for one message. A call that takes an [`AskedFirst`] and an
-//! [`AskedSecond`] in place of two `Space`s can do one task on them and no more, since both are moved. The task, a
-//! [`PairTask`], reads each message only by calls that count, and no more often than it states. So two clauses
-//! `requires first { A.allows a n }` and `requires second { B.allows b n }` bound the work of the call. A reference to
-//! a `Space` allows any number, so its callers have nothing to prove.
+//! [`Asked`](capn_target::counted::Asked) is the corresponding trait for one message. A call that takes an
+//! [`AskedFirst`] and an [`AskedSecond`] in place of two `Space`s can do only one task on the two messages, since both
+//! arguments are moved. The task, a [`PairTask`], states a bound on its reads, and reads each message only by calls
+//! that count. So two clauses `requires first { A.allows a n }` and `requires second { B.allows b n }` bound the work
+//! of the call. A reference to a `Space` allows any number, so callers that pass references have nothing to prove.
 
 ghost use Rattle.std.specs.Prelude.{◌≡◌, ℕ, ◌+◌, ◌<◌, ◌≤◌, List};
 
@@ -13,15 +13,15 @@ use capn_words::Space;
 use std::marker::Brand;
 use std::sync::ledger::{Blank, Ledger};
 
-/// A task on two messages, which it reads by calls that count.
+/// A task that reads two messages by calls that count.
 pub trait PairTask {
     /// The type of the result.
     type Told;
 
-    /// The statement that a result is what the task gives for two messages.
+    /// The statement that a result is the result of the task for two messages.
     ghost tells: { Self → List (List ℕ) → List (List ℕ) → Self.Told → Type 0 };
 
-    /// The greatest number of reads of each message and turns of loops, whatever the messages.
+    /// The greatest number of reads and loop turns that the task counts for each message, for any two messages.
     ghost most: { Self → ℕ };
 
     /// Does the task on the messages `a` and `b`, whose reads are counted in `first` and `second`.
@@ -45,8 +45,8 @@ pub trait AskedSecond {
     /// The statement that the message allows a number of reads.
     ghost allows: { Self → ℕ → Type 0 };
 
-    /// Does `task` on `other`, whose reads are counted in `reads`, and on this message with a new count. One read of
-    /// the number of segments opens that count. So this message has to allow one read more than the task makes.
+    /// Does `task` on `other`, whose reads are counted in `reads`, and on this message with a new count. Starting the
+    /// new count reads the number of segments once. So this message has to allow one read more than the task makes.
     fn ask_beside<S: Space, L: Ledger, T: PairTask>(
         self,
         other: &CountedSpace<'_, S, L>,
@@ -66,8 +66,8 @@ pub trait AskedFirst {
     /// The statement that the message allows a number of reads.
     ghost allows: { Self → ℕ → Type 0 };
 
-    /// Does `task` on this message and on `other`. Each has a new count, which one read of the number of segments
-    /// opens.
+    /// Does `task` on this message and on `other`, each with a new count. Starting a count reads the number of segments
+    /// once.
     fn ask_pair<B: AskedSecond, T: PairTask>(self, other: B, task: T) -> T::Told
         requires first { allows self (T.most task + 1) }
         requires second { B.allows other (T.most task + 1) }

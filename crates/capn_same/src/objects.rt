@@ -1,4 +1,4 @@
-//! The comparison of two messages' values, object by object, in preorder.
+//! The comparison of the values of two messages, object by object, in preorder.
 
 ghost use Rattle.std.specs.Prelude.{◌↔◌, ℕ, ◌+◌, ◌*◌, ◌≤◌, List, IsTrue};
 ghost use Rattle.capn_value.specs.Tree.{Tree, Trees, Bodies, row_words};
@@ -18,8 +18,8 @@ use capn_walk::{Shape, Target};
 use capn_words::{Place, Space, Width};
 use std::sync::ledger::Ledger;
 
-/// Tests whether the value in the slot of `a` at `at` is the same as the value in the slot of `b` at `beside`. Both are
-/// at most `depth` objects deep.
+/// Tests whether the value in the slot of `a` at `at` is the same as the value in the slot of `b` at `beside`. Both
+/// values are at most `depth` objects deep.
 #[cycle(sameness)]
 #[inline(always)]
 pub fn is_same_slot<S: Space, T: Space, L: Ledger, M: Ledger>(
@@ -77,7 +77,7 @@ pub fn is_same_slot<S: Space, T: Space, L: Ledger, M: Ledger>(
 }
 
 /// Tests whether the content of `a` at `at`, of the shape `shape`, is the same as the content of `b` at `beside`, of
-/// the shape `form`. Both are at most `depth` objects deep.
+/// the shape `form`. Both contents are at most `depth` objects deep.
 #[cycle(sameness)]
 #[inline(always)]
 fn is_same_content<S: Space, T: Space, L: Ledger, M: Ledger>(
@@ -179,8 +179,8 @@ fn is_same_content<S: Space, T: Space, L: Ledger, M: Ledger>(
     }
 }
 
-/// Tests whether the row `one` of `a` is the same as the row `two` of `b`, whatever their sizes. The values in their
-/// slots are at most `depth` objects deep.
+/// Tests whether the row `one` of `a` is the same as the row `two` of `b`, where the two rows can have different sizes.
+/// The values in the slots of both rows are at most `depth` objects deep.
 #[cycle(sameness)]
 #[inline(always)]
 fn is_same_row<S: Space, T: Space, L: Ledger, M: Ledger>(
@@ -208,7 +208,7 @@ fn is_same_row<S: Space, T: Space, L: Ledger, M: Ledger>(
 }
 
 /// Tests whether the values in the slots `one` of `a` and the slots `two` of `b` are the same, where slots past the end
-/// count as null. The values are at most `depth` objects deep.
+/// of the shorter run count as null. The values are at most `depth` objects deep.
 #[cycle(sameness)]
 #[inline(never)]
 fn are_same_slots<S: Space, T: Space, L: Ledger, M: Ledger>(

@@ -4,7 +4,7 @@ ghost use Rattle.std.specs.Prelude.{◌≡◌, ◌+◌, ◌^◌, ◌<◌};
 
 use capn_words::Place;
 
-/// Consecutive words: the data words or the slots of a struct, or the elements of a list of pointers.
+/// A run of consecutive words: the data words or the slots of a struct, or the elements of a list of pointers.
 #[derive(Clone, Copy)]
 pub struct Run {
     pub start: Place,
@@ -23,7 +23,7 @@ pub fn behind(start: Place, steps: u32) -> Place
     }
 }
 
-/// Consecutive rows of equal sizes: the start of the first, and the numbers of words and of slots of each.
+/// Consecutive rows of equal sizes: the start of the first row, and the numbers of words and of slots of each row.
 #[derive(Clone, Copy)]
 pub struct Rows {
     pub start: Place,

@@ -15,12 +15,12 @@ use capn_words::{Place, Space};
 use std::sync::ledger::Ledger;
 
 /// Tests whether the values at the roots of `a` and `b` are the same, up to trailing zero words and trailing null slots
-/// of structs and of rows. Both messages were surveyed, and their values are at most `depth` objects deep.
+/// of structs and of rows. Both messages were surveyed, and both values are at most `depth` objects deep.
 ///
-/// It reads both in place, tests nothing again, and counts its reads and the turns of its loops in `first` and
-/// `second`, as [`surveyed_length_counted`](capn_layout::surveyed_length_counted) does. Each count grows by at most
-/// twenty for each word that the message's value costs, under either tariff, and by eleven more. It ends at the first
-/// difference, and takes no memory but the stack. (Page: canonicalization.)
+/// Both messages are read in place, up to the first difference, and nothing is tested again. Reads and loop turns are
+/// counted in `first` for `a` and in `second` for `b`. Each count grows by at most twenty for each word that the
+/// message's value costs, under either tariff, plus eleven. No memory is taken except the stack. (Page:
+/// canonicalization.)
 pub fn surveyed_same_counted<S: Space, T: Space, L: Ledger, M: Ledger>(
     a: &CountedSpace<'_, S, L>,
     b: &CountedSpace<'_, T, M>,
@@ -31,7 +31,7 @@ pub fn surveyed_same_counted<S: Space, T: Space, L: Ledger, M: Ledger>(
     requires one { IsReady (HasSlot a.now) 0 0 depth 1 }
     requires two { IsReady (HasSlot b.now) 0 0 depth 1 }
     ensures same { (v w : Value) → IsAt a.now root v → IsAt b.now root w → IsTrue result ↔ Same v w }
-    // The count of each message grows by at most twenty for each word of its value's cost, and by eleven more.
+    // The count of each message grows by at most twenty for each word that the message's value costs, plus eleven.
     ensures first { (v : Value) → IsAt a.now root v → (base : ℕ) → first.new ≤ first.old + 20 * cost base v + 11 }
     ensures second { (w : Value) → IsAt b.now root w → (base : ℕ) → second.new ≤ second.old + 20 * cost base w + 11 }
 {

@@ -12,7 +12,7 @@ use capn_target::counted::{CountedSpace, Reads};
 use capn_words::{Place, Space};
 use std::sync::ledger::Ledger;
 
-/// Tests whether the `count` words of `a` from `at` on equal those of `b` from `beside` on.
+/// Tests whether the `count` words of `a` from `at` on equal the `count` words of `b` from `beside` on.
 pub fn are_equal<S: Space, T: Space, L: Ledger, M: Ledger>(
     a: &CountedSpace<'_, S, L>,
     at: Place,

@@ -1,5 +1,5 @@
--- The first bits of two lists of words are equal exactly if their whole words and the bits of the last one are. (For
--- `are_same_bits`.)
+-- The first bits of two lists of words are equal exactly if the whole words are equal and the bits of the last word are
+-- equal. (For `are_same_bits`.)
 use Rattle.std.proofs.Common.{◌≡◌, ◌≢◌, ℕ, ◌+◌, ◌<◌, ◌≤◌, ◌/◌, ◌%◌, ◌^◌, List, [], ◌∷◌, ◌++◌, length, take, drop}
 use Rattle.std.proofs.Common.{slice_index, ap, ap₂, sym, ◌∙◌, arith, length-drop}
 use Rattle.std.proofs.lemmas.Grind.{same_number_lists}
@@ -19,7 +19,7 @@ module _ (xs : List ℕ) (w n : ℕ) (room : w + n / 64 ≤ length xs) where
       (let l = long in omega arith)
       ∙ get_or-take (n / 64) (drop w xs) i 0 lt ∙ get_or-drop w xs i 0
 
-  -- the last word of the first bits, if it is part of a word
+  -- the last word of the first n bits, if n is not a multiple of 64
   last-is : n % 64 ≢ 0 → last_bits (n % 64) (drop (n / 64) (drop w xs))
       ≡ slice_index xs (w + n / 64) % 2 ^ (n % 64) ∷ []
   last-is ne =
@@ -58,7 +58,7 @@ module _ (xs ys : List ℕ) (w v n : ℕ) (room : w + n / 64 ≤ length xs) (spa
       get_or-take (n / 64) (drop w xs) i 0 (omega arith) ∙ get_or-drop w xs i 0 ∙ eq i (omega arith)
       ∙ sym (get_or-drop v ys i 0) ∙ sym (get_or-take (n / 64) (drop v ys) i 0 (omega arith)))
 
-  -- equal whole words make equal bits, if there is no part of a word
+  -- equal whole words make equal bits, if n is a multiple of 64
   pub bits-of_equal : n % 64 ≡ 0 → AreEqual xs w ys v (n / 64) → SameBits
   bits-of_equal e eq =
       ap₂ (λ (l : List ℕ) (r : ℕ). l ++ last_bits r (drop (n / 64) (drop w xs))) (whole eq) e

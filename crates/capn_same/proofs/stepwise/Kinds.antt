@@ -1,4 +1,5 @@
--- Values of two kinds are not the same, nor are lists of two lengths. (For `is_same_slot` and `is_same_content`.)
+-- Values of different kinds are not the same, and lists of different lengths are not the same. (For `is_same_slot` and
+-- `is_same_content`.)
 use Rattle.std.proofs.Common.{◌≡◌, ℕ, suc, ◌≤◌, ◌==◌, cond, List, length, Ok, refl, ap, sym, ◌∙◌, arith}
 use Rattle.capn_words.specs.declared.space.Place.{Place}
 use Rattle.capn_words.specs.declared.pointer.Width.{Width}
@@ -172,7 +173,7 @@ not-node (shapes.Node a b) n e = n a b refl
 not-node (shapes.Many width k) n e = let l = width-low width in omega arith
 not-node (shapes.Rows k a b span) n e = omega arith
 
--- the mark of the width of a list that isn't composite
+-- the mark of the width of a list that isn't composite is at most 8
 many-low : (width : Width) (n : ℕ) → RowsFit (shapes.Many width n) → width_mark width ≤ 8
 many-low W0 n r = omega arith
 many-low W1 n r = omega arith

@@ -1,4 +1,4 @@
--- Rows are the same row by row. (For `are_same_rows`.)
+-- Two lists of rows are the same exactly if they are the same row by row. (For `are_same_rows`.)
 use Rattle.std.proofs.Common.{◌≡◌, ◌↔◌, ℕ, zero, suc, ◌+◌, ◌*◌, ◌<◌, ◌≤◌, List, [], length, refl, ap, sym, subst}
 use Rattle.std.proofs.Common.{◌∙◌, arith}
 use Rattle.capn_value.specs.Tree.{Trees, Bodies, no_bodies, body, count, count_rows, row_words}
@@ -17,7 +17,7 @@ words_at no_bodies i = []
 words_at (body ws ss bs) zero = ws
 words_at (body ws ss bs) (suc i) = words_at bs i
 
--- a row whose words begin at word w, with the values of its slots
+-- a row that begins at word w, with a words `ws` and b slots of the values `ss`
 pub record IsRowAt (m : List (List ℕ)) (s w a b : ℕ) (ws : List ℕ) (ss : Trees) : Type 0 where
   pub long : length ws ≡ a
   pub number : count ss ≡ b
@@ -57,7 +57,7 @@ weights-row no_bodies i lt = absurd (omega arith)
 weights-row (body ws ss bs) zero lt = refl
 weights-row (body ws ss bs) (suc i) lt = weights-row bs i (omega arith)
 
--- the rows past the first i are the same exactly if the first of them and the others are
+-- the rows past the first i are the same exactly if row i of both is the same and the rows past row i are the same
 pub row-step : (bs cs : Bodies) (i : ℕ) → i < count_rows bs → i < count_rows cs
     → SameRows (rows_past i bs) (rows_past i cs)
     ↔ ((SameWords (words_at bs i) (words_at cs i) × SameSlots (slots_at bs i) (slots_at cs i))
@@ -96,7 +96,7 @@ row-weights bs i j e lt =
     (weights-row bs i lt)
 
 module _ (m : List (List ℕ)) (start : Place) (n a b : ℕ) where
-  -- row i of the rows at a place, with what is in its slots
+  -- row i of the rows at a place, with the words and the values in the slots
   pub is-row_in : (p : Place) (next i : ℕ) (bs : Bodies) → AreRowsIn m start n a b bs → i < n
       → next ≡ start.word + i * (a + b) → p ≡ record { segment = start.segment; word = next }
       → IsRow m p a b (words_at bs i) (slots_at bs i)
@@ -130,7 +130,7 @@ module _ (m : List (List ℕ)) (start : Place) (n a b : ℕ) where
         low = omega arith;
       }
 
-  -- the words of the first i rows and of one more are within those of all rows
+  -- the bound for i rows and one more row is within the bound for n rows
   pub rows-so_far : (i : ℕ) → i < n → 12 * (i * (a + b)) + 12 * (a + b) ≤ 12 * (n * (a + b))
   rows-so_far i lt = let w = row-within n i a b lt in omega arith
 

@@ -1,4 +1,5 @@
--- Slots are the same slot by slot, and null past the end of the others. (For `are_same_slots`.)
+-- Two lists of slots are the same exactly if they are the same slot by slot, and the remaining slots of the longer list
+-- are null. (For `are_same_slots`.)
 use Rattle.std.proofs.Common.{◌≡◌, ◌↔◌, ◌⊎◌, inl, inr, ℕ, zero, suc, ◌+◌, ◌-◌, ◌<◌, ◌≤◌, min, List}
 use Rattle.std.proofs.Common.{slice_index}
 use Rattle.std.proofs.Common.{refl, ap, sym, subst, ◌∙◌, arith}
@@ -41,7 +42,7 @@ module _ (m : List (List ℕ)) where
   null-word : (at : Place) (t : Tree) → IsAt m at t → t ≡ nil → slice_index (segment_at m at.segment) at.word ≡ 0
   null-word at t h e = other-than-nil m at (subst (λ (x : Tree). IsAt m at x) e h)
 
-  -- slots are all null exactly if all their words are zero
+  -- all slots are null exactly if the words of all slots are zero
   pub zeros-of_null : (s w : ℕ) (ts : Trees) → AreAt m s w ts → AllNull ts → AreZeros (segment_at m s) w (count ts)
   zeros-of_null s w no_trees h a i lt = absurd (omega arith)
   zeros-of_null s w (tree t ts) h a zero lt =
@@ -78,7 +79,7 @@ weights-past no_trees k lt = absurd (omega arith)
 weights-past (tree t ts) zero lt = refl
 weights-past (tree t ts) (suc k) lt = weights-past ts k (omega arith)
 
--- the slots past the first k are the same exactly if the first of them and the others are
+-- the slots past the first k are the same exactly if slot k of both is the same and the slots past slot k are the same
 pub same-step : (ss ts : Trees) (k : ℕ) → k < count ss → k < count ts
     → SameSlots (past k ss) (past k ts)
     ↔ (Same (tree_at ss k) (tree_at ts k) × SameSlots (past (suc k) ss) (past (suc k) ts))
@@ -114,7 +115,7 @@ same-end ss ts k e = by (cases_lt (count ts) (count ss))
     by (inl lt) = no-right (past k ss) (past k ts) (omega (arith, a, b))
     by (inr le) = no-left (past k ss) (past k ts) (omega (arith, a, b))
 
--- equal numbers of slots are the same exactly if each slot is
+-- two lists of equally many slots are the same exactly if slot by slot the values are the same
 pub slots-each : (ss ts : Trees) → count ss ≡ count ts → SameSlots ss ts ↔ SameEach ss ts
 slots-each no_trees no_trees e = ((λ h. tt), (λ h. tt))
 slots-each no_trees (tree t ts) e = absurd (omega arith)
@@ -137,7 +138,7 @@ weights-next ts k j e lt =
     subst (λ (x : ℕ). weights (past k ts) ≡ weight (tree_at ts k) + weights (past x ts)) z (weights-past ts k lt)
 
 module _ (m : List (List ℕ)) (start : Place) (n : ℕ) where
-  -- slot i of the slots at a place, and its value
+  -- slot i of the slots at a place, and the value of slot i
   pub has-slot : (p : Place) (i : ℕ) (ts : Trees) → AreIn m start n ts → i < n
       → p ≡ record { segment = start.segment; word = start.word + i } → HasSlot m p.segment p.word (tree_at ts i)
   has-slot p i ts h lt e =
@@ -159,7 +160,7 @@ module _ (m : List (List ℕ)) (start : Place) (n : ℕ) where
       let o = low-at h.values i (omega arith) in
       record { value = tree_at h.values i; is = has-slot p i h.values h.are lt e; low = omega arith }
 
-  -- the slots past the first i are null exactly if their words are zero
+  -- the slots past the first i are null exactly if the words of these slots are zero
   pub rest-null : (i : ℕ) (ts : Trees) → AreIn m start n ts → i ≤ n
       → AllNull (past i ts) ↔ AreZeros (segment_at m start.segment) (start.word + i) (n - i)
   rest-null i ts h le =
@@ -172,7 +173,8 @@ module _ (m : List (List ℕ)) (start : Place) (n : ℕ) where
         null-of_zeros m start.segment (start.word + i) (past i ts) a,
       )
 
--- if the slots that both sides have are the same, all slots are the same exactly if the others are null
+-- if the slots that both sides have are the same, all slots are the same exactly if the slots past the end of the
+-- shorter list are null
 module _ (m k : List (List ℕ)) (start beside : Place) (n l s i : ℕ) (ss ts : Trees) (h : AreIn m start n ss)
     (g : AreIn k beside l ts) (es : s ≡ min n l) (ei : i ≡ s)
     (so : SameSlots ss ts ↔ SameSlots (past i ss) (past i ts)) where

@@ -1,4 +1,5 @@
--- Words are the same exactly if they are equal as far as both sides go, and zero past that. (For `are_same`.)
+-- Two lists of words are the same exactly if they are equal up to the end of the shorter list, and the rest of the
+-- longer list is zero. (For `are_same`.)
 use Rattle.std.proofs.Common.{◌≡◌, ◌⊎◌, inl, inr, ℕ, ◌+◌, ◌-◌, ◌<◌, ◌≤◌, min, List, length, take, drop, slice_index}
 use Rattle.std.proofs.Common.{ap, sym, ◌∙◌, arith}
 use Rattle.std.proofs.lemmas.Bool.{cases_lt}
@@ -25,7 +26,7 @@ zero-past xs ws w n s i own l le z = by (cases_lt i n)
 
 module _ (xs ys ws vs : List ℕ) (w v n k s : ℕ) (own : take (length ws) (drop w xs) ≡ ws)
     (other : take (length vs) (drop v ys) ≡ vs) (en : length ws ≡ n) (ek : length vs ≡ k) (es : s ≡ min n k) where
-  -- words are the same if the parts that are compared are
+  -- two lists of words are the same if the parts that are compared are equal
   pub same-of_parts : AreEqual xs w ys v s → AreZeros xs (w + s) (n - s) → AreZeros ys (v + s) (k - s) → SameWords ws vs
   same-of_parts eq za zb i = by (cases_lt i s)
     where
