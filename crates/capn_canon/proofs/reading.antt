@@ -1,4 +1,4 @@
--- Lemmas on reading canonical words again: the targets of their pointers, and the value that they denote.
+-- Lemmas on reading canonical words: the targets of the pointers, and the value that the words denote.
 pub mod StandsIn
 pub mod OneSegment
 pub mod LaidPointers

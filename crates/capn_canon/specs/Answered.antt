@@ -1,4 +1,5 @@
--- The result of a task on bytes in a form: the result for the message that they hold, or the reason why they hold none.
+-- The result of a task on bytes in a form: the result for the message in the bytes, or the reason why the bytes are no
+-- message.
 use Rattle.std.specs.Prelude.{◌≡◌, ◌⊎◌, ℕ, List, Result, Err}
 use Rattle.capn_walk.specs.Limits.{Bounds}
 use Rattle.capn_canon.specs.declared.form.Form.{Form}
@@ -8,20 +9,20 @@ use Rattle.capn_canon.specs.MemoryNeed.{MayNeedMemory}
 use Rattle.capn_canon.specs.Reads.{Reads}
 use Rattle.capn_canon.specs.Refusal.{IsMisread}
 
--- `bs` are no message in `form` for this reason, or it is memory, which reading them may need (Own.)
+-- `bs` are no message in `form` for the reason given; or reading `bs` may need the memory refused (Our own.)
 abbrev pub IsRefusedReading : Form → List ℕ → Bounds → Refusal → Type 0
 IsRefusedReading form bs limits refusals.Memory = MayNeedMemory form bs limits
 IsRefusedReading form bs limits e = IsMisread form bs limits.message_words e
 
--- `bs` are read as a message with the result `r`, by `answers`, or `r` says why they are no message in `form` (Own.)
+-- `bs` are read as a message for which `answers` allows `r`; or `r` says why `bs` are no message in `form` (Our own.)
 abbrev pub IsAnswered : {T : Type 0} → Form → List ℕ → Bounds
     → (List (List ℕ) → Bounds → Result T Refusal → Type 0) → Result T Refusal → Type 0
 IsAnswered form bs limits answers r =
     ((message : List (List ℕ)) × Reads form bs limits.message_words message × answers message limits r)
     ⊎ ((e : Refusal) × (r ≡ Err e) × IsRefusedReading form bs limits e)
 
--- `bs` are read as a message, and the run of a task on it has the result `r` and takes the task from `old` to `new`; or
--- `r` says why they are no message in `form`, and the task is as it was (Own.)
+-- `bs` are read as a message, and a task on it has the result `r` and takes the task from `old` to `new`; or `r` says
+-- why `bs` are no message in `form`, and the task is as before (Our own.)
 abbrev pub IsRun : {T S : Type 0} → Form → List ℕ → Bounds
     → (S → List (List ℕ) → Bounds → Result T Refusal → S → Type 0) → S → Result T Refusal → S → Type 0
 IsRun form bs limits answers old r new =

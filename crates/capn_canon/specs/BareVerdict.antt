@@ -11,15 +11,17 @@ use Rattle.capn_canon.specs.declared.form.Form.TheVariants as forms
 use Rattle.capn_canon.specs.Denotes.{Denotes}
 use Rattle.capn_layout.specs.Layout.{canon}
 
--- `bs`, read bare, denote a value without capabilities, and `yes` is true if and only if they are its canonical bytes
+-- `bs`, read bare, denote a value without capabilities, and `yes` is true if and only if `bs` are the canonical bytes
+-- of that value
 pub record SaysCanonical (bs : List ℕ) (limits : Bounds) (yes : Bool) : Type 0 where
   pub value : Tree
   pub is : Denotes forms.Bare bs limits value
   pub free : first_cap value ≡ None
   pub answer : IsTrue yes ↔ (canon value ≡ bs)
 
--- `words` are an accepted message; `c` has the words that its walk pays, the number of its visits, the first capability
--- of its value, and whether the value has none and the words have its canonical bytes
+-- `words` are an accepted message; `c.paid` is the number of words that the walk pays, `c.visits` the number of visits,
+-- and `c.capability` the first capability; `c.is_canonical` says whether the value has none and `words` spell its
+-- canonical bytes
 pub record IsBareSurvey (words : List ℕ) (limits : Bounds) (c : SurveyedBare) : Type 0 where
   pub value : Tree
   pub is : IsValueOf (words ∷ []) limits value

@@ -1,4 +1,4 @@
--- The length of the canonical bytes of a message. (Own.)
+-- The length of the canonical bytes of a message. (Our own.)
 use Rattle.std.specs.Prelude.{◌≡◌, ℕ, List, None, length}
 use Rattle.capn_value.specs.Tree.{Tree}
 use Rattle.capn_value.specs.FirstCap.{first_cap}
@@ -7,8 +7,8 @@ use Rattle.capn_walk.specs.Limits.{Bounds}
 use Rattle.capn_layout.specs.Layout.{canon}
 use Rattle.capn_canon.specs.declared.length.CanonicalLength.{CanonicalLength}
 
--- `message` is accepted with the value `v`, which has no capability; `c` has the length of its canonical bytes, the
--- words that the walk pays, and the number of visits
+-- `message` is accepted with the value `v`, which has no capability; `c.length` is the length of the canonical bytes of
+-- `v`, `c.paid` the number of words that the walk pays, and `c.visits` the number of visits
 pub record IsCanonicalLength (message : List (List ℕ)) (limits : Bounds) (v : Tree) (c : CanonicalLength)
     : Type 0 where
   pub is : IsValueOf message limits v

@@ -18,21 +18,21 @@ pub record ReadsBack (bs : List ℕ) (limits : Bounds) (v : Tree) : Type 0 where
   pub denotes : Denotes forms.Bare bs limits (trimmed v)
   pub same : Same (trimmed v) v
 
--- read bare under the limits, the bytes `bs` pay exactly the cost of the trimmed value of `v`
+-- a walk of the bytes `bs`, read bare under the limits, pays exactly the cost of the trimmed value of `v`
 abbrev pub PaysItsCost : List ℕ → Bounds → Tree → Type 0
 PaysItsCost bs limits v =
     (message : List (List ℕ)) → Reads forms.Bare bs limits.message_words message
     → paid message limits ≡ cost (base limits.tariff) (trimmed v)
 
--- the canonical bytes of the trimmed value of `v` are `bs` again
+-- the canonical bytes of the trimmed value of `v` are `bs`
 abbrev pub IsItsOwnForm : List ℕ → Tree → Type 0
 IsItsOwnForm bs v = canon (trimmed v) ≡ bs
 
--- a second value has the canonical bytes `bs` if and only if it is the same value as `v`
+-- among the values that fit and are in range, exactly those that are the same as `v` have the canonical bytes `bs`
 abbrev pub IsFormExactlyOf : List ℕ → Tree → Type 0
 IsFormExactlyOf bs v = (w : Tree) → Fits w → InRange w → (canon w ≡ bs) ↔ Same v w
 
--- `bs` have all four properties of the canonical form of `v`
+-- `bs` have the four properties of the canonical bytes of `v`
 pub record IsCanonicalForm (bs : List ℕ) (limits : Bounds) (v : Tree) : Type 0 where
   pub reads_back : ReadsBack bs limits v
   pub pays : PaysItsCost bs limits v

@@ -8,13 +8,14 @@ use Rattle.capn_canon.specs.declared.form.Form.{Form}
 use Rattle.capn_layout.specs.Layout.{canon}
 use Rattle.capn_canon.specs.Reads.{Reads}
 
--- `bs` are read as a message, which is accepted with the value `v` at its root
+-- `bs` are read as a message in `form`, and the message is accepted with the value `v` at its root
 pub record Denotes (form : Form) (bs : List ℕ) (limits : Bounds) (v : Tree) : Type 0 where
   pub message : List (List ℕ)
   pub reads : Reads form bs limits.message_words message
   pub value : IsValueOf message limits v
 
--- `message` is accepted, its value has no capability, `bytes` are its canonical bytes, and its walk pays `price`
+-- `message` is accepted with a value without capabilities, `bytes` are the canonical bytes of that value, and the walk
+-- of `message` pays `price` words
 pub record AnswersMessage (message : List (List ℕ)) (limits : Bounds) (bytes : List ℕ) (price : ℕ) : Type 0 where
   pub value : Tree
   pub is : IsValueOf message limits value
@@ -22,7 +23,7 @@ pub record AnswersMessage (message : List (List ℕ)) (limits : Bounds) (bytes :
   pub canonical : bytes ≡ canon value
   pub priced : price ≡ paid message limits
 
--- `bs` are read as a message whose value has the canonical bytes `bytes`, and whose walk pays `price`
+-- `bs` are read as a message whose value has the canonical bytes `bytes`; the walk of the message pays `price` words
 pub record Answers (form : Form) (bs : List ℕ) (limits : Bounds) (bytes : List ℕ) (price : ℕ) : Type 0 where
   pub message : List (List ℕ)
   pub reads : Reads form bs limits.message_words message

@@ -30,7 +30,7 @@ use Rattle.capn_canon.specs.declared.message_refusal.IntoRefusal.{IntoRefusal}
 use Rattle.capn_canon.specs.Theorem.{Answered, EqualExactly, OwnForm, WithinBudget, WrittenInto, RefusedInto}
 
 -- the canonical bytes of a value that fits and is in range have the four properties of its canonical form, under all
--- limits that hold its cost and height
+-- limits that allow the cost and the height of the value
 abbrev pub CanonIsForm : Type 0
 CanonIsForm = (v : Tree) (limits : Bounds) → Fits v → InRange v → cost (base limits.tariff) v ≤ limits.budget
     → height v ≤ limits.depth
@@ -40,7 +40,8 @@ CanonIsForm = (v : Tree) (limits : Bounds) → Fits v → InRange v → cost (ba
 abbrev pub EqualExactlySame : Type 0
 EqualExactlySame = (v w : Tree) → Fits v → InRange v → Fits w → InRange w → (canon v ≡ canon w) ↔ Same v w
 
--- the properties of a value that bytes denote within limits: it fits, its price is bounded, and it has a canonical form
+-- the properties of a value `v` that bytes denote within limits: `v` fits, the walk pays at least the cost of `v`, and
+-- `v` has a canonical form
 pub record HasCanonicalForm (form : Form) (bs : List ℕ) (limits : Bounds) (v : Tree)
     (h : Denotes form bs limits v) : Type 0 where
   pub fits : Fits v
@@ -51,7 +52,7 @@ pub record HasCanonicalForm (form : Form) (bs : List ℕ) (limits : Bounds) (v :
   pub short : length (canon v) ≤ 8 * (paid h.message limits + 1)
   pub canonical : IsCanonicalForm (canon v) limits v
 
--- each value that bytes denote within limits fits and has a canonical form
+-- each value that bytes denote within valid limits fits and has a canonical form
 abbrev pub DenotedHaveForms : Type 0
 DenotedHaveForms = (form : Form) (bs : List ℕ) (limits : Bounds) (v : Tree)
     → AreLimits limits.message_words limits.budget limits.depth
@@ -62,25 +63,25 @@ abbrev pub DenoteOne : Type 0
 DenoteOne = (form : Form) (bs : List ℕ) (limits : Bounds) (v w : Tree) → Denotes form bs limits v
     → Denotes form bs limits w → v ≡ w
 
--- bytes that denote a value without capabilities are refused only if memory runs out
+-- bytes that denote a value without capabilities are refused only by `Memory`
 abbrev pub DenotedAreNotRefused : Type 0
 DenotedAreNotRefused = (form : Form) (bs : List ℕ) (limits : Bounds) (v : Tree) (r : Refusal)
     → Denotes form bs limits v → first_cap v ≡ None → IsRefused form bs limits r → r ≡ refusals.Memory
 
--- bytes have only one reason for which they are refused, unless memory runs out
+-- two refusals of the same bytes under the same limits, neither of them `Memory`, are equal
 abbrev pub RefusedForOneReason : Type 0
 RefusedForOneReason = (form : Form) (bs : List ℕ) (limits : Bounds) (r s : Refusal) → (r ≡ refusals.Memory → ⊥)
     → (s ≡ refusals.Memory → ⊥)
     → IsRefused form bs limits r → IsRefused form bs limits s → r ≡ s
 
--- the bytes of words are the same for the reader and for the packer
+-- the reader and the packer spell words as the same bytes
 abbrev pub WordsHaveTheSameBytes : Type 0
 WordsHaveTheSameBytes = (ws : List ℕ) → bytes ws ≡ packed_bytes ws
 
 -- ---- the rules of the encoding page
 
--- if words denote a value that fits, they are its canonical bytes, and it has no capability, if and only if they follow
--- the rules of the page
+-- if words denote a value that fits, two statements are equivalent: the value has no capability, and the words are its
+-- canonical bytes; the words follow the rules of the page
 abbrev pub CanonicalExactlyByPage : Type 0
 CanonicalExactlyByPage = (bs ws : List ℕ) (v : Tree) → IsBare bs ws → IsAt (ws ∷ []) root v → Fits v
     → ((first_cap v ≡ None) × (canon v ≡ bs)) ↔ IsPageForm ws
@@ -116,8 +117,7 @@ CheckIsOfThePage = (bs : List ℕ) (limits : Bounds) (told : Bool)
     → AreLimits limits.message_words limits.budget limits.depth → SaysCanonical bs limits told
     → IsTrue told ↔ ((ws : List ℕ) × IsBare bs ws × IsPageForm ws)
 
--- the survey of a message of one segment says that it is canonical if and only if its words follow the rules of the
--- page
+-- the survey of a message of one segment says "canonical" if and only if the words follow the rules of the page
 abbrev pub SurveyIsOfThePage : Type 0
 SurveyIsOfThePage = (words : List ℕ) (limits : Bounds) (c : SurveyedBare) → IsMessage (words ∷ [])
     → AreLimits limits.message_words limits.budget limits.depth → IsBareSurvey words limits c
@@ -125,7 +125,8 @@ SurveyIsOfThePage = (words : List ℕ) (limits : Bounds) (c : SurveyedBare) → 
 
 -- ---- the theorem, of all results that the clauses of `canonicalise` allow
 
--- `r` is a result that the clauses of `canonicalise` allow: the canonical bytes under the limits, or a true refusal
+-- `r` is a result that the clauses of `canonicalise` allow: the canonical bytes of a value without capabilities, or a
+-- true refusal; the limits are valid
 pub record IsFoundOrRefused {A : Type 0} (form : Form) (bs : List ℕ) (limits : Bounds)
     (r : Result (Canonical A) Refusal) : Type 0 where
   pub are : AreLimits limits.message_words limits.budget limits.depth
@@ -137,17 +138,17 @@ abbrev pub EachIsAnswered : Type 0 → Type 0
 EachIsAnswered A = (form : Form) (bs : List ℕ) (limits : Bounds) (r : Result (Canonical A) Refusal)
     → IsFoundOrRefused form bs limits r → Answered form bs limits r
 
--- any two results are equal if and only if the values denoted are the same
+-- any two results are equal if and only if the values that their inputs denote are the same
 abbrev pub AnswersAreEqualExactly : Type 0 → Type 0
 AnswersAreEqualExactly A = (form : Form) (bs : List ℕ) (limits : Bounds) (r : Result (Canonical A) Refusal)
     → IsFoundOrRefused form bs limits r → IfOk r (λ c. EqualExactly form bs limits c.bytes.items)
 
--- each result is its own canonical form
+-- each result denotes the same value as its input, and canonicalising the result gives it again, or `Memory`
 abbrev pub AnswersAreOwnForms : Type 0 → Type 0
 AnswersAreOwnForms A = (form : Form) (bs : List ℕ) (limits : Bounds) (r : Result (Canonical A) Refusal)
     → IsFoundOrRefused form bs limits r → IfOk r (λ c. OwnForm form bs limits c)
 
--- the words paid in a result, or in a refusal, are at most the budget
+-- the number of words paid in a result, or in a refusal, is at most the budget
 abbrev pub WalksAreWithinBudgets : Type 0 → Type 0
 WalksAreWithinBudgets A = (form : Form) (bs : List ℕ) (limits : Bounds) (r : Result (Canonical A) Refusal)
     → IsFoundOrRefused form bs limits r → WithinBudget limits r
@@ -168,20 +169,20 @@ PageFormsAreWhatIsTold = (bs ds ws us : List ℕ) (v w : Tree) → IsBare bs ws 
     → (bs ≡ ds) ↔ ((p : List Step) → get v p ≡ get w p)
 
 -- two results, from any two forms, inputs and limits, are byte for byte equal if and only if the getters return the
--- same from both values denoted, along every path
+-- same from the values that the two inputs denote, along every path
 abbrev pub EqualToGetters : Form → List ℕ → Bounds → List ℕ → Type 0
 EqualToGetters form bs limits answer = (g : Form) (ds : List ℕ) (other_limits : Bounds) (other : List ℕ) (price : ℕ)
     (v w : Tree) → AreLimits other_limits.message_words other_limits.budget other_limits.depth
     → Answers g ds other_limits other price → Denotes form bs limits v → Denotes g ds other_limits w
     → (answer ≡ other) ↔ ((p : List Step) → get v p ≡ get w p)
 
--- any two results are equal if and only if the getters return the same from both values denoted
+-- any two results are equal if and only if the getters return the same from the values that their inputs denote
 abbrev pub AnswersAreEqualToGetters : Type 0 → Type 0
 AnswersAreEqualToGetters A = (form : Form) (bs : List ℕ) (limits : Bounds) (r : Result (Canonical A) Refusal)
     → IsFoundOrRefused form bs limits r → IfOk r (λ c. EqualToGetters form bs limits c.bytes.items)
 
 -- the bytes of each result, read bare under the same limits, denote a value from which the getters return what they
--- return from the value that was canonicalised
+-- return from the value of the input
 abbrev pub AnswersTellTheSame : Type 0 → Type 0
 AnswersTellTheSame A = (form : Form) (bs : List ℕ) (limits : Bounds) (r : Result (Canonical A) Refusal)
     → IsFoundOrRefused form bs limits r → IfOk r (λ c. (v : Tree) → Denotes form bs limits v
@@ -189,15 +190,14 @@ AnswersTellTheSame A = (form : Form) (bs : List ℕ) (limits : Bounds) (r : Resu
 
 -- ---- the theorem of `canonical_into`, of all results that its clauses allow
 
--- `r` is a result that the clauses of `canonical_into` allow: the bytes are written, or a refusal is true and left the
--- buffer as it was
+-- `r` is a result that the clauses of `canonical_into` allow: the bytes are written, or a refusal is true
 pub record IsWrittenOrRefused (message : List (List ℕ)) (limits : Bounds) (old new : List ℕ)
     (r : Result CanonicalLength IntoRefusal) : Type 0 where
   pub written : IfOk r (λ c. WrittenInto message limits old new c)
   pub refused : IfErr r (λ e. RefusedInto message limits (length old) e)
   pub unchanged : OnErr r (new ≡ old)
 
--- for one message, limits and buffer there is only one result, and one buffer after it
+-- for each message, limits and buffer the clauses of `canonical_into` allow one result and one content of the buffer
 abbrev pub IntoIsDecided : Type 0
 IntoIsDecided = (message : List (List ℕ)) (limits : Bounds) (old p q : List ℕ)
     (r s : Result CanonicalLength IntoRefusal) → IsWrittenOrRefused message limits old p r

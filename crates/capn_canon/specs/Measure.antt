@@ -1,4 +1,4 @@
--- The measure of a message that is accepted: its price, its depth, and whether it is canonical. (Own.)
+-- The measure of an accepted message: its price, its depth, and whether it is canonical. (Our own.)
 use Rattle.std.specs.Prelude.{◌≡◌, ◌↔◌, ℕ, List, [], ◌∷◌, None}
 use Rattle.std.specs.Bool.{IsTrue}
 use Rattle.capn_words.specs.Message.{bytes}
@@ -11,13 +11,13 @@ use Rattle.capn_layout.specs.Layout.{canon}
 use Rattle.capn_canon.specs.declared.surveyed_bare.MeasuredBare.{MeasuredBare}
 use Rattle.capn_canon.specs.declared.surveyed_bare.SurveyedBare.{SurveyedBare}
 
--- `message` has one segment, whose bytes are the canonical bytes of `v`, which has no capability
+-- `message` has one segment, whose bytes are the canonical bytes of the value `v`, and `v` has no capability
 abbrev pub IsCanonicalOf : List (List ℕ) → Tree → Type 0
 IsCanonicalOf message v =
     (words : List ℕ) × (message ≡ words ∷ []) × (first_cap v ≡ None) × (canon v ≡ bytes words)
 
--- `message` is accepted; `c` has the words that its walk pays, the number of its visits, the first capability of its
--- value, and whether the message is canonical
+-- `message` is accepted; `c.paid` is the number of words that the walk pays, `c.visits` the number of visits, and
+-- `c.capability` the first capability; `c.is_canonical` says whether `message` is canonical
 pub record IsChecked (message : List (List ℕ)) (limits : Bounds) (c : SurveyedBare) : Type 0 where
   pub value : Tree
   pub is : IsValueOf message limits value
@@ -26,7 +26,7 @@ pub record IsChecked (message : List (List ℕ)) (limits : Bounds) (c : Surveyed
   pub capability : c.capability ≡ first_cap value
   pub answer : IsTrue c.is_canonical ↔ IsCanonicalOf message value
 
--- `m` has the survey of `message`, says whether it is canonical, and has the least depth under which it is accepted
+-- `m.survey` is the survey of `message`, and `m.depth` the least depth limit under which `message` is accepted
 pub record IsMeasure (message : List (List ℕ)) (limits : Bounds) (m : MeasuredBare) : Type 0 where
   pub checked : IsChecked message limits m.survey
   pub depth : IsDepth message limits m.depth

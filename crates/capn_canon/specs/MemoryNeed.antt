@@ -1,4 +1,4 @@
--- The cases in which memory may be needed to survey a message, and to lay out its value. (Own.)
+-- The cases in which memory may be needed to survey a message, and to lay out its value. (Our own.)
 use Rattle.std.specs.Prelude.{◌≡◌, ◌⊎◌, ℕ, ◌+◌, List, None}
 use Rattle.capn_pack.specs.UnpackRefusal.{StartsWithin}
 use Rattle.capn_stream.specs.Frames.{most_table_words}
@@ -11,18 +11,18 @@ use Rattle.capn_canon.specs.Denotes.{Denotes}
 use Rattle.capn_canon.specs.declared.form.Form.{Form}
 use Rattle.capn_canon.specs.declared.form.Form.TheVariants as forms
 
--- reading `bs` in a form may need memory: never for bare words; for a stream, if a whole frame of more than 64 segments
--- comes first; for a packed text, only if a whole group within the maximum comes first
+-- reading `bs` in a form may need memory: never for bare words; for a stream, if `bs` begin with a whole frame of more
+-- than 64 segments; for a packed text, only if `bs` begin with a whole group that unpacks to words within the maximum
 abbrev pub MayNeedMemory : Form → List ℕ → Bounds → Type 0
 MayNeedMemory forms.Bare bs limits = ⊥
 MayNeedMemory forms.Stream bs limits = HasTable bs limits.message_words
 MayNeedMemory forms.Packed bs limits = StartsWithin bs (limits.message_words + most_table_words)
 
--- laying out `message` may need memory, since it has canonical bytes
+-- laying out the value of `message` may need memory, since `message` has canonical bytes
 abbrev pub MayNeedBytes : List (List ℕ) → Bounds → Type 0
 MayNeedBytes message limits = (v : Tree) × IsValueOf message limits v × (first_cap v ≡ None)
 
--- canonicalising `bs` may need memory: to read them, or since they have canonical bytes
+-- canonicalising `bs` may need memory: to read `bs`, or since `bs` have canonical bytes
 abbrev pub MayNeedBytesIn : Form → List ℕ → Bounds → Type 0
 MayNeedBytesIn form bs limits =
     MayNeedMemory form bs limits ⊎ ((v : Tree) × Denotes form bs limits v × (first_cap v ≡ None))

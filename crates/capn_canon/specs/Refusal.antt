@@ -1,5 +1,5 @@
--- The reasons why bytes in a form have no canonical bytes: they are not read, the walk of the message stops, or its
--- value has a capability. (Own: the order of the tests.)
+-- The reasons why bytes in a form have no canonical bytes: the bytes are not read, the walk of the message stops, or
+-- the value has a capability. (Our own: the order of the tests.)
 use Rattle.std.specs.Prelude.{◌≡◌, ◌≢◌, ℕ, ◌+◌, List, Some, Err, ⊤}
 use Rattle.capn_words.specs.Message.{ReadsBare}
 use Rattle.capn_pack.specs.UnpackRefusal as packs
@@ -17,13 +17,14 @@ use Rattle.capn_canon.specs.declared.refusal.Refusal.{Refusal}
 use Rattle.capn_canon.specs.declared.refusal.Refusal.TheVariants as refusals
 use Rattle.capn_canon.specs.Reads.{Reads, Trails, Unpacks}
 
--- the refusal says why `bs` are not one frame of at most `most` words: they are none, or bytes follow it
+-- the refusal says why `bs` are not exactly one frame of at most `most` words: `bs` begin with no such frame, or bytes
+-- follow it
 abbrev pub IsMisframed : List ℕ → (most : ℕ) → Refusal → Type 0
 IsMisframed bs most (refusals.Frame e) = (e ≢ frame_faults.Memory) × frames.IsFrameRefused bs most e
 IsMisframed bs most (refusals.Trailing at) = Trails bs most at
 IsMisframed bs most _ = ⊥
 
--- the refusal says why `bs` are not read as a message in a form
+-- the refusal says why `bs` are not read as a message in the given form
 abbrev pub IsMisread : Form → List ℕ → (most : ℕ) → Refusal → Type 0
 IsMisread forms.Bare bs most (refusals.Bare e) = ReadsBare bs (Err e)
 IsMisread forms.Bare bs most _ = ⊥
@@ -32,8 +33,8 @@ IsMisread forms.Packed bs most (refusals.Packed e) = (e ≢ unpack_faults.Memory
     × packs.IsUnpackRefused bs (most + most_table_words) e
 IsMisread forms.Packed bs most r = (text : List ℕ) × Unpacks bs most text × IsMisframed text most r
 
--- the refusal is true of `message`: it is not accepted, or its value has a capability, with the index of the first; a
--- refusal for memory is not restricted
+-- the refusal is true of `message`: `message` is not accepted, or its value has a capability, whose index is given;
+-- `Memory` is always allowed
 abbrev pub IsRefusedMessage : List (List ℕ) → Bounds → Refusal → Type 0
 IsRefusedMessage message limits (refusals.Walk s) = walks.IsWalkRefused message limits s.fault s.place s.paid s.visits
 IsRefusedMessage message limits (refusals.Capability k) = (v : Tree) × walks.IsValueOf message limits v
@@ -41,7 +42,8 @@ IsRefusedMessage message limits (refusals.Capability k) = (v : Tree) × walks.Is
 IsRefusedMessage message limits refusals.Memory = ⊤
 IsRefusedMessage message limits _ = ⊥
 
--- the refusal is true of `bs` in `form`: they are not read, or the message that they are read as is refused
+-- the refusal is true of `bs` in `form`: `bs` are not read, or the message that they are read as is refused; `Memory`
+-- is always allowed
 abbrev pub IsRefused : Form → List ℕ → Bounds → Refusal → Type 0
 IsRefused form bs limits (refusals.Walk s) =
     (message : List (List ℕ)) × Reads form bs limits.message_words message
@@ -52,19 +54,19 @@ IsRefused form bs limits (refusals.Capability k) =
 IsRefused form bs limits refusals.Memory = ⊤
 IsRefused form bs limits r = IsMisread form bs limits.message_words r
 
--- the words that a refusal reports as paid are at most `budget`, and its visits at most one more
+-- the number of words that a refusal reports as paid is at most `budget`, and the number of visits is at most one more
 abbrev pub IsPaidWithin : ℕ → Refusal → Type 0
 IsPaidWithin budget (refusals.Walk s) = walks.IsBounded budget s.paid s.visits
 IsPaidWithin budget _ = ⊤
 
--- the refusal says why `message` is not accepted; a refusal for memory is not restricted
+-- the refusal says why `message` is not accepted; `Memory` is always allowed
 abbrev pub IsUnaccepted : List (List ℕ) → Bounds → Refusal → Type 0
 IsUnaccepted message limits (refusals.Walk s) = walks.IsWalkRefused message limits s.fault s.place s.paid s.visits
 IsUnaccepted message limits refusals.Memory = ⊤
 IsUnaccepted message limits _ = ⊥
 
--- the refusal says why `bs` are not read, or why the message that they are read as is not accepted; a refusal for
--- memory is not restricted
+-- the refusal says why `bs` are not read, or why the message that they are read as is not accepted; `Memory` is always
+-- allowed
 abbrev pub IsUnacceptedIn : Form → List ℕ → Bounds → Refusal → Type 0
 IsUnacceptedIn form bs limits (refusals.Capability k) = ⊥
 IsUnacceptedIn form bs limits r = IsRefused form bs limits r

@@ -1,4 +1,4 @@
--- The comparison of two messages by their values. (Own: the order in which they are judged.)
+-- The comparison of two messages by their values. (Our own: `a` is tested before `b`.)
 use Rattle.std.specs.Prelude.{◌≡◌, ◌≢◌, ◌↔◌, ℕ, List, None, Bool, IsTrue, Result, IfOk, IfErr}
 use Rattle.capn_value.specs.Tree.{Tree}
 use Rattle.capn_value.specs.FirstCap.{first_cap}
@@ -24,20 +24,20 @@ pub record SaysSame (a b : List (List ℕ)) (limits : Bounds) (same : Bool) : Ty
   pub second_free : first_cap two ≡ None
   pub answer : IsTrue same ↔ Same one two
 
--- `message` has no canonical bytes for the reason `e`: its walk stops, or it is accepted and its value has a capability
+-- `message` has no canonical bytes for the reason `e`: the walk stops, or the value has a capability
 abbrev pub IsUnfit : List (List ℕ) → Bounds → Refusal → Type 0
 IsUnfit message limits e = IsRefusedMessage message limits e × (e ≢ refusals.Memory)
 
--- `e` refuses the message on one side: the first, or the second if the first is not refused
+-- the refusal is true of the message on the given side; if that is the second message, the first is not refused
 abbrev pub IsRefusedOn : List (List ℕ) → List (List ℕ) → Bounds → Side → Refusal → Type 0
 IsRefusedOn a b limits First e = IsUnfit a limits e
 IsRefusedOn a b limits Second e = HasBytes a limits × IsUnfit b limits e
 
--- `e` is the reason why `a` and `b` are not compared, and names the side that it refuses
+-- `e` says which of `a` and `b` is refused first, and why
 abbrev pub IsNotCompared : List (List ℕ) → List (List ℕ) → Bounds → SameRefusal → Type 0
 IsNotCompared a b limits e = IsRefusedOn a b limits e.side e.refusal
 
--- `r` says whether `a` and `b` have the same value, or why they are not compared, and no walk pays beyond its budget
+-- `r` says whether `a` and `b` have the same value, or why they are not compared; no walk pays more than the budget
 pub record IsSameTold (a b : List (List ℕ)) (limits : Bounds) (r : Result Bool SameRefusal) : Type 0 where
   pub found : IfOk r (λ same. SaysSame a b limits same)
   pub refused : IfErr r (λ e. IsNotCompared a b limits e)

@@ -1,4 +1,4 @@
-//! The tests whether bare bytes are canonical, with or without a survey: they make no canonical bytes to compare with.
+//! Tests whether bare bytes are canonical, with or without a survey. No canonical bytes are made to compare with.
 
 ghost use Rattle.std.specs.Prelude.{◌≡◌, ◌↔◌, ◌≢◌, ◌+◌, ◌*◌, ◌<◌, ◌≤◌, [], ◌∷◌, ◌⊎◌, None, IsTrue, IfOk, IfErr};
 ghost use Rattle.std.specs.Prelude.{MatchResult, length};
@@ -25,8 +25,7 @@ use capn_words::{Bare, Place, Space};
 use std::alloc::Allocator;
 use std::sync::ledger::Ledger;
 
-/// The task of `survey_bare_of`: surveys a message of one segment within limits, and tests whether its bytes are
-/// canonical.
+/// The task of `survey_bare_of`: surveys a message of one segment, and tests whether the message is canonical.
 #[derive(Drop)]
 struct BareTask {
     limits: Limits,
@@ -59,82 +58,82 @@ impl CountedTask for BareTask {
     }
 }
 
-/// Does what [`survey_bare`] does for the message `space` of one segment within `limits`, and reads it through a
-/// counter alone. It has no allocator, and so takes no memory.
+/// Surveys the message `space` of one segment within `limits`. Returns the result of [`survey_bare`]. `space` is read
+/// only through a counter. There is no allocator, so no memory is taken.
 pub fn survey_bare_of<M: Asked>(space: M, limits: Limits) -> Result<SurveyedBare, Stopped>
     requires one { length (M.message space) ≡ 1 }
-    // `space` must allow 24 * (budget + 1) + 1 reads and turns of loops, and one more to open the count. A reference to
-    // a `Space` allows any number.
+    // `space` must allow 24 * (budget + 1) + 1 reads and turns of loops, and one more to start the count. A reference
+    // to a `Space` allows any number.
     requires work { M.allows space (24 * (limits.budget + 1) + 1 + 1) }
-    // If `result` is `Ok`, the message is accepted. `paid` has the words that its walk pays, and `is_canonical` says
-    // whether its bytes are its canonical bytes.
+    // If `result` is `Ok`, the message is accepted. `paid` is the number of words that the walk pays, `visits` the
+    // number of visits, `capability` the first capability, and `is_canonical` says whether the message is canonical.
     ensures found { IfOk result (λ c. IsBareSurvey (segment_at (M.message space) 0) limits c) }
-    // If the message is accepted, `result` is `Ok`, unless a growth was refused.
+    // If the message is accepted, `result` is `Ok`, with the first capability (`no_memory` excludes `Memory`).
     ensures only { (v : Value) → IsValueOf (M.message space) limits v
         → MatchResult result (λ c. c.capability ≡ first_cap v) (λ s. s.fault ≡ faults.Memory) }
-    // If no growth was refused, an `Err` is the first stop of the walk.
+    // An `Err` is the first stop of the walk (`no_memory` excludes `Memory`).
     ensures refused { IfErr result (λ s. (s.fault ≡ faults.Memory)
         ⊎ IsStopped (M.message space) limits s.fault s.place s.paid s.visits) }
-    // No growth is refused, since none is needed, whatever the depth.
+    // The fault is never `Memory`, since nothing is allocated, whatever the depth.
     ensures no_memory { IfErr result (λ s. s.fault ≢ faults.Memory) }
-    // The walk pays at most the budget, also if it is refused.
+    // The walk pays at most the budget, also if the message is refused.
     ensures bounded { MatchResult result (λ c. IsBounded limits.budget c.paid c.visits)
         (λ s. IsBounded limits.budget s.paid s.visits) }
 {
     space.ask(BareTask { limits })
 }
 
-/// Surveys the bare message `space` within `limits`. Returns the words that its walk pays, the number of its visits,
-/// its first capability, and whether its bytes are canonical. One pass over the words finds all of that if the message
-/// begins with canonical bytes. Otherwise a survey follows.
+/// Surveys the bare message `space` within `limits`. Returns the number of words that the walk pays, the number of
+/// visits, the first capability, and whether the bytes are canonical. If `space` begins with canonical bytes, one pass
+/// over the words finds all of that. Otherwise a survey follows the pass.
 ///
-/// It refuses what the walk refuses, with the same stop. It takes no memory, and doesn't use the allocator.
+/// A message that the walk refuses is refused with the stop of the walk. The allocator is not used.
 pub fn survey_bare<A: Allocator + Copy>(
     _alloc: A,
     space: &Bare<'_>,
     limits: Limits,
 ) -> Result<SurveyedBare, Stopped>
-    // If `result` is `Ok`, the message is accepted. `paid` has the words that its walk pays, and `is_canonical` says
-    // whether its bytes are its canonical bytes.
+    // If `result` is `Ok`, the message is accepted. `paid` is the number of words that the walk pays, `visits` the
+    // number of visits, `capability` the first capability, and `is_canonical` says whether the message is canonical.
     ensures found { IfOk result (λ c. IsBareSurvey space.now limits c) }
-    // If the message is accepted, `result` is `Ok`, unless a growth was refused.
+    // If the message is accepted, `result` is `Ok`, with the first capability (`no_memory` excludes `Memory`).
     ensures only { (v : Value) → IsValueOf (space.now ∷ []) limits v
         → MatchResult result (λ c. c.capability ≡ first_cap v) (λ s. s.fault ≡ faults.Memory) }
-    // If no growth was refused, an `Err` is the first stop of the walk.
+    // An `Err` is the first stop of the walk (`no_memory` excludes `Memory`).
     ensures refused { IfErr result (λ s. (s.fault ≡ faults.Memory)
         ⊎ IsStopped (space.now ∷ []) limits s.fault s.place s.paid s.visits) }
-    // No growth is refused, since none is needed, whatever the depth.
+    // The fault is never `Memory`, since nothing is allocated, whatever the depth.
     ensures no_memory { IfErr result (λ s. s.fault ≢ faults.Memory) }
-    // The walk pays at most the budget, also if it is refused.
+    // The walk pays at most the budget, also if the message is refused.
     ensures bounded { MatchResult result (λ c. IsBounded limits.budget c.paid c.visits)
         (λ s. IsBounded limits.budget s.paid s.visits) }
 {
     survey_bare_of(space, limits)
 }
 
-/// Does what [`survey_bare`] does for the message `space` of one segment within `limits`, and counts its reads and the
-/// turns of its loops in `reads`, as [`survey_counted`] does. It takes no memory.
+/// Surveys the message `space` of one segment within `limits`, and counts reads and loop turns in `reads`. Returns the
+/// result of [`survey_bare`]. No memory is taken.
 pub fn survey_bare_counted<S: Space, L: Ledger>(
     space: &CountedSpace<'_, S, L>,
     limits: Limits,
     reads: &mut Reads<L>,
 ) -> Result<SurveyedBare, Stopped>
     requires one { length space.now ≡ 1 }
-    // If `result` is `Ok`, the message is accepted. `paid` has the words that its walk pays, and `is_canonical` says
-    // whether its bytes are its canonical bytes.
+    // If `result` is `Ok`, the message is accepted. `paid` is the number of words that the walk pays, `visits` the
+    // number of visits, `capability` the first capability, and `is_canonical` says whether the message is canonical.
     ensures found { IfOk result (λ c. IsBareSurvey (segment_at space.now 0) limits c) }
-    // If the message is accepted, `result` is `Ok`, unless a growth was refused.
+    // If the message is accepted, `result` is `Ok`, with the first capability (`no_memory` excludes `Memory`).
     ensures only { (v : Value) → IsValueOf space.now limits v
         → MatchResult result (λ c. c.capability ≡ first_cap v) (λ s. s.fault ≡ faults.Memory) }
-    // If no growth was refused, an `Err` is the first stop of the walk.
+    // An `Err` is the first stop of the walk (`no_memory` excludes `Memory`).
     ensures refused { IfErr result (λ s. (s.fault ≡ faults.Memory)
         ⊎ IsStopped space.now limits s.fault s.place s.paid s.visits) }
-    // No growth is refused, since none is needed, whatever the depth.
+    // The fault is never `Memory`, since nothing is allocated, whatever the depth.
     ensures no_memory { IfErr result (λ s. s.fault ≢ faults.Memory) }
-    // The walk pays at most the budget, also if it is refused.
+    // The walk pays at most the budget, also if the message is refused.
     ensures bounded { MatchResult result (λ c. IsBounded limits.budget c.paid c.visits)
         (λ s. IsBounded limits.budget s.paid s.visits) }
-    // The budget bounds the reads of the message and the turns of loops, whatever the result is.
+    // The budget bounds the number of reads and loop turns, whatever the result is.
     ensures work { reads.new ≤ reads.old + 24 * (limits.budget + 1) }
 {
     let words = CountedWords::of(space);
@@ -150,13 +149,13 @@ pub fn survey_bare_counted<S: Space, L: Ledger>(
     })
 }
 
-/// Tests whether `bytes`, read bare within `limits`, are the canonical bytes of the value that they denote. It has no
-/// allocator, and so takes no memory.
+/// Tests whether `bytes`, read bare within `limits`, are the canonical bytes of the value that `bytes` denote. There is
+/// no allocator, so no memory is taken.
 pub fn are_canonical(bytes: &[u8], limits: Limits) -> Result<bool, Refusal>
-    // If `result` is `Ok`, the bytes denote one value, which has no capability, and `result` says whether they are its
-    // canonical bytes.
+    // If `result` is `Ok`, the bytes denote one value, which has no capability, and `result` says whether the bytes are
+    // the canonical bytes of that value.
     ensures found { IfOk result (λ yes. SaysCanonical bytes.now limits yes) }
-    // If the bytes denote a value without capabilities, `result` is `Ok`, unless memory runs out.
+    // If the bytes denote a value without capabilities, `result` is `Ok` (`no_memory` excludes `Memory`).
     ensures only { (v : Value) → Denotes forms.Bare bytes.now limits v → first_cap v ≡ None
         → MatchResult result (λ yes. IsTrue yes ↔ (canon v ≡ bytes.now)) (λ e. e ≡ refusals.Memory) }
     // If `result` is `Err(e)`, the reason that `e` gives is true.
@@ -173,16 +172,16 @@ pub fn are_canonical(bytes: &[u8], limits: Limits) -> Result<bool, Refusal>
     }
 }
 
-/// Does what [`are_canonical`] does for `bytes` within `limits`. It doesn't use the allocator.
+/// Tests whether `bytes`, read bare within `limits`, are canonical, by [`are_canonical`]. The allocator is not used.
 pub fn is_canonical<A: Allocator + Copy>(
     _alloc: A,
     bytes: &[u8],
     limits: Limits,
 ) -> Result<bool, Refusal>
-    // If `result` is `Ok`, the bytes denote one value, which has no capability, and `result` says whether they are its
-    // canonical bytes.
+    // If `result` is `Ok`, the bytes denote one value, which has no capability, and `result` says whether the bytes are
+    // the canonical bytes of that value.
     ensures found { IfOk result (λ yes. SaysCanonical bytes.now limits yes) }
-    // If the bytes denote a value without capabilities, `result` is `Ok`, unless memory runs out.
+    // If the bytes denote a value without capabilities, `result` is `Ok` (`no_memory` excludes `Memory`).
     ensures only { (v : Value) → Denotes forms.Bare bytes.now limits v → first_cap v ≡ None
         → MatchResult result (λ yes. IsTrue yes ↔ (canon v ≡ bytes.now)) (λ e. e ≡ refusals.Memory) }
     // If `result` is `Err(e)`, the reason that `e` gives is true.

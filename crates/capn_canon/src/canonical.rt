@@ -1,4 +1,4 @@
-//! The canonical bytes of a message, laid out from the message itself: no tree is made.
+//! The calls `canonical_of` and `canonical_of_counted`, which lay out canonical bytes from the message, without a tree.
 
 ghost use Rattle.std.specs.Prelude.{◌≡◌, ◌*◌, ◌+◌, ◌<◌, ◌≤◌, None, length, IfOk, IfErr, IsErrOf, MatchResult};
 ghost use Rattle.capn_value.specs.Tree.{Tree as Value};
@@ -21,12 +21,12 @@ use capn_words::Space;
 use std::alloc::{Allocator, Global};
 use std::sync::ledger::Ledger;
 
-/// Canonical bytes, and the words that the walk of the message paid.
+/// Canonical bytes, and the number of words that the walk of the message paid.
 #[derive(Debug, Drop, PartialEq, Eq)]
 pub struct Canonical<A: Allocator = Global> {
-    /// The canonical bytes: at most 8 for each word paid, and 8 more.
+    /// The canonical bytes, at most 8 for each word paid, and 8 more.
     pub bytes: Vec<u8, A>,
-    /// The words paid, at most the budget.
+    /// The number of words paid, at most the budget.
     pub paid: u32,
 }
 
@@ -51,8 +51,7 @@ fn canonical_of_inner<A: Allocator + Copy, S: Space, L: Ledger>(
     })
 }
 
-/// Makes the canonical bytes of the message `space`. If `space` has one segment, it is read as that segment's words
-/// alone, which is faster.
+/// Calls [`canonical_of_inner`]. If `space` has one segment, only the words of that segment are read, which is faster.
 fn canonical_by_segments<A: Allocator + Copy, S: Space, L: Ledger>(
     alloc: A,
     space: &CountedSpace<'_, S, L>,
@@ -96,43 +95,43 @@ impl<A: Allocator + Copy> CountedTask for BytesTask<A> {
     }
 }
 
-/// Makes the canonical bytes of the value that the message `space` denotes within `limits`. Returns them with the words
-/// that the walk paid.
+/// Makes the canonical bytes of the value that the message `space` denotes within `limits`. Returns them with the
+/// number of words that the walk paid.
 ///
-/// It refuses by `Walk` if the message is not accepted. It refuses by `Capability`, with the index of the first in
-/// preorder, if the value has capabilities. `Memory` is returned only if a growth on `alloc` was refused. There is no
-/// other refusal.
+/// A message that is not accepted is refused by `Walk`. A value with capabilities is refused by `Capability`, with the
+/// index of the first in preorder. `Memory` is returned only if an allocation on `alloc` was refused. There is no other
+/// refusal.
 pub fn canonical_of<A: Allocator + Copy, M: Asked>(
     alloc: A,
     space: M,
     limits: Limits,
 ) -> Result<Canonical<A>, Refusal>
-    // `space` must allow 56 * (budget + 1) reads and turns of loops, for all passes, and one more to open the count. A
+    // `space` must allow 56 * (budget + 1) reads and turns of loops, for all passes, and one more to start the count. A
     // reference to a `Space` allows any number.
     requires work { M.allows space (56 * (limits.budget + 1) + 1) }
-    // If `result` is `Ok`, it has the canonical bytes of the one value that the message denotes, and the words that its
-    // walk pays.
+    // If `result` is `Ok`, `bytes` are the canonical bytes of the one value that the message denotes, and `paid` is the
+    // number of words that the walk of the message pays.
     ensures found { IfOk result (λ c. AnswersMessage (M.message space) limits c.bytes.items c.paid) }
-    // If the message denotes a value without capabilities, `result` has its canonical bytes, unless memory runs out.
+    // If the message denotes a value without capabilities, `result` has the canonical bytes, or is `Memory`.
     ensures only { (v : Value) → IsValueOf (M.message space) limits v → first_cap v ≡ None
         → MatchResult result (λ c. c.bytes.items ≡ canon v) (λ e. e ≡ refusals.Memory) }
     // If `result` is `Err(e)`, the reason that `e` gives is true.
     ensures refused { IfErr result (λ e. IsRefusedMessage (M.message space) limits e) }
     // `Memory` is returned only if the message has canonical bytes.
     ensures memory { IsErrOf result refusals.Memory → MayNeedBytes (M.message space) limits }
-    // The walk pays at most the budget, also if it is refused.
+    // The walk pays at most the budget, also if the message is refused.
     ensures bounded { MatchResult result (λ c. c.paid ≤ limits.budget) (λ e. IsPaidWithin limits.budget e) }
     ensures short { IfOk result (λ c. length c.bytes.items ≤ 8 * (c.paid + 1)) }
-    // Read bare under the same limits, the canonical bytes denote the trimmed value, which is the same value.
+    // Read bare under the same limits, the canonical bytes denote the trimmed value of `v`, which is the same as `v`.
     ensures reads_back { IfOk result (λ c. (v : Value) → IsValueOf (M.message space) limits v
         → ReadsBack c.bytes.items limits v) }
-    // A walk of the canonical bytes, read bare, pays exactly the cost of the trimmed value.
+    // A walk of the canonical bytes, read bare, pays exactly the cost of the trimmed value of `v`.
     ensures pays { IfOk result (λ c. (v : Value) → IsValueOf (M.message space) limits v
         → PaysItsCost c.bytes.items limits v) }
-    // The canonical bytes of the trimmed value are the same bytes again.
+    // The trimmed value of `v` has the same canonical bytes.
     ensures own { IfOk result (λ c. (v : Value) → IsValueOf (M.message space) limits v
         → IsItsOwnForm c.bytes.items v) }
-    // A second value has equal canonical bytes if and only if it is the same value.
+    // Among the values that fit and are in range, exactly those that are the same as `v` have the same canonical bytes.
     ensures exactly { IfOk result (λ c. (v : Value) → IsValueOf (M.message space) limits v
         → IsFormExactlyOf c.bytes.items v) }
 {
@@ -142,46 +141,46 @@ pub fn canonical_of<A: Allocator + Copy, M: Asked>(
     space.ask(BytesTask { alloc, limits })
 }
 
-/// Does what [`canonical_of`] does for the message `space` within `limits`, and counts its reads and the turns of its
-/// loops in `reads`, as [`canonical_length_counted`](crate::canonical_length_counted) does.
+/// Makes the canonical bytes of the message `space` within `limits`, and counts reads and loop turns in `reads`.
+/// Returns the result of [`canonical_of`].
 ///
-/// There are at most 56 reads and turns for each word paid, and 56 more: 14 in the walk, 2 to find the lengths of the
-/// segments, 20 to measure, if it measures, and 20 to write. A refusal costs at most that many for the whole budget. So
-/// the budget alone bounds the work, whatever the message is.
+/// There are at most 56 reads and turns for each word paid, and 56 more. The walk takes 14 of the 56, the search for
+/// the lengths of the segments 2, the measuring 20 if it is needed, and the writing 20. A refusal costs at most 56 for
+/// each word of the budget, and 56 more. So the budget bounds the work, whatever the message is.
 pub fn canonical_of_counted<A: Allocator + Copy, S: Space, L: Ledger>(
     alloc: A,
     space: &CountedSpace<'_, S, L>,
     limits: Limits,
     reads: &mut Reads<L>,
 ) -> Result<Canonical<A>, Refusal>
-    // If `result` is `Ok`, it has the canonical bytes of the one value that the message denotes, and the words that its
-    // walk pays.
+    // If `result` is `Ok`, `bytes` are the canonical bytes of the one value that the message denotes, and `paid` is the
+    // number of words that the walk of the message pays.
     ensures found { IfOk result (λ c. AnswersMessage space.now limits c.bytes.items c.paid) }
-    // If the message denotes a value without capabilities, `result` has its canonical bytes, unless memory runs out.
+    // If the message denotes a value without capabilities, `result` has the canonical bytes, or is `Memory`.
     ensures only { (v : Value) → IsValueOf space.now limits v → first_cap v ≡ None
         → MatchResult result (λ c. c.bytes.items ≡ canon v) (λ e. e ≡ refusals.Memory) }
     // If `result` is `Err(e)`, the reason that `e` gives is true.
     ensures refused { IfErr result (λ e. IsRefusedMessage space.now limits e) }
     // `Memory` is returned only if the message has canonical bytes.
     ensures memory { IsErrOf result refusals.Memory → MayNeedBytes space.now limits }
-    // The walk pays at most the budget, also if it is refused.
+    // The walk pays at most the budget, also if the message is refused.
     ensures bounded { MatchResult result (λ c. c.paid ≤ limits.budget) (λ e. IsPaidWithin limits.budget e) }
     ensures short { IfOk result (λ c. length c.bytes.items ≤ 8 * (c.paid + 1)) }
-    // Read bare under the same limits, the canonical bytes denote the trimmed value, which is the same value.
+    // Read bare under the same limits, the canonical bytes denote the trimmed value of `v`, which is the same as `v`.
     ensures reads_back { IfOk result (λ c. (v : Value) → IsValueOf space.now limits v
         → ReadsBack c.bytes.items limits v) }
-    // A walk of the canonical bytes, read bare, pays exactly the cost of the trimmed value.
+    // A walk of the canonical bytes, read bare, pays exactly the cost of the trimmed value of `v`.
     ensures pays { IfOk result (λ c. (v : Value) → IsValueOf space.now limits v
         → PaysItsCost c.bytes.items limits v) }
-    // The canonical bytes of the trimmed value are the same bytes again.
+    // The trimmed value of `v` has the same canonical bytes.
     ensures own { IfOk result (λ c. (v : Value) → IsValueOf space.now limits v
         → IsItsOwnForm c.bytes.items v) }
-    // A second value has equal canonical bytes if and only if it is the same value.
+    // Among the values that fit and are in range, exactly those that are the same as `v` have the same canonical bytes.
     ensures exactly { IfOk result (λ c. (v : Value) → IsValueOf space.now limits v
         → IsFormExactlyOf c.bytes.items v) }
     // All passes together do at most 56 reads and turns of loops for each word paid, and 56 more.
     ensures reads { IfOk result (λ c. reads.new ≤ reads.old + 56 * (c.paid + 1)) }
-    // The budget bounds the reads and turns, whatever the message and the result are.
+    // The budget bounds the number of reads and turns, whatever the message and the result are.
     ensures work { reads.new ≤ reads.old + 56 * (limits.budget + 1) }
 {
     space.bounds();

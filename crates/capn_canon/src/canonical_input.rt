@@ -1,4 +1,4 @@
-//! The call `canonicalise`: the canonical bytes of a message in any of the three forms.
+//! The call `canonicalise`, which makes the canonical bytes of a message in any of the three forms.
 
 ghost use Rattle.std.specs.Prelude.{◌≡◌, ℕ, ◌*◌, ◌+◌, ◌≤◌, None, length, IfOk, IfErr, IsErrOf, MatchResult};
 ghost use Rattle.capn_value.specs.Tree.{Tree as Value};
@@ -39,42 +39,43 @@ impl<A: Allocator + Copy> MessageTask<A> for CanonicalBytes {
     }
 }
 
-/// Makes the canonical bytes of the value that `bytes` denote in this `form`, within `limits`. Returns them with the
-/// words that the walk paid.
+/// Makes the canonical bytes of the value that `bytes` denote in `form`, within `limits`. Returns them with the number
+/// of words that the walk paid.
 ///
-/// The refusals are tested in three steps. First the bytes are read. The form `Bare` is refused by `Bare`. The form
-/// `Packed` is refused by `Packed`, and is unpacked to at most the message words and those of the longest table. A
-/// frame is refused by `Frame` or, if bytes follow the message, by `Trailing`. Then the message is walked, and refused
-/// by `Walk`, whose fault is never memory. Last its value is laid out, and refused by `Capability`, with the index of
-/// the first in preorder. `Memory` is returned only if a growth on `alloc` was refused, which no clause can say.
+/// The refusals are tested in three steps. First the bytes are read. Bytes that are no bare words are refused by
+/// `Bare`. Bytes that are no packed text, or unpack to more words than `limits.message_words` and the longest table,
+/// are refused by `Packed`. A fault of a frame is refused by `Frame`, and bytes after the frame by `Trailing`. Then the
+/// message is walked, and refused by `Walk`, with a fault that is never `Memory`. Last the value is laid out, and
+/// refused by `Capability`, with the index of the first in preorder. `Memory` is returned only if an allocation on
+/// `alloc` was refused, which no clause can say.
 pub fn canonicalise<A: Allocator + Copy>(
     alloc: A,
     form: Form,
     bytes: &[u8],
     limits: Limits,
 ) -> Result<Canonical<A>, Refusal>
-    // If `result` is `Ok`, it has the canonical bytes of the one value that the bytes denote, and the words that the
-    // walk pays.
+    // If `result` is `Ok`, `bytes` are the canonical bytes of the one value that the input denotes, and `paid` is the
+    // number of words that the walk pays.
     ensures found { IfOk result (λ c. Answers form bytes.now limits c.bytes.items c.paid) }
-    // If the bytes denote a value without capabilities, `result` has its canonical bytes or is `Memory`.
+    // If the bytes denote a value without capabilities, `result` has the canonical bytes, or is `Memory`.
     ensures only { (v : Value) → Denotes form bytes.now limits v → first_cap v ≡ None
         → MatchResult result (λ c. c.bytes.items ≡ canon v) (λ e. e ≡ refusals.Memory) }
     // If `result` is `Err(e)`, the reason that `e` gives is true.
     ensures refused { IfErr result (λ e. IsRefused form bytes.now limits e) }
-    // `Memory` is returned only if a survey of the bytes may need memory, or if they have canonical bytes.
+    // `Memory` is returned only if reading the bytes may need memory, or if they have canonical bytes.
     ensures memory { IsErrOf result refusals.Memory → MayNeedBytesIn form bytes.now limits }
-    // The walk pays at most the budget, also if it is refused.
+    // The walk pays at most the budget, also if the message is refused.
     ensures bounded { MatchResult result (λ c. c.paid ≤ limits.budget) (λ e. IsPaidWithin limits.budget e) }
     ensures short { IfOk result (λ c. length c.bytes.items ≤ 8 * (c.paid + 1)) }
-    // Read bare under the same limits, the canonical bytes denote the trimmed value, which is the same value.
+    // Read bare under the same limits, the canonical bytes denote the trimmed value of `v`, which is the same as `v`.
     ensures reads_back { IfOk result (λ c. (v : Value) → Denotes form bytes.now limits v
         → ReadsBack c.bytes.items limits v) }
-    // A walk of the canonical bytes, read bare, pays exactly the cost of the trimmed value.
+    // A walk of the canonical bytes, read bare, pays exactly the cost of the trimmed value of `v`.
     ensures pays { IfOk result (λ c. (v : Value) → Denotes form bytes.now limits v
         → PaysItsCost c.bytes.items limits v) }
-    // The canonical bytes of the trimmed value are the same bytes again.
+    // The trimmed value of `v` has the same canonical bytes.
     ensures own { IfOk result (λ c. (v : Value) → Denotes form bytes.now limits v → IsItsOwnForm c.bytes.items v) }
-    // A second value has equal canonical bytes if and only if it is the same value.
+    // Among the values that fit and are in range, exactly those that are the same as `v` have the same canonical bytes.
     ensures exactly { IfOk result (λ c. (v : Value) → Denotes form bytes.now limits v
         → IsFormExactlyOf c.bytes.items v) }
     // The four sentences of the README's theorem follow. Unless `result` is `Memory`, it is `Ok` if and only if the
@@ -82,10 +83,10 @@ pub fn canonicalise<A: Allocator + Copy>(
     ensures answered { Answered form bytes.now limits result }
     // Any two results are equal if and only if the values denoted are the same.
     ensures equal { IfOk result (λ c. EqualExactly form bytes.now limits c.bytes.items) }
-    // The canonical bytes denote the same value. A second call on them, bare and under the same limits, returns them
-    // again or `Memory`.
+    // The canonical bytes denote the same value. A second call on the canonical bytes, bare and under the same limits,
+    // returns them again or `Memory`.
     ensures second { IfOk result (λ c. OwnForm form bytes.now limits c) }
-    // The words paid, also those in a refusal, are at most the budget.
+    // The number of words paid, also in a refusal, is at most the budget.
     ensures within { WithinBudget limits result }
 {
     let _words = limits.message_words();

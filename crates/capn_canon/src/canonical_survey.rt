@@ -1,4 +1,4 @@
-//! The one pass that accepts canonical bytes alone, with the words that their walk pays and their depth.
+//! The one pass that accepts only canonical bytes, and finds the number of words that the walk pays, and the depth.
 
 ghost use Rattle.std.specs.Prelude.{◌≡◌, ◌+◌, ◌*◌, ◌<◌, ◌≤◌, [], ◌∷◌, length, IsTrue, IfSome, IsSome, None};
 ghost use Rattle.capn_words.specs.Message.{IsMessage, bytes, segment_at};
@@ -19,10 +19,10 @@ use capn_words::{Bare, Space};
 use std::marker::Brand;
 use std::sync::ledger::{Blank, Ledger};
 
-/// Surveys the bare message `space` within `limits`. Returns `None` if it is not accepted, its value has a capability,
-/// or its bytes are not canonical. (Own.)
+/// Surveys the bare message `space` within `limits`. Returns `None` if the message is not accepted, the value has a
+/// capability, or the bytes are not canonical. (Our own.)
 ///
-/// It takes no memory. If it returns `None`, [`survey_bare`](crate::survey_bare) gives the reason.
+/// No memory is taken. [`survey_bare`](crate::survey_bare) gives the reason for a `None`.
 pub fn survey_canonical(space: &Bare<'_>, limits: Limits) -> Option<SurveyedBare>
     requires { IsMessage (space.now ∷ []) }
     ensures found { IfSome result (λ c. IsBareSurvey space.now limits c) }
@@ -33,7 +33,7 @@ pub fn survey_canonical(space: &Bare<'_>, limits: Limits) -> Option<SurveyedBare
     survey_with_ledger::<Brand>(space, limits, Blank::new(1))
 }
 
-/// Does what [`survey_canonical`] does, with a count in the new ledger `blank`.
+/// Surveys `space` within `limits` for [`survey_canonical`], with a count in the new ledger `blank`.
 fn survey_with_ledger<L: Ledger>(
     space: &Bare<'_>,
     limits: Limits,
@@ -51,11 +51,11 @@ fn survey_with_ledger<L: Ledger>(
     survey_canonical_counted(&space, limits, &mut reads)
 }
 
-/// Does what [`survey_canonical`] does for the message `space` of one segment within `limits`, and counts its reads and
-/// the turns of its loops in `reads`, as [`survey_counted`](capn_walk::survey_counted) does.
+/// Surveys the message `space` of one segment within `limits`, and counts reads and loop turns in `reads`. Returns the
+/// result of [`survey_canonical`].
 ///
-/// There are at most ten reads and turns for each word paid, and eight more. A `None` costs at most that many for the
-/// whole budget. So the budget alone bounds the work, whatever the words are. It takes no memory.
+/// There are at most ten reads and turns for each word paid, and eight more. A `None` costs at most ten for each word
+/// of the budget, and eight more. So the budget bounds the work, whatever the words are. No memory is taken.
 pub fn survey_canonical_counted<S: Space, L: Ledger>(
     space: &CountedSpace<'_, S, L>,
     limits: Limits,
@@ -68,7 +68,7 @@ pub fn survey_canonical_counted<S: Space, L: Ledger>(
     ensures bounded { IfSome result (λ c. IsBounded limits.budget c.paid c.visits) }
     // The pass does at most ten reads and turns of loops for each word paid, and eight more.
     ensures reads { IfSome result (λ c. reads.new ≤ reads.old + 10 * c.paid + 8) }
-    // The budget bounds the reads and turns, whatever the message and the result are.
+    // The budget bounds the number of reads and turns, whatever the message and the result are.
     ensures work { reads.new ≤ reads.old + 10 * limits.budget + 8 }
 {
     let words = CountedWords::of(space);
@@ -83,16 +83,16 @@ pub fn survey_canonical_counted<S: Space, L: Ledger>(
     }
 }
 
-/// Does what [`survey_canonical`] does for the bare message `space` within `limits`, and also finds its depth: the
-/// least limit on depth under which it is accepted. That is the greatest number of objects one below another, the root
-/// among them. (Own.)
+/// Surveys the bare message `space` within `limits` if its bytes are canonical, and finds the depth. The depth is the
+/// least limit on depth under which the message is accepted, which is the greatest number of objects one below another,
+/// with the root. (Our own.)
 ///
-/// It takes no memory. If it returns `None`, [`survey_bare`](crate::survey_bare) and
+/// No memory is taken. After a `None`, [`survey_bare`](crate::survey_bare) and
 /// [`survey_depth`](capn_walk::survey_depth) report more.
 pub fn measure_canonical(space: &Bare<'_>, limits: Limits) -> Option<MeasuredBare>
     requires { IsMessage (space.now ∷ []) }
     ensures found { IfSome result (λ m. IsBareSurvey space.now limits m.survey) }
-    // Under the depth returned the message is accepted, and under no lower one.
+    // The depth returned is the least limit on depth under which the message is accepted.
     ensures depth { IfSome result (λ m. IsDepth (space.now ∷ []) limits m.depth) }
     ensures within { IfSome result (λ m. m.depth ≤ limits.depth) }
     ensures only { (v : Value) → IsValueOf (space.now ∷ []) limits v → first_cap v ≡ None → canon v ≡ bytes space.now
@@ -102,7 +102,7 @@ pub fn measure_canonical(space: &Bare<'_>, limits: Limits) -> Option<MeasuredBar
     measure_with_ledger::<Brand>(space, limits, Blank::new(1))
 }
 
-/// Does what [`measure_canonical`] does, with a count in the new ledger `blank`.
+/// Measures `space` within `limits` for [`measure_canonical`], with a count in the new ledger `blank`.
 fn measure_with_ledger<L: Ledger>(
     space: &Bare<'_>,
     limits: Limits,
@@ -112,7 +112,7 @@ fn measure_with_ledger<L: Ledger>(
     requires parts { blank.parts ≡ L.parts }
     requires one { 0 < blank.parts }
     ensures found { IfSome result (λ m. IsBareSurvey space.now limits m.survey) }
-    // Under the depth returned the message is accepted, and under no lower one.
+    // The depth returned is the least limit on depth under which the message is accepted.
     ensures depth { IfSome result (λ m. IsDepth (space.now ∷ []) limits m.depth) }
     ensures within { IfSome result (λ m. m.depth ≤ limits.depth) }
     ensures only { (v : Value) → IsValueOf (space.now ∷ []) limits v → first_cap v ≡ None → canon v ≡ bytes space.now
@@ -123,8 +123,8 @@ fn measure_with_ledger<L: Ledger>(
     measure_canonical_counted(&space, limits, &mut reads)
 }
 
-/// Does what [`measure_canonical`] does for the message `space` of one segment within `limits`, and counts in `reads`
-/// within the bounds of [`survey_canonical_counted`]. It takes no memory.
+/// Surveys the message `space` of one segment within `limits` and finds the depth. Returns the result of
+/// [`measure_canonical`]. The counts in `reads` have the bounds of [`survey_canonical_counted`]. No memory is taken.
 pub fn measure_canonical_counted<S: Space, L: Ledger>(
     space: &CountedSpace<'_, S, L>,
     limits: Limits,
@@ -132,7 +132,7 @@ pub fn measure_canonical_counted<S: Space, L: Ledger>(
 ) -> Option<MeasuredBare>
     requires one { length space.now ≡ 1 }
     ensures found { IfSome result (λ m. IsBareSurvey (segment_at space.now 0) limits m.survey) }
-    // Under the depth returned the message is accepted, and under no lower one.
+    // The depth returned is the least limit on depth under which the message is accepted.
     ensures depth { IfSome result (λ m. IsDepth space.now limits m.depth) }
     ensures within { IfSome result (λ m. m.depth ≤ limits.depth) }
     ensures only { (v : Value) → IsValueOf space.now limits v → first_cap v ≡ None
@@ -140,7 +140,7 @@ pub fn measure_canonical_counted<S: Space, L: Ledger>(
     ensures bounded { IfSome result (λ m. IsBounded limits.budget m.survey.paid m.survey.visits) }
     // The pass does at most ten reads and turns of loops for each word paid, and eight more.
     ensures reads { IfSome result (λ m. reads.new ≤ reads.old + 10 * m.survey.paid + 8) }
-    // The budget bounds the reads and turns, whatever the message and the result are.
+    // The budget bounds the number of reads and turns, whatever the message and the result are.
     ensures work { reads.new ≤ reads.old + 10 * limits.budget + 8 }
 {
     let words = CountedWords::of(space);
@@ -155,9 +155,9 @@ pub fn measure_canonical_counted<S: Space, L: Ledger>(
     }
 }
 
-/// Makes the one pass over the words of `space` within `limits`, and counts its reads in `reads`. The pass accepts
-/// canonical bytes, also if words follow them. Such words cost nothing, and `is_canonical` is then `false`. If `DEEP`,
-/// the pass also finds the depth of the objects, from the least depth that was left below one of them.
+/// Makes the one pass over the words of `space` within `limits`, and counts the reads in `reads`. The pass also accepts
+/// canonical bytes that other words follow. Those words cost nothing, and `is_canonical` is then `false`. If `DEEP` is
+/// set, the pass also finds the depth of the objects, from the least depth that was left below one of them.
 #[inline(always)]
 pub fn measure_root<S: Space, L: Ledger, const DEEP: bool>(
     space: &CountedWords<'_, S, L>,

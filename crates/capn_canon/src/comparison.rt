@@ -1,4 +1,4 @@
-//! The call `same_messages`: the comparison of the values of two messages.
+//! The calls `same_messages` and `same_messages_counted`, which compare the values of two messages.
 
 ghost use Rattle.std.specs.Prelude.{◌≡◌, ◌↔◌, ◌+◌, ◌*◌, ◌≤◌, IsOk, IfOk, IfErr, IsTrue};
 ghost use Rattle.capn_value.specs.Tree.{Tree as Value};
@@ -40,7 +40,7 @@ fn survey_side<S: Space, L: Ledger>(
     }
 }
 
-/// Surveys the message `b` within `limits`, and compares its value with that of `a`, which was surveyed.
+/// Surveys the message `b` within `limits`, and compares its value with the value of `a`, which was surveyed before.
 fn same_beside<S: Space, T: Space, L: Ledger, M: Ledger>(
     a: &CountedSpace<'_, S, L>,
     b: &CountedSpace<'_, T, M>,
@@ -62,7 +62,7 @@ fn same_beside<S: Space, T: Space, L: Ledger, M: Ledger>(
     Ok(surveyed_same_counted(a, b, depth, first, second))
 }
 
-/// Does what [`same_beside`] does. If `b` has one segment, it is read as that segment's words alone, which is faster.
+/// Calls [`same_beside`]. If `b` has one segment, only the words of that segment are read, which is faster.
 fn same_by_segments<S: Space, T: Space, L: Ledger, M: Ledger>(
     a: &CountedSpace<'_, S, L>,
     b: &CountedSpace<'_, T, M>,
@@ -102,7 +102,7 @@ fn same_of<S: Space, T: Space, L: Ledger, M: Ledger>(
     same_by_segments(a, b, limits, first, second)
 }
 
-/// Does what [`same_of`] does. If `a` has one segment, it is read as that segment's words alone, which is faster.
+/// Calls [`same_of`]. If `a` has one segment, only the words of that segment are read, which is faster.
 fn same_by_first<S: Space, T: Space, L: Ledger, M: Ledger>(
     a: &CountedSpace<'_, S, L>,
     b: &CountedSpace<'_, T, M>,
@@ -121,13 +121,11 @@ fn same_by_first<S: Space, T: Space, L: Ledger, M: Ledger>(
     }
 }
 
-/// Does what [`same_messages`] does for the messages `a` and `b` within `limits`. It counts the reads of `a` and `b`
-/// and the turns of its loops in `first` and `second`, as [`canonical_length_counted`](crate::canonical_length_counted)
-/// does.
+/// Compares the values of the messages `a` and `b` within `limits`. Returns the result of [`same_messages`]. The reads
+/// of `a` and the loop turns are counted in `first`, those of `b` in `second`.
 ///
-/// The bounds for each message are those of `canonical_length_counted`: at most 34 reads and turns for each word that
-/// its walk pays, and 34 more. A refusal costs at most that many for the whole budget. If `a` is refused, nothing of
-/// `b` is read. It takes no memory but the stack.
+/// There are at most 34 reads and turns for each word that the walk of a message pays, and 34 more. A refusal costs at
+/// most 34 for each word of the budget, and 34 more. If `a` is refused, nothing of `b` is read. Only the stack is used.
 pub fn same_messages_counted<S: Space, T: Space, L: Ledger, M: Ledger>(
     a: &CountedSpace<'_, S, L>,
     b: &CountedSpace<'_, T, M>,
@@ -137,22 +135,21 @@ pub fn same_messages_counted<S: Space, T: Space, L: Ledger, M: Ledger>(
 ) -> Result<bool, SameRefusal>
     // `result` is `Ok` if and only if both messages denote values without capabilities within the limits.
     ensures answered { IsOk result ↔ (HasBytes a.now limits × HasBytes b.now limits) }
-    // If `result` is `Ok`, it says whether the two values are the same, up to trailing zero words and trailing null
-    // slots of structs and rows.
+    // If `result` is `Ok`, it is `true` if and only if the two values are the same (`Same`).
     ensures found { IfOk result (λ same. SaysSame a.now b.now limits same) }
     // If `result` is `Ok`, it is `true` if and only if the canonical bytes of the two values are equal.
     ensures equal { IfOk result (λ same. (v w : Value) → IsValueOf a.now limits v → IsValueOf b.now limits w
         → IsTrue same ↔ (canon v ≡ canon w)) }
-    // An `Err` is the refusal of the first message. If the first is not refused, it is the refusal of the second.
+    // An `Err` is the refusal of the first message, or of the second if the first is not refused.
     ensures refused { IfErr result (λ e. IsNotCompared a.now b.now limits e) }
     // If the first message is refused, the second is not read.
     ensures unread { IfErr result (λ e. e.side ≡ First → second.new ≡ second.old) }
-    // The walk pays at most the budget, also if it is refused.
+    // A refused walk pays at most the budget.
     ensures bounded { IfErr result (λ e. IsPaidWithin limits.budget e.refusal) }
     // For each message there are at most 34 reads and turns of loops for each word that its walk pays, and 34 more.
     ensures first_paid { IfOk result (λ _. first.new ≤ first.old + 34 * (price a.now limits + 1)) }
     ensures second_paid { IfOk result (λ _. second.new ≤ second.old + 34 * (price b.now limits + 1)) }
-    // The budget bounds the reads of each message and the turns, whatever the messages and the result are.
+    // The budget bounds the number of reads of each message and of turns, whatever the messages and the result are.
     ensures first { first.new ≤ first.old + 34 * (limits.budget + 1) }
     ensures second { second.new ≤ second.old + 34 * (limits.budget + 1) }
 {
@@ -194,31 +191,30 @@ impl PairTask for SameTask {
 }
 
 /// Returns `true` if the messages `a` and `b` have the same value within `limits`, up to trailing zero words and
-/// trailing null slots of structs. That is so if and only if their canonical bytes are equal.
+/// trailing null slots of structs. The result is `true` if and only if the canonical bytes of `a` and `b` are equal.
 ///
 /// Both messages are walked, `a` first. A message that is not accepted or has capabilities is refused, by `Walk` or
-/// `Capability`, with its side. If `a` is refused, no word of `b` is read. There is no other refusal. The values are
-/// then read in step, up to the first difference. No canonical bytes are made, and no memory is taken but the stack.
-/// (Own.)
+/// `Capability`, with the side of the message. If `a` is refused, no word of `b` is read. There is no other refusal.
+/// The values are then read in step, up to the first difference. No canonical bytes are made, and only the stack is
+/// used. (Our own.)
 pub fn same_messages<A: AskedFirst, B: AskedSecond>(
     a: A,
     b: B,
     limits: Limits,
 ) -> Result<bool, SameRefusal>
     // Each message must allow 34 * (budget + 1) reads and turns of loops, as for `canonical_length`, and one more to
-    // open the count. A reference to a `Space` allows any number.
+    // start the count. A reference to a `Space` allows any number.
     requires work { A.allows a (34 * (limits.budget + 1) + 1) × B.allows b (34 * (limits.budget + 1) + 1) }
     // `result` is `Ok` if and only if both messages denote values without capabilities within the limits.
     ensures answered { IsOk result ↔ (HasBytes (A.message a) limits × HasBytes (B.message b) limits) }
-    // If `result` is `Ok`, it says whether the two values are the same, up to trailing zero words and trailing null
-    // slots of structs and rows.
+    // If `result` is `Ok`, it is `true` if and only if the two values are the same (`Same`).
     ensures found { IfOk result (λ same. SaysSame (A.message a) (B.message b) limits same) }
     // If `result` is `Ok`, it is `true` if and only if the canonical bytes of the two values are equal.
     ensures equal { IfOk result (λ same. (v w : Value) → IsValueOf (A.message a) limits v
         → IsValueOf (B.message b) limits w → IsTrue same ↔ (canon v ≡ canon w)) }
-    // An `Err` is the refusal of the first message. If the first is not refused, it is the refusal of the second.
+    // An `Err` is the refusal of the first message, or of the second if the first is not refused.
     ensures refused { IfErr result (λ e. IsNotCompared (A.message a) (B.message b) limits e) }
-    // The walk pays at most the budget, also if it is refused.
+    // A refused walk pays at most the budget.
     ensures bounded { IfErr result (λ e. IsPaidWithin limits.budget e.refusal) }
 {
     // The proof of the clauses needs the ranges that these calls promise.

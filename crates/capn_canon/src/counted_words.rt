@@ -8,8 +8,8 @@ use capn_words::{Place, Space};
 use std::marker::Model;
 use std::sync::ledger::Ledger;
 
-/// The words of the only segment of a message, which can be read only by calls that count. The type has the size of a
-/// reference. Contracts see it as the list of the words.
+/// The words of a message with one segment. Only calls that count can read them. The type has the size of a reference.
+/// Contracts see it as the list of the words.
 #[derive(Drop)]
 pub struct CountedWords<'s, S: Space, L: Ledger> {
     space: CountedSpace<'s, S, L>,
@@ -41,8 +41,7 @@ impl<'s, S: Space, L: Ledger> CountedWords<'s, S, L> {
         }
     }
 
-    /// Returns the words again, for a function that takes them by value. A reference to them would be a reference to a
-    /// reference.
+    /// Returns the same words, for a function that takes them by value, to avoid a reference to a reference.
     #[inline(always)]
     pub fn again(&self) -> CountedWords<'s, S, L>
         ensures { result ≡ self.now }
@@ -53,7 +52,7 @@ impl<'s, S: Space, L: Ledger> CountedWords<'s, S, L> {
     }
 }
 
-/// Returns the number of `words`. It counts in `reads` as one read.
+/// Returns the number of `words`. The call counts in `reads` as one read.
 #[inline(always)]
 pub fn words_of<S: Space, L: Ledger>(words: &CountedWords<'_, S, L>, reads: &mut Reads<L>) -> u32
     ensures words { result ≡ length words.now }
@@ -62,7 +61,7 @@ pub fn words_of<S: Space, L: Ledger>(words: &CountedWords<'_, S, L>, reads: &mut
     words.space.words(0, reads).unwrap_or(0)
 }
 
-/// Returns the word at index `word` of `words`. It counts in `reads` as one read.
+/// Returns the word at index `word` of `words`. The call counts in `reads` as one read.
 #[inline(always)]
 pub fn word_at<S: Space, L: Ledger>(
     words: &CountedWords<'_, S, L>,

@@ -7,6 +7,6 @@ pub enum Form {
     Stream,
     /// The packed text of a frame. (Page: packing.)
     Packed,
-    /// The words of one segment, with no table. (Own.)
+    /// The words of one segment, with no table. (Our own.)
     Bare,
 }

@@ -1,4 +1,4 @@
-//! The reading of bytes in any form as a message, and the run of a task on it.
+//! The call `run_task`, which reads bytes in any form as a message and runs a task on it.
 
 ghost use Rattle.std.specs.Prelude.{◌≡◌, ◌<◌, ◌≤◌, ℕ, List, Result, None, [], ◌∷◌, length};
 ghost use Rattle.std.specs.Prelude.{IfOk, OnOk, IfErr, IfSome};
@@ -16,7 +16,7 @@ use capn_walk::Limits;
 use capn_words::{Bare, Space};
 use std::alloc::Allocator;
 
-/// A task on the message that bytes in any of the three forms hold. (Own.)
+/// A task on the message that bytes in one of the three forms encode. (Our own.)
 pub trait MessageTask<A: Allocator + Copy> {
     /// The type of the task's answer.
     type Answer;
@@ -34,7 +34,7 @@ pub trait MessageTask<A: Allocator + Copy> {
         ensures { answers self.old (S.message message.now) limits result self.new };
 }
 
-/// Refuses `bytes` by `Trailing` if they go on after the frame at their front, which has `taken` bytes.
+/// Refuses `bytes` by `Trailing` if more bytes follow the frame at the front, which has `taken` bytes.
 fn refuse_trailing(taken: usize, bytes: &[u8]) -> Result<(), Refusal>
     ensures ends { OnOk result (length bytes.now ≤ taken) }
     ensures refused { IfErr result (λ e. (taken < length bytes.now) × (e ≡ Refusals.Trailing taken)) }
@@ -45,8 +45,8 @@ fn refuse_trailing(taken: usize, bytes: &[u8]) -> Result<(), Refusal>
     Ok(())
 }
 
-/// Reads `bytes` in this `form`, bare words or a frame, as a message of one segment. Returns `None` for a frame that is
-/// cut or has more segments. The form isn't packed.
+/// Reads `bytes` in `form`, which is bare words or a frame but not packed, as a message of one segment. Returns `None`
+/// for a frame that is incomplete, too long, or of more segments.
 fn one_segment<'b>(form: Form, bytes: &'b [u8], limits: Limits) -> Result<Option<Bare<'b>>, Refusal>
     requires plain { form ≡ forms.Packed → ⊥ }
     ensures read { IfOk result (λ o. IfSome o (λ w. Reads form bytes.now limits.message_words (w ∷ []))) }
@@ -77,8 +77,8 @@ fn of_frame<T: MessageTask<A>, A: Allocator + Copy>(
     task.run(alloc, &message, limits)
 }
 
-/// Does the `task` on the message that `bytes` hold in this `form`, which isn't packed. A single segment is read as its
-/// words alone, which is faster. The task is called for it in one place, so that the compiler inlines it.
+/// Does the `task` on the message that `bytes` encode in `form`, which isn't packed. Of a message with one segment only
+/// the words are read, which is faster. That call of the task is written only once, so that the compiler inlines it.
 fn of_plain<T: MessageTask<A>, A: Allocator + Copy>(
     alloc: A,
     task: &mut T,
@@ -95,7 +95,7 @@ fn of_plain<T: MessageTask<A>, A: Allocator + Copy>(
     }
 }
 
-/// Does the `task` on the message of the frame that the packed text `bytes` unpacks to.
+/// Does the `task` on the message in the frame that the packed text `bytes` unpacks to.
 fn of_packed<T: MessageTask<A>, A: Allocator + Copy>(
     alloc: A,
     task: &mut T,
@@ -108,11 +108,11 @@ fn of_packed<T: MessageTask<A>, A: Allocator + Copy>(
     of_plain(alloc, task, Form::Stream, text.as_slice(), limits)
 }
 
-/// Reads `bytes` in this `form` as a message, once, and returns the answer of `task` for it, within `limits`.
+/// Reads `bytes` in `form` as a message, once, and returns the answer of `task` for the message, within `limits`.
 ///
-/// It refuses what the task refuses. Bytes that are no message of the form are refused before the task is run, and
-/// `task` is then as it was. Reading asks `alloc` for memory only for the ends of more than 64 segments, and for the
-/// words that are unpacked. (Own.)
+/// Bytes that are no message of the form are refused before the task is run, and leave `task` as it was. Other refusals
+/// are those of the task. Reading asks `alloc` for memory only for the ends of more than 64 segments, and for the
+/// unpacked words. (Our own.)
 pub fn run_task<T: MessageTask<A>, A: Allocator + Copy>(
     alloc: A,
     task: &mut T,

@@ -20,21 +20,22 @@ pub fn theorem<A: Allocator>()
     ensures within { WalksAreWithinBudgets A }
 {}
 
-/// States that the message, the limits and the buffer decide the result of `canonical_into`. Its clauses `written`,
-/// `refused` and `unchanged` allow one result, and one buffer after it.
+/// States that the message, the limits and the buffer decide the result of `canonical_into`. The clauses `written`,
+/// `refused` and `unchanged` allow only one result and one content of the buffer.
 pub fn decision()
     ensures { IntoIsDecided }
 {}
 
-/// States that canonical bytes read back as the trimmed value and are their own canonical form. Two values have equal
-/// canonical bytes if and only if they are the same.
+/// States that canonical bytes read back as the trimmed value, which has the same canonical bytes. Two values have
+/// equal canonical bytes if and only if they are the same.
 pub fn canonicity()
     ensures form { CanonIsForm }
     ensures exactly { EqualExactlySame }
 {}
 
-/// States that bytes denote at most one value. The value fits, costs at most what its walk pays, and is not refused if
-/// it has no capability. Bytes are refused for one reason, unless memory runs out.
+/// States that bytes denote at most one value. The value fits, and costs at most what the walk of the bytes pays. If
+/// the value has no capability, the bytes are refused only by `Memory`. All refusals of the same bytes other than
+/// `Memory` are equal.
 pub fn denotation()
     ensures form { DenotedHaveForms }
     ensures one { DenoteOne }
@@ -42,15 +43,15 @@ pub fn denotation()
     ensures refused { RefusedForOneReason }
 {}
 
-/// States that a word has the same 8 bytes in a message that is read and in one that is packed.
+/// States that the reader of messages and the packer give a word the same 8 bytes.
 pub fn spelling()
     ensures { WordsHaveTheSameBytes }
 {}
 
 /// States that words are the canonical bytes of the value that they denote if and only if they follow the rules of the
 /// encoding page. Words that follow the rules denote a value without capabilities, and each value without capabilities
-/// has one form that follows them. So each result follows the rules, and the check returns `true` if and only if its
-/// input does.
+/// has one form that follows them. So each result follows the rules, and `is_canonical` returns `true` if and only if
+/// the input follows them.
 pub fn page()
     ensures exactly { CanonicalExactlyByPage }
     ensures denoted { PageFormsDenote }
@@ -60,8 +61,9 @@ pub fn page()
     ensures survey { SurveyIsOfThePage }
 {}
 
-/// States when two results are equal, and any two words that follow the rules of the encoding page. They are equal if
-/// and only if the getters return the same along every path, from both values. Each result reads like its message.
+/// States that two results, or any two messages that follow the rules of the encoding page, are equal if and only if
+/// the getters return the same from both values along every path. The getters return the same from each result as from
+/// its message.
 pub fn readers<A: Allocator>()
     ensures canon { CanonIsWhatIsTold }
     ensures page { PageFormsAreWhatIsTold }

@@ -1,4 +1,4 @@
-//! The call `canonical_length`: the length of a message's canonical bytes, which are not made.
+//! The calls `canonical_length` and `canonical_length_counted`, which find the length of canonical bytes.
 
 ghost use Rattle.std.specs.Prelude.{◌≡◌, ◌↔◌, ◌+◌, ◌*◌, ◌<◌, ◌≤◌, None, length, IsOk, IfOk, IfErr, MatchResult};
 ghost use Rattle.capn_value.specs.Tree.{Tree as Value};
@@ -17,19 +17,20 @@ use capn_walk::Limits;
 use capn_words::Space;
 use std::sync::ledger::Ledger;
 
-/// The length of the canonical bytes of a message, with the words that its walk pays and the number of its visits.
+/// The length of the canonical bytes of a message, with the price and the number of visits of the walk.
 #[derive(Clone, Copy, Debug, PartialEq, Eq)]
 pub struct CanonicalLength {
     /// The number of canonical bytes: at most 8 for each word paid, and 8 more.
     pub length: usize,
-    /// The words paid, at most the budget.
+    /// The number of words paid, at most the budget.
     pub paid: u32,
     /// The number of visits, at most one more than the words paid.
     pub visits: u32,
 }
 
-/// Returns the length of the canonical bytes of `space`, a surveyed message, if it is above `room`. The survey `paid`
-/// that many words. If `room` is surely enough for these, the canonical bytes are not counted.
+/// Returns the length of the canonical bytes of `space`, a surveyed message, if the length is above `room`. `paid` is
+/// the number of words that the survey paid. If `8 * (paid + 1)` is at most `room`, the canonical bytes have room, and
+/// are not measured.
 pub(crate) fn length_beyond<S: Space, L: Ledger>(
     space: &CountedSpace<'_, S, L>,
     limits: Limits,
@@ -76,8 +77,7 @@ fn length_of<S: Space, L: Ledger>(
     })
 }
 
-/// Returns the length of the canonical bytes of the message `space`. If `space` has one segment, it is read as that
-/// segment's words alone, which is faster.
+/// Calls [`length_of`]. If `space` has one segment, only the words of that segment are read, which is faster.
 fn length_by_segments<S: Space, L: Ledger>(
     space: &CountedSpace<'_, S, L>,
     limits: Limits,
@@ -121,23 +121,23 @@ impl CountedTask for LengthTask {
 
 /// Returns the length of the canonical bytes of the value that the message `space` denotes within `limits`.
 ///
-/// It refuses by `Walk` if the message is not accepted, and by `Capability` if its value has capabilities. There is no
-/// other refusal. It reads the message twice and takes no memory but the stack, whatever the depth. (Own.)
+/// A message that is not accepted is refused by `Walk`, and a value with capabilities by `Capability`. There is no
+/// other refusal. The message is read twice. Only the stack is used, whatever the depth. (Our own.)
 pub fn canonical_length<M: Asked>(
     space: M,
     limits: Limits,
 ) -> Result<CanonicalLength, MessageRefusal>
-    // `space` must allow 34 * (budget + 1) reads and turns of loops, for both passes, and one more to open the count. A
-    // reference to a `Space` allows any number.
+    // `space` must allow 34 * (budget + 1) reads and turns of loops, for both passes, and one more to start the count.
+    // A reference to a `Space` allows any number.
     requires work { M.allows space (34 * (limits.budget + 1) + 1) }
     // `result` is `Ok` if and only if the message denotes a value without capabilities within the limits.
     ensures answered { IsOk result ↔ HasBytes (M.message space) limits }
-    // If `result` is `Ok`, it has the length of the value's canonical bytes, the words that the walk of the message
-    // pays, and its visits.
+    // If `result` is `Ok`, `length` is the length of the value's canonical bytes, `paid` the number of words that the
+    // walk pays, and `visits` the number of visits.
     ensures found { IfOk result (λ c. (v : Value) × IsCanonicalLength (M.message space) limits v c) }
     // If `result` is `Err(e)`, the reason that `e` gives is true.
     ensures refused { IfErr result (λ e. HasNoBytes (M.message space) limits e) }
-    // The walk pays at most the budget, also if it is refused.
+    // The walk pays at most the budget, also if the message is refused.
     ensures bounded { MatchResult result (λ c. IsBounded limits.budget c.paid c.visits)
         (λ e. IsMessagePaidWithin limits.budget e) }
     ensures short { IfOk result (λ c. c.length ≤ 8 * (c.paid + 1)) }
@@ -148,12 +148,12 @@ pub fn canonical_length<M: Asked>(
     space.ask(LengthTask { limits })
 }
 
-/// Does what [`canonical_length`] does for the message `space` within `limits`, and counts its reads and the turns of
-/// its loops in `reads`, as [`survey_counted`](capn_walk::survey_counted) does.
+/// Finds the length of the canonical bytes of the message `space` within `limits`, and counts reads and loop turns in
+/// `reads`. Returns the result of [`canonical_length`].
 ///
 /// There are at most 34 reads and turns for each word paid, and 34 more: 14 in the walk and 20 to measure. A refusal
-/// costs at most that many for the whole budget. So the budget alone bounds the work, whatever the message is. It takes
-/// no memory but the stack.
+/// costs at most 34 for each word of the budget, and 34 more. So the budget bounds the work, whatever the message is.
+/// Only the stack is used.
 pub fn canonical_length_counted<S: Space, L: Ledger>(
     space: &CountedSpace<'_, S, L>,
     limits: Limits,
@@ -161,18 +161,18 @@ pub fn canonical_length_counted<S: Space, L: Ledger>(
 ) -> Result<CanonicalLength, MessageRefusal>
     // `result` is `Ok` if and only if the message denotes a value without capabilities within the limits.
     ensures answered { IsOk result ↔ HasBytes space.now limits }
-    // If `result` is `Ok`, it has the length of the value's canonical bytes, the words that the walk of the message
-    // pays, and its visits.
+    // If `result` is `Ok`, `length` is the length of the value's canonical bytes, `paid` the number of words that the
+    // walk pays, and `visits` the number of visits.
     ensures found { IfOk result (λ c. (v : Value) × IsCanonicalLength space.now limits v c) }
     // If `result` is `Err(e)`, the reason that `e` gives is true.
     ensures refused { IfErr result (λ e. HasNoBytes space.now limits e) }
-    // The walk pays at most the budget, also if it is refused.
+    // The walk pays at most the budget, also if the message is refused.
     ensures bounded { MatchResult result (λ c. IsBounded limits.budget c.paid c.visits)
         (λ e. IsMessagePaidWithin limits.budget e) }
     ensures short { IfOk result (λ c. c.length ≤ 8 * (c.paid + 1)) }
     // Both passes together do at most 34 reads and turns of loops for each word paid, and 34 more.
     ensures reads { IfOk result (λ c. reads.new ≤ reads.old + 34 * (c.paid + 1)) }
-    // The budget bounds the reads and turns, whatever the message and the result are.
+    // The budget bounds the number of reads and turns, whatever the message and the result are.
     ensures work { reads.new ≤ reads.old + 34 * (limits.budget + 1) }
 {
     space.bounds();

@@ -1,55 +1,56 @@
-//! Canonical bytes, one encoding for each value: equal values have equal bytes.
+//! The canonical bytes of values: one encoding for each value, so that equal values have equal bytes.
 //!
 //! - [`canonicalise`] writes the canonical bytes of the value that bytes denote, in any of the three forms. It returns
-//!   them with the words that the walk paid. [`canonical_of`] does so for any message that is a `Space`.
-//! - [`canonical_into`] writes the canonical bytes into a buffer of the caller, and [`canonical_length`] returns their
-//!   number. Both take no memory, and no allocator.
-//! - [`is_canonical`] tests whether the bytes of a bare message are its canonical bytes, and makes no copy.
-//!   [`survey_bare`] also reports the message's price, its visits and its first capability. [`survey_canonical`] is the
-//!   one pass that both make first, and reports on canonical bytes alone. [`measure_canonical`] is the same pass, and
-//!   also finds the depth. [`are_canonical`] and [`survey_bare_of`] work without an allocator; the latter reads any
-//!   message of one segment through a counter.
-//! - [`survey_bare_counted`], [`survey_canonical_counted`] and [`measure_canonical_counted`] do the same for a message
-//!   of one segment whose reads are counted. The budget bounds the number of reads.
-//! - [`canonical_of_counted`], [`canonical_into_counted`] and [`canonical_length_counted`] do the same as the calls
-//!   without `_counted`, for a message whose reads are counted. The words that they pay bound the reads of all their
-//!   passes.
+//!   the bytes with the number of words that the walk paid. [`canonical_of`] makes them for any message that is a
+//!   `Space`.
+//! - [`canonical_into`] writes the canonical bytes into a buffer of the caller, and [`canonical_length`] returns the
+//!   number of canonical bytes. Neither takes memory or an allocator.
+//! - [`is_canonical`] tests whether the bytes of a bare message are canonical, and makes no copy. [`survey_bare`] also
+//!   reports the message's price, its visits and its first capability. [`survey_canonical`] is the one pass that
+//!   [`is_canonical`] and [`survey_bare`] make first, and reports only on canonical bytes. [`measure_canonical`] is the
+//!   same pass, and also finds the depth. [`are_canonical`] and [`survey_bare_of`] work without an allocator.
+//!   [`survey_bare_of`] reads any message of one segment through a counter.
+//! - [`survey_bare_counted`], [`survey_canonical_counted`] and [`measure_canonical_counted`] are the same calls for a
+//!   message of one segment whose reads are counted. The budget bounds the number of reads.
+//! - [`canonical_of_counted`], [`canonical_into_counted`] and [`canonical_length_counted`] return what the calls
+//!   without `_counted` return, for a message whose reads are counted. The number of words paid bounds the reads of all
+//!   passes together.
 //! - [`same_messages`] tests whether two messages have the same value, and so equal canonical bytes, without making the
-//!   bytes. [`same_messages_counted`] does so for two messages whose reads are counted.
-//! - [`own_canonical`] returns the bytes of a message if they are already its canonical bytes, and copies nothing.
-//!   [`measure`] reports the words that the walk of a message pays, its visits, its depth, and whether it is canonical.
+//!   bytes. [`same_messages_counted`] compares two messages whose reads are counted.
+//! - [`own_canonical`] returns the bytes of a message if the message is canonical already, and copies nothing.
+//!   [`measure`] reports the price, the number of visits and the depth of a message, and whether it is canonical.
 //! - [`run_task`] reads bytes in a form as a message, and returns the answer of a [`MessageTask`] for it.
-//! - [`survey_bytes`] and [`survey`] report the words that the walk of a message pays, its visits and its first
-//!   capability. They write nothing.
+//! - [`survey_bytes`] and [`survey`] report the price of a message, the number of visits and the first capability.
+//!   Neither writes anything.
 //! - [`layout`] writes the canonical bytes of a tree: one segment, its objects in preorder, every struct without its
 //!   trailing zero words and trailing null pointers. A tree with a capability is refused with the index of the first
-//!   one.
+//!   capability.
 //! - [`Patch`] is a buffer of words, with holes for words that are not known yet, such as a pointer to an object that
 //!   has no place so far. No call of this crate writes to one.
 //!
-//! For any bytes, form and limits, unless memory runs out, `canonicalise` succeeds if and only if the bytes denote a
-//! value without capabilities within the limits. Two results, from any two forms, inputs and limits, are byte for byte
-//! equal if and only if the values denoted are the same up to trailing zero words and trailing null pointers of
-//! structs. Each result, read bare under the same limits, denotes a value that is the same in this sense, and
-//! canonicalises to itself: a second call returns the same bytes, or an error that memory ran out. No walk pays more
-//! than its budget. The clauses `answered`, `equal`, `second` and `within` of `canonicalise` say so, by the definitions
-//! of `specs/Theorem.antt`. [`laws::theorem`] states it of all results.
+//! For any bytes, form and limits, unless an allocation is refused, `canonicalise` succeeds if and only if the bytes
+//! denote a value without capabilities within the limits. Two results, from any two forms, inputs and limits, are byte
+//! for byte equal if and only if the values denoted are the same up to trailing zero words and trailing null pointers
+//! of structs. Each result, read bare under the same limits, denotes a value that is the same in this sense, and
+//! canonicalises to itself: a second call returns the same bytes, or `Memory`. No walk pays more than the budget. The
+//! clauses `answered`, `equal`, `second` and `within` of `canonicalise` state this, by the definitions of
+//! `specs/Theorem.antt`. [`laws::theorem`] states the same of all results.
 //!
 //! For any message, limits and buffer, `canonical_into` succeeds if and only if the message denotes a value without
 //! capabilities within the limits and the buffer has room for its canonical bytes. It writes exactly the canonical
-//! bytes. Otherwise it returns the first refusal, and the buffer is as it was. It cannot run out of memory. Its clauses
-//! `answered`, `written`, `refused` and `unchanged` say so, in the same file. [`laws::decision`] states that they allow
-//! only one result.
+//! bytes. Otherwise it returns the first refusal, and the buffer is as it was. It never allocates. The clauses
+//! `answered`, `written`, `refused` and `unchanged` of `canonical_into` state this, by definitions of the same file.
+//! [`laws::decision`] states that the clauses allow only one result.
 //!
 //! For any two messages and limits, `same_messages` succeeds if and only if both denote values without capabilities
 //! within the limits. It then returns whether the two values are the same, which is whether their canonical bytes are
-//! equal. Otherwise it returns the refusal of the first message, or of the second if the first has none. It cannot run
-//! out of memory. Its clauses `answered`, `found`, `equal` and `refused` say so, by the definitions of
-//! `specs/SameMessages.antt`.
+//! equal. Otherwise it returns the refusal of the first message, or of the second if the first has none. It never
+//! allocates. The clauses `answered`, `found`, `equal` and `refused` of `same_messages` state this, by the definitions
+//! of `specs/SameMessages.antt`.
 //!
-//! One writer lays out trees and messages, since both give it slots with their values.
+//! The same code lays out trees and messages, since both give it slots with their values.
 //!
-//! `layout` takes memory for the bytes that it returns. If a growth is refused, it returns `Memory`.
+//! `layout` takes memory for the bytes that it returns. If an allocation is refused, it returns `Memory`.
 //!
 //! ```rust
 //! let input = [0, 0, 0, 0, 2, 0, 0, 0, 5, 0, 0, 0, 0, 0, 0, 0, 0, 0, 0, 0, 0, 0, 0, 0];
@@ -106,10 +107,10 @@ pub use survey_input::survey_bytes;
 pub use surveyed_bare::{MeasuredBare, SurveyedBare};
 pub use written_bytes::{canonical_into, canonical_into_counted};
 
-// The layout of trees.
+// The layout of trees, from `capn_layout`.
 pub use capn_layout::{LayoutFault, Patch, layout};
 
-// The types in the signatures above.
+// The types that the signatures of this crate name.
 pub use capn_pack::UnpackFault;
 pub use capn_stream::FrameFault;
 pub use capn_value::{Memory, Tariff, Tree};

@@ -1,4 +1,4 @@
-//! The call `measure`: the price and depth of a message, and whether it is canonical.
+//! The call `measure`, which finds the price and depth of a message, and whether it is canonical.
 
 ghost use Rattle.std.specs.Prelude.{◌≡◌, ◌≢◌, [], ◌∷◌, IfOk, IfErr, IsOk, MatchResult};
 ghost use Rattle.capn_value.specs.Tree.{Tree as Value};
@@ -39,8 +39,8 @@ fn measure_other<S: Space, A: Allocator + Copy>(
     })
 }
 
-/// Surveys the message `space` of one segment within `limits`, by one pass if its bytes are canonical, else by a
-/// survey.
+/// Surveys the message `space` of one segment within `limits`. One pass is enough if the bytes are canonical. Otherwise
+/// a survey follows.
 fn measure_bare<A: Allocator + Copy>(
     alloc: A,
     space: &Bare<'_>,
@@ -60,26 +60,26 @@ fn measure_bare<A: Allocator + Copy>(
     }
 }
 
-/// Surveys the message `space` within `limits`. Returns the words that its walk pays, the number of its visits, its
-/// first capability, its depth, and whether it has one segment whose bytes are its canonical bytes. The depth is the
-/// least limit on depth under which it is accepted, with the other limits unchanged. (Own.)
+/// Surveys the message `space` within `limits`. Returns the price, the number of visits, the first capability, the
+/// depth, and whether the message is canonical, in one segment. The depth is the least limit on depth under which the
+/// message is accepted, with the other limits unchanged. (Our own.)
 ///
-/// A canonical message is walked once, any other of one segment at most twice, and one of more segments once. It
-/// refuses what the walk refuses, with the same stop. It takes no memory.
+/// A message of one segment that is not canonical is walked at most twice, any other once. A message that the walk
+/// refuses is refused with the stop of the walk. No memory is taken.
 pub fn measure<S: Space, A: Allocator + Copy>(
     alloc: A,
     space: &S,
     limits: Limits,
 ) -> Result<MeasuredBare, Stopped>
-    // If `result` is `Ok`, the message is accepted, and `result` has its numbers.
+    // If `result` is `Ok`, the message is accepted, and `result` has its price, its depth and the other results.
     ensures found { IfOk result (λ m. IsMeasure (S.message space.now) limits m) }
     // If the message is accepted, `result` is `Ok`.
     ensures only { (v : Value) → IsValueOf (S.message space.now) limits v → IsOk result }
     // If `result` is an `Err`, it is the stop of the message's walk.
     ensures refused { IfErr result (λ s. IsStopped (S.message space.now) limits s.fault s.place s.paid s.visits) }
-    // No refusal is for memory.
+    // The fault is never `Memory`.
     ensures no_memory { IfErr result (λ s. s.fault ≢ faults.Memory) }
-    // The walk pays at most the budget, also if it is refused.
+    // The walk pays at most the budget, also if the message is refused.
     ensures bounded { MatchResult result (λ m. IsBounded limits.budget m.survey.paid m.survey.visits)
         (λ s. IsBounded limits.budget s.paid s.visits) }
 {

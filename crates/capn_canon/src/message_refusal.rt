@@ -5,7 +5,8 @@ use capn_walk::Stopped;
 use std::error::Error;
 use std::fmt;
 
-/// The reason why a message has no canonical bytes within the limits, in the order in which the tests are made. (Own.)
+/// The reason why a message has no canonical bytes within the limits, in the order in which the tests are made. (Our
+/// own.)
 ///
 /// There is no variant for memory, since none is taken. The fault of a walk has such a variant, for walks that make a
 /// tree, but the clauses exclude it here.
@@ -17,7 +18,7 @@ pub enum MessageRefusal {
     Capability(u32),
 }
 
-/// The reason why canonical bytes are not written into a buffer, in the order in which the tests are made. (Own.)
+/// The reason why canonical bytes are not written into a buffer, in the order in which the tests are made. (Our own.)
 #[derive(Clone, Copy, Debug, PartialEq, Eq)]
 pub enum IntoRefusal {
     /// The place and the reason at which the walk stopped, if the message is not accepted. The fault is never `Memory`.
@@ -28,7 +29,7 @@ pub enum IntoRefusal {
     NoRoom {
         /// The length of the canonical bytes.
         needed: usize,
-        /// The words that the walk of the message pays.
+        /// The number of words that the walk of the message pays.
         paid: u32,
     },
 }

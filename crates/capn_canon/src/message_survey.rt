@@ -1,4 +1,4 @@
-//! The call `survey`: the survey of a whole message.
+//! The call `survey`, which surveys a whole message.
 
 ghost use Rattle.std.specs.Prelude.{◌≡◌, ◌≢◌, ℕ, ◌≤◌, IfOk, IfErr, MatchResult};
 ghost use Rattle.capn_value.specs.Tree.{Tree as Value};
@@ -13,27 +13,25 @@ use capn_walk::{Limits, Surveyed, survey_of};
 use capn_words::Space;
 use std::alloc::Allocator;
 
-/// Surveys the message `space` within `limits`. Returns the words that its walk pays, the number of its visits, and its
-/// first capability.
+/// Surveys the message `space` within `limits`. Returns the price, the number of visits and the first capability.
 ///
-/// It refuses by `Walk` if the message is not accepted, and in no other way. It takes no memory, and doesn't use the
-/// allocator.
+/// A message that is not accepted is refused by `Walk`, the only refusal. The allocator is not used.
 pub fn survey<A: Allocator + Copy, S: Space>(
     _alloc: A,
     space: &S,
     limits: Limits,
 ) -> Result<Surveyed, Refusal>
-    // If `result` is `Ok`, it has the words that the walk of the accepted message pays, its visits, and the first
-    // capability of its value.
+    // If `result` is `Ok`, the message is accepted, `paid` is the number of words that the walk pays, `visits` the
+    // number of visits, and `capability` the first capability of the value.
     ensures found { IfOk result (λ s. IsSurvey (S.message space.now) limits s) }
-    // If the message is accepted, `result` is `Ok`, unless memory runs out.
+    // If the message is accepted, `result` is `Ok` (`no_memory` excludes `Memory`).
     ensures only { (v : Value) → IsValueOf (S.message space.now) limits v
         → MatchResult result (λ s. s.capability ≡ first_cap v) (λ e. e ≡ refusals.Memory) }
     // If `result` is `Err(e)`, the reason that `e` gives is true.
     ensures refused { IfErr result (λ e. IsUnaccepted (S.message space.now) limits e) }
     // `Memory` is never returned, whatever the depth.
     ensures no_memory { IfErr result (λ e. e ≢ refusals.Memory) }
-    // The walk pays at most the budget, also if it is refused.
+    // The walk pays at most the budget, also if the message is refused.
     ensures bounded { MatchResult result (λ s. IsBounded limits.budget s.paid s.visits)
         (λ e. IsPaidWithin limits.budget e) }
 {

@@ -1,4 +1,4 @@
-//! The objects of the one pass, each at the next free word: tested, paid for, and opened for the objects below it.
+//! The tests of the one pass for a single object at the next free word: its layout, its price, and the slots it opens.
 
 ghost use Rattle.std.specs.Prelude.{◌≡◌, ◌+◌, ◌-◌, ◌*◌, ◌%◌, ◌^◌, ◌<◌, ◌≤◌, [], ◌∷◌, slice_index, IfSome, IsSome};
 ghost use Rattle.capn_words.specs.Message.{IsMessage};
@@ -16,9 +16,8 @@ use capn_target::counted::Reads;
 use capn_words::{Space, Width};
 use std::sync::ledger::Ledger;
 
-/// Opens the struct at the next free word, to which `word`, the first slot of `pass`, points. Returns its slots, or
-/// `None` if its last data word or last slot is zero, if it has neither, if it is out of range, or if it costs too
-/// much.
+/// Opens the struct at the next free word, to which `word`, the first slot of `pass`, points. Returns the slots of the
+/// struct. Returns `None` if the struct is empty, is out of range, costs too much, or ends a section in a zero word.
 #[inline(always)]
 pub fn open_struct<S: Space, L: Ledger>(
     space: &CountedWords<'_, S, L>,
@@ -61,7 +60,7 @@ pub fn open_struct<S: Space, L: Ledger>(
 }
 
 /// Tests the list of `count` numbers at the next free word, to which the first slot of `pass` points. Returns the
-/// progress after it.
+/// progress after the list.
 #[inline(always)]
 pub fn check_numbers<S: Space, L: Ledger>(
     space: &CountedWords<'_, S, L>,
@@ -89,8 +88,8 @@ pub fn check_numbers<S: Space, L: Ledger>(
     pass.paid(base as u64 + words + without_size as u64, end as u32, 0)
 }
 
-/// Opens the list of `count` pointers at the next free word, to which the first slot of `pass` points. Returns its
-/// elements.
+/// Opens the list of `count` pointers at the next free word, to which the first slot of `pass` points. Returns the
+/// elements as slots.
 #[inline(always)]
 pub fn open_pointers<S: Space, L: Ledger>(
     space: &CountedWords<'_, S, L>,
@@ -124,7 +123,7 @@ pub fn open_pointers<S: Space, L: Ledger>(
 }
 
 /// Opens the list of structs of `span` words at the next free word, to which the first slot of `pass` points. Returns
-/// its rows if canonical rows would have the sizes in its tag.
+/// the rows if the tag has the sizes of canonical rows.
 #[inline(never)]
 pub fn open_composite<S: Space, L: Ledger>(
     space: CountedWords<'_, S, L>,

@@ -1,11 +1,11 @@
-//! The one pass that tests whether words are a canonical layout, and finds the words that their walk pays.
+//! The one pass that tests whether words are a canonical layout, and finds the number of words that the walk pays.
 //!
 //! In a canonical layout every object begins at the next free word. So if each pointer leads to that word, nothing is
 //! out of range and nothing is read twice. The pass follows the words in order, and needs no survey before it.
 //!
-//! A slot costs at most seven reads and turns: its turn, its word, and five to test the object that it points to. The
-//! price of a list of structs covers its further cost: at most two for each word of its rows, to see that all are kept,
-//! and a turn for each row with slots.
+//! For each slot the pass makes at most seven reads and turns: the turn, the word, and five to test the object that the
+//! slot points to. The price of a list of structs covers its further cost. That cost is at most two for each word of
+//! the rows, to test that trimming keeps them all, and a turn for each row with slots.
 
 ghost use Rattle.std.specs.Prelude.{◌≡◌, ◌+◌, ◌-◌, ◌*◌, ◌%◌, ◌^◌, ◌<◌, ◌≤◌, [], ◌∷◌, slice_index, IfSome};
 ghost use Rattle.capn_words.specs.Message.{IsMessage};
@@ -24,7 +24,7 @@ use capn_words::{Pointer, Space, Width, split};
 use std::sync::ledger::Ledger;
 
 /// Tests everything below the slots of the object that `pass` has opened. Returns the progress after it, or `None` if a
-/// word is not in its canonical place, at a capability, or past the limit on depth or price.
+/// word is not in its canonical place, at a capability, or beyond the limit on depth or price.
 ///
 /// Each level of depth takes one frame of the stack, of this function or of [`check_rows`].
 #[cycle(pass)]

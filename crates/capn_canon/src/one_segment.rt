@@ -1,4 +1,4 @@
-//! Messages of one segment: their bytes, and the call `own_canonical`, which finds out that they are canonical already.
+//! The bytes of a message of one segment, and the call `own_canonical`, which returns them if they are canonical.
 
 ghost use Rattle.std.specs.Prelude.{◌≡◌, ◌≢◌, ℕ, ◌^◌, ◌<◌, ◌≤◌, List, [], ◌∷◌, None, length, IfSome, IfNone, IsSome};
 ghost use Rattle.capn_words.specs.Message.{IsBare, bytes as bytes_of};
@@ -13,16 +13,16 @@ use crate::canonical_survey::survey_canonical;
 use capn_walk::Limits;
 use capn_words::{Bare, Place, Space};
 
-/// Canonical bytes that lie in the message itself, and the words that its walk pays. (Own.)
+/// Canonical bytes that lie in the message itself, and the number of words that the walk pays. (Our own.)
 #[derive(Clone, Copy)]
 pub struct OwnCanonical<'a> {
-    /// The bytes: all of the only segment.
+    /// The bytes of the only segment.
     pub bytes: &'a [u8],
-    /// The words paid, at most the budget.
+    /// The number of words paid, at most the budget.
     pub paid: u32,
 }
 
-/// Returns the bytes of the only segment of the message `space`, or `None` if it has more than one.
+/// Returns the bytes of the only segment of the message `space`, or `None` if `space` has more segments.
 fn only_bytes<S: Space>(space: &S) -> Option<&[u8]>
     ensures one { IfSome result (λ bytes. IsOnlySegment (S.message space.now) bytes.now) }
     ensures other { IfNone result (length (S.message space.now) ≢ 1) }
@@ -34,8 +34,7 @@ fn only_bytes<S: Space>(space: &S) -> Option<&[u8]>
     Some(space.bytes(Place::ROOT, 8 * words as usize))
 }
 
-/// Returns the message `space` as the bytes of its only segment, which are faster to read. Returns `None` if it has
-/// more than one.
+/// Returns `space` as the bytes of its only segment, which are faster to read, or `None` if there are more segments.
 pub(crate) fn alone<S: Space>(space: &S) -> Option<Bare<'_>>
     ensures one { IfSome result (λ words. S.message space.now ≡ words ∷ []) }
     ensures other { IfNone result (length (S.message space.now) ≢ 1) }
@@ -49,8 +48,7 @@ pub(crate) fn alone<S: Space>(space: &S) -> Option<Bare<'_>>
     }
 }
 
-/// Returns `bytes` if, read bare, they are the canonical bytes of their value within `limits`. One pass over them finds
-/// it out.
+/// Returns `bytes` if, read bare, they are the canonical bytes of their value within `limits`. One pass makes the test.
 fn own_words(bytes: &[u8], limits: Limits) -> Option<OwnCanonical<'_>>
     ensures own { IfSome result (λ own. (words : List ℕ) → IsBare bytes.now words
         → AnswersMessage (words ∷ []) limits own.bytes.now own.paid) }
@@ -78,18 +76,18 @@ fn own_words(bytes: &[u8], limits: Limits) -> Option<OwnCanonical<'_>>
     }
 }
 
-/// Returns the bytes of the message `space`, with the words that its walk pays, if it has one segment, is accepted
-/// within `limits`, and its bytes are its canonical bytes. (Own.)
+/// Returns the bytes of the message `space` and the number of words that the walk pays. Returns `None` unless the
+/// message has one segment, is accepted within `limits`, and is canonical. (Our own.)
 ///
-/// The one pass of [`survey_canonical`] finds it out. It takes no memory and copies nothing.
+/// The one pass of [`survey_canonical`] makes the test. No memory is taken, and nothing is copied.
 pub fn own_canonical<S: Space>(space: &S, limits: Limits) -> Option<OwnCanonical<'_>>
-    // If `result` is `Some`, its bytes are the canonical bytes of the message.
+    // If `result` is `Some`, `bytes` are the canonical bytes of the message, and `paid` is the price.
     ensures own { IfSome result (λ own. AnswersMessage (S.message space.now) limits own.bytes.now own.paid) }
     // If the message has one segment and its bytes are canonical, `result` is `Some`.
     ensures only { (words : List ℕ) (v : Value) → S.message space.now ≡ words ∷ []
         → IsValueOf (words ∷ []) limits v → first_cap v ≡ None → canon v ≡ bytes_of words → IsSome result }
     ensures short { IfSome result (λ own. length own.bytes.now < 2 ^ 34) }
-    // The walk pays at most the budget, also if it is refused.
+    // The walk pays at most the budget.
     ensures bounded { IfSome result (λ own. own.paid ≤ limits.budget) }
 {
     match only_bytes(space) {

@@ -1,4 +1,4 @@
-//! Tests whether the words of a single object, in place, are laid out canonically.
+//! Tests whether the own words of one object, without those below it, are laid out canonically.
 
 ghost use Rattle.std.specs.Prelude.{◌≡◌, ◌+◌, ◌*◌, ◌/◌, ◌^◌, ◌<◌, ◌≤◌, IsTrue, ◌↔◌, [], ◌∷◌};
 ghost use Rattle.std.specs.Prelude.{length, take, drop, slice_index, pos, ◌-◌, ◌%◌};
@@ -18,7 +18,7 @@ use capn_target::counted::Reads;
 use capn_words::{Space, Width};
 use std::sync::ledger::Ledger;
 
-/// Tests whether none of the `count` words from word `at` on would be trimmed: there are none, or the last is not zero.
+/// Tests whether trimming would keep all `count` words from word `at` on: there are none, or the last is not zero.
 #[inline(always)]
 pub fn is_kept<S: Space, L: Ledger>(
     space: &CountedWords<'_, S, L>,
@@ -37,8 +37,8 @@ pub fn is_kept<S: Space, L: Ledger>(
 /// The canonical pointer to a struct without words and slots: its offset is -1. (Page: canonicalization.)
 pub const EMPTY: u64 = 0xffff_fffc;
 
-/// Tests whether the word at `from` is the pointer to a list of `count` elements at word `next`, and there is room for
-/// its `words` words.
+/// Tests whether the word at `from` is the pointer to a list of `count` elements at word `next`, and whether the
+/// message has the `words` words of that list.
 fn is_list_at<S: Space, L: Ledger>(
     space: &CountedWords<'_, S, L>,
     width: Width,
@@ -62,8 +62,7 @@ fn is_list_at<S: Space, L: Ledger>(
     word_at(space, from, reads) == word && next + words <= words_of(space, reads)
 }
 
-/// Tests whether the bits after a list are zero, up to the end of its last word. The list has `bits` bits from word
-/// `next` on.
+/// Tests whether the bits after a list of `bits` bits at word `next` are zero up to the end of the last word.
 pub fn are_bits_at<S: Space, L: Ledger>(
     space: &CountedWords<'_, S, L>,
     bits: u64,
@@ -84,7 +83,7 @@ pub fn are_bits_at<S: Space, L: Ledger>(
     last == last % (1 << rest)
 }
 
-/// The tag word of a list of structs: the number of rows, and the numbers of words and slots of each.
+/// The tag word of a list of structs: the number of rows, the words of each row and the slots of each row.
 #[derive(Clone, Copy)]
 pub struct Tag {
     pub count: u32,
@@ -92,7 +91,7 @@ pub struct Tag {
     pub slots: u16,
 }
 
-/// Reads `word` as a tag word, whatever its kind is.
+/// Reads `word` as a tag word, whatever kind of pointer it has.
 #[inline(always)]
 pub fn tag_of(word: u64) -> Tag
     ensures { result ≡ record { count = field 2 30 word; words = field 32 16 word; slots = field 48 16 word } }
@@ -104,8 +103,9 @@ pub fn tag_of(word: u64) -> Tag
     }
 }
 
-/// Tests whether all `size` words of one section of the rows are kept: in some row its last word isn't zero. There are
-/// `count` rows, one every `step` words from word `start` on, and the section begins `inset` words into its row.
+/// Tests whether trimming would keep all `size` words of one section of the rows: in some row the last word of the
+/// section isn't zero. There are `count` rows, one every `step` words from word `start` on, and the section begins
+/// `inset` words into each row.
 fn is_part_kept<S: Space, L: Ledger>(
     space: &CountedWords<'_, S, L>,
     start: u32,
@@ -136,9 +136,9 @@ fn is_part_kept<S: Space, L: Ledger>(
     false
 }
 
-/// Tests whether the list of structs at word `next` is canonical, but for what is below its slots. Canonical rows must
-/// have the sizes in the `tag`, the tag word must be the one of `tag`, the word at `from` must point to `next`, and
-/// there must be room for the rows.
+/// Tests whether the list of structs at word `next` is canonical, without the objects below its slots. Canonical rows
+/// must have the sizes in `tag`, the word at `next` must be the tag word of `tag`, the word at `from` must point to
+/// `next`, and the message must have all words of the rows.
 pub fn are_rows_at<S: Space, L: Ledger>(
     space: &CountedWords<'_, S, L>,
     tag: Tag,

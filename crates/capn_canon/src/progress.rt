@@ -1,4 +1,4 @@
-//! The progress of the one pass over the words of a layout: the next free word, the words left to pay, and open slots.
+//! The progress of the one pass over a layout: the next free word, the words left to pay, and the slots to test.
 
 ghost use Rattle.std.specs.Prelude.{◌≡◌, ◌+◌, ◌-◌, ◌^◌, ◌<◌, ◌≤◌, IfSome, IsSome, IsTrue, min};
 
@@ -9,40 +9,39 @@ use crate::own_words_test::Tag;
 pub struct Progress {
     /// The next free word.
     pub next: u32,
-    /// The words that may still be paid.
+    /// The number of words that may still be paid.
     pub left: u32,
     /// The number of slots visited.
     pub visits: u32,
 }
 
-/// Slots of one object that are still to be checked, and the progress of the pass that checks them.
+/// Slots of one object that are still to be tested, and the progress of the pass that tests them.
 #[derive(Clone, Copy)]
 pub struct Pass {
     /// The first slot.
     pub from: u32,
     /// The word after the last slot.
     pub end: u32,
-    /// The limit on depth below the object: the most objects that may be one below another, from a target of its slots
-    /// on.
+    /// The greatest number of objects that may be one below another, counted from a target of the slots on.
     pub depth: u32,
     /// The next free word, at which the objects below the slots have to begin.
     pub next: u32,
-    /// The words that may still be paid.
+    /// The number of words that may still be paid.
     pub left: u32,
-    /// The number of slots visited, with the slots of this object.
+    /// The number of slots visited, with all slots of the object.
     pub visits: u32,
 }
 
-/// Rows of a list of structs whose slots are still to be checked.
+/// Rows of a list of structs whose slots are still to be tested.
 #[derive(Clone, Copy)]
 pub struct RowPass {
-    /// The number of rows, and the numbers of words and slots of each.
+    /// The number of rows, the words of each row and the slots of each row.
     pub tag: Tag,
-    /// The words of all rows, and the progress of the pass that checks their slots.
+    /// The words of all rows, and the progress of the pass that tests their slots.
     pub pass: Pass,
 }
 
-/// Lowers `least`, the least depth that was left so far, to the `depth` left below an object, if `DEEP`.
+/// Lowers `least`, the least depth that was left so far, to `depth`, the depth left below an object, if `DEEP` is set.
 #[inline(always)]
 pub fn lower<const DEEP: bool>(least: &mut u32, depth: u32)
     ensures { IsTrue DEEP → least.new ≡ min least.old depth }
@@ -65,7 +64,7 @@ impl Pass {
         }
     }
 
-    /// Returns the slots after the first, with the `progress` after everything below the first.
+    /// Returns the slots after the first, with the `progress` after everything below the first slot.
     #[inline(always)]
     pub fn behind(self, progress: Progress) -> Pass
         requires { self.from < 2 ^ 29 }
@@ -89,7 +88,7 @@ impl Pass {
     }
 
     /// Returns the progress after an object that ends at word `end`, costs `price` and has `slots` slots. Returns
-    /// `None` if the `price` is more than what is left.
+    /// `None` if `price` is above `self.left`.
     #[inline(always)]
     pub fn paid(self, price: u64, end: u32, slots: u32) -> Option<Progress>
         requires { self.visits + slots < 2 ^ 32 }

@@ -1,4 +1,4 @@
-//! The reasons why an input has no canonical bytes.
+//! The type `Refusal`: the reasons why bytes in a form have no canonical bytes.
 
 use capn_pack::UnpackFault;
 use capn_stream::FrameFault;
@@ -9,7 +9,7 @@ use std::error::Error;
 use std::fmt;
 
 /// The reason why bytes in a form have no canonical bytes, in the order in which the tests are made. The bytes are read
-/// in their form, the message is walked, and its value is searched for a capability. (Own.)
+/// in their form, the message is walked, and its value is searched for a capability. (Our own.)
 #[derive(Clone, Copy, Debug, PartialEq, Eq)]
 pub enum Refusal {
     /// A fault of the form `Bare`: the bytes are not whole words, or are too many.
@@ -26,7 +26,7 @@ pub enum Refusal {
     Walk(Stopped),
     /// The index of the first capability in preorder, if the value has any: a capability has no canonical form.
     Capability(u32),
-    /// A refused growth of memory.
+    /// A refused allocation.
     Memory,
 }
 

@@ -1,4 +1,4 @@
-//! The refusal of a comparison of two messages: which of them is refused, and why.
+//! The refusal of a comparison of two messages: the message that is refused, and the reason.
 
 use crate::refusal::Refusal;
 
@@ -11,11 +11,12 @@ pub enum Side {
     Second,
 }
 
-/// The reason why two messages are not compared: one of them is refused. (Own.)
+/// The reason why two messages are not compared: one of them is refused. (Our own.)
 #[derive(Clone, Copy, Debug, PartialEq, Eq)]
 pub struct SameRefusal {
     /// The message that is refused, first or second.
     pub side: Side,
-    /// Its refusal, as [`canonical_of`](crate::canonical_of) gives it: always `Walk` or `Capability`, by the clauses.
+    /// The refusal that [`canonical_of`](crate::canonical_of) gives that message: `Walk` or `Capability`, by the
+    /// clauses.
     pub refusal: Refusal,
 }

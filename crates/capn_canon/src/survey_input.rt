@@ -1,4 +1,4 @@
-//! The call `survey_bytes`: the survey of a message in any of the three forms.
+//! The call `survey_bytes`, which surveys a message in any of the three forms.
 
 ghost use Rattle.std.specs.Prelude.{◌≡◌, ◌≤◌, ◌+◌, ◌*◌, length, IfOk, IfErr, IsErrOf, MatchResult};
 ghost use Rattle.capn_value.specs.Tree.{Tree as Value};
@@ -39,28 +39,27 @@ impl<A: Allocator + Copy> MessageTask<A> for Survey {
     }
 }
 
-/// Surveys the message that `bytes` encode in this `form`, within `limits`. Returns the words that its walk pays, the
-/// number of its visits and its first capability.
+/// Surveys the message that `bytes` encode in `form`, within `limits`. Returns the number of words that the walk pays,
+/// the number of visits and the first capability.
 ///
-/// It refuses what [`crate::canonicalise`] refuses, but for a capability. `Memory` is returned only if a growth on
-/// `alloc` was refused, for the ends of more than 64 segments or for the words that are unpacked.
+/// The refusals are those of [`crate::canonicalise`] except `Capability`. `Memory` is returned only if an allocation on
+/// `alloc` was refused, for the ends of more than 64 segments or for the unpacked words.
 pub fn survey_bytes<A: Allocator + Copy>(
     alloc: A,
     form: Form,
     bytes: &[u8],
     limits: Limits,
 ) -> Result<Surveyed, Refusal>
-    // If `result` is `Ok`, the bytes are an accepted message, and `result` has its price, its visits and its first
-    // capability.
+    // If `result` is `Ok`, the bytes are an accepted message with that price, number of visits and first capability.
     ensures found { IfOk result (λ s. Surveys form bytes.now limits s) }
-    // If the bytes denote a value, `result` is `Ok`, unless memory runs out.
+    // If the bytes denote a value, `result` is `Ok` or `Memory`.
     ensures only { (v : Value) → Denotes form bytes.now limits v
         → MatchResult result (λ s. s.capability ≡ first_cap v) (λ e. e ≡ refusals.Memory) }
     // If `result` is `Err(e)`, the reason that `e` gives is true.
     ensures refused { IfErr result (λ e. IsUnacceptedIn form bytes.now limits e) }
     // `Memory` is returned only for the ends of more than 64 segments, or for the words that a packed text unpacks to.
     ensures memory { IsErrOf result refusals.Memory → MayNeedMemory form bytes.now limits }
-    // The walk pays at most the budget, also if it is refused.
+    // The walk pays at most the budget, also if the message is refused.
     ensures bounded { MatchResult result (λ s. IsBounded limits.budget s.paid s.visits)
         (λ e. IsPaidWithin limits.budget e) }
     // The canonical bytes of the value are at most 8 for each word paid, and 8 more.

@@ -3,11 +3,11 @@
 /// The survey of a message, and whether its bytes are canonical.
 #[derive(Clone, Copy, Debug, PartialEq, Eq)]
 pub struct SurveyedBare {
-    /// The words paid, at most the budget.
+    /// The number of words paid, at most the budget.
     pub paid: u32,
     /// The number of visits.
     pub visits: u32,
-    /// The index of the first capability in preorder. A value that has one has no canonical bytes.
+    /// The index of the first capability in preorder. A value with a capability has no canonical bytes.
     pub capability: Option<u32>,
     /// `true` if the value has no capability and the bytes are its canonical bytes.
     pub is_canonical: bool,

@@ -1,4 +1,4 @@
-//! The survey of a message that has to have canonical bytes.
+//! The survey of a message whose canonical bytes are wanted.
 
 ghost use Rattle.std.specs.Prelude.{◌≡◌, ◌+◌, ◌*◌, ◌≤◌, None, IfOk, IfErr, MatchResult};
 ghost use Rattle.capn_walk.specs.Accepted.{IsBounded};
@@ -11,8 +11,7 @@ use capn_walk::{Limits, Surveyed, survey_counted};
 use capn_words::Space;
 use std::sync::ledger::Ledger;
 
-/// Surveys the message `space` within `limits`. Returns the reason why it has no canonical bytes if it is not accepted,
-/// or if its value has a capability.
+/// Surveys the message `space` within `limits`. Refuses a message without canonical bytes.
 pub(crate) fn survey_value<S: Space, L: Ledger>(
     space: &CountedSpace<'_, S, L>,
     limits: Limits,

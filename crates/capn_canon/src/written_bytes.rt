@@ -1,4 +1,4 @@
-//! The call `canonical_into`: canonical bytes, written into the caller's buffer.
+//! The calls `canonical_into` and `canonical_into_counted`, which write canonical bytes into the caller's buffer.
 
 ghost use Rattle.std.specs.Prelude.{◌≡◌, ◌+◌, ◌*◌, ◌<◌, ◌≤◌, length, take, drop, IfOk, IfErr, OnErr, MatchResult};
 ghost use Rattle.capn_value.specs.Tree.{Tree as Value};
@@ -44,8 +44,7 @@ fn write_message<S: Space, L: Ledger>(
     })
 }
 
-/// Does what [`write_message`] does. If `space` has one segment, it is read as that segment's words alone, which is
-/// faster.
+/// Calls [`write_message`]. If `space` has one segment, only the words of that segment are read, which is faster.
 fn write_by_segments<S: Space, L: Ledger>(
     space: &CountedSpace<'_, S, L>,
     limits: Limits,
@@ -92,20 +91,23 @@ impl CountedWriter for IntoTask {
 }
 
 /// Writes the canonical bytes of the value that the message `space` denotes within `limits` to the beginning of `out`.
-/// Returns their number, the words that the walk pays, and its visits. The rest of `out` stays as it was.
+/// Returns the number of bytes written, the number of words that the walk pays, and the number of visits. The rest of
+/// `out` stays as it was.
 ///
 /// The refusals are tested in this order, and each leaves `out` as it was. `Walk` refuses a message that is not
 /// accepted. `Capability` refuses a value with capabilities, with the index of the first in preorder. `NoRoom` refuses
-/// an `out` that is shorter than the canonical bytes, with their length and the words that the walk pays.
+/// an `out` that is shorter than the canonical bytes, with the length needed and the number of words that the walk
+/// pays.
 ///
-/// It takes no memory but the stack, whatever the depth. `8 * (paid + 1)` bytes are always enough, and so are `8 *
-/// (budget + 1)`. The canonical bytes are counted before they are written only if `out` has fewer. (Own.)
+/// Only the stack is used, whatever the depth. `8 * (paid + 1)` bytes are always enough, and so are `8 * (budget + 1)`.
+/// The canonical bytes are measured before they are written only if `out` has fewer than `8 * (paid + 1)` bytes. (Our
+/// own.)
 pub fn canonical_into<M: Asked>(
     space: M,
     limits: Limits,
     out: &mut [u8],
 ) -> Result<CanonicalLength, IntoRefusal>
-    // `space` must allow 54 * (budget + 1) reads and turns of loops, for all passes, and one more to open the count. A
+    // `space` must allow 54 * (budget + 1) reads and turns of loops, for all passes, and one more to start the count. A
     // reference to a `Space` allows any number.
     requires work { M.allows space (54 * (limits.budget + 1) + 1) }
     // The theorem: `result` is `Ok` if and only if the message denotes a value without capabilities within the limits,
@@ -117,7 +119,7 @@ pub fn canonical_into<M: Asked>(
     ensures refused { IfErr result (λ e. RefusedInto (M.message space) limits (length out.old) e) }
     // A refusal leaves `out` as it was.
     ensures unchanged { OnErr result (out.new ≡ out.old) }
-    // The walk pays at most the budget, also if it is refused.
+    // The walk pays at most the budget, also if the message is refused.
     ensures bounded { MatchResult result (λ c. IsBounded limits.budget c.paid c.visits)
         (λ e. IsIntoPaidWithin limits.budget e) }
     // The bytes written are those that `canonical_of` returns for the same message.
@@ -125,16 +127,16 @@ pub fn canonical_into<M: Asked>(
     ensures past { IfOk result (λ c. drop c.length out.new ≡ drop c.length out.old) }
     ensures inside { IfOk result (λ c. c.length ≤ length out.new) }
     ensures short { IfOk result (λ c. c.length ≤ 8 * (c.paid + 1)) }
-    // Read bare under the same limits, the canonical bytes denote the trimmed value, which is the same value.
+    // Read bare under the same limits, the canonical bytes denote the trimmed value of `v`, which is the same as `v`.
     ensures reads_back { IfOk result (λ c. (v : Value) → IsValueOf (M.message space) limits v
         → ReadsBack (take c.length out.new) limits v) }
-    // A walk of the canonical bytes, read bare, pays exactly the cost of the trimmed value.
+    // A walk of the canonical bytes, read bare, pays exactly the cost of the trimmed value of `v`.
     ensures pays { IfOk result (λ c. (v : Value) → IsValueOf (M.message space) limits v
         → PaysItsCost (take c.length out.new) limits v) }
-    // The canonical bytes of the trimmed value are the same bytes again.
+    // The trimmed value of `v` has the same canonical bytes.
     ensures own { IfOk result (λ c. (v : Value) → IsValueOf (M.message space) limits v
         → IsItsOwnForm (take c.length out.new) v) }
-    // A second value has equal canonical bytes if and only if it is the same value.
+    // Among the values that fit and are in range, exactly those that are the same as `v` have the same canonical bytes.
     ensures exactly { IfOk result (λ c. (v : Value) → IsValueOf (M.message space) limits v
         → IsFormExactlyOf (take c.length out.new) v) }
 {
@@ -144,12 +146,12 @@ pub fn canonical_into<M: Asked>(
     space.ask_into(IntoTask { limits }, out)
 }
 
-/// Does what [`canonical_into`] does for the message `space` within `limits` and the buffer `out`. It counts the reads
-/// and the turns of its loops in `reads`, as [`canonical_length_counted`](crate::canonical_length_counted) does.
+/// Writes the canonical bytes of the message `space` to `out` within `limits`, and counts reads and loop turns in
+/// `reads`. Returns the result of [`canonical_into`].
 ///
-/// There are at most 54 reads and turns for each word paid, and 54 more: 14 in the walk, 20 to measure, if it measures,
-/// and 20 to write. A refusal costs at most that many for the whole budget. So the budget alone bounds the work,
-/// whatever the message is. It takes no memory but the stack.
+/// There are at most 54 reads and turns for each word paid, and 54 more. The walk takes 14 of the 54, the measuring 20
+/// if it is needed, and the writing 20. A refusal costs at most 54 for each word of the budget, and 54 more. So the
+/// budget bounds the work, whatever the message is. Only the stack is used.
 pub fn canonical_into_counted<S: Space, L: Ledger>(
     space: &CountedSpace<'_, S, L>,
     limits: Limits,
@@ -165,7 +167,7 @@ pub fn canonical_into_counted<S: Space, L: Ledger>(
     ensures refused { IfErr result (λ e. RefusedInto space.now limits (length out.old) e) }
     // A refusal leaves `out` as it was.
     ensures unchanged { OnErr result (out.new ≡ out.old) }
-    // The walk pays at most the budget, also if it is refused.
+    // The walk pays at most the budget, also if the message is refused.
     ensures bounded { MatchResult result (λ c. IsBounded limits.budget c.paid c.visits)
         (λ e. IsIntoPaidWithin limits.budget e) }
     // The bytes written are those that `canonical_of` returns for the same message.
@@ -173,21 +175,21 @@ pub fn canonical_into_counted<S: Space, L: Ledger>(
     ensures past { IfOk result (λ c. drop c.length out.new ≡ drop c.length out.old) }
     ensures inside { IfOk result (λ c. c.length ≤ length out.new) }
     ensures short { IfOk result (λ c. c.length ≤ 8 * (c.paid + 1)) }
-    // Read bare under the same limits, the canonical bytes denote the trimmed value, which is the same value.
+    // Read bare under the same limits, the canonical bytes denote the trimmed value of `v`, which is the same as `v`.
     ensures reads_back { IfOk result (λ c. (v : Value) → IsValueOf space.now limits v
         → ReadsBack (take c.length out.new) limits v) }
-    // A walk of the canonical bytes, read bare, pays exactly the cost of the trimmed value.
+    // A walk of the canonical bytes, read bare, pays exactly the cost of the trimmed value of `v`.
     ensures pays { IfOk result (λ c. (v : Value) → IsValueOf space.now limits v
         → PaysItsCost (take c.length out.new) limits v) }
-    // The canonical bytes of the trimmed value are the same bytes again.
+    // The trimmed value of `v` has the same canonical bytes.
     ensures own { IfOk result (λ c. (v : Value) → IsValueOf space.now limits v
         → IsItsOwnForm (take c.length out.new) v) }
-    // A second value has equal canonical bytes if and only if it is the same value.
+    // Among the values that fit and are in range, exactly those that are the same as `v` have the same canonical bytes.
     ensures exactly { IfOk result (λ c. (v : Value) → IsValueOf space.now limits v
         → IsFormExactlyOf (take c.length out.new) v) }
     // All passes together do at most 54 reads and turns of loops for each word paid, and 54 more.
     ensures reads { IfOk result (λ c. reads.new ≤ reads.old + 54 * (c.paid + 1)) }
-    // The budget bounds the reads and turns, whatever the message and the result are.
+    // The budget bounds the number of reads and turns, whatever the message and the result are.
     ensures work { reads.new ≤ reads.old + 54 * (limits.budget + 1) }
 {
     space.bounds();

@@ -32,7 +32,7 @@ module _ (m : List (List ℕ)) (limits : Bounds) (bs : List ℕ) (n : ℕ) (h : 
     pub answer_form : (v : Tree) → IsValueOf m limits v → IsCanonicalForm bs limits v
     answer_form v k = form_of_any m limits h.value is small shallow h.is bs v h.canonical k
 
--- the value that bytes denote is that of the message that they are read as
+-- the value that bytes denote is the value of the message that the bytes are read as
 pub denoted_here : (form : Form) (bs : List ℕ) (limits : Bounds) (m : List (List ℕ)) (v : Tree)
     → Reads form bs limits.message_words m → Denotes form bs limits v →
     IsValueOf m limits v

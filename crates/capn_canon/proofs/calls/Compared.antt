@@ -1,4 +1,4 @@
--- Comparisons of two messages, by the survey of each. (For `comparison.rt`.)
+-- Comparisons of two messages, each surveyed. (For `comparison.rt`.)
 use Rattle.std.proofs.Common.{◌≡◌, ◌↔◌, ◌^◌, ◌≤◌, ℕ, List, Bool, IsTrue, Result, Ok, Err, IfOk, IfErr}
 use Rattle.std.proofs.Common.{IsOk, None, Some}
 use Rattle.std.proofs.Common.{ap, sym, subst, ◌∙◌, refl}

@@ -1,4 +1,4 @@
--- The result for a message is a result for the bytes that are read as it. (For `canonicalise`.)
+-- The result for a message is also a result for the bytes that are read as that message. (For `canonicalise`.)
 use Rattle.std.proofs.Common.{◌≡◌, ℕ, ◌+◌, ◌*◌, ◌^◌, ◌≤◌, List, [], length, Result}
 use Rattle.std.proofs.Common.{Ok, Err, MatchResult, IfOk, IfErr, IsErrOf, None}
 use Rattle.std.proofs.lemmas.Result.{IfOk-weaker, IfErr-weaker}
@@ -19,7 +19,7 @@ use Rattle.capn_canon.specs.inner.Outcomes.{AreCanonicalised}
 use Rattle.capn_canon.proofs.calls.Answered.{answers_only, answers_length, answers_form}
 use Rattle.capn_canon.proofs.shared.NotRefused.{not_refused}
 
--- if bytes are read as a message, the reason why it is refused is a reason why they are
+-- the reason why a message is refused is also a reason why the bytes that are read as that message are refused
 refused_as : (form : Form) (bs : List ℕ) (limits : Bounds) (m : List (List ℕ)) → Reads form bs limits.message_words m
     → (e : Refusal) → IsRefusedMessage m limits e → IsRefused form bs limits e
 refused_as form bs limits m is (refusals.Walk s) h = (m, is, h)
@@ -32,7 +32,7 @@ refused_as form bs limits m is (refusals.Packed e) h = absurd h
 
 -- ---- results of calls
 
--- a result for a message is one for the bytes that are read as it
+-- a result for a message is also one for the bytes that are read as that message
 pub canonicalised_as : {T : Type 0} (r : Result T Refusal) (bytes_of : T → List ℕ) (price_of : T → ℕ) (form : Form)
     (bs : List ℕ) (limits : Bounds) (m : List (List ℕ)) → Reads form bs limits.message_words m
     → (MayNeedBytes m limits → MayNeedBytesIn form bs limits)
@@ -47,7 +47,7 @@ canonicalised_as r bytes_of price_of form bs limits m is want f e w b = record {
   bounded = b;
 }
 
--- for any value without capabilities that the bytes denote, the result is its canonical bytes, unless memory runs out
+-- for any value without capabilities that the bytes denote, the result is the canonical bytes of that value or `Memory`
 pub found_only : {T : Type 0} (r : Result T Refusal) (bytes_of : T → List ℕ) (price_of : T
     → ℕ) (form : Form) (bs : List ℕ) (limits : Bounds) →
     IfOk r (λ c. Answers form bs limits (bytes_of c) (price_of c)) → IfErr r (λ e. IsRefused form bs limits e) →

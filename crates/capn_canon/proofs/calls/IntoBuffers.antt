@@ -36,7 +36,7 @@ no_bytes m limits (messages.Capability k) (w, also, e) (v, is, free) =
     let f : Some k ≡ None = sym e ∙ ap first_cap (unique m w v root also.is is.is) ∙ free in
     absurd cc
 
--- a call refuses to write into a buffer only if the message has no canonical bytes, or they have no room
+-- a call refuses to write into a buffer only if the message has no canonical bytes, or the buffer has no room for them
 pub no_bytes_into : (m : List (List ℕ)) (limits : Bounds) (room : ℕ) (e : IntoRefusal) → RefusedInto m limits room e
     → (v : Tree) → IsValueOf m limits v → first_cap v ≡ None → length (canon v) ≤ room → ⊥
 no_bytes_into m limits room (intos.Walk s) h v is free fits = no_bytes m limits (messages.Walk s) h (v, is, free)
@@ -79,7 +79,7 @@ pub length_answered : (m : List (List ℕ)) (limits : Bounds) (r : Result Canoni
 length_answered m limits (Ok c) f e = ((λ k. (f.0, f.1.is, f.1.free)), (λ d. refl))
 length_answered m limits (Err x) f e = ((λ k. absurd cc), (λ d. absurd (no_bytes m limits x e d)))
 
--- a call for a buffer succeeds if and only if the message has canonical bytes and the buffer has room for them
+-- a call for a buffer succeeds if and only if the message has canonical bytes and the buffer has room for those bytes
 pub into_answered : (m : List (List ℕ)) (limits : Bounds) (old new : List ℕ) (r : Result CanonicalLength IntoRefusal)
     → IfOk r (λ c. WrittenInto m limits old new c) → IfErr r (λ e. RefusedInto m limits (length old) e)
     → AnsweredInto m limits (length old) r
@@ -100,7 +100,7 @@ module _ (m : List (List ℕ)) (limits : Bounds) (old new : List ℕ) (c : Canon
       ap (λ (n : ℕ). take n new) h.is.long ∙ ap (take (length bs)) h.written
       ∙ take-append_seam bs (drop (length bs) old)
 
-  -- the first bytes of the buffer are the result that another call gives for the message
+  -- the first bytes of the buffer are the canonical bytes that `canonical_of` returns for the message
   pub into_answers : AnswersMessage m limits (take c.length new) c.paid
   into_answers = record {
     value = h.value;

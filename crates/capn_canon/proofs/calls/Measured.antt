@@ -32,11 +32,11 @@ bare_checked words limits c told = record {
   );
 }
 
--- a message that has more or fewer segments than one is not canonical
+-- a message that has not exactly one segment is not canonical
 pub not_one : (message : List (List ℕ)) (v : Tree) → (length message ≡ 1 → ⊥) → IsCanonicalOf message v → ⊥
 not_one message v not is = not (ap length is.1)
 
--- the result of the one pass if it doesn't survey the words
+-- the result of the one pass, if the pass doesn't survey the words
 abbrev none : Option MeasuredBare
 none = None
 

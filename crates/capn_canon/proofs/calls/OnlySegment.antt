@@ -1,5 +1,5 @@
--- The bytes of a message of one segment are read as that message, and may be its own canonical bytes. (For
--- `only_bytes`, `own_canonical` and `own_words`.)
+-- The bytes of a message of one segment are read as that message, and may be canonical. (For `only_bytes`,
+-- `own_canonical` and `own_words`.)
 use Rattle.std.proofs.Common.{◌≡◌, ℕ, ◌*◌, ◌^◌, ◌<◌, List, [], ◌∷◌, length, true, refl, ap, sym, ◌∙◌, subst, arith}
 use Rattle.std.proofs.Common.{Result, Ok}
 use Rattle.std.proofs.lemmas.List.{take_all}
@@ -14,11 +14,11 @@ use Rattle.capn_canon.specs.Denotes.{AnswersMessage}
 use Rattle.capn_canon.specs.declared.surveyed_bare.SurveyedBare.{SurveyedBare}
 use Rattle.capn_canon.specs.inner.OneSegment.{IsOnlySegment}
 
--- the result of reading bytes as these words
+-- the result of reading bytes as the words `ws`
 abbrev ok : List ℕ → Result (List ℕ) BareFault
 ok ws = Ok ws
 
--- bytes that are all those of the first segment are its bytes
+-- the bytes that a message has from the root on, as many as its first segment has, are those of the first segment
 all_bytes : (m : List (List ℕ)) (bs : List ℕ) → bs ≡ bytes_at m root (8 * length (segment_at m 0))
     → bs ≡ bytes (segment_at m 0)
 all_bytes m bs is =
@@ -56,13 +56,13 @@ own_answer bs ws vs bare same limits c told so =
       priced = here.pays;
     }
 
--- the result for the words of the only segment is that for the message
+-- the result for the words of the only segment is also the result for the message
 pub own_message : (m : List (List ℕ)) (bs : List ℕ) (price : ℕ) (limits : Bounds) (only : IsOnlySegment m bs)
     (own : List ℕ) → AnswersMessage (only.0 ∷ []) limits own price → AnswersMessage m limits own price
 own_message m bs price limits only own answer =
     subst (λ (n : List (List ℕ)). AnswersMessage n limits own price) (sym only.1) answer
 
--- the bytes of a segment are fewer than 2^34
+-- the number of bytes of a segment is below 2^34
 pub own_short : (bs ws : List ℕ) → IsBare bs ws → length bs < 2 ^ 34
 own_short bs ws bare =
     let l = length-bytes ws in let e = ap length bare.same in let r = bare.room in omega arith

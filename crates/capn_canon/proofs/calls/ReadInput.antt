@@ -1,5 +1,5 @@
--- The result for a message is one for the bytes that are read as it, and bytes that can't be read are refused. (For
--- `canonical_input.rt`, `input.rt` and `survey_input.rt`.)
+-- The result for a message is also one for the bytes that are read as that message, and bytes that can't be read are
+-- refused. (For `canonical_input.rt`, `input.rt` and `survey_input.rt`.)
 use Rattle.std.proofs.Common.{◌≡◌, ℕ, ◌+◌, ◌≤◌, inl, inr, List, refl, sym, subst, Result, Ok, Err, IfOk, IfErr}
 use Rattle.std.proofs.Common.{IsErrAnd, IsErrOf, MatchResult}
 use Rattle.capn_pack.specs.UnpackRefusal.{IsUnpackRefused, StartsWithin}
@@ -40,7 +40,7 @@ unread_so bs text limits (refusals.Packed e) u h = absurd h
 unread_so bs text limits (refusals.Walk s) u h = absurd h
 unread_so bs text limits (refusals.Capability k) u h = absurd h
 
--- a refusal of the walk is not one of reading the bytes
+-- a refusal of reading the bytes is also a reason why they are not accepted, and reports nothing paid
 no-walk : (form : Form) (bs : List ℕ) (limits : Bounds) (e : Refusal) → IsRefusedReading form bs limits e
     → IsUnacceptedIn form bs limits e × IsPaidWithin limits.budget e
 no-walk form bs limits refusals.Memory h = (tt, tt)
@@ -66,7 +66,7 @@ refused-in form bs limits (refusals.Packed e) h = h
 refused-in form bs limits (refusals.Walk s) h = h
 refused-in form bs limits (refusals.Capability k) h = absurd h
 
--- if memory was refused, reading the bytes may need it
+-- if memory was refused, reading the bytes may need memory
 wanted-unread : {T : Type 0} (form : Form) (bs : List ℕ) (limits : Bounds) (e : Refusal)
     → IsRefusedReading form bs limits e → (r : Result T Refusal) → r ≡ Err e → IsErrOf r refusals.Memory
     → MayNeedMemory form bs limits
@@ -105,7 +105,7 @@ module _ {T S : Type 0} (answers : S → List (List ℕ) → Bounds → Result T
 
 -- ---- answers
 
--- the result for the unpacked frame is that for the packed text
+-- the result for the unpacked frame is also the result for the packed text
 pub packed_run : {T S : Type 0} (bs text : List ℕ) (limits : Bounds)
     (answers : S → List (List ℕ) → Bounds → Result T Refusal → S → Type 0) (old : S) (r : Result T Refusal) (new : S)
     → Unpacks bs limits.message_words text → IsRun forms.Stream text limits answers old r new
@@ -114,7 +114,7 @@ packed_run bs text limits answers old r new u (inl (m, is, h)) = inl (m, (text, 
 packed_run bs text limits answers old r new u (inr (e, is, h, same)) =
     inr (e, is, unread_so bs text limits e u h, same)
 
--- the result of canonicalising a message is that of canonicalising the bytes that are read as it
+-- the result of canonicalising a message is also that of canonicalising the bytes that are read as that message
 pub canonicalised : {T S : Type 0} (form : Form) (bs : List ℕ) (limits : Bounds) (r : Result T Refusal)
     (bytes : T → List ℕ) (price : T → ℕ) (old new : S)
     → IsRun form bs limits (λ task m l x after. IsCanonicalised m l x bytes price) old r new
@@ -132,7 +132,7 @@ canonicalised form bs limits r bytes price old new (inr (e, is, h, same)) =
           n.1;
     }
 
--- the survey of a message is that of the bytes that are read as it
+-- the survey of a message is also that of the bytes that are read as that message
 pub surveyed : {S : Type 0} (form : Form) (bs : List ℕ) (limits : Bounds) (r : Result Surveyed Refusal) (old new : S)
     → IsRun form bs limits (λ task m l x after. IsSurveyed m l x) old r new → AreSurveyed form bs limits r
 surveyed form bs limits r old new (inl (m, is, h)) = surveyed_as r form bs limits m is h

@@ -1,5 +1,5 @@
--- Words whose root is in its canonical place are accepted. If they end with everything below it, they are canonical,
--- and as deep as the pass found. (For `measure_root`.)
+-- Words whose root is in its canonical place are accepted. If the words end after everything below the root, they are
+-- canonical, and as deep as the pass found. (For `measure_root`.)
 use Rattle.std.proofs.Common.{◌≡◌, ℕ, ◌+◌, ◌-◌, ◌^◌, ◌<◌, ◌≤◌, Bool, true, List, [], ◌∷◌, ◌++◌, length, Option, Some}
 use Rattle.std.proofs.Common.{None, IsTrue, refl, ap, sym, subst, ◌∙◌, arith}
 use Rattle.std.specs.Option.{option_or}
@@ -35,7 +35,7 @@ none-first : (a : Option ℕ) → option_or a None ≡ None → a ≡ None
 none-first None e = refl
 none-first (Some k) e = e
 
--- a value without capabilities is allowed at the root
+-- a value without capabilities may be the root
 pub free-root : (v : Tree) → first_cap v ≡ None → is_root v ≡ true
 free-root nil e = refl
 free-root (node ws ss) e = refl
@@ -98,7 +98,7 @@ module _ (all : List ℕ) (limits : Bounds) (deep : Bool) (some : 0 < length all
         is = in_place.are.0;
       }
 
-  -- the counts of the pass are those of a survey of the words, and the words are canonical if they end there
+  -- the pass finds the numbers of a survey, and the words are canonical if they end where the pass ends
   pub canonical-survey : (c : SurveyedBare) → c.paid ≡ limits.budget - q.left → c.visits ≡ q.visits
       → c.capability ≡ None → (IsTrue c.is_canonical → q.next ≡ length all)
       → ((v : Tree) → IsValueOf (all ∷ []) limits v → first_cap v ≡ None → canon v ≡ bytes all → IsTrue c.is_canonical)

@@ -1,5 +1,6 @@
--- What a pass must find at a slot whose word is the pointer to a list of structs. The tag and the rows are at the next
--- free word, there is room for them, they can be paid, and a layout follows below them. (For `open_composite`.)
+-- Lemmas on what a pass must find at a slot whose word is the pointer to a list of structs. The tag and the rows are at
+-- the next free word and within the words, their price can be paid, and a layout follows below the rows. (For
+-- `open_composite`.)
 use Rattle.std.proofs.Common.{◌≡◌, ℕ, ◌+◌, ◌-◌, ◌*◌, ◌^◌, ◌<◌, ◌≤◌, List, [], ◌∷◌, length, slice_index, Ok}
 use Rattle.std.proofs.Common.{pos, refl, ap, sym, subst, ◌∙◌, arith}
 use Rattle.capn_words.specs.Message.{segment_at}

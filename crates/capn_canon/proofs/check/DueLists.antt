@@ -1,5 +1,6 @@
--- What a pass must find at a slot whose word is the pointer to a list. The list is at the next free word, there is room
--- for it, it can be paid, and a layout follows below it. (For `check_numbers` and `open_pointers`.)
+-- Lemmas on what a pass must find at a slot whose word is the pointer to a list. The list is at the next free word and
+-- within the words, its price can be paid, and a layout follows below the list. (For `check_numbers` and
+-- `open_pointers`.)
 use Rattle.std.proofs.Common.{◌≡◌, ℕ, ◌+◌, ◌-◌, ◌*◌, ◌^◌, ◌<◌, ◌≤◌, List, [], ◌∷◌, length, drop, slice_index}
 use Rattle.std.proofs.Common.{ap, sym, subst, ◌∙◌, arith}
 use Rattle.capn_words.specs.Message.{IsMessage, segment_at}

@@ -1,5 +1,6 @@
--- What a pass must find at a slot whose word points to an object. The object is at the next free word, there is room
--- for it, it can be paid, and a layout follows below it. (For the cycle `pass` and `open_struct`.)
+-- Lemmas on what a pass must find at a slot whose word points to an object. The object is at the next free word and
+-- within the words, its price can be paid, and a layout follows below the object. (For the cycle `pass` and
+-- `open_struct`.)
 use Rattle.std.proofs.Common.{◌≡◌, ◌≢◌, inl, inr, ℕ, ◌+◌, ◌-◌, ◌*◌, ◌%◌, ◌^◌, ◌<◌, ◌≤◌, List, []}
 use Rattle.std.proofs.Common.{◌∷◌, length, take, drop, slice_index, Ok, refl, ap, sym, subst, ◌∙◌, arith}
 use Rattle.capn_words.specs.Message.{segment_at}
@@ -38,14 +39,14 @@ module _ (all : List ℕ) (base from to d left : ℕ) (h : DueValue all base fro
       let c = content-of only (here from) h.value h.due.is h.due.free (not-nil ne) in
       subst (λ (vs : List Visit). AllPay vs) (visits-deep only base (here from) c.0 c.1 c.2 c.3 c.4 d z) h.due.pays.all
 
-  -- the word is one of the three pointers to the next free word
+  -- the word is one of the three kinds of pointers to the next free word
   pub due-near : from < to → to ≤ 2 ^ 29 → slice_index all from ≢ 0 → IsNear (slice_index all from) (to - from - 1)
   due-near order room ne =
       let e = h.due.laid.pointer in
       subst (λ (x : ℕ). IsNear x (to - from - 1)) (sym e)
       (near-word from to order room h.value h.due.free (λ z. ne (e ∙ z)))
 
-  -- the price of an object can be paid, and then that of what is below it
+  -- the price of an object can be paid, and then the price of the objects below
   pub due-price : (start : ℕ) (shape : Shape) → target only (here from) ≡ Ok (targets.Content 0 start shape 0) → 0 < d
       → (price base shape ≤ left)
       × IsWithin (left - price base shape) (visits_of only base (d - 1) (slots 0 start shape))

@@ -1,5 +1,5 @@
--- If words are accepted and canonical, the pass must find the value at their root, and the words end after it. (For
--- `measure_root`.)
+-- If words are accepted and canonical, the pass must find the value at the root, and the words end after that value.
+-- (For `measure_root`.)
 use Rattle.std.proofs.Common.{◌≡◌, ℕ, ◌+◌, ◌^◌, ◌<◌, ◌≤◌, Bool, List, [], ◌∷◌, length, Option, None}
 use Rattle.std.proofs.Common.{refl, ap, sym, subst, arith}
 use Rattle.std.specs.Option.{option_or}
@@ -77,7 +77,7 @@ module _ (all : List ℕ) (limits : Bounds) (v : Tree) (is : IsMessage (all ∷ 
       (subst (λ (x : ℕ). DueSlots all (base limits.tariff) 0 1 1 x l) (sym ed)
       (subst (λ (x : ℕ). DueSlots all (base limits.tariff) 0 1 1 limits.depth x) (sym el) due-root))
 
-  -- the value at the root ends with the words
+  -- the content of the value at the root ends where the words end
   pub root-ends : {deep : Bool} {least low : ℕ} (depth left : ℕ) (q : Progress)
       → FindsSlots all (base limits.tariff) deep 0 1 1 depth left 1 least q low
       → q.next ≡ length all

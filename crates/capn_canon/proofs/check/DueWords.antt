@@ -32,12 +32,12 @@ low-struct : (b : Bool) (n x y : ℕ) → n < 2 ^ 29
 low-struct true n x y h = inl (omega arith)
 low-struct false n x y h = inr (omega arith)
 
--- the pointer to a struct, to one without words and slots, or to a list (Own.)
+-- a pointer to a struct, to a struct without words and slots, or to a list (Our own.)
 abbrev pub IsNear : ℕ → ℕ → Type 0
 IsNear x n = (x ≡ 0xffff_fffc) ⊎ ((x % 2 ^ 32 ≡ 4 * n) ⊎ (x % 2 ^ 32 ≡ 4 * n + 1))
 
 module _ (from to : ℕ) (order : from < to) (room : to ≤ 2 ^ 29) where
-  -- a word of a layout that isn't null is one of the three pointers to the next free word
+  -- a word of a layout that isn't null is one of the three kinds of pointers to the next free word
   pub near-word : (v : Tree) → first_cap v ≡ None → point v from to ≢ 0 → IsNear (point v from to) (to - from - 1)
   unfolding point
   near-word nil e z = absurd (z refl)
@@ -65,7 +65,7 @@ module _ (from to : ℕ) (order : from < to) (room : to ≤ 2 ^ 29) where
   struct-of (links ts) e z l = absurd (omega arith)
   struct-of (rows bs) e z l = absurd (omega arith)
 
-  -- a struct whose pointer is near has words or slots
+  -- a struct whose pointer leads to the next free word has words or slots
   pub struct-some : (a b : ℕ) → struct_to from to a b % 2 ^ 32 ≡ 4 * (to - from - 1) → 0 < a + b
   struct-some zero zero e = absurd (omega arith)
   struct-some zero (suc b) e = omega arith
@@ -94,7 +94,7 @@ module _ (from to : ℕ) (order : from < to) (room : to ≤ 2 ^ 29) where
 
 -- ---- the target of a value that isn't null
 
--- the pointer at a place has content for a target
+-- the target of the pointer at a place is content
 abbrev pub HasContent : List (List ℕ) → Place → Type 0
 HasContent m at = (s start pads : ℕ) × (shape : Shape) × (target m at ≡ Ok (targets.Content s start shape pads))
 
@@ -114,7 +114,7 @@ point-nil v from to e = ap (λ (x : Tree). point x from to) e
 
 -- ---- the target of a list
 
--- the pointer at a place has a list that isn't composite for a target
+-- the target of the pointer at a place is a list that isn't composite
 abbrev pub NamesList : List (List ℕ) → Place → Width → ℕ → Type 0
 NamesList m at k n = (s start pads : ℕ) × (target m at ≡ Ok (targets.Content s start (shapes.Many k n) pads))
 

@@ -1,5 +1,5 @@
--- What a pass finds at its slots, from what it finds at the first of them, below it and after it. (For `objects.rt` and
--- `one_pass.rt`.)
+-- Lemmas on what a pass finds at all its slots, from what it finds at the first slot, below that slot and after it.
+-- (For `objects.rt` and `one_pass.rt`.)
 use Rattle.std.proofs.Common.{◌≡◌, ℕ, zero, suc, ◌+◌, ◌-◌, ◌*◌, ◌^◌, ◌<◌, ◌≤◌, ◌==◌, List, [], ◌∷◌, length, take, drop}
 use Rattle.std.proofs.Common.{Option, Some, None, IfSome, slice_index, refl, sym, subst, ◌∙◌, arith, pos, negsuc}
 use Rattle.std.proofs.Common.{if◌then◌else◌, Bool}
@@ -20,12 +20,12 @@ use Rattle.capn_canon.proofs.places.InPlace.{empty-in-place}
 use Rattle.capn_canon.proofs.places.InPlace.{links-in-place, no-rows-in-place, rows-in-place, composite-in-place}
 use Rattle.capn_canon.proofs.places.InPlace.{composite-ends}
 
--- if one property implies another, and an option's value has the one, it has the other
+-- if one property implies another, an optional value with the first property has the second
 pub if-some : {A : Type 0} {P Q : A → Type 0} → (r : Option A) → ((x : A) → P x → Q x) → IfSome r P → IfSome r Q
 if-some (Some x) f h = f x h
 if-some None f h = tt
 
--- the pass at the slots after the first
+-- the pass over the slots after the first
 abbrev pub behind : Pass → Progress → Pass
 behind p g = record {
   from = p.from + 1;
@@ -41,7 +41,7 @@ abbrev pub come : Pass → Progress
 come p = record { next = p.next; left = p.left; visits = p.visits }
 
 module _ (all : List ℕ) (base : ℕ) (deep : Bool) where
-  -- if no slot is left, nothing is found
+  -- if no slot is left, the pass finds no values
   pub finds-none : (p : Pass) (least : ℕ) → p.end ≤ p.from → IsOpen all p → Finds all base deep p least (come p) least
   finds-none p least le o = record {
     values = no_trees;
@@ -77,7 +77,7 @@ module _ (all : List ℕ) (base : ℕ) (deep : Bool) where
     lowered = λ on le. omega arith;
   }
 
-  -- the first slot, and those after it
+  -- the first slot, and the slots after it
   module _ (p : Pass) (least here : ℕ) (some : p.from < p.end) (o : IsOpen all p) (g : Progress)
       (v : FindsFirst all base deep p least g here) where
     pub behind-opened : IsOpen all (behind p g)
@@ -129,7 +129,7 @@ module _ (all : List ℕ) (base : ℕ) (deep : Bool) where
       subst (λ (s : Pass). (p.from < s.from) × IsOpen all s × Leads all base deep p least s here) (sym e)
       (omega arith, behind-opened p least here some o g v, behind-leads p least here some o g v)
 
-  -- if the first slot is the last, what is found at it is all that is found
+  -- if the first slot is also the last, the pass finds just what it finds at that slot
   pub last-leads : (p : Pass) (least : ℕ) → p.from + 1 ≡ p.end → IsOpen all p → (q : Progress) (low : ℕ)
       → FindsFirst all base deep p least q low → Finds all base deep p least q low
   last-leads p least e o q low v =
@@ -268,7 +268,7 @@ module _ (all : List ℕ) (base : ℕ) (deep : Bool) where
 
   -- ---- rows
 
-  -- if no row is left, nothing is found
+  -- if no row is left, the pass finds no values
   pub finds-no-rows : (a b from d least : ℕ) (g : Progress) → g.next ≤ length all → g.visits ≤ g.next
       → FindsRows all base deep a b from 0 g.next d g.left g.visits least g least
   finds-no-rows a b from d least g fits few = record {
@@ -322,7 +322,7 @@ module _ (all : List ℕ) (base : ℕ) (deep : Bool) where
             let first = v.lowered on le in let others = f.lowered on (omega arith) in omega arith;
       }
 
-  -- if rows have no slots, nothing is found below them
+  -- if rows have no slots, the pass finds no values below them
   pub finds-bare-rows : (a b from n d least : ℕ) (g : Progress) → b ≡ 0 → from + n * a ≤ length all
       → g.next ≤ length all → g.visits ≤ g.next
       → FindsRows all base deep a b from n g.next d g.left g.visits least g least

@@ -34,7 +34,7 @@ module _ (all : List ℕ) where
   AtPlaces (at ∷ ps) (tree t ts) = IsAt only at t × (first_cap t ≡ None) × AtPlaces ps ts
   AtPlaces _ _ = ⊥
 
-  -- the values at the first places, and those at the others
+  -- values at the first places, and values at the other places
   record Parted (ps qs : List Place) : Type 0 where
     pub first : Trees
     pub others : Trees
@@ -79,7 +79,7 @@ module _ (all : List ℕ) where
         none-or (first_in p.first) (first_in_rows bs) k.2 free,
       )
 
-  -- a value that has the content of a shape
+  -- a value without capabilities, whose content of the given shape begins at `start`
   abbrev Held : ℕ → Shape → Type 0
   Held start shape = (v : Tree) × IsInside only shape 0 start v × (first_cap v ≡ None)
 
@@ -108,7 +108,7 @@ module _ (all : List ℕ) where
     refl,
   )
 
-  -- an object whose slots have values has a value
+  -- an object has a value if all its slots have values
   held : (start : ℕ) (shape : Shape) (ts : Trees) → start + extent shape ≤ length all → RowsFit shape
       → AtPlaces (slots 0 start shape) ts → Held start shape
   held start (shapes.Node a b) ts le fit h =
@@ -138,7 +138,7 @@ module _ (all : List ℕ) where
         free,
       )
 
-  -- if pointers are visited in preorder, each has a value
+  -- if pointers are visited in preorder, each pointer has a value
   valued : (met : List Met) (todo : List Place) → InPreorder all todo met → (ts : Trees) × AtPlaces todo ts
   valued [] [] h = (no_trees, tt)
   valued [] (at ∷ todo) h = absurd h

@@ -1,5 +1,5 @@
--- Words that are all kept end in one that isn't zero, and words that have no bits past their end are their first bits.
--- (For `LaidFollows` and `Stands`.)
+-- Words that trimming keeps in full end in a word that isn't zero. Words without bits past the end of a list are the
+-- words of that list's bits. (For `LaidFollows` and `Stands`.)
 use Rattle.std.proofs.Common.{◌≡◌, ◌≢◌, ◌⊎◌, inl, inr, ℕ, zero, suc, ◌+◌, ◌-◌, ◌*◌, ◌/◌, ◌%◌, ◌^◌, ◌<◌, ◌≤◌, List, []}
 use Rattle.std.proofs.Common.{◌∷◌, length, take, drop, slice_index, ap, sym, subst, ◌∙◌, arith}
 use Rattle.std.proofs.Common.{length-drop}

@@ -1,4 +1,4 @@
--- The word of a pointer to content of the only segment, from the target that it has. (For `Stands`.)
+-- The word of a pointer to content of the only segment, from the target of that pointer. (For `Stands`.)
 use Rattle.std.proofs.Common.{◌≡◌, ◌⊎◌, inl, inr, ℕ, zero, suc, ◌+◌, ◌-◌, ◌%◌, ◌^◌, ◌<◌, ◌==◌, ◌&&◌}
 use Rattle.std.proofs.Common.{List, [], ◌∷◌, slice_index, Ok, nat_lt, Bool, true, false, ℤ, pos, negsuc}
 use Rattle.std.proofs.Common.{if◌then◌else◌, refl, ap, sym, subst, ◌∙◌, arith}
@@ -173,7 +173,7 @@ module _ (all : List ℕ) (each : (k : ℕ) → slice_index all k < 2 ^ 64) (fro
   held : (p : Pointer) → pointer_of (slice_index all from) ≡ p → IsWordOf (slice_index all from) p
   held p e = subst (IsWordOf (slice_index all from)) e (word-of-pointer (slice_index all from) (each from))
 
-  -- the word of the pointer to a struct that starts at the next free word, or to one of no words at itself
+  -- the word of the pointer to a struct at the next free word, or to a struct of no words at the pointer itself
   pub struct-pointer : (to start a b : ℕ) → from < to
       → target (all ∷ []) (here from) ≡ Ok (targets.Content 0 start (shapes.Node a b) 0)
       → ((start ≡ to) × (0 < a + b)) ⊎ ((start ≡ from) × (a ≡ 0) × (b ≡ 0))

@@ -1,4 +1,4 @@
--- The rules of the page, taken together at each pointer that is visited. (For `LaidFollows`, `Stands`, `ThePage` and
+-- The rules of the page, joined at each pointer that is visited. (For `LaidFollows`, `Stands`, `ThePage` and
 -- `WorkedPage`.)
 use Rattle.std.proofs.Common.{◌≡◌, ℕ, ◌+◌, List, [], ◌∷◌, ◌++◌, length, Ok}
 use Rattle.std.specs.List.{AllByRecursion}
@@ -13,7 +13,7 @@ use Rattle.capn_canon.specs.PageForm.{Met, null, object, IsEmpty, PointsAtItself
 use Rattle.capn_canon.specs.PageForm.{IsTruncated, IsPadded, IsPageForm}
 
 module _ (all : List ℕ) where
-  -- one object follows all rules, if the next free word is `next`
+  -- one object follows all rules, if `next` is the next free word
   pub record IsRight (next pointer start : ℕ) (shape : Shape) : Type 0 where
     pub begins : (IsEmpty shape → ⊥) → start ≡ next
     pub truncated : IsTruncated all (object pointer start shape)
@@ -21,7 +21,7 @@ module _ (all : List ℕ) where
     pub padded : IsPadded all (object pointer start shape)
     pub whole : IsWhole (object pointer start shape)
 
-  -- the pointers from some places on follow all rules at once
+  -- the pointers at some places and below follow all rules, joined at each pointer
   abbrev pub Follows : ℕ → List Place → List Met → Type 0
   Follows next [] [] = next ≡ length all
   Follows next (at ∷ others) (null ∷ rest) = (target (all ∷ []) at ≡ Ok targets.Nil) × Follows next others rest
@@ -30,7 +30,7 @@ module _ (all : List ℕ) where
       × IsRight next pointer start shape × Follows (next + extent shape) (slots 0 start shape ++ others) rest
   Follows _ _ _ = ⊥
 
-  -- the pointers from some places on follow each rule, one by one
+  -- the pointers at some places and below follow each rule, one rule after the other
   pub record Apart (next : ℕ) (todo : List Place) (met : List Met) : Type 0 where
     pub preorder : InPreorder all todo met
     pub no_gap : WithoutGaps all next met

@@ -81,7 +81,7 @@ module _ (all : List ℕ) (message : IsMessage (all ∷ [])) where
   pub small : length all ≤ 2 ^ 29
   small = let r = message.room in omega arith
 
-  -- the value at a slot is where its layout has it and has no capability, and the pointers after those of the value
+  -- the value at a slot is where its layout has it and has no capability, and the pointers after those of that value
   -- follow the rules
   pub record Stands (v : Tree) (from to : ℕ) (others : List Place) : Type 0 where
     pub laid : IsLaidAt all v from to
@@ -101,7 +101,7 @@ module _ (all : List ℕ) (message : IsMessage (all ∷ [])) where
     pub rest : List Met
     pub follows : Follows all (to + sizes_in_rows bs) others rest
 
-  -- the pointer at a slot names an object, and it and the pointers after it follow the rules
+  -- the pointer at a slot leads to an object, and the pointers from that slot on follow the rules
   record Here (from to start : ℕ) (shape : Shape) (others : List Place) (rest : List Met) : Type 0 where
     pub named : target only (here from) ≡ Ok (targets.Content 0 start shape 0)
     pub right : IsRight all to from start shape
@@ -336,7 +336,7 @@ module _ (all : List ℕ) (message : IsMessage (all ∷ [])) where
 
   -- ---- every value
 
-  -- the rules at a slot hold with the shape that the value there has
+  -- the rules at a slot hold for the shape of the value there
   shaped : (from to pointer start : ℕ) (shape x : Shape) (others : List Place) (rest : List Met) → shape ≡ x
       → pointer ≡ from → target only (here from) ≡ Ok (targets.Content 0 start shape 0)
       → IsRight all to pointer start shape → Follows all (to + extent shape) (slots 0 start shape ++ others) rest
@@ -348,7 +348,7 @@ module _ (all : List ℕ) (message : IsMessage (all ∷ [])) where
         follows = f;
       })
 
-  -- the content below slots is within the words, if its start is
+  -- the content below slots is within the words if that content starts within them
   pub slots-room : (ts : Trees) (from to : ℕ) → Sounds ts → to ≤ length all → AreLaidAt all ts from to
       → to + sizes ts ≤ length all
   slots-room ts from to o le h = from_size (sizes ts) (length-lays ts to o)

@@ -1,4 +1,4 @@
--- Each value has only one form that follows the rules of the page: its canonical bytes. (For `page`.)
+-- Each value has only one form that follows the rules of the page, the canonical bytes. (For `page`.)
 use Rattle.std.proofs.Common.{◌≡◌, ◌↔◌, ℕ, ◌+◌, ◌≤◌, Bool, IsTrue, List, [], ◌∷◌, length, None, refl, ap}
 use Rattle.std.proofs.Common.{sym, subst, ◌∙◌, arith}
 use Rattle.capn_words.specs.Message.{IsBare, IsMessage, bytes}

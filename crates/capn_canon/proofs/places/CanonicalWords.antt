@@ -1,4 +1,4 @@
--- Words are canonical if and only if the value at their root is where its layout has it, and no word is left. (For
+-- Words are canonical if and only if the value at the root is where its layout has it, and no word follows. (For
 -- `CanonicalSurvey`, `DueRoot` and `ThePage`.)
 use Rattle.std.proofs.Common.{◌≡◌, ◌↔◌, ℕ, ◌+◌, ◌<◌, ◌≤◌, List, ◌∷◌, length}
 use Rattle.std.proofs.Common.{ap, sym, subst, ◌∙◌, arith}

@@ -37,7 +37,7 @@ point-links ts from to = refl
 pub not-true : IsTrue false → ⊥
 not-true e = cc
 
--- a value's content is within the words, if its start is
+-- a value's content is within the words if that content starts within them
 pub laid-room : (all : List ℕ) (v : Tree) (from to : ℕ) → Sound v → to ≤ length all → IsLaidAt all v from to
     → to + size v ≤ length all
 laid-room all v from to o le h = from_size (size v) (length-lay v to o)
@@ -140,7 +140,7 @@ module _ (all : List ℕ) (a b s w from to pads : ℕ)
           → b ≡ y
       same-b start x y f = cc
 
-  -- if the test is passed, the object is at the next free word, unless it has no words
+  -- if the test is passed, the object is at the next free word or has no words
   module _ (ka : kept_words (take a (words_from (all ∷ []) s w)) ≡ a)
       (kb : kept_words (take b (words_from (all ∷ []) s (w + a))) ≡ b)
       (p : slice_index all from ≡ struct_to from to a b) (room : to + (a + b) ≤ length all) where
@@ -201,7 +201,7 @@ module _ (all : List ℕ) (a b s w from to pads : ℕ)
     ks : kept_slots struct-is.slots ≡ b
     ks = sym kept-below ∙ kb
 
-    -- the layout of the struct is all its words, all its pointers, and the layout of what is below
+    -- the layout of the struct is all its words, all its pointers, and the layout of the objects below
     lay-is : lay (node struct-is.words struct-is.slots) to ≡ struct-is.words
         ++ (points struct-is.slots (to + a) (to + a + b) ++ lays struct-is.slots (to + a + b))
     lay-is =

@@ -1,4 +1,4 @@
--- Words that are found in other words, when either are cut and joined. (For `CanonicalWords`, `Compared`,
+-- Words that are found within other words, when either are cut or joined. (For `CanonicalWords`, `Compared`,
 -- `ComparedRows` and others.)
 use Rattle.std.proofs.Common.{◌≡◌, ℕ, zero, suc, ◌+◌, ◌<◌, ◌≤◌, List, [], ◌∷◌, ◌++◌, length}
 use Rattle.std.proofs.Common.{take, drop, slice_index, refl, ap, ap₂, sym, ◌∙◌, arith, length-append}
@@ -67,7 +67,7 @@ module _ (all : List ℕ) (at : ℕ) where
   pub stand-back : (xs ys : List ℕ) → Stand all at (xs ++ ys) → Stand all (at + length xs) ys
   stand-back xs ys h = (both xs ys h).1
 
-  -- a word and others after it are found at a place, if each is found where it has to be
+  -- a word and the words after it are found at a place if each part is found where it has to be
   pub stand-cons : (x : ℕ) (xs : List ℕ) → at < length all → slice_index all at ≡ x → Stand all (suc at) xs
       → Stand all at (x ∷ xs)
   stand-cons x xs lt e h = ap (λ (zs : List ℕ). take (suc (length xs)) zs) (drop-cons all at 0 lt)

@@ -1,5 +1,5 @@
--- The targets of the pointers of a layout, in words that have its content at the places to which they point. (For
--- `Compared`, `ComparedList`, `ComparedRows` and others.)
+-- The targets of the pointers of a layout, in words that have the content of the layout at the places to which the
+-- pointers lead. (For `Compared`, `ComparedList`, `ComparedRows` and others.)
 use Rattle.std.proofs.Common.{◌≡◌, ◌⊎◌, inl, inr, ℕ, zero, suc, ◌+◌, ◌-◌, ◌*◌, ◌/◌, ◌^◌, ◌<◌, ◌≤◌, ◌==◌, ◌&&◌, List, []}
 use Rattle.std.proofs.Common.{◌∷◌, length, slice_index, Ok, pos, refl, ap, ap₂, sym, subst, ◌∙◌, arith}
 use Rattle.std.proofs.lemmas.Bool.Decides.{nat_tests}
@@ -47,7 +47,7 @@ module _ (all : List ℕ) (small : length all ≤ 2 ^ 29) where
         inl refl,
       )
 
-  -- words that are at a place are also at another, if the places are equal or there are no words
+  -- words that are at one place are also at another, if the places are equal or there are no words
   moved-words : (start at : ℕ) (xs : List ℕ) → (start ≡ at) ⊎ (length xs ≡ 0) → AreWordsAt only 0 at xs
       → AreWordsAt only 0 start xs
   moved-words start at xs (inl e) h = subst (λ (p : ℕ). AreWordsAt only 0 p xs) (sym e) h

@@ -27,7 +27,7 @@ IsPlain Rows = ⊥
 IsPlain k = Unit {0}
 
 module _ (ws : List ℕ) where
-  -- the target of the pointer at a word, if it is read there as `p`
+  -- the target of the pointer at a word, if the word reads as the pointer `p`
   pub names : (from : ℕ) (p : Pointer) → pointer_of (slice_index ws from) ≡ p
       → target (ws ∷ []) (here from) ≡ target_of_pointer (ws ∷ []) 0 from p
   unfolding target

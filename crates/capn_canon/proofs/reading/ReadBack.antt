@@ -1,5 +1,5 @@
--- Canonical words, read again, have the trimmed value at the root, and their walk pays exactly its cost. (For
--- `EqualExactlySame`, `ReadBare` and `ThePage`.)
+-- Canonical words have the trimmed value at the root when read, and their walk pays exactly the cost of that value.
+-- (For `EqualExactlySame`, `ReadBare` and `ThePage`.)
 use Rattle.std.proofs.Common.{◌≡◌, ℕ, zero, suc, ◌+◌, ◌*◌, ◌^◌, ◌<◌, ◌≤◌, List, [], ◌∷◌, ◌++◌}
 use Rattle.std.proofs.Common.{length, take, slice_index, Ok, pos, refl, ap, sym, subst, ◌∙◌, arith}
 use Rattle.std.proofs.lemmas.List.{length-take-le, append-nil}

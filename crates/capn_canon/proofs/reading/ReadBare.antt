@@ -1,5 +1,5 @@
--- Canonical bytes, read bare, denote the trimmed value, and their walk pays exactly its cost. (For `CanonicalSurvey`,
--- `DepthOfCanonical`, `DueRoot` and `Headline`.)
+-- Canonical bytes, read bare, denote the trimmed value, and their walk pays exactly the cost of that value. (For
+-- `CanonicalSurvey`, `DepthOfCanonical`, `DueRoot` and `Headline`.)
 use Rattle.std.proofs.Common.{◌≡◌, ℕ, ◌^◌, ◌≤◌, List, [], ◌∷◌, length, true, refl, ap, sym, ◌∙◌, arith}
 use Rattle.capn_words.proofs.shared.OneSegment.{bare_only}
 use Rattle.capn_value.specs.Tree.{Tree, nil, node, voids, numbers, links, rows, cap}
@@ -58,7 +58,7 @@ module _ (v : Tree) (limits : Bounds) (f : Fits v) (r : InRange v) (low : height
       let same : ws ≡ words v = sym (bare_only (canon v) ws b) ∙ words_in_canon v f r in
       ap (λ (n : List (List ℕ)). paid n limits) e ∙ ap (λ (us : List ℕ). paid (us ∷ []) limits) same ∙ visited.sum
 
-  -- under limits that hold the value's cost and height, canonical bytes denote the trimmed value
+  -- under limits that allow the value's cost and height, canonical bytes denote the trimmed value
   pub read_bare : cost (base limits.tariff) v ≤ limits.budget → Denotes forms.Bare (canon v) limits (trimmed v)
   read_bare cheap =
       let c = cost-trimmed (base limits.tariff) v (fit_parts v f).even in

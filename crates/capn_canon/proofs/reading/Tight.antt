@@ -1,5 +1,5 @@
--- Values without landing pads and without slack, and what their visits pay. (For `LaidPointers`, `ReadBack` and
--- `ReadBare`.)
+-- Values without landing pads and without unused words in lists, and what their visits pay. (For `LaidPointers`,
+-- `ReadBack` and `ReadBare`.)
 use Rattle.std.proofs.Common.{◌≡◌, ◌≢◌, ℕ, zero, suc, ◌+◌, ◌-◌, ◌*◌, ◌<◌, ◌≤◌, ◌==◌, List, [], ◌∷◌, ◌++◌, length}
 use Rattle.std.proofs.Common.{Ok, refl, ap, sym, subst, ◌∙◌, arith, cond, if◌then◌else◌}
 use Rattle.std.specs.Bool.{⊤}
@@ -24,15 +24,15 @@ use Rattle.capn_walk.proofs.shared.Costs.{paid-append}
 use Rattle.capn_walk.proofs.shared.Numbers.{no-slots, numbers-price}
 
 module _ (m : List (List ℕ)) where
-  -- a target that is named by a near pointer, without a landing pad
+  -- a target that a near pointer leads to, without a landing pad
   pub record Close (at : Place) (shape : Shape) (Inside : ℕ → ℕ → Type 0) : Type 0 where
     pub segment : ℕ
     pub start : ℕ
     pub is : target m at ≡ Ok (targets.Content segment start shape 0)
     pub inside : Inside segment start
 
-  -- the value is at the place, each of its parts is named by a near pointer, and the words of each composite list are
-  -- exactly those of its rows
+  -- the value is at the place, a near pointer leads to each of its parts, and the words of each composite list are
+  -- exactly those of the rows
   abbrev mutual
     pub TightAt : Place → Tree → Type 0
     TightAt at nil = target m at ≡ Ok targets.Nil
@@ -126,7 +126,7 @@ rows-price bs a b e =
         omega arith in grind (arith, nat_tests)
 
 module _ (m : List (List ℕ)) (base : ℕ) where
-  -- visits without a fault, which pay `n` words together
+  -- the visits have no fault, and together pay `n` words
   pub record Pays (vs : List Visit) (n : ℕ) : Type 0 where
     pub all : AllPay vs
     pub sum : paid_of vs ≡ n

@@ -1,5 +1,5 @@
--- The canonical bytes of a value are a bare message: its words are below 2^64 and few enough. (For `CanonicalWords`,
--- `DepthOfCanonical`, `EqualExactlySame` and capn_mismatch.)
+-- The canonical bytes of a value are a bare message: each word is below 2^64, and there are not too many. (For
+-- `CanonicalWords`, `DepthOfCanonical`, `EqualExactlySame` and capn_mismatch.)
 use Rattle.std.proofs.Common.{◌≡◌, ℕ, zero, suc, ◌+◌, ◌-◌, ◌*◌, ◌/◌, ◌^◌, ◌<◌, ◌≤◌, ◌==◌, ◌&&◌, List}
 use Rattle.std.proofs.Common.{[], ◌∷◌, ◌++◌, length, take, drop, pos, refl, arith}
 use Rattle.std.proofs.Math.Nat.{pow-succ', pow-zero, one-le-pow, mul-le-mul_left}
@@ -169,11 +169,11 @@ words_are_words v f r =
 pub canon_is_bare : (v : Tree) → Fits v → InRange v → IsBare (canon v) (words v)
 canon_is_bare v f r = record { same = refl; each = words_are_words v f r; room = (room v f r).2 }
 
--- the words that the canonical bytes encode are the canonical words
+-- the words that the canonical bytes of a value encode are its canonical words
 pub words_in_canon : (v : Tree) → Fits v → InRange v → words_in (length (canon v) / 8) (canon v) ≡ words v
 words_in_canon v f r = bare_only (canon v) (words v) (canon_is_bare v f r)
 
--- the canonical bytes are 8 for the root's pointer, and at most 8 for each word of the cost, under either tariff
+-- the canonical bytes are at most 8 for the root's pointer and 8 for each word of the cost, under either tariff
 pub canon_length : (v : Tree) (base : ℕ) → Fits v → InRange v → (length (canon v) ≡ 8 * (1 + size v))
     × (length (canon v) ≤ 8 * (cost base v + 1))
 canon_length v base f r =

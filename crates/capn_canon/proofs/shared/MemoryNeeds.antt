@@ -1,4 +1,4 @@
--- Memory is refused only if it may be needed. (For `ReadInput` and capn_c.)
+-- Lemmas: memory is refused only if memory may be needed. (For `ReadInput` and capn_c.)
 use Rattle.std.proofs.Common.{◌≡◌, ℕ, ◌+◌, ◌*◌, ◌<◌, ◌≤◌, inr, List, [], ◌∷◌, length, arith, ap}
 use Rattle.std.specs.List.{AllByRecursion}
 use Rattle.std.proofs.lemmas.List.{length-append}
@@ -29,7 +29,7 @@ pub starts_within : (b text : List ℕ) (max : ℕ) → Packs b text → 0 < len
     → StartsWithin b max
 starts_within b text max p some fits = starts p.groups b text max p.each p.is_text p.are_bytes some fits
 
--- memory may be needed for a packed text if it is needed for the bytes that it unpacks to
+-- a packed text may need memory if the stream that it unpacks to does
 pub packed_wanted : (bs text : List ℕ) (limits : Bounds) → Unpacks bs limits.message_words text
     → MayNeedMemory forms.Stream text limits → MayNeedMemory forms.Packed bs limits
 packed_wanted bs text limits u h =
@@ -37,7 +37,7 @@ packed_wanted bs text limits u h =
 
 -- ---- canonical bytes
 
--- memory that may be needed for a message may be needed for the bytes that are read as it
+-- if laying out a message may need memory, so may canonicalising the bytes that are read as that message
 pub bytes_wanted : (form : Form) (bs : List ℕ) (limits : Bounds) (m : List (List ℕ))
     → Reads form bs limits.message_words m → MayNeedBytes m limits → MayNeedBytesIn form bs limits
 bytes_wanted form bs limits m r (v, is, free) = inr (v, record { message = m; reads = r; value = is }, free)

@@ -1,4 +1,4 @@
--- Bytes that denote a value without capabilities are refused only if memory runs out. (For `denotation`, capn_answers,
+-- Bytes that denote a value without capabilities are refused only by `Memory`. (For `denotation`, capn_answers,
 -- capn_archive and other crates.)
 use Rattle.std.proofs.Common.{◌≡◌, inl, inr, ℕ, ◌+◌, List, length, Some, None, refl, ap, sym, subst, ◌∙◌, arith}
 use Rattle.capn_words.proofs.shared.OneSegment.{bare_not_refused}
@@ -73,7 +73,7 @@ accepted-not_refused m limits s h (inr r) =
     sym a ∙ b in
     absurd cc
 
--- bytes that denote a value without capabilities are refused only if memory runs out
+-- bytes that denote a value without capabilities are refused only by `Memory`
 pub not_refused : (form : Form) (bs : List ℕ) (limits : Bounds) (v : Tree) (r : Refusal) → Denotes form bs limits v
     → first_cap v ≡ None → IsRefused form bs limits r → r ≡ refusals.Memory
 not_refused form bs limits v refusals.Memory h n r = refl
@@ -94,7 +94,7 @@ not_refused form bs limits v (refusals.Frame e) h n r =
 not_refused form bs limits v (refusals.Trailing at) h n r =
     absurd (read-not_misread form bs limits.message_words h.message (refusals.Trailing at) h.reads r)
 
--- the refusal of the message that bytes are read as is a refusal of the bytes
+-- the refusal of a message is also a refusal of the bytes that are read as that message
 pub refused_message : (form : Form) (bs : List ℕ) (limits : Bounds) (m : List (List ℕ)) (r : Refusal)
     → Reads form bs limits.message_words m → IsRefusedMessage m limits r → IsRefused form bs limits r
 refused_message form bs limits m (refusals.Walk s) h r = (m, h, r)

@@ -1,4 +1,4 @@
--- Bytes that denote a value are read and accepted, unless memory runs out. (For `Accounted`, capn_answers and capn_c.)
+-- Bytes that denote a value are read and accepted, or refused by `Memory`. (For `Accounted`, capn_answers and capn_c.)
 use Rattle.std.proofs.Common.{◌≡◌, ℕ, List, refl, subst}
 use Rattle.capn_value.specs.Tree.{Tree}
 use Rattle.capn_walk.specs.Accepted.{IsAccepted}
@@ -12,7 +12,7 @@ use Rattle.capn_canon.specs.Refusal.{IsUnaccepted, IsUnacceptedIn}
 use Rattle.capn_canon.proofs.shared.OneReading.{one_message}
 use Rattle.capn_canon.proofs.shared.NotRefused.{read-not_misread, accepted-not_refused}
 
--- bytes that denote a value have only memory for a reason not to be read and accepted
+-- bytes that denote a value are not accepted only for the reason `Memory`
 pub not_unaccepted : (form : Form) (bs : List ℕ) (limits : Bounds) (v : Tree) (r : Refusal) → Denotes form bs limits v
     → IsUnacceptedIn form bs limits r → r ≡ refusals.Memory
 not_unaccepted form bs limits v refusals.Memory h r = refl
@@ -30,7 +30,8 @@ not_unaccepted form bs limits v (refusals.Frame e) h r =
 not_unaccepted form bs limits v (refusals.Trailing at) h r =
     absurd (read-not_misread form bs limits.message_words h.message (refusals.Trailing at) h.reads r)
 
--- if the message that bytes are read as is not accepted, the bytes are not, for the same reason
+-- the reason why a message is not accepted is also a reason why the bytes that are read as that message are not
+-- accepted
 pub unaccepted_message : (form : Form) (bs : List ℕ) (limits : Bounds) (m : List (List ℕ)) (r : Refusal)
     → Reads form bs limits.message_words m → IsUnaccepted m limits r → IsUnacceptedIn form bs limits r
 unaccepted_message form bs limits m (refusals.Walk s) h r = (m, h, r)

@@ -53,7 +53,7 @@ one_value form bs limits v w h k =
     let e = one_message form bs limits.message_words k.message h.message k.reads h.reads in
     unique h.message v w root h.value.is (subst (λ (m : List (List ℕ)). IsAt m root w) e k.value.is)
 
--- the canonical bytes returned for an input are those of any value that it denotes
+-- the canonical bytes returned for an input are those of any value that the input denotes
 pub answers_only : (form : Form) (bs : List ℕ) (limits : Bounds) (out : List ℕ) (n : ℕ) → Answers form bs limits out n
     → (v : Tree) → Denotes form bs limits v → out ≡ canon v
 answers_only form bs limits out n h v k =

@@ -176,7 +176,7 @@ abbrev CapPart : List (List ℕ) → Bounds → Refusal → Type 0
 CapPart m limits r = (k : ℕ) × (r ≡ refusals.Capability k)
     × ((v : Tree) × walks.IsValueOf m limits v × (first_cap v ≡ Some k))
 
--- a message is refused by its walk or for a capability, unless memory runs out
+-- a message is refused by its walk, for a capability, or by `Memory`
 pub message_part : (m : List (List ℕ)) (limits : Bounds) (r : Refusal) → (r ≡ refusals.Memory → ⊥)
     → IsRefusedMessage m limits r → WalkPart m limits r ⊎ CapPart m limits r
 message_part m limits (refusals.Walk s) n h = inl (s, refl, h)
@@ -200,7 +200,7 @@ messages_same m limits r s (inr (j, a, (v, is, c))) (inr (k, b, (w, also, d))) =
     let same : j ≡ k = cc in
     a ∙ ap (λ (x : ℕ). refusals.Capability x) same ∙ sym b
 
--- a message is refused for one reason, unless memory runs out
+-- two refusals of a message, neither of them `Memory`, are equal
 pub one_message_refusal : (m : List (List ℕ)) (limits : Bounds) (r s : Refusal) → (r ≡ refusals.Memory → ⊥)
     → (s ≡ refusals.Memory → ⊥)
     → IsRefusedMessage m limits r → IsRefusedMessage m limits s → r ≡ s
@@ -236,7 +236,7 @@ refusals_same form bs limits r s nr ns (inr h) (inl (m, k, j)) =
     absurd (not_misread form bs limits.message_words m r k h)
 refusals_same form bs limits r s nr ns (inr h) (inr k) = one_misread form bs limits.message_words r s h k
 
--- bytes are refused for one reason, unless memory runs out
+-- two refusals of the same bytes, neither of them `Memory`, are equal
 pub one_refusal : (form : Form) (bs : List ℕ) (limits : Bounds) (r s : Refusal) → (r ≡ refusals.Memory → ⊥)
     → (s ≡ refusals.Memory → ⊥)
     → IsRefused form bs limits r → IsRefused form bs limits s → r ≡ s

@@ -1,4 +1,4 @@
--- The result of the run of a task, if it doesn't depend on the task. (For capn_answers and capn_c.)
+-- The result of the run of a task, if the result doesn't depend on the task. (For capn_answers and capn_c.)
 use Rattle.std.proofs.Common.{ℕ, inl, inr, List, Result}
 use Rattle.capn_walk.specs.Limits.{Bounds}
 use Rattle.capn_canon.specs.declared.form.Form.{Form}

@@ -1,4 +1,4 @@
--- The canonical words of a trimmed value are those of the value. (For `EqualExactlySame`.)
+-- The canonical words of a trimmed value are those of the untrimmed value. (For `EqualExactlySame`.)
 use Rattle.std.proofs.Common.{◌≡◌, ℕ, zero, suc, ◌+◌, ◌*◌, ◌≤◌, ◌==◌, max, Bool, true, false, List, [], ◌∷◌, ◌++◌, take}
 use Rattle.std.proofs.Common.{refl, ap, ap₂, sym, ◌∙◌, arith}
 use Rattle.std.proofs.lemmas.Bool.Decides.{nat_tests}
@@ -26,7 +26,7 @@ behind-zero : (e : Bool) (k : ℕ) → kept_behind e k ≡ 0 → (e ≡ true) ×
 behind-zero true k h = (refl, grind (arith, nat_tests))
 behind-zero false k h = absurd (grind (arith, nat_tests))
 
--- a list that is cut behind the words that it keeps still keeps the same number
+-- a list cut after the words that trimming keeps has the same number of words to keep
 kept-take : (a : ℕ) (ws : List ℕ) → kept_words ws ≤ a → kept_words (take a ws) ≡ kept_words ws
 kept-take zero ws h = let e : kept_words ws ≡ 0 = omega arith in sym e
 kept-take (suc a) [] h = refl
@@ -57,7 +57,7 @@ kept-rows_slots : (a b : ℕ) (bs : Bodies) → kept_slots_of_rows bs ≤ b
 kept-rows_slots a b no_bodies h = refl
 kept-rows_slots a b (body ws ss bs) h = ap₂ max (kept-front b ss (omega arith)) (kept-rows_slots a b bs (omega arith))
 
--- a value that the test calls null is null
+-- a value for which the test of null is true is null
 null-is : (t : Tree) → is_null t ≡ true → t ≡ nil
 null-is nil h = refl
 null-is (node ws ss) h = absurd cc
@@ -153,7 +153,7 @@ points-cut (suc b) (tree t ts) from to =
     (ap (λ (n : ℕ). points (front b (trimmed_each ts)) (suc from) (to + n)) (size-trimmed t)
     ∙ points-cut b ts (suc from) (to + size t))
 
--- the pointers in slots that are cut are the same when they are cut again
+-- the pointers in the slots that trimming keeps are the same after trimming
 points-again : (b : ℕ) (ss : Trees) (from to : ℕ)
     → take b (points (front b (trimmed_each ss)) from to) ≡ take b (points ss from to)
 points-again b ss from to = ap (take b) (points-cut b ss from to) ∙ take-again b (points ss from to)
@@ -179,7 +179,7 @@ rows-lay n a b bs at =
 mutual
   unfolding struct-lay rows-lay
 
-  -- the layout of a trimmed value is that of the value
+  -- the layout of a trimmed value is that of the untrimmed value
   pub lay-trimmed : (v : Tree) (at : ℕ) → lay (trimmed v) at ≡ lay v at
   lay-trimmed nil at = refl
   lay-trimmed (node ws ss) at =
@@ -232,7 +232,7 @@ mutual
       (ap (λ (n : ℕ). lays_in_rows (trimmed_rows a b bs) (at + n)) (sizes-cut b ss (omega arith))
       ∙ lays-rows a b bs (at + sizes ss) (omega arith))
 
--- the canonical words of a trimmed value are those of the value
+-- the canonical words of a trimmed value are those of the untrimmed value
 pub words-trimmed : (v : Tree) → words (trimmed v) ≡ words v
 unfolding words
 words-trimmed v = ap₂ (λ (x : ℕ) (r : List ℕ). x ∷ r) (point-trimmed v 0 1) (lay-trimmed v 1)

@@ -21,8 +21,7 @@ use Rattle.capn_canon.proofs.reading.ReadBack.{read_back}
 use Rattle.capn_canon.proofs.shared.BareCanon.{words_in_canon}
 use Rattle.capn_canon.proofs.theorem.CanonOfTrimmed.{words-trimmed}
 
--- canonical words are equal if and only if the trimmed values are, since the value read at the root of the words is the
--- trimmed one
+-- canonical words are equal if and only if the trimmed values are, since reading the words gives the trimmed value
 pub same_words : (v w : Tree) → Sound v → Sound w → length (words v) ≤ 2 ^ 29 → length (words w) ≤ 2 ^ 29
     → words v ≡ words w ↔ trimmed v ≡ trimmed w
 same_words v w hv hw sv sw = (
@@ -31,7 +30,7 @@ same_words v w hv hw sv sw = (
   (λ e. sym (words-trimmed v) ∙ ap words e ∙ words-trimmed w),
 )
 
--- the canonical bytes of a trimmed value are those of the value
+-- the canonical bytes of a trimmed value are those of the untrimmed value
 pub canon-trimmed : (v : Tree) → canon (trimmed v) ≡ canon v
 canon-trimmed v = ap bytes (words-trimmed v)
 

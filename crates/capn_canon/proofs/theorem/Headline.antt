@@ -21,14 +21,14 @@ use Rattle.capn_canon.proofs.shared.BareCanon.{canon_length}
 use Rattle.capn_canon.proofs.theorem.EqualExactlySame.{canon-trimmed, equal_exactly_same, trimmed_is_same}
 use Rattle.capn_canon.proofs.reading.ReadBare.{pays_its_cost, read_bare}
 
--- a second value has the canonical bytes of the first if and only if they are the same
+-- among the values that fit and are in range, exactly those that are the same as `v` have the canonical bytes of `v`
 pub form_exactly_of : (v : Tree) → Fits v → InRange v → IsFormExactlyOf (canon v) v
 form_exactly_of v f r w g s =
     let e = equal_exactly_same v w f r g s in
     ((λ p. e.0 (sym p)), (λ p. sym (e.1 p)))
 
--- the canonical bytes of a value that fits and is in range are its canonical form, under limits that hold its cost and
--- height
+-- the canonical bytes of a value that fits and is in range are the canonical form of that value, under limits that
+-- allow the cost and the height
 pub canonical_form : (v : Tree) (limits : Bounds) → Fits v → InRange v → cost (base limits.tariff) v ≤ limits.budget
     → height v ≤ limits.depth → IsCanonicalForm (canon v) limits v
 canonical_form v limits f r c l = record {
@@ -49,8 +49,8 @@ module _ (m : List (List ℕ)) (limits : Bounds) (v : Tree) (is : IsMessage m) (
   pub denoted_in_range : InRange v
   denoted_in_range = in_range-at m is.each v root h.is
 
-  -- the value at the root costs at most what was paid, which is at most the budget, and is no higher than the depth
-  -- limit
+  -- the value at the root costs at most the number of words paid, which is at most the budget, and is no higher than
+  -- the depth limit
   pub denoted_cost : (cost (base limits.tariff) v ≤ paid m limits) × (paid m limits ≤ limits.budget)
       × (height v ≤ limits.depth)
   denoted_cost = let c = root-costs m (base limits.tariff) limits.depth v h.is h.accepted.within.all in

@@ -1,4 +1,4 @@
--- The clauses of `canonical_into` allow one result, and one buffer after it. (For `decision`.)
+-- The clauses of `canonical_into` allow one result and one content of the buffer. (For `decision`.)
 use Rattle.std.proofs.Common.{◌≡◌, ℕ, List, ◌++◌, length, drop, Some, None, Result, Ok, Err, ap, sym, ◌∙◌}
 use Rattle.capn_value.specs.Tree.{Tree}
 use Rattle.capn_value.specs.FirstCap.{first_cap}
@@ -52,7 +52,7 @@ module _ (m : List (List ℕ)) (limits : Bounds) where
       let paid_so = c ∙ sym d in
       λ i. intos.NoRoom (same i) (paid_so i)
 
-  -- two results that are written are equal, and so are the buffers after them
+  -- two results that are written are equal, and so are the contents of the buffers
   one_written : (old p q : List ℕ) (c d : CanonicalLength) → WrittenInto m limits old p c
       → WrittenInto m limits old q d → (c ≡ d) × (p ≡ q)
   one_written old p q c d h k =

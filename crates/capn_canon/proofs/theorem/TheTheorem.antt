@@ -31,7 +31,7 @@ answer_denotes form bs limits out n h =
     (h.answer.value, record { message = h.message; reads = h.reads; value = h.answer.is }, h.answer.free)
 
 module _ {A : Type 0} (form : Form) (bs : List ℕ) (limits : Bounds) where
-  -- a call succeeds if and only if the bytes denote a value without capabilities, unless memory runs out
+  -- a result that is not `Memory` is `Ok` if and only if the bytes denote a value without capabilities
   pub answered : (r : Result (Canonical A) Refusal) → IfOk r (λ c. Answers form bs limits c.bytes.items c.paid)
       → IfErr r (λ e. IsRefused form bs limits e) → Answered form bs limits r
   answered (Ok c) f e n = ((λ k. answer_denotes form bs limits c.bytes.items c.paid f), (λ d. refl))
@@ -51,7 +51,7 @@ memory_only A form bs limits v (refusals.Trailing x) d n a = absurd (let k = (a 
 memory_only A form bs limits v (refusals.Walk x) d n a = absurd (let k = (a (λ p. absurd cc)).1 (v, d, n) in cc)
 memory_only A form bs limits v (refusals.Capability x) d n a = absurd (let k = (a (λ p. absurd cc)).1 (v, d, n) in cc)
 
--- if bytes denote a value without capabilities, a call returns its canonical bytes or `Memory`
+-- if bytes denote a value without capabilities, a call returns the canonical bytes of that value or `Memory`
 call_gives : (A : Type 0) (form : Form) (bs out : List ℕ) (limits : Bounds) (v : Tree) → Denotes form bs limits v
     → first_cap v ≡ None → ((b : List ℕ) (n : ℕ) → Answers form bs limits b n → b ≡ out)
     → (r : Result (Canonical A) Refusal) → IfOk r (λ d. Answers form bs limits d.bytes.items d.paid)
@@ -81,7 +81,7 @@ module _ (form : Form) (bs : List ℕ) (limits : Bounds) (few : limits.message_w
       let y = answers_only g ds m other q k w e in
       ((λ p. s.0 (sym x ∙ p ∙ y)), (λ p. x ∙ s.1 p ∙ sym y))
 
-  -- each result is its own canonical form
+  -- each result denotes the same value as its input, and canonicalising the result gives it again, or `Memory`
   pub own_form : {A : Type 0} (c : Canonical A) → Answers form bs limits c.bytes.items c.paid
       → OwnForm form bs limits c
   own_form {A} c h =
@@ -112,7 +112,7 @@ walked_within : (form : Form) (bs : List ℕ) (limits : Bounds) (s : Stopped)
     → IsRefused form bs limits (refusals.Walk s) → s.paid ≤ limits.budget
 walked_within form bs limits s (m, h, k) = refused_within m limits s k
 
--- no walk pays beyond its budget
+-- the number of words paid is at most the budget
 pub within_budget : {A : Type 0} (form : Form) (bs : List ℕ) (limits : Bounds) (r : Result (Canonical A) Refusal)
     → IfOk r (λ c. Answers form bs limits c.bytes.items c.paid) → IfErr r (λ e. IsRefused form bs limits e)
     → WithinBudget limits r

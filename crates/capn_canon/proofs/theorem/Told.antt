@@ -1,5 +1,5 @@
--- Canonical bytes are equal if and only if the getters return the same from both values, and from the canonical bytes
--- they return the same as from the message. (For `readers`.)
+-- Canonical bytes are equal if and only if the getters return the same from both values. The getters return the same
+-- from the canonical bytes as from the message. (For `readers`.)
 use Rattle.std.proofs.Common.{◌≡◌, ◌↔◌, ℕ, List, [], ◌∷◌, ap, sym, ◌∙◌}
 use Rattle.capn_words.specs.Message.{IsBare}
 use Rattle.capn_words.proofs.shared.OneSegment.{bare_message}

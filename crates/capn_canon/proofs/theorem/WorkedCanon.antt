@@ -40,7 +40,7 @@ tour_words = 0x200000000 ∷ 5 ∷ 0 ∷ []
 abbrev tour_value : Tree
 tour_value = node (5 ∷ 0 ∷ []) no_trees
 
--- the canonical bytes of the message: one word fewer in the pointer, and the last word is gone
+-- the canonical bytes of the message: the pointer has one word fewer, and the last word is cut
 abbrev tour_form : List ℕ
 tour_form = 0 ∷ 0 ∷ 0 ∷ 0 ∷ 1 ∷ 0 ∷ 0 ∷ 0 ∷ 5 ∷ 0 ∷ 0 ∷ 0 ∷ 0 ∷ 0 ∷ 0 ∷ 0 ∷ []
 
@@ -182,7 +182,7 @@ far_framed = record {
   room = omega arith;
 }
 
--- the result for the message with a far pointer has the same bytes and the price 3, of which one is for the pad
+-- the result for the message with a far pointer: the same bytes, and the price 3, with one word for the pad
 far_answers : Answers forms.Stream far usual tour_form 3
 unfolding words point word_bytes root_visits visits target pointer_of
 far_answers = record {
@@ -238,7 +238,7 @@ rows_words = refl
 
 -- ---- the refusals of a form
 
--- a byte alone is no word
+-- one byte, which is no whole word
 not_whole : IsRefused forms.Bare (0 ∷ []) usual (refusals.Bare (NotWhole 1))
 not_whole = (refl, (λ e. absurd (omega (arith, e))))
 
@@ -258,7 +258,7 @@ cut_group = (
   },
 )
 
--- no bytes
+-- an input of no bytes
 empty : IsRefused forms.Stream [] usual (refusals.Frame frame_faults.Empty)
 empty = ((λ e. absurd cc), refl)
 

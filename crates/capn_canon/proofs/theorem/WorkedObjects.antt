@@ -24,7 +24,7 @@ use Rattle.capn_layout.specs.Layout.{words, canon, point}
 abbrev usual : Bounds
 usual = record { message_words = 8388608; budget = 8388608; depth = 64; tariff = Strict }
 
--- ---- two children, of which the first has a child: structs of the words 1, 2 and 3, in preorder
+-- ---- two children, the first with a child: structs of the words 1, 2 and 3, in preorder
 
 abbrev family : Tree
 family =

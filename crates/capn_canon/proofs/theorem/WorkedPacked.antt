@@ -31,7 +31,7 @@ groups =
     ∷ Raw (1 ∷ 2 ∷ 3 ∷ 4 ∷ 5 ∷ 6 ∷ 7 ∷ 8 ∷ []) 0 []
     ∷ Zeros 0 ∷ []
 
--- the bytes that they unpack to: the table of one segment of three words, then a struct of two words
+-- the unpacked bytes: the table of one segment of three words, then a struct of two words
 abbrev framed : List ℕ
 framed =
     0 ∷ 0 ∷ 0 ∷ 0 ∷ 3 ∷ 0 ∷ 0 ∷ 0 ∷ 0 ∷ 0 ∷ 0 ∷ 0 ∷ 2 ∷ 0 ∷ 0 ∷ 0 ∷ 1 ∷ 2 ∷ 3 ∷ 4 ∷ 5 ∷ 6 ∷ 7 ∷ 8
@@ -86,7 +86,7 @@ is_framed = record {
 reads_packed : Reads forms.Packed packed_bytes 8388608 (framed_words ∷ [])
 reads_packed = (framed, record { packs = packs; room = omega arith }, is_framed)
 
--- the canonical bytes of the message: one word fewer in the pointer, and the last word is gone
+-- the canonical bytes of the message: the pointer has one word fewer, and the last word is cut
 abbrev form : List ℕ
 form = 0 ∷ 0 ∷ 0 ∷ 0 ∷ 1 ∷ 0 ∷ 0 ∷ 0 ∷ 1 ∷ 2 ∷ 3 ∷ 4 ∷ 5 ∷ 6 ∷ 7 ∷ 8 ∷ []
 

@@ -42,7 +42,7 @@ one_word = record {
   whole = (tt, tt);
 }
 
--- a struct with an empty one, at whose pointer the offset is -1
+-- a struct with an empty struct, whose pointer has the offset -1
 pub empty_struct : IsPageForm (0x1000000000000 ∷ 0xfffffffc ∷ [])
 unfolding target pointer_of
 empty_struct = record {
@@ -58,7 +58,7 @@ empty_struct = record {
   whole = (tt, (tt, tt));
 }
 
--- preorder: of two structs the first has a list of one byte, which comes before the second
+-- preorder: the list of one byte below the first of two structs comes before the second struct
 pub two_structs : IsPageForm
     (0x2000000000000 ∷ 0x1000000000004 ∷ 0x100000008 ∷ 0xa00000001 ∷ 7 ∷ 3 ∷ [])
 unfolding target pointer_of
@@ -79,7 +79,7 @@ two_structs = record {
   whole = (tt, (tt, (tt, (tt, tt))));
 }
 
--- two rows of one word: it stays in the second, where it is zero, since the first needs it
+-- two rows of one word: the zero word of the second row is kept, since the word of the first row isn't zero
 pub two_rows : IsPageForm (0x1700000001 ∷ 0x100000008 ∷ 7 ∷ 0 ∷ [])
 unfolding target pointer_of
 two_rows = record {
@@ -94,7 +94,7 @@ two_rows = record {
 
 -- ---- words that break one of them
 
--- the rules at a slot: of its object, and of the pointers after it
+-- the rules at a slot: those for its object, and those for the pointers after it
 record AtSlot (ws : List ℕ) (next : ℕ) (at : Place) (others : List Place) (start : ℕ) (shape : Shape) : Type 0 where
   pub right : IsRight ws next at.word start shape
   pub rest : List Met
@@ -116,7 +116,7 @@ at-slot ws next at others start shape e (object pointer begin x ∷ met) f =
       follows = f.3;
     }))
 
--- words that follow the rules do so at the root's slot
+-- words that follow the rules follow them at the root's slot
 at-root : (ws : List ℕ) (start : ℕ) (shape : Shape) → target (ws ∷ []) root ≡ Ok (targets.Content 0 start shape 0)
     → IsPageForm ws → AtSlot ws 1 root [] start shape
 at-root ws start shape e p = let (met, f) = form-follows ws p in at-slot ws 1 root [] start shape e met f
@@ -141,7 +141,7 @@ unfolding target pointer_of
 trailing_null p =
     let r = at-root (0x1000000000000 ∷ 0 ∷ []) 1 (shapes.Node 0 1) refl p in r.right.truncated.1 (omega arith) refl
 
--- a word that no pointer leads to, before an object
+-- a word before an object, to which no pointer leads
 pub gap : IsPageForm (0x100000004 ∷ 9 ∷ 5 ∷ []) → ⊥
 unfolding target pointer_of
 gap p =
@@ -149,7 +149,7 @@ gap p =
     let e = r.right.begins (λ x. x) in
     omega arith
 
--- a word that no pointer leads to, after the last object
+-- a word after the last object, to which no pointer leads
 pub word_left : IsPageForm (0x100000000 ∷ 5 ∷ 9 ∷ []) → ⊥
 unfolding target pointer_of
 word_left p =
@@ -167,7 +167,7 @@ empty_elsewhere p =
     let e = s.right.empty tt in
     omega arith
 
--- the second struct of `two_structs` before what is below the first
+-- the second struct of `two_structs` before the objects below the first
 pub not_in_preorder : IsPageForm
     (0x2000000000000 ∷ 0x1000000000008 ∷ 0x100000000 ∷ 3 ∷ 0xa00000001 ∷ 7 ∷ []) → ⊥
 unfolding target pointer_of

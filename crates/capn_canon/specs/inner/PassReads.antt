@@ -1,15 +1,15 @@
--- The number of reads that a pass may still make, and the result of a step of it.
+-- The number of reads that a pass may still make, and the result of a step of the pass.
 use Rattle.std.specs.Prelude.{ℕ, ◌+◌, ◌-◌, ◌*◌, ◌≤◌, Option, IfSome, IsSome}
 use Rattle.capn_canon.specs.declared.progress.Pass.{Pass}
 use Rattle.capn_canon.specs.declared.progress.Progress.{Progress}
 
--- the reads of the message and turns of loops that the pass `p` may make: seven for each of its slots, and ten for each
--- word that may still be paid (Own.)
+-- the number of reads and loop turns that the pass `p` may still make: seven for each of its slots, and ten for each
+-- word that may still be paid (Our own.)
 abbrev pub may_read : Pass → ℕ
 may_read p = 7 * (p.end - p.from) + 10 * p.left
 
--- `r` is the result of a step of the pass: it says what the step finds, and is there if a canonical layout is; the step
--- costs at most `may` reads, and if `r` is there, ten reads for each word left are still unused (Own.)
+-- `r` is the result of a step of the pass: a progress for which `finds` holds, and never `None` if `due` holds; the
+-- step costs at most `may` reads, and a progress leaves ten reads unused for each word left (Our own.)
 pub record Passes (finds : Progress → ℕ → Type 0) (due : Type 0) (may : ℕ) (r : Option Progress) (low old new : ℕ)
     : Type 0 where
   pub found : IfSome r (λ q. finds q low)

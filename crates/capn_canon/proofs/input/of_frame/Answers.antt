@@ -1,4 +1,4 @@
--- The message of a frame comes first in the bytes, or no message does. Bytes that follow it are refused.
+-- A message's frame comes first in the bytes, or no frame does. Bytes after the frame are refused.
 use Rattle.std.proofs.Common.{subst, ℕ, ap, Err}
 use Rattle.capn_stream.specs.FrameRefusal.{HasTable, IsFrameRefused}
 use Rattle.capn_stream.specs.declared.fault.FrameFault.{FrameFault}

@@ -35,7 +35,7 @@ extra-no s n w z e = e ∙ sym (if-no (s == 0) n 0 (grind (arith, nat_tests)))
 if-same : (s t n m : ℕ) → s ≡ t → n ≡ m → (if s == 0 then n else 0) ≡ (if t == 0 then m else 0)
 if-same s t n m e f = ap₂ (λ (x y : ℕ). if x == 0 then y else 0) e f
 
--- the list of structs that is laid out is the one of the tag
+-- the list of structs that is laid out has the sizes of the tag
 record IsTagged (all : List ℕ) (base : ℕ) (p : Pass) (span : ℕ) (g : Tag) : Type 0 where
   due : DueTagged all base p.from p.next p.depth p.left span
   count : g.count ≡ due.n

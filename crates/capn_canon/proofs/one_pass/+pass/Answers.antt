@@ -45,7 +45,7 @@ check_slots-returns-in-None g t c = record {
 
 -- ---- a slot
 
--- the bound on the reads for the slots after the first
+-- the bound on the reads for the slots after the first one
 behind-reads : (p : Pass) (q : Progress) (r : Pass) → p.from < p.end → r ≡ behind p q
     → may_read r + 7 ≡ 7 * (p.end - p.from) + 10 * q.left
 behind-reads p q r some e = let f = ap may_read e in omega arith

@@ -1,4 +1,4 @@
--- The survey of bytes is that of the one value that they denote.
+-- The survey of bytes is true of the one value that the bytes denote.
 use Rattle.std.proofs.Common.{arith}
 use Rattle.capn_canon.proofs.calls.Accounted.{surveyed_only, surveyed_short}
 use Rattle.capn_canon.proofs.calls.ReadInput.{surveyed}
