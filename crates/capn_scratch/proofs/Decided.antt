@@ -1,4 +1,4 @@
--- The clauses of `canonical_into_form` allow one result, and one buffer after it, and no number of words needed is
+-- The clauses of `canonical_into_form` allow one result and one content of the buffer, and no number of words needed is
 -- above what is enough. (For `decision` and `enough`.)
 use Rattle.std.proofs.Common.{◌≡◌, ◌⊎◌, inl, inr, ℕ, ◌+◌, ◌-◌, ◌*◌, ◌<◌, ◌≤◌, Bool, true, false, if◌then◌else◌}
 use Rattle.std.proofs.Common.{List, length}
@@ -47,7 +47,7 @@ few_ends bs most m h =
     chosen (nat_lt 64 (announced_segments bs)) (announced_segments bs - 1) (most_segments - 1)
     (omega (arith, a.count, h.frame.fits.few))
 
--- the number of words in `NoScratch` is more than the scratch has, and at most what is enough for the form
+-- the number in `NoScratch` is more than the scratch has, and at most what is enough for every input in the form
 pub bounded : (form : Form) (bs : List ℕ) (limits : Bounds) (scratch room n : ℕ)
     → IsFormRefused form bs limits scratch room (told.NoScratch n)
     → (scratch < n) × (n ≤ most_scratch form limits.message_words)
@@ -145,7 +145,7 @@ module _ (form : Form) (bs : List ℕ) (limits : Bounds) (scratch room : ℕ) wh
 
 -- ---- the parts of a refusal
 
--- the `FormRefusal` for a refusal of bytes; for `Memory`, which is never returned, any will do
+-- the `FormRefusal` for a refusal of bytes; `Memory`, which is never returned, is mapped to an arbitrary one
 abbrev of_refusal : Refusal → FormRefusal
 of_refusal (refusals.Bare e) = told.Bare e
 of_refusal (refusals.Packed e) = told.Packed e

@@ -1,4 +1,4 @@
--- The ends of segments, kept as words. (For `ends.rt`, `framed.rt` and `scratch_segments.rt`.)
+-- Lemmas on the ends of segments, kept as words. (For `ends.rt`, `framed.rt` and `scratch_segments.rt`.)
 use Rattle.std.proofs.Common.{◌≡◌, ℕ, ◌+◌, ◌^◌, ◌<◌, ◌≤◌, List}
 use Rattle.std.proofs.Common.{[], ◌∷◌, ◌++◌, length, take, drop, set, slice_index}
 use Rattle.std.proofs.Common.{slice_index_or, slice_range, ap, ◌∙◌, arith, w64}
@@ -20,7 +20,7 @@ numbers_more before i word next inside is small =
     ∙ ap (λ (n : ℕ). numbers (take i before) ++ n ∷ [])
     (ap (λ (w : List ℕ). from_le_bytes w64 w) is ∙ from_le_bytes-to_le_bytes_8 next small)
 
--- each number is that of its word
+-- the number at an index is that of the word at the same index
 pub number_in : (words : List (List ℕ)) (i : ℕ) → i < length words
     → slice_index (numbers words) i ≡ from_le_bytes w64 (slice_index_or words i [])
 number_in words i inside = get_or-map (λ (w : List ℕ). from_le_bytes w64 w) words i [] 0 inside
@@ -44,7 +44,7 @@ ends_are bs count written is h =
 
 module _ (ends : List (List ℕ)) (ws : List ℕ) (message : List (List ℕ)) (seen : cut 0 (numbers ends) ws ≡ message)
     (is : AreEnds (numbers ends) ws) (s : ℕ) where
-  -- a message that is cut at ends has one segment more than ends
+  -- a message that is cut at ends has one segment more than there are ends
   pub cut_count : length message ≡ length ends + 1
   cut_count = omega (arith, seen_count (numbers ends) ws message seen is, numbers_count ends)
 

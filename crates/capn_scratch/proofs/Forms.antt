@@ -1,4 +1,5 @@
--- The result for a message is that for the bytes that are read as it. (For `canonical_form.rt` and `framed.rt`.)
+-- The result for a message is also the result for the bytes that are read as that message. (For `canonical_form.rt` and
+-- `framed.rt`.)
 use Rattle.std.proofs.Common.{◌≡◌, ℕ, ◌+◌, ◌-◌, ◌*◌, ◌<◌, ◌≤◌, inl}
 use Rattle.std.proofs.Common.{inr, List, length, take, refl, ap, sym}
 use Rattle.std.proofs.Common.{subst, ◌∙◌, arith, Result, Ok, Err, IsErrAnd, None, Some}
@@ -52,7 +53,7 @@ within_as budget (intos.Walk s) e is h = subst (λ (y : FormRefusal). IsFormPaid
 within_as budget (intos.Capability k) e is h = subst (λ (y : FormRefusal). IsFormPaidWithin budget y) (sym is) tt
 within_as budget (intos.NoRoom n p) e is h = subst (λ (y : FormRefusal). IsFormPaidWithin budget y) (sym is) h
 
--- the refusal of a message is a result, mapped to a `FormRefusal`
+-- a refusal of a message, mapped to a `FormRefusal`, is a result for that message
 pub told_refused : (m : List (List ℕ)) (limits : Bounds) (old new : List ℕ) (r : Result CanonicalLength FormRefusal)
     (x : IntoRefusal) → IsErrAnd r (IsOfInto x) → RefusedInto m limits (length old) x → new ≡ old
     → IsIntoPaidWithin limits.budget x → IsTold m limits old new r
@@ -142,7 +143,7 @@ after_refused before bs limits scratch room m (told.Frame e) is has h = absurd h
 after_refused before bs limits scratch room m (told.Trailing at) is has h = absurd h
 after_refused before bs limits scratch room m (told.NoScratch n) is has h = absurd h
 
--- the result for the message is that for its frame
+-- the result for the message of a frame is also the result for the frame
 pub frame_told : (before : ℕ) (bs : List ℕ) (limits : Bounds) (scratch : ℕ) (m : List (List ℕ)) (old new : List ℕ)
     (r : Result CanonicalLength FormRefusal) → IsFramed bs limits.message_words m → HasScratch forms.Stream bs scratch
     → IsTold m limits old new r → IsFrameTold before bs limits scratch old new r
@@ -172,7 +173,7 @@ stream_refused bs limits scratch room (told.Packed e) h = h
 stream_refused bs limits scratch room (told.Frame e) h = h
 stream_refused bs limits scratch room (told.Trailing at) h = h
 
--- the result for a frame with no words before it is that for the stream
+-- the result for a frame with no words before it is also the result for the stream
 pub stream_told : (bs : List ℕ) (limits : Bounds) (scratch : ℕ) (old new : List ℕ)
     (r : Result CanonicalLength FormRefusal) → IsFrameTold 0 bs limits scratch old new r
     → IsFormTold forms.Stream bs limits scratch old new r
@@ -219,7 +220,7 @@ module _ (bs text : List ℕ) (words : ℕ) (packs : Packs bs text) (long : leng
   packed_refused limits scratch room (told.Trailing at) few h =
       (holds scratch, (text, record { packs = packs; room = omega (arith, long, few) }, h.1))
 
-  -- the result for the frame that a packed text unpacks to is that for the packed text
+  -- the result for the frame that a packed text unpacks to is also the result for the packed text
   pub packed_told : (limits : Bounds) (scratch : ℕ) (old new : List ℕ) (r : Result CanonicalLength FormRefusal)
       → words ≤ limits.message_words + most_table_words → IsFrameTold words text limits scratch old new r
       → IsFormTold forms.Packed bs limits (words + scratch) old new r
@@ -243,7 +244,7 @@ module _ (bs text : List ℕ) (words : ℕ) (packs : Packs bs text) (long : leng
     bounded = h.bounded;
   }
 
--- the unpacked words are as many as the text has, and fill the buffer
+-- unpacking writes as many words as the text has, and these fill the buffer
 pub all_unpacked : (bs packed text : List ℕ) (n words : ℕ) → Packs bs packed → length packed ≡ 8 * words
     → Packs bs (take (8 * n) text) → length text ≡ 8 * words → Packs bs text
 all_unpacked bs packed text n words p long q size =
@@ -312,7 +313,7 @@ not_refused form bs limits scratch room (told.Capability k) h v d free has fits 
 not_refused form bs limits scratch room (told.NoRoom n p) h v d free has fits =
     not_read form bs limits scratch room (told.NoRoom n p) h v d free fits
 
--- a call succeeds if and only if there are canonical bytes, scratch for the bytes and room in the buffer
+-- a call succeeds if and only if the bytes have canonical bytes, enough words of scratch, and room in the buffer
 pub answered : (form : Form) (bs : List ℕ) (limits : Bounds) (scratch : ℕ) (old new : List ℕ)
     (r : Result CanonicalLength FormRefusal) → IsFormTold form bs limits scratch old new r
     → AnsweredForm form bs limits scratch (length old) r

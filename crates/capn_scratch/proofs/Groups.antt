@@ -1,4 +1,4 @@
--- Groups one after another at the front of some bytes. (For `group.rt` and `unpacked.rt`.)
+-- Lemmas on groups one after another at the front of some bytes. (For `group.rt` and `unpacked.rt`.)
 use Rattle.std.proofs.Common.{◌≡◌, ℕ, ◌+◌, ◌-◌, ◌*◌, ◌<◌, ◌≤◌, inl}
 use Rattle.std.proofs.Common.{inr, List, [], ◌∷◌, ◌++◌, length, take, drop, get_or}
 use Rattle.std.proofs.Common.{slice_range, refl, sym, ap, ◌∙◌, subst, arith, take-add}
@@ -68,7 +68,7 @@ named_there rest old inside above below =
       },
     )
 
--- if the bytes that a group's head announces are there, `rest` begins with that group
+-- if `rest` has all bytes that the head of its first group announces, `rest` begins with that group
 pub group_there : (rest old : List ℕ) (taken count : ℕ) → ((i : ℕ) → get_or rest i 0 < 256) → taken ≡ len_at rest
     → count ≡ words_at rest → 0 < length rest → taken ≤ length rest → Has rest taken count old
 group_there rest old taken count below size many some inside =
@@ -101,14 +101,14 @@ group_there rest old taken count below size many some inside =
           ]
     ]
 
--- the bytes from an offset on are bytes, too
+-- the numbers from an offset on are bytes, too
 pub byte_below : (bytes : List ℕ) (at : ℕ) → ((k : ℕ) → get_or bytes k 0 < 256) → (i : ℕ)
     → get_or (slice_range bytes at (length bytes)) i 0 < 256
 byte_below bytes at below i = byte_of_rest bytes at i below
 
 -- ---- groups one after another
 
--- up to `at` the bytes are groups, which unpack to `out`, and `room` words are left of the maximum
+-- the bytes before `at` are groups that unpack to `out`, and `room` words of the maximum `max` are left
 pub record Unpacked (bytes : List ℕ) (at : ℕ) (out : List ℕ) (room max : ℕ) : Type 0 where
   pub groups : List Group
   pub each : AllByRecursion IsGroup groups
@@ -136,7 +136,7 @@ unpacked_more bytes at out room max taken count new u t fits =
       counted = omega (arith, u.counted, t.counted, fits, count_more u.groups t.group);
     }
 
--- the bytes that were unpacked, and 8 for each word of room, are 8 for each word of the maximum
+-- the length of `out` and 8 for each word of `room` are together 8 for each word of `max`
 pub unpacked_length : (bytes : List ℕ) (at : ℕ) (out : List ℕ) (room max : ℕ) → Unpacked bytes at out room max
     → length out + 8 * room ≡ 8 * max
 unpacked_length bytes at out room max u = omega (arith, u.counted, ap length u.content, length_contents u.groups u.each)

@@ -1,5 +1,4 @@
--- A word that is spread from the bytes that its tag names, one bit of the tag after another. (For `spread` and
--- `Groups`.)
+-- The word into which the bytes named by a tag are spread, bit by bit of the tag. (For `spread` and `Groups`.)
 use Rattle.std.proofs.Common.{◌≡◌, ℕ, zero, suc, ◌+◌, ◌/◌, ◌%◌, ◌^◌, ◌<◌}
 use Rattle.std.proofs.Common.{◌≤◌, inl, inr, List, [], ◌∷◌, ◌++◌, length, take}
 use Rattle.std.proofs.Common.{get_or, refl, sym, ap, subst, ◌∙◌, arith, append_assoc}
@@ -14,7 +13,7 @@ use Rattle.capn_pack.proofs.shared.SpreadLemmas.{named_none, named_one, no_ones,
 -- ---- one bit more
 
 module _ (tag left b i next : ℕ) (word bytes : List ℕ) (inside : i < length word) where
-  -- the bytes of the word so far, one more, and any after it
+  -- after byte `i` of a word is set, the first `i + 1` bytes are those before and the new one
   joined : (ws : List ℕ) → take (i + 1) (set word i b) ++ ws ≡ take i word ++ (b ∷ ws)
   joined ws = ap (λ (xs : List ℕ). xs ++ ws) (take_more_set word i b inside) ∙ append_assoc (take i word) (b ∷ []) ws
 
@@ -47,7 +46,7 @@ module _ (tag left b i next : ℕ) (word bytes : List ℕ) (inside : i < length 
 
 -- ---- all bits
 
--- a tag names as many bytes as it has bits
+-- the number of bytes that a tag names is the number of its bits that are set
 length_named : (n tag : ℕ) (word : List ℕ) → length word ≡ n → tag < 2 ^ n
     → length (named_bytes tag word) ≡ count_ones tag
 length_named n tag [] long less =
@@ -62,7 +61,7 @@ length_named (suc n) tag (x ∷ xs) long less =
       | inr odd ↦ omega (arith, odd, ap length (named_one tag x xs odd), ones_half tag, rest)
     ]
 
--- the bytes that are named are as many as the tag has bits
+-- after all bits, the number of bytes taken is the number of bits of the tag that are set
 pub spread_all : (tag next : ℕ) (word bytes : List ℕ) → length word ≡ 8 → tag < 2 ^ 8 → next ≤ length bytes
     → named_bytes tag word ≡ take next bytes → named_bytes tag word ≡ take (count_ones tag) bytes
 spread_all tag next word bytes long small inside e =
@@ -70,14 +69,14 @@ spread_all tag next word bytes long small inside e =
     sym (length-take-le next bytes inside) ∙ ap length (sym e) ∙ length_named 8 tag word long small in
     e ∙ ap (λ (n : ℕ). take n bytes) size
 
--- some word has the first of `bytes` where its tag names them, and zeros elsewhere
+-- there is a word that has the first of `bytes` in the places that the tag names, and zeros elsewhere
 pub record Spread (n tag : ℕ) (bytes : List ℕ) : Type 0 where
   pub word : List ℕ
   pub long : length word ≡ n
   pub named : IsNamedBy tag word
   pub bytes_are : named_bytes tag word ≡ take (count_ones tag) bytes
 
--- if a tag's lowest bit is set, the first of `bytes` is named, and the rest are spread by the other bits
+-- if the lowest bit of a tag is set, the first of `bytes` is named by that bit, and the rest by the other bits
 spread_one : (n tag : ℕ) (bytes : List ℕ) → tag % 2 ≡ 1 → count_ones tag ≡ suc (count_ones (tag / 2))
     → count_ones tag ≤ length bytes
     → ((rest : List ℕ) → count_ones (tag / 2) ≤ length rest → Spread n (tag / 2) rest) → Spread (suc n) tag bytes

@@ -1,4 +1,4 @@
--- The text of a refusal, as it is displayed. (Own.)
+-- The text of a refusal, as it is displayed. (Our own.)
 use Rattle.std.specs.Prelude.{ℕ, List, ◌++◌, codes}
 use Rattle.std.specs.Fmt.{decimal}
 use Rattle.capn_words.specs.Display.{bare_text}

@@ -1,7 +1,7 @@
--- The reasons why the canonical bytes of bytes in a form are not written, in the order of the tests. Packed bytes are
--- unpacked, and their words need room in the scratch. The bytes are read as a message, and the ends of its segments
--- need room in the scratch. The message is walked, searched for a capability, and its canonical bytes need room in the
--- buffer. (Own.)
+-- The reasons why canonical bytes are not written for bytes in a form, in the order of the tests. Packed bytes are
+-- unpacked, and the unpacked words need room in the scratch. The bytes are read as a message, and the ends of the
+-- segments need room in the scratch. The message is walked and searched for a capability, and the canonical bytes need
+-- room in the buffer. (Our own.)
 use Rattle.std.specs.Prelude.{◌≡◌, ◌⊎◌, ℕ, ◌*◌, ◌<◌, ◌≤◌, List, length, ⊤}
 use Rattle.capn_walk.specs.Accepted.{IsBounded}
 use Rattle.capn_walk.specs.Limits.{Bounds}
@@ -23,14 +23,14 @@ IsOfInto (intos.Walk s) e = e ≡ told.Walk s
 IsOfInto (intos.Capability k) e = e ≡ told.Capability k
 IsOfInto (intos.NoRoom n p) e = e ≡ told.NoRoom n p
 
--- the refusal is true of `message`: it has no canonical bytes within the limits, or they don't fit into `room` bytes
+-- the refusal is true of `message`: there are no canonical bytes within the limits, or more than `room` of them
 abbrev pub IsMessageRefused : List (List ℕ) → Bounds → ℕ → FormRefusal → Type 0
 IsMessageRefused message limits room (told.Walk s) = RefusedInto message limits room (intos.Walk s)
 IsMessageRefused message limits room (told.Capability k) = RefusedInto message limits room (intos.Capability k)
 IsMessageRefused message limits room (told.NoRoom n p) = RefusedInto message limits room (intos.NoRoom n p)
 IsMessageRefused message limits room _ = ⊥
 
--- `bs` are read as a message, the scratch has the words that they take, and the refusal `e` is true of the message
+-- `bs` are read as a message, the scratch has as many words as `bs` take, and the refusal `e` is true of the message
 abbrev pub IsReadRefused : Form → List ℕ → Bounds → ℕ → ℕ → FormRefusal → Type 0
 IsReadRefused form bs limits scratch room e =
     (message : List (List ℕ)) × Reads form bs limits.message_words message × HasScratch form bs scratch
@@ -43,8 +43,8 @@ LacksText forms.Stream bs most scratch n = ⊥
 LacksText forms.Packed bs most scratch n =
     (text : List ℕ) × Unpacks bs most text × (8 * n ≡ length text) × (scratch < n)
 
--- `bs` are read as a message and take `n` words, which is more than the scratch has, though it has room for a packed
--- text's words
+-- `bs` are read as a message and take `n` words, which is more than the scratch has; but the scratch has room for the
+-- unpacked words if `bs` are packed
 abbrev pub LacksTable : Form → List ℕ → ℕ → ℕ → ℕ → Type 0
 LacksTable form bs most scratch n =
     (message : List (List ℕ)) × Reads form bs most message × HoldsText form bs scratch × Needs form bs n × (scratch < n)
@@ -65,7 +65,7 @@ IsFormRefused form bs limits scratch room (told.Capability k) =
 IsFormRefused form bs limits scratch room (told.NoRoom n p) =
     IsReadRefused form bs limits scratch room (told.NoRoom n p)
 
--- the words that a refusal reports as paid are at most `budget`, and its visits at most one more
+-- the number of words that a refusal reports as paid is at most `budget`, and the number of visits is at most one more
 abbrev pub IsFormPaidWithin : ℕ → FormRefusal → Type 0
 IsFormPaidWithin budget (told.Walk s) = IsBounded budget s.paid s.visits
 IsFormPaidWithin budget (told.NoRoom n p) = p ≤ budget

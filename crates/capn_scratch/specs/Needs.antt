@@ -1,4 +1,4 @@
--- The words of scratch that bytes in a form take. (Own.)
+-- The words of scratch that bytes in a form take. (Our own.)
 use Rattle.std.specs.Prelude.{◌≡◌, ℕ, ◌+◌, ◌-◌, ◌*◌, ◌≤◌, List, length, nat_lt, if◌then◌else◌, ⊤}
 use Rattle.capn_pack.specs.Packed.{Packs}
 use Rattle.capn_stream.specs.FrameRefusal.{announced_segments}
@@ -9,12 +9,13 @@ use Rattle.capn_canon.specs.declared.form.Form.TheVariants as forms
 abbrev pub most_kept : ℕ
 most_kept = 64
 
--- a frame of `count` segments takes a word for each but the last, if they are more than fit on the stack
+-- the number of words that a frame of `count` segments takes: one for each segment but the last, or none for at most 64
+-- segments
 abbrev pub table_need : ℕ → ℕ
 table_need count = if nat_lt most_kept count then count - 1 else 0
 
--- `bs` take `n` words of scratch: none if they are bare; those of the ends of its segments if they are a frame; and
--- those of the unpacked frame, and then of the ends of its segments, if they are packed
+-- `bs` take `n` words of scratch: none if `bs` are bare; those for the ends of the segments if `bs` are a frame; and
+-- those of the unpacked frame, and for the ends of its segments, if `bs` are packed
 abbrev pub Needs : Form → List ℕ → ℕ → Type 0
 Needs forms.Bare bs n = n ≡ 0
 Needs forms.Stream bs n = n ≡ table_need (announced_segments bs)
@@ -25,7 +26,7 @@ Needs forms.Packed bs n = (text : List ℕ) × Packs bs text
 abbrev pub HasScratch : Form → List ℕ → ℕ → Type 0
 HasScratch form bs scratch = (n : ℕ) × Needs form bs n × (n ≤ scratch)
 
--- the scratch has as many words as `bs` unpack to, if they are packed
+-- the scratch has as many words as `bs` unpack to, if `bs` are packed
 abbrev pub HoldsText : Form → List ℕ → ℕ → Type 0
 HoldsText forms.Bare bs scratch = ⊤
 HoldsText forms.Stream bs scratch = ⊤

@@ -1,4 +1,4 @@
--- The theorem of `canonical_into_form`. (Own.)
+-- The theorem of `canonical_into_form`. (Our own.)
 use Rattle.std.specs.Prelude.{◌≡◌, ◌↔◌, ℕ, ◌≤◌, List, length, None, Result, IsOk}
 use Rattle.capn_value.specs.Tree.{Tree}
 use Rattle.capn_value.specs.FirstCap.{first_cap}
@@ -13,8 +13,8 @@ use Rattle.capn_scratch.specs.Needs.{HasScratch}
 use Rattle.capn_scratch.specs.declared.refusal.FormRefusal.{FormRefusal}
 
 -- For any bytes, form, limits, scratch and buffer, the call succeeds if and only if the bytes denote a value without
--- capabilities within the limits, the scratch has as many words as they take, and the buffer has room for its canonical
--- bytes.
+-- capabilities within the limits, the scratch has as many words as the bytes take, and the buffer has room for the
+-- canonical bytes.
 abbrev pub AnsweredForm : Form → List ℕ → Bounds → ℕ → ℕ → Result CanonicalLength FormRefusal → Type 0
 AnsweredForm form bs limits scratch room r =
     IsOk r ↔ ((v : Tree) × Denotes form bs limits v × (first_cap v ≡ None) × HasScratch form bs scratch

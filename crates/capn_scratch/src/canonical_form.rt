@@ -1,4 +1,4 @@
-//! The call `canonical_into_form`: the canonical bytes of a message in any form, with words that the caller lends.
+//! The call `canonical_into_form`, which writes canonical bytes for any form, in words that the caller lends.
 
 ghost use Rattle.std.specs.Prelude.{◌≡◌, ℕ, ◌+◌, ◌*◌, ◌≤◌, List, length, IfOk, IfErr, OnErr, MatchResult};
 ghost use Rattle.capn_pack.specs.Packed.{Packs};
@@ -38,8 +38,8 @@ fn of_stream(
     of_frame(bytes, scratch, 0, limits, out)
 }
 
-/// Unpacks the packed text `bytes` of a frame of `words` words to `text`, and writes the canonical bytes of its message
-/// to `out`.
+/// Unpacks the packed text `bytes` of a frame of `words` words to `text`, and writes the canonical bytes of the message
+/// in that frame to `out`.
 fn of_unpacked(
     bytes: &[u8],
     words: usize,
@@ -82,7 +82,7 @@ fn of_packed(
     }
 }
 
-/// Does what [`canonical_into_form`] does, with one clause that has all of its clauses.
+/// Writes canonical bytes for [`canonical_into_form`]. The one clause has all clauses of that call.
 fn of_form(
     form: Form,
     bytes: &[u8],
@@ -99,20 +99,21 @@ fn of_form(
     }
 }
 
-/// Writes the canonical bytes of the value that `bytes` denote in this `form`, within `limits`, to the beginning of
-/// `out`. Returns their number, the words that the walk pays, and its visits. The rest of `out` stays as it was.
+/// Writes the canonical bytes of the value that `bytes` denote in `form`, within `limits`, to the beginning of `out`.
+/// Returns the number of bytes written, the number of words that the walk pays, and the number of visits. The rest of
+/// `out` stays as it was.
 ///
-/// It takes no memory but the stack, and keeps in `scratch` what it needs on the way. A packed text takes as many words
-/// of `scratch` as it unpacks to. A frame of more than 64 segments takes one for each segment but the last, after those
-/// of the text. Bare words and other frames take none. The contents of `scratch` afterwards are not specified.
+/// Only the stack is used, and the words in `scratch`. A packed text takes as many words of `scratch` as it unpacks to.
+/// A frame of more than 64 segments takes one word for each segment but the last, after the words of the text. Bare
+/// words and other frames take none. The contents of `scratch` afterwards are not specified.
 ///
 /// The refusals are tested in this order, and each leaves `out` as it was. Packed bytes are unpacked, and refused by
-/// `Packed` as [`canonicalise`](capn_canon::canonicalise) does, then by `NoScratch` if the unpacked words have no room.
-/// The message is read, and refused by `Bare` for the form `Bare`, else by `Frame` or, if bytes follow the message, by
-/// `Trailing`. A frame is then refused by `NoScratch` if the ends of its segments have no room: the words needed
-/// include those of the text. The message is walked, and refused by `Walk`. Its value is laid out, and refused by
-/// `Capability`, with the index of the first in preorder, then by `NoRoom`, with the length of the canonical bytes, if
-/// `out` is shorter. (Own.)
+/// `Packed` with the fault of [`canonicalise`](capn_canon::canonicalise), then by `NoScratch` if the unpacked words
+/// have no room. The message is read, and refused by `Bare` for the form `Bare`, else by `Frame` or, if bytes follow
+/// the message, by `Trailing`. A frame is then refused by `NoScratch` if the ends of the segments have no room. The
+/// number of words needed includes the words of the text. The message is walked, and refused by `Walk`. The value is
+/// laid out, and refused by `Capability`, with the index of the first in preorder. Last, if `out` is too short, the
+/// refusal is `NoRoom`, with the length of the canonical bytes. (Our own.)
 pub fn canonical_into_form(
     form: Form,
     bytes: &[u8],
@@ -121,7 +122,7 @@ pub fn canonical_into_form(
     out: &mut [u8],
 ) -> Result<CanonicalLength, FormRefusal>
     // The theorem: `result` is `Ok` if and only if the bytes denote a value without capabilities within the limits,
-    // `scratch` has the words that they take, and `out` has room for the canonical bytes.
+    // `scratch` has as many words as the bytes take, and `out` has room for the canonical bytes.
     ensures answered { AnsweredForm form bytes.now limits (length scratch.old) (length out.old) result }
     // If `result` is `Ok`, the canonical bytes are at the beginning of `out`, and the bytes after them are as before.
     ensures written { IfOk result (λ c. WrittenForm form bytes.now limits (length scratch.old) out.old out.new c) }
@@ -129,7 +130,7 @@ pub fn canonical_into_form(
     ensures refused { IfErr result (λ e. IsFormRefused form bytes.now limits (length scratch.old) (length out.old) e) }
     // A refusal leaves `out` as it was.
     ensures unchanged { OnErr result (out.new ≡ out.old) }
-    // The walk pays at most the budget, also if it is refused.
+    // The walk pays at most the budget, also if the message is refused.
     ensures bounded { MatchResult result (λ c. IsBounded limits.budget c.paid c.visits)
         (λ e. IsFormPaidWithin limits.budget e) }
 {

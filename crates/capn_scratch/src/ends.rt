@@ -8,8 +8,8 @@ ghost use Rattle.capn_scratch.specs.inner.Ends.{numbers};
 
 use capn_stream::table::entry_at;
 
-/// Writes the ends of the first `count` segments to the beginning of `ends`, one in each word. `sizes` has the entries
-/// of the segment table. An end counts words from the start of the message.
+/// Writes the ends of the first `count` segments to the beginning of `ends`, one in each word. `sizes` are the entries
+/// of the segment table. An end is a number of words from the start of the message.
 pub(crate) fn put_ends(sizes: &[u8], count: usize, ends: &mut [[u8; 8]])
     requires few { count ≤ most_segments }
     requires inside { 4 * count ≤ length sizes.now }
@@ -25,7 +25,7 @@ pub(crate) fn put_ends(sizes: &[u8], count: usize, ends: &mut [[u8; 8]])
     }
 }
 
-/// Returns the number that word `index` of `ends` holds.
+/// Returns the number in word `index` of `ends`.
 fn end_at(ends: &[[u8; 8]], index: usize) -> u32
     requires inside { index < length ends.now }
     requires small { slice_index (numbers ends.now) index < 2 ^ 32 }
@@ -34,7 +34,7 @@ fn end_at(ends: &[[u8; 8]], index: usize) -> u32
     u64::from_le_bytes(ends[index]) as u32
 }
 
-/// Returns the word of the message at which `segment` begins, by the `ends` of the segments.
+/// Returns the word of the message at which `segment` begins, from the `ends` of the segments.
 pub(crate) fn start_of(ends: &[[u8; 8]], segment: usize) -> u32
     requires inside { segment ≤ length ends.now }
     requires small { slice_index (0 ∷ numbers ends.now) segment < 2 ^ 32 }
@@ -47,8 +47,8 @@ pub(crate) fn start_of(ends: &[[u8; 8]], segment: usize) -> u32
     }
 }
 
-/// Returns the word of the message at which `segment` ends, by the `ends` of all segments but the last. The last ends
-/// with the message, which has `words` words.
+/// Returns the word of the message at which `segment` ends, from the `ends` of all segments but the last. The last
+/// segment ends with the message, which has `words` words.
 pub(crate) fn end_of(ends: &[[u8; 8]], words: u32, segment: usize) -> u32
     requires inside { segment ≤ length ends.now }
     requires small { slice_index (numbers ends.now ++ words ∷ []) segment < 2 ^ 32 }

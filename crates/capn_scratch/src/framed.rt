@@ -30,8 +30,8 @@ pub(crate) fn write<S: Space>(
     Ok(written)
 }
 
-/// Writes the canonical bytes of the message of the frame `bytes` to `out`. `words` are the words after its segment
-/// table. The ends of all segments but the last, `count` of them, are written to `ends`.
+/// Writes the canonical bytes of the message of the frame `bytes` to `out`. `words` are the words after the segment
+/// table. The ends of the first `count` segments, all but the last, are written to `ends`.
 fn of_cut(
     bytes: &[u8],
     words: Bare<'_>,
@@ -52,8 +52,9 @@ fn of_cut(
     write(&message, limits, out)
 }
 
-/// Does what [`of_frame`] does for a whole frame at the front of `bytes`, which ends at byte `end`. `words` are the
-/// words after its segment table, and `count` is its number of segments without the last.
+/// Writes the canonical bytes of the message of the frame `bytes` to `out`, for [`of_frame`]. A whole frame is at the
+/// front of `bytes` and ends at byte `end`. `words` are the words after the segment table, and `count` is the number of
+/// segments without the last.
 fn of_words(
     bytes: &[u8],
     words: Bare<'_>,
@@ -86,7 +87,8 @@ fn of_words(
     of_cut(bytes, words, count, scratch, limits, out)
 }
 
-/// Does what [`of_frame`] does for a whole frame at the front of `bytes` whose segment table announces `head`.
+/// Writes the canonical bytes of the message of the frame `bytes` to `out`, for [`of_frame`]. A whole frame is at the
+/// front of `bytes`, and its segment table announces `head`.
 fn of_whole(
     bytes: &[u8],
     head: Head,
@@ -120,8 +122,8 @@ fn of_whole(
 }
 
 /// Writes the canonical bytes of the message of the frame `bytes` to `out`. The ends of more than 64 segments are kept
-/// in `scratch`. `NoScratch` counts `before` words more than the frame needs: the words of the packed text that it was
-/// unpacked from.
+/// in `scratch`. `NoScratch` reports `before` words in addition to those that the frame needs. They are the words of
+/// the frame itself if a packed text was unpacked to it.
 pub(crate) fn of_frame(
     bytes: &[u8],
     scratch: &mut [[u8; 8]],

@@ -1,4 +1,4 @@
-//! One group of a packed text: its size, and the words that it unpacks to.
+//! One group of a packed text: the size of the group, and the words that the group unpacks to.
 
 ghost use Rattle.std.specs.Prelude.{◌≡◌, ◌+◌, ◌*◌, ◌<◌, ◌≤◌, ◌++◌, ◌/◌, ◌%◌, length, take, replicate, slice_index};
 ghost use Rattle.std.specs.Prelude.{count_ones};
@@ -18,9 +18,9 @@ pub(crate) enum Stop {
 /// The size of a whole group, packed and unpacked.
 #[derive(Clone, Copy)]
 pub(crate) struct Size {
-    /// The number of its bytes, with its tag.
+    /// The number of packed bytes, with the tag.
     pub bytes: usize,
-    /// The number of words that it unpacks to.
+    /// The number of words that the group unpacks to.
     pub words: usize,
 }
 
@@ -80,7 +80,7 @@ fn size_of_raw(rest: &[u8], room: usize) -> Result<Size, Stop>
     })
 }
 
-/// Returns the size of the group at the front of `rest`, if it is whole and unpacks to at most `room` words.
+/// Returns the size of the group at the front of `rest`, if the group is whole and unpacks to at most `room` words.
 pub(crate) fn size_of(rest: &[u8], room: usize) -> Result<Size, Stop>
     requires { 0 < length rest.now }
     ensures { SizeGives rest.now room result }
@@ -119,8 +119,8 @@ fn byte_of(left: u8, bytes: &[u8], next: usize) -> u8
     if left % 2 == 0 { 0 } else { bytes[next] }
 }
 
-/// Returns the word that `tag` and `bytes` unpack to. The bytes named by `tag` are the first of `bytes`, in order, and
-/// the others are zero.
+/// Returns the word that `tag` and `bytes` unpack to. The bytes that `tag` names are the first of `bytes`, in order,
+/// and the others are zero.
 fn spread(tag: u8, bytes: &[u8]) -> [u8; 8]
     requires { count_ones tag ≤ length bytes.now }
     ensures named { IsNamedBy tag result }
@@ -137,7 +137,7 @@ fn spread(tag: u8, bytes: &[u8]) -> [u8; 8]
     word
 }
 
-/// Unpacks the group of zero words at the front of `rest`, of this `size`, to `out` from offset `fill` on.
+/// Unpacks the group of zero words at the front of `rest`, of the given `size`, to `out` from offset `fill` on.
 fn put_zeros(rest: &[u8], size: Size, out: &mut [u8], fill: usize)
     requires inside { 2 ≤ length rest.now }
     requires tag { slice_index rest.now 0 ≡ 0 }
@@ -164,7 +164,7 @@ fn put_named(rest: &[u8], size: Size, out: &mut [u8], fill: usize)
     store(out, fill, &word);
 }
 
-/// Unpacks the group of raw words at the front of `rest`, of this `size`, to `out` from offset `fill` on.
+/// Unpacks the group of raw words at the front of `rest`, of the given `size`, to `out` from offset `fill` on.
 fn put_raw(rest: &[u8], size: Size, out: &mut [u8], fill: usize)
     requires tag { slice_index rest.now 0 ≡ 255 }
     requires bytes { size.bytes ≡ 10 + 8 * slice_index rest.now 9 }
@@ -177,7 +177,7 @@ fn put_raw(rest: &[u8], size: Size, out: &mut [u8], fill: usize)
     store(out, fill + 8, &rest[10..size.bytes]);
 }
 
-/// Unpacks the group at the front of `rest`, of this `size`, to `out` from offset `fill` on.
+/// Unpacks the group at the front of `rest`, of the given `size`, to `out` from offset `fill` on.
 pub(crate) fn put_group(rest: &[u8], size: Size, out: &mut [u8], fill: usize)
     requires some { 0 < length rest.now }
     requires bytes { size.bytes ≡ len_at rest.now }

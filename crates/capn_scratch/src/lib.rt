@@ -1,9 +1,9 @@
 //! Canonical bytes of a message in any form, with no allocator.
 //!
 //! [`canonical_into_form`] writes the canonical bytes of the value that bytes denote, in any of the three forms, into a
-//! buffer of the caller, as `capn_canon::canonical_into` does for a message. The caller lends the words that are needed
-//! on the way: those that a packed text unpacks to, and the ends of more than 64 segments. If they are too few, the
-//! refusal says how many are needed. [`FormRefusal`] has no variant for memory.
+//! buffer of the caller. The caller also lends the words that are needed on the way: for the words that a packed text
+//! unpacks to, and for the ends of more than 64 segments. If the lent words are too few, the refusal has the number
+//! needed. [`FormRefusal`] has no variant for memory.
 //!
 //! ```text
 //! let mut scratch = [[0; 8]; 512];
@@ -15,12 +15,12 @@
 //! }
 //! ```
 //!
-//! For any bytes, form, limits, scratch and buffer, it succeeds if and only if three conditions hold. The bytes denote
-//! a value without capabilities within the limits, the scratch has as many words as they take, and the buffer has room
-//! for the canonical bytes. It then writes exactly those. Otherwise it returns the first refusal, and the buffer is as
-//! it was. The clauses say so, by the definitions of `specs/Theorem.antt`, `specs/FormRefusal.antt` and
-//! `specs/Needs.antt`. [`laws`] states that they allow no second result, and that no input needs more words than are
-//! enough for its form.
+//! For any bytes, form, limits, scratch and buffer, the call succeeds if and only if three conditions hold. The bytes
+//! denote a value without capabilities within the limits, the scratch has as many words as the bytes take, and the
+//! buffer has room for the canonical bytes. The call then writes exactly the canonical bytes. Otherwise it returns the
+//! first refusal, and the buffer is as it was. The clauses state this, by the definitions of `specs/Theorem.antt`,
+//! `specs/FormRefusal.antt` and `specs/Needs.antt`. [`laws`] states that the clauses allow only one result, and that no
+//! input needs more words than are enough for its form.
 //!
 //! No call takes memory, or an allocator.
 #![tactic(auto)]
@@ -37,5 +37,5 @@ mod unpacked;
 pub use canonical_form::canonical_into_form;
 pub use refusal::FormRefusal;
 
-// The types in the signatures above.
+// The types that the signatures of this crate name.
 pub use capn_canon::{BareFault, CanonicalLength, Form, FrameFault, Limits, Stopped, UnpackFault};

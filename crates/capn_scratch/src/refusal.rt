@@ -1,16 +1,16 @@
-//! The reasons why canonical bytes are not written with words that the caller lends.
+//! The type `FormRefusal`: the reasons why canonical bytes are not written in words that the caller lends.
 
 use capn_canon::{BareFault, FrameFault, IntoRefusal, Stopped, UnpackFault};
 use std::error::Error;
 use std::fmt;
 
-/// The reason why the canonical bytes of bytes in a form are not written, in the order in which the tests are made.
-/// Packed bytes are unpacked, the bytes are read as a message, and the message is walked, searched for a capability,
-/// and written. `NoScratch` has two places in this order: before the frame is read, if the unpacked words have no room,
-/// and after it, if the ends of its segments have none. (Own.)
+/// The reason why canonical bytes are not written for bytes in a form, in the order in which the tests are made. Packed
+/// bytes are unpacked, the bytes are read as a message, and the message is walked, searched for a capability, and
+/// written. `NoScratch` has two places in this order: before the frame is read, if the unpacked words have no room, and
+/// afterwards, if the ends of the segments have none. (Our own.)
 ///
-/// There is no variant for memory, since none is taken. Some of the faults have one, for calls that take an allocator,
-/// but the clauses exclude it here.
+/// There is no variant for memory, since nothing is allocated. Some of the faults have such a variant, for calls that
+/// take an allocator, but the clauses exclude it here.
 #[derive(Clone, Copy, Debug, PartialEq, Eq)]
 pub enum FormRefusal {
     /// A fault of the form `Bare`: the bytes are not whole words, or are too many.
@@ -26,8 +26,8 @@ pub enum FormRefusal {
     Trailing(u64),
     /// The scratch is too short.
     NoScratch {
-        /// The number of words that are needed. If the unpacked words have no room, it is their number. If the ends of
-        /// the segments have none, it is the number of the ends, with that of the unpacked words if there are any.
+        /// The number of words that are needed. If the unpacked words have no room, it is the number of unpacked words.
+        /// If the ends of the segments have no room, it is the number of ends and of unpacked words together.
         needed: usize,
     },
     /// The place and the reason at which the walk stopped, if the message is not accepted. The fault is never `Memory`.
@@ -38,7 +38,7 @@ pub enum FormRefusal {
     NoRoom {
         /// The length of the canonical bytes.
         needed: usize,
-        /// The words that the walk of the message pays.
+        /// The number of words that the walk of the message pays.
         paid: u32,
     },
 }

@@ -1,4 +1,4 @@
-//! A message in borrowed bytes, with the ends of its segments in words that the caller lends.
+//! A message in borrowed bytes, with the ends of the segments in words that the caller lends.
 
 ghost use Rattle.std.specs.Prelude.{◌≡◌};
 ghost use Rattle.capn_stream.specs.Cuts.{AreEnds, cut};
@@ -8,9 +8,9 @@ use crate::ends::{end_of, start_of};
 use capn_words::{Bare, Place, Space};
 use std::marker::Model;
 
-/// A message whose segments follow one another in borrowed bytes. Contracts see it as the list of their words.
+/// A message whose segments follow one another in borrowed bytes. In contracts it is the list of its segments.
 ///
-/// The words are not copied. The ends of all segments but the last are borrowed too, so the type takes no memory, and
+/// The words are not copied. The ends of all segments but the last are borrowed too. So the type takes no memory, and
 /// finds every segment in constant time.
 #[derive(Drop)]
 pub(crate) struct ScratchSegments<'a> {

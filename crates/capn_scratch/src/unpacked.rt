@@ -1,4 +1,4 @@
-//! The words of a packed text: their number, and their bytes in a buffer.
+//! The unpacking of a packed text in two steps: the number of its words, and the words written into a buffer.
 
 ghost use Rattle.std.specs.Prelude.{◌≡◌, ◌≢◌, ℕ, ◌*◌, ◌≤◌, List, length, take, IfOk, IfErr};
 ghost use Rattle.capn_pack.specs.Packed.{Packs};
@@ -7,12 +7,11 @@ ghost use Rattle.capn_pack.specs.UnpackRefusal.{IsUnpackRefused};
 use crate::group::{Stop, put_group, size_of};
 use capn_pack::UnpackFault;
 
-/// Returns the number of words that the packed text `bytes` unpacks to, if they are at most `max_words`. It writes
-/// nothing.
+/// Returns the number of words, at most `max_words`, that the packed text `bytes` unpacks to. Nothing is written.
 ///
 /// Each refusal has the offset of a group's tag. A group is refused by `Cut` if its head is cut, else by `TooLong` if
-/// its words would exceed `max_words`, else by `Cut` if its raw words are cut. `Memory` and `Failed` are never
-/// returned.
+/// the words of the group would exceed `max_words`, else by `Cut` if the raw words are cut. `Memory` and `Failed` are
+/// never returned.
 pub(crate) fn unpacked_words(bytes: &[u8], max_words: usize) -> Result<usize, UnpackFault>
     ensures found { IfOk result (λ n. (text : List ℕ) × Packs bytes.now text × (length text ≡ 8 * n)) }
     ensures within { IfOk result (λ n. n ≤ max_words) }
@@ -34,10 +33,10 @@ pub(crate) fn unpacked_words(bytes: &[u8], max_words: usize) -> Result<usize, Un
     Ok(max_words - room)
 }
 
-/// Unpacks the packed text `bytes` to the beginning of `out`, if it has at most `max_words` words, and returns their
-/// number. The contents of `out` after them, or after a refusal, are not specified.
+/// Unpacks the packed text `bytes` to the beginning of `out`, if it unpacks to at most `max_words` words. Returns the
+/// number of words written. The contents of `out` after those words, or after a refusal, are not specified.
 ///
-/// It refuses what [`unpacked_words`] refuses.
+/// The refusals are those of [`unpacked_words`].
 pub(crate) fn unpack_into(
     bytes: &[u8],
     max_words: usize,

@@ -4,10 +4,10 @@ use Rattle.std.specs.Int.{w64, from_le_bytes}
 use Rattle.capn_stream.specs.Cuts.{ends_from}
 use Rattle.capn_stream.specs.FrameRefusal.{entries, entry_number}
 
--- the numbers that words of 8 bytes hold, the least significant byte first
+-- the numbers that words of 8 bytes encode, the least significant byte first
 abbrev pub numbers : List (List ℕ) → List ℕ
 numbers words = map (λ word. from_le_bytes w64 word) words
 
--- the ends of all segments but the last, in words, as the segment table at the front of `bs` announces them
+-- the ends of all segments but the last, counted in words, as the segment table at the front of `bs` announces them
 abbrev pub announced_ends : List ℕ → List ℕ
 announced_ends bs = ends_from 0 (entries (entry_number bs) (drop 4 bs))

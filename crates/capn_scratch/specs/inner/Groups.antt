@@ -6,8 +6,9 @@ use Rattle.capn_scratch.specs.declared.group.Size.{Size}
 use Rattle.capn_scratch.specs.declared.group.Stop.{Stop}
 use Rattle.capn_scratch.specs.declared.group.Stop.TheVariants as stops
 
--- The result for the group at the front of `rest` is its numbers of bytes and words, if it is whole and its words have
--- room. Otherwise it says that the group is cut, or has more words than there is room for.
+-- The result for the group at the front of `rest` is the number of bytes and the number of words of the group, if the
+-- group is whole and the words have room. Otherwise the result says that the group is cut, or has more words than there
+-- is room for.
 abbrev pub SizeGives : List ℕ → ℕ → Result Size Stop → Type 0
 SizeGives rest room (Ok size) =
     (size.bytes ≡ len_at rest) × (size.words ≡ words_at rest) × (0 < size.bytes) × (size.bytes ≤ length rest)
