@@ -1,4 +1,4 @@
--- The owner of a word of canonical bytes, if the message is the same before that word. (For `Leaving`.)
+-- The owner of a word of canonical bytes, if the message has the same words before that word. (For `Leaving`.)
 use Rattle.std.proofs.Common.{◌≡◌, ◌⊎◌, inl, inr, ℕ, suc, ◌+◌, ◌-◌, ◌*◌, ◌^◌, ◌<◌, ◌≤◌}
 use Rattle.std.proofs.Common.{List, [], ◌∷◌, ◌++◌, length, slice_index}
 use Rattle.std.proofs.Common.{refl, ap, sym, subst, ◌∙◌, arith}
@@ -28,14 +28,14 @@ use Rattle.capn_mismatch.proofs.NumbersTold.{numbers-told, words-told}
 module _ (ws cs : List ℕ) (base k : ℕ) (small : length cs ≤ 2 ^ 29)
     (same : (j : ℕ) → j < k → slice_index ws j ≡ slice_index cs j)
     (each : (j : ℕ) → slice_index ws j < 2 ^ 64) where
-  -- the message, and its canonical bytes as a message
+  -- the message with the segment ws, and the message with the canonical words as its segment
   abbrev pub n : List (List ℕ)
   n = ws ∷ []
 
   abbrev pub m : List (List ℕ)
   m = cs ∷ []
 
-  -- ---- one of several slots or rows: the first, or another
+  -- ---- one of several slots or rows: the first, or a later one
 
   pub of-first : (t : Tree) (ts : Trees) (p to d : ℕ) → Slots ws cs base k (tree t ts) p to d
       → (k < to + size t) ⊎ (to + size t ≤ k) → (Slot ws cs base k t p to d → Told ws cs base k (visits m base d (here

@@ -30,14 +30,14 @@ names-cap (Ok (targets.Content s start shape pads)) k e = absurd cc
 names-cap (Err f) k e = absurd cc
 
 module _ {G : Type 0} (m : List (List ℕ)) where
-  -- if a search for a capability finds nothing at visits that pay, they meet no capability
+  -- if a search for a capability finds nothing at visits that pay, the visits meet no capability
   none-of : (aim after : G) (vs : List Visit) → AllPay vs → IsPassed m capability same aim vs after
       → first_cap_of m vs ≡ None
   none-of aim after [] all h = refl
   none-of aim after (pays at n ∷ vs) all h = ap₂ option_or h.0 (none-of aim after vs all h.1)
   none-of aim after (fails at e ∷ vs) all h = absurd all
 
-  -- if the next visit is the first at which a capability is found, it is the first capability of all visits
+  -- if a capability is found at a visit and at no visit before, the capability is the first capability of all visits
   next-is : (aim last : G) (before : List Visit) (here : Visit) (behind : List Visit) (k : ℕ)
       → AllPay (before ++ here ∷ behind) → IsPassed m capability same aim before last
       → cap_of (target m (place_of here)) ≡ Some k → first_cap_of m (before ++ here ∷ behind) ≡ Some k
@@ -61,7 +61,7 @@ module _ {G : Type 0} (m : List (List ℕ)) (limits : Bounds) (aim : G) where
   caps-are : (v : Tree) → IsValueOf m limits v → first_cap_of m all ≡ first_cap v
   caps-are v i = caps-at m b v root limits.depth i.is (at-root v i).all
 
-  -- a search through all visits finds a capability if the value has one
+  -- a search through all visits finds a capability if the value has a capability
   pub some-found : (v : Tree) (k : ℕ) → IsValueOf m limits v → first_cap v ≡ Some k
       → IsWithoutFind m capability same limits.depth root aim → ⊥
   some-found v k i e f =

@@ -13,7 +13,7 @@ use Rattle.capn_canon.specs.Measure.{IsCanonicalOf}
 use Rattle.capn_canon.specs.declared.surveyed_bare.SurveyedBare.{SurveyedBare}
 use Rattle.capn_mismatch.proofs.Mismatching.{one-value}
 
--- the value has no capability, and its canonical bytes are those of the words
+-- the value has no capability, and the canonical bytes are the bytes of the words
 abbrev Is : List ℕ → Tree → Type 0
 Is ws v = (first_cap v ≡ None) × (canon v ≡ bytes ws)
 

@@ -52,7 +52,7 @@ module _ (m : List (List ℕ)) (limits : Bounds) (ws cs : List ℕ) (message : I
   each : (j : ℕ) → slice_index ws j < 2 ^ 64
   each j = subst (λ (n : List (List ℕ)). slice_index (segment_at n 0) j < 2 ^ 64) c.one (message.each 0 j)
 
-  -- the claim for a word before which the words are the same
+  -- the claim for word k, if the words before word k are the same
   told-of : (k : ℕ) → take k ws ≡ take k cs → k < length cs
       → Told ws cs b k (visits (cs ∷ []) b limits.depth root)
   told-of k same lt =
@@ -71,7 +71,7 @@ module _ (m : List (List ℕ)) (limits : Bounds) (ws cs : List ℕ) (message : I
       from (inl s) = absurd (d.differ (d.one ∙ s ∙ sym d.other))
       from (inr o) = o
 
-  -- the message doesn't end before its canonical words do
+  -- the message doesn't end before the canonical words end
   pub not-short : (k y : ℕ) → GoesOn cs ws k y → ⊥
   not-short k y g =
       let e = g.ended in

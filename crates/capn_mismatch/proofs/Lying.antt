@@ -1,4 +1,4 @@
--- Words that lie at a place of other words. (For `Belonging`, `NumbersTold`, `RowsTold` and others.)
+-- Words that lie at a place in a list of words. (For `Belonging`, `NumbersTold`, `RowsTold` and others.)
 use Rattle.std.proofs.Common.{◌≡◌, ℕ, ◌+◌, ◌<◌}
 use Rattle.std.proofs.Common.{List, ◌++◌, length, slice_index}
 use Rattle.std.proofs.Common.{ap, subst, ◌∙◌, arith, length-append}

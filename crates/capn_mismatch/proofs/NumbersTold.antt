@@ -35,7 +35,7 @@ use Rattle.capn_mismatch.proofs.StructsTold.{Both, both-within}
 module _ (ws cs : List ℕ) (base k : ℕ) (small : length cs ≤ 2 ^ 29)
     (same : (j : ℕ) → j < k → slice_index ws j ≡ slice_index cs j)
     (each : (j : ℕ) → slice_index ws j < 2 ^ 64) where
-  -- the message, and its canonical bytes as a message
+  -- the message with the segment ws, and the message with the canonical words as its segment
   abbrev pub n : List (List ℕ)
   n = ws ∷ []
 

@@ -1,4 +1,4 @@
--- Visits among which is that of the slot that owns a word. (For `Belonging`, `NumbersTold`, `RowsTold` and `Told`.)
+-- Visits that include the visit of the slot that owns a word. (For `Belonging`, `NumbersTold`, `RowsTold` and `Told`.)
 use Rattle.std.proofs.Common.{◌≡◌, ℕ, suc, ◌+◌, ◌-◌, ◌<◌, ◌≤◌, ◌==◌}
 use Rattle.std.proofs.Common.{◌&&◌, List, [], ◌∷◌, ◌++◌, Option}
 use Rattle.std.proofs.Common.{Some, None, Result, ap, sym, subst, ◌∙◌, arith}
@@ -39,7 +39,7 @@ module _ (cs : List ℕ) (base k : ℕ) where
   abbrev pub found : Place → Option WordKind
   found at = finds (here k) at (target m at)
 
-  -- ---- visits among which is that of the slot that owns the word
+  -- ---- the visits include the visit of the slot that owns the word
 
   abbrev pub Owned : List Visit → Type 0
   Owned vs = (after : Owner) → IsPassed m owned same aim vs after → ⊥
@@ -71,7 +71,7 @@ module _ (cs : List ℕ) (base k : ℕ) where
   pub owned-slot : (d : ℕ) → Owned (visits m base d (here k))
   owned-slot d = found-begins d (here k) finding.Pointer pointer-here
 
-  -- the visits of slots among which is the one that holds the word
+  -- the visits of slots include the visit of the slot that owns the word, if one of the slots is at the word
   pub owned-among : (p c d : ℕ) → p ≤ k → k < p + c → Owned (flat_map (visits m base d) (places 0 p c))
   owned-among p c d le lt =
       let i = k - p in

@@ -24,7 +24,7 @@ use Rattle.capn_layout.specs.Layout.{struct_to, list_to}
 abbrev pub here : ℕ → Place
 here w = record { segment = 0; word = w }
 
--- the width is not that of rows
+-- the width is not `Rows`
 abbrev pub IsFlat : Width → Type 0
 IsFlat Rows = ⊥
 IsFlat width = Unit {0}
@@ -90,7 +90,7 @@ module _ (ws : List ℕ) where
       ∙ listed (p + 1 + o) n k flat
       ∙ ap (λ (q : ℕ). if_inside only 0 q (content_words k n) (Ok (targets.Content 0 q (shapes.Many k n) 0))) z
 
-  -- the target of the pointer to a list of structs, given its tag
+  -- the target of the pointer to a list of structs, given the list's tag
   pub rows-named : (p to d : ℕ) → p < to → to < 2 ^ 29 → d < 2 ^ 29 → slice_index ws p ≡ list_to p to Rows d
       → target only (here p) ≡ if_inside only 0 to (1 + d) (tagged only 0 to 0 d (slice_index ws to))
   rows-named p to d order small hd e =
@@ -99,7 +99,7 @@ module _ (ws : List ℕ) where
       names p (Many (pos o) Rows d) (ap pointer_of e ∙ pointer_of-word_of (Many (pos o) Rows d) (omega arith, hd))
       ∙ ap (λ (q : ℕ). if_inside only 0 q (1 + d) (tagged only 0 q 0 d (slice_index ws q))) z
 
-  -- the target of a list of structs with this tag
+  -- the target of a list of structs whose tag is w
   pub tag-named : (to c a b d w : ℕ) → w ≡ word_of (Node (pos c) a b) → c < 2 ^ 30 → a < 2 ^ 16 → b < 2 ^ 16
       → c * (a + b) ≤ d → tagged only 0 to 0 d w ≡ Ok (targets.Content 0 to (shapes.Rows c a b d) 0)
   tag-named to c a b d w i hc ha hb fit =

@@ -1,4 +1,4 @@
--- Slots that are reached, step by step. (For the cycle `descent` and `slot_of`.)
+-- The slots that a descent reaches, step by step. (For the cycle `descent` and `slot_of`.)
 use Rattle.std.proofs.Common.{◌≡◌, ℕ, suc, ◌+◌, ◌-◌, ◌*◌, ◌<◌, List, [], ◌∷◌, ◌++◌, length, Some, Ok}
 use Rattle.std.proofs.Common.{refl, ap, sym, ◌∙◌, arith, append_assoc, length-append}
 use Rattle.std.proofs.lemmas.List.{append-nil}
@@ -92,7 +92,7 @@ module _ (m : List (List ℕ)) (base : ℕ) (word : Place) where
     leads = stays m base d at;
   }
 
-  -- the word's owner is reached from the slot that names an object, if it is reached from the object
+  -- if the word's owner is reached from an object, the owner is reached from the slot that names the object
   pub reaches-object : (d : ℕ) (at : Place) (s start pads : ℕ) (shape : Shape) (old new : List ℕ) (x : WordKind)
       → target m at ≡ Ok (targets.Content s start shape pads) → 0 < d
       → ReachesBelow m base word (d - 1) (slot s start) shape old new x → Reaches m base word d at old new x
@@ -106,7 +106,7 @@ module _ (m : List (List ℕ)) (base : ℕ) (word : Place) where
         leads = goes-down m base d at s start pads shape h.rest h.to h.number e some h.leads;
       }
 
-  -- the word's owner is reached from an object, if it is reached from one of its slots
+  -- if the word's owner is reached from a slot of an object, the owner is reached from the object
   pub reaches-below : (d s start row i : ℕ) (shape : Shape) (at : Place) (old pushed new : List ℕ) (x : WordKind)
       → AreIn s start shape row i at → pushed ≡ old ++ numbers shape row i → Reaches m base word d at pushed new x
       → ReachesBelow m base word d (slot s start) shape old new x

@@ -48,7 +48,7 @@ module _ (m : List (List ℕ)) (limits : Bounds) (message : IsMessage m) (cheap 
         let l = length-canon v (sound v fits range) in
         omega arith
 
-    -- the canonical bytes are those of the canonical words
+    -- the canonical bytes are the bytes of the canonical words
     pub bare : IsBare (canon v) (words v)
     bare = record { same = refl; each = words_are_words v fits range; room = (room v fits range).2 }
 

@@ -1,4 +1,4 @@
--- The owner of a word of a list of structs, or of a word below it. (For `Belonging`.)
+-- The owner of a word of a list of structs, or of a word below the list. (For `Belonging`.)
 use Rattle.std.proofs.Common.{◌≡◌, ◌⊎◌, inl, inr, ℕ, suc, ◌+◌, ◌-◌, ◌*◌, ◌^◌, ◌<◌, ◌≤◌, ◌==◌}
 use Rattle.std.proofs.Common.{◌&&◌, List, [], ◌∷◌, ◌++◌, length, slice_index}
 use Rattle.std.proofs.Common.{Some, Ok, Result, pos, refl, ap, ap₂, sym, subst, ◌∙◌, arith}
@@ -32,7 +32,7 @@ use Rattle.capn_mismatch.proofs.Told.{OwnRows, Slot, Told, rows-own, RowSlots, b
 
 module _ (ws cs : List ℕ) (base k : ℕ) (small : length cs ≤ 2 ^ 29)
     (same : (j : ℕ) → j < k → slice_index ws j ≡ slice_index cs j) where
-  -- the message, and its canonical bytes as a message
+  -- the message with the segment ws, and the message with the canonical words as its segment
   abbrev pub n : List (List ℕ)
   n = ws ∷ []
 

@@ -1,4 +1,5 @@
--- The owner of a word of a struct or of a list of pointers, or of a word below it. (For `Belonging` and `NumbersTold`.)
+-- The owner of a word of a struct or of a list of pointers, or of a word below that object. (For `Belonging` and
+-- `NumbersTold`.)
 use Rattle.std.proofs.Common.{◌≡◌, ◌⊎◌, inl, inr, ℕ, ◌+◌, ◌-◌, ◌^◌, ◌<◌, ◌≤◌}
 use Rattle.std.proofs.Common.{Bool, true, false, List, [], ◌∷◌, ◌++◌, length, take, slice_index}
 use Rattle.std.proofs.Common.{Ok, refl, ap, ap₂, sym, subst, ◌∙◌, arith}
@@ -32,7 +33,7 @@ none-kept b n e = grind (arith, nat_tests)
 some-kept : (n : ℕ) → kept_behind false n ≡ 0 → ⊥
 some-kept n e = grind (arith, nat_tests)
 
--- slots of which none is kept have nothing below them
+-- if no slot is kept, nothing is below the slots
 no-sizes : (ss : Trees) → kept_slots ss ≡ 0 → sizes ss ≡ 0
 no-sizes no_trees e = refl
 no-sizes (tree nil ts) e = let f = no-sizes ts (none-kept true (kept_slots ts) e) in omega arith
@@ -45,7 +46,7 @@ no-sizes (tree (rows bs) ts) e = absurd (some-kept (kept_slots ts) e)
 
 module _ (ws cs : List ℕ) (base k : ℕ) (small : length cs ≤ 2 ^ 29)
     (same : (j : ℕ) → j < k → slice_index ws j ≡ slice_index cs j) where
-  -- the message, and its canonical bytes as a message
+  -- the message with the segment ws, and the message with the canonical words as its segment
   abbrev pub n : List (List ℕ)
   n = ws ∷ []
 

@@ -1,5 +1,5 @@
--- Either a word is the same as in the canonical words, or one of some visits is of the slot that owns it. (For
--- `Belonging`, `Leaving`, `NumbersTold` and others.)
+-- Either a word is the same as in the canonical words, or the visits include the visit of the slot that owns the word.
+-- (For `Belonging`, `Leaving`, `NumbersTold` and others.)
 use Rattle.std.proofs.Common.{◌≡◌, ◌⊎◌, inl, inr, ℕ, suc, ◌+◌, ◌-◌, ◌*◌, ◌<◌, ◌≤◌}
 use Rattle.std.proofs.Common.{List, [], ◌∷◌, ◌++◌, length, drop, slice_index}
 use Rattle.std.proofs.Common.{Ok, ap, ap₂, sym, ◌∙◌, arith}
@@ -26,14 +26,15 @@ pub decided : (x y : ℕ) → (x < y) ⊎ (y ≤ x)
 decided x y = grind arith
 
 module _ (ws cs : List ℕ) (base k : ℕ) where
-  -- the message, and its canonical bytes as a message
+  -- the message with the segment ws, and the message with the canonical words as its segment
   abbrev pub n : List (List ℕ)
   n = ws ∷ []
 
   abbrev pub m : List (List ℕ)
   m = cs ∷ []
 
-  -- ---- the word is the same, or one of the visits is of the slot that owns it
+  -- ---- the word is the same in the message and in the canonical words, or the visits include the visit of the slot
+  -- that owns the word
 
   abbrev pub Same : Type 0
   Same = slice_index ws k ≡ slice_index cs k
@@ -45,7 +46,7 @@ module _ (ws cs : List ℕ) (base k : ℕ) where
   told vs us f (lt, inl s) = (lt, inl s)
   told vs us f (lt, inr o) = (lt, inr (f o))
 
-  -- a word of an object is the same
+  -- a word of an object's own data is the same in the message and in the canonical words
   pub same-word : (at : ℕ) (xs : List ℕ) → AreWordsAt n 0 at xs → Lies cs at xs → at ≤ k → k < at + length xs → Same
   same-word at xs s h le lt =
       let j = k - at in
@@ -55,7 +56,7 @@ module _ (ws cs : List ℕ) (base k : ℕ) where
       let c = ap (λ (ys : List ℕ). slice_index ys j) s in
       ap (slice_index ws) (sym e) ∙ sym b ∙ sym a ∙ c ∙ sym (h j (omega arith)) ∙ ap (slice_index cs) e
 
-  -- ---- rows, split into the first and the others
+  -- ---- rows, split into the first row and the rest
 
   module _ (a b : ℕ) (xs : List ℕ) (ss : Trees) (bs : Bodies) (p q : ℕ) (la : length xs ≡ a) (lb : count ss ≡ b)
       (h : Lies cs p (row_contents a b (body xs ss bs) p q)) where
@@ -165,7 +166,7 @@ module _ (ws cs : List ℕ) (base k : ℕ) where
       told rest (visits m base d (here p)) (λ o. owned-as cs base k (visits m base d (here p)) (one ∷ rest)
       (visits-object m base (here p) s start pads shape e d deep) (owned-right cs base k (one ∷ []) rest o)) h
 
-  -- the claim for slots at the beginning of an object, or behind its words
+  -- the claim for slots at the beginning of an object, or after the object's data words
   pub slots-told : (ts : Trees) (p d : ℕ) → AreAt n 0 p ts → Sounds ts
       → Lies cs p (points ts p (p + count ts) ++ lays ts (p + count ts)) → p + count ts + sizes ts ≤ length cs → p ≤ k
       → k < p + count ts + sizes ts → p + count ts ≤ length ws → greatest ts ≤ d

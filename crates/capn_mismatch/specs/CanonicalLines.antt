@@ -1,4 +1,5 @@
--- The lines that say whether an accepted message is canonical, and how long it is. (Own.)
+-- The lines that say whether an accepted message is canonical, and how long the message and the canonical bytes are.
+-- (Our own.)
 use Rattle.std.specs.Prelude.{◌≡◌, ◌≢◌, ◌⊎◌, ℕ, ◌+◌, ◌*◌, List, ◌++◌, length, Option, Some, None, codes, refl}
 use Rattle.std.specs.Fmt.{decimal, digits}
 use Rattle.capn_words.specs.Message.{total}
@@ -16,12 +17,12 @@ use Rattle.capn_mismatch.specs.declared.whose.Whose.TheVariants.{Pointer, Tag, L
 use Rattle.capn_mismatch.specs.declared.canonical_lines.CanonicalLines.{CanonicalLines}
 use Rattle.capn_mismatch.specs.Mismatches.{IsMismatch}
 
--- the byte of a stream at which `word` of a message's first segment lies, behind the bytes before the message and its
--- table
+-- the byte of a stream at which `word` of a message's first segment begins, after `offset` bytes before the message and
+-- `table` words of the segment table
 abbrev pub byte_of : ℕ → ℕ → ℕ → ℕ
 byte_of offset table word = offset + 8 * (table + word)
 
--- the text that names a byte, the word at it, and the value of that word in the canonical bytes
+-- the text that names a byte, the word at that byte, and the word in the canonical bytes
 abbrev pub differs_text : ℕ → List ℕ → List ℕ → List ℕ
 differs_text byte word canonical =
     codes "no: at byte " ++ (decimal byte ++ (codes ": " ++ (word ++ (codes ", canonical " ++ canonical))))
@@ -51,15 +52,16 @@ module _ {A : Type 0} where
       codes "canonical: " ++ (mismatch_text lines.offset lines.table lines.mismatch ++ (codes "\n"
       ++ lengths_line lines.lengths))
 
--- the number of bytes of a message's contents, and that of its canonical bytes; they are given if the message isn't
--- canonical, has no capability, and the two differ
+-- the two lengths are the number of bytes of a message's contents and the number of canonical bytes; the lengths are
+-- given if they differ, the message isn't canonical, and the value `v` has no capability
 abbrev pub AreLengths : List (List ℕ) → Tree → Option (ℕ × ℕ) → Type 0
 AreLengths message v (Some lengths) =
     (IsCanonicalOf message v → ⊥) × (first_cap v ≡ None) × (lengths.0 ≡ 8 * total message)
     × (lengths.1 ≡ length (canon v)) × (lengths.0 ≢ lengths.1)
 AreLengths message v None = IsCanonicalOf message v ⊎ (first_cap v ≢ None) ⊎ (8 * total message ≡ length (canon v))
 
--- `lines` are those of an accepted message whose table begins at byte `offset` and has `table` words
+-- the message is accepted and begins at byte `offset` with a table of `table` words, and `lines` are the lines about
+-- the message
 pub record AreLinesOf {A : Type 0} (message : List (List ℕ)) (limits : Bounds) (offset table : ℕ)
     (lines : CanonicalLines A) : Type 0 where
   pub value : Tree
@@ -69,7 +71,7 @@ pub record AreLinesOf {A : Type 0} (message : List (List ℕ)) (limits : Bounds)
   pub offset_is : lines.offset ≡ offset
   pub table_is : lines.table ≡ table
 
--- ---- examples: the byte of the third word behind a table of one word, and two segments
+-- ---- examples: the byte of the third word after a table of one word, and the text for two segments
 
 the_third_word : byte_of 16 1 2 ≡ 40
 the_third_word = refl

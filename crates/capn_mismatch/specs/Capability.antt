@@ -1,4 +1,4 @@
--- The first capability of a message, and the path to it. (Own.)
+-- The first capability of a message, and the path to that capability's slot. (Our own.)
 use Rattle.std.specs.Prelude.{◌≡◌, ℕ, List, Ok, None}
 use Rattle.capn_words.specs.declared.space.Place.{Place}
 use Rattle.capn_target.specs.declared.target.Target.TheVariants.{Cap}

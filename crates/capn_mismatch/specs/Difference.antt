@@ -1,7 +1,7 @@
--- The difference of two lists of words. (Own.)
+-- The difference of two lists of words. (Our own.)
 use Rattle.std.specs.Prelude.{◌≡◌, ◌≢◌, ℕ, ◌<◌, List, length, take, slice_index}
 
--- the lists are the same before word k, which is x in the one and y in the other, and x is not y
+-- the lists xs and ys are the same before word k, word k is x in xs and y in ys, and x is not y
 pub record Differ (xs ys : List ℕ) (k x y : ℕ) : Type 0 where
   pub before : take k xs ≡ take k ys
   pub in_one : k < length xs

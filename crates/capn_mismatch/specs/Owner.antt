@@ -1,4 +1,4 @@
--- The owner of a word of canonical bytes. (Own.)
+-- The owner of a word of canonical bytes. (Our own.)
 use Rattle.std.specs.Prelude.{◌≡◌, ℕ, ◌+◌, ◌≤◌, List, [], ◌∷◌, Ok, ⊤}
 use Rattle.capn_words.specs.declared.space.Place.{Place}
 use Rattle.capn_words.specs.declared.pointer.Width.{Width}
@@ -16,7 +16,7 @@ use Rattle.capn_mismatch.specs.declared.whose.Whose.TheVariants.{Pointer, Tag, L
 abbrev pub place : ℕ → Place
 place w = record { segment = 0; word = w }
 
--- the word is the tag of the list of structs that a slot names
+-- the target is a list of structs, and the word is the tag of that list
 abbrev pub IsTag : ℕ → Target → Type 0
 IsTag word (targets.Content s start (shapes.Rows n a b span) pads) = (s ≡ 0) × (start ≡ word)
 IsTag word found = ⊥
@@ -29,13 +29,13 @@ IsSmall W16 = ⊤
 IsSmall W32 = ⊤
 IsSmall width = ⊥
 
--- the word is the last of a list of small numbers that a slot names, which has words
+-- the target is a list of small numbers, and the word is the last word of that list
 abbrev pub IsLastWord : ℕ → Target → Type 0
 IsLastWord word (targets.Content s start (shapes.Many width n) pads) =
     IsSmall width × (s ≡ 0) × (start ≤ word) × (start + content_words width n ≡ word + 1)
 IsLastWord word found = ⊥
 
--- the path leads from the root to a slot, and `Is` holds of its target
+-- the path leads from the root to a slot, and `Is` holds of the slot's target
 pub record LeadsTo (message : List (List ℕ)) (limits : Bounds) (path : List ℕ) (Is : Target → Type 0) : Type 0 where
   pub number : ℕ
   pub slot : Place
@@ -45,8 +45,8 @@ pub record LeadsTo (message : List (List ℕ)) (limits : Bounds) (path : List �
   pub is : Is found
 
 module _ {A : Type 0} where
-  -- the owner of a word of a message of one segment: the word is the pointer of a slot, or the tag or the last word of
-  -- its target
+  -- the owner of a word of a message of one segment: the word is the pointer of the slot to which the path leads, or
+  -- the tag or the last word of that slot's target
   abbrev pub IsOwner : List ℕ → Bounds → ℕ → Whose A → Type 0
   IsOwner words limits word (Pointer path) =
       (number : ℕ) × IsPathTo (words ∷ []) limits number path.items (place word)

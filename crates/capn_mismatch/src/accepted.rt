@@ -16,15 +16,15 @@ use capn_walk::Limits;
 use capn_words::{Memory, Space, total_words};
 use std::alloc::Allocator;
 
-/// Returns the lines about the canonical form of the accepted message `space`: whether it is canonical, and the lengths
-/// of the message and of its canonical bytes.
+/// Returns the lines about the canonical form of the accepted message `space`: whether the message is canonical, and
+/// the lengths of the message and of the canonical bytes.
 ///
-/// `measured` is the result of [`measure`](capn_canon::measure) for this message within `limits`, so it isn't surveyed
-/// again. `offset` is the byte of the stream at which the message begins. `table` is the number of words of its segment
-/// table, and 0 for a bare message. Canonical bytes are laid out once, and only for a message of one segment that is
-/// not canonical. If there are more segments, the canonical bytes are counted. `Memory` is returned only for a message
-/// of one segment that is not canonical, if a growth on `alloc` was refused. Memory: that of
-/// [`mismatch`](crate::mismatch). (Own.)
+/// `measured` is the result of [`measure`](capn_canon::measure) for `space` within `limits`, so the message isn't
+/// surveyed again. `offset` is the byte of the stream at which the message begins. `table` is the number of words of
+/// the message's segment table, or 0 for a bare message. Canonical bytes are laid out once, and only for a message of
+/// one segment that is not canonical. If there are more segments, the canonical bytes are counted. `Memory` is returned
+/// only for a message of one segment that is not canonical, if an allocation on `alloc` was refused. Memory: that of
+/// [`mismatch`](crate::mismatch). (Our own.)
 pub fn lines_of_measured<S: Space, A: Allocator + Copy>(
     alloc: A,
     space: &S,
@@ -34,9 +34,9 @@ pub fn lines_of_measured<S: Space, A: Allocator + Copy>(
     table: u32,
 ) -> Result<CanonicalLines<A>, Memory>
     requires measured { IsMeasure (S.message space.now) limits measured }
-    // If `result` is `Ok`, it has the lines of this message.
+    // If `result` is `Ok`, `result` has the lines of this message.
     ensures found { IfOk result (λ lines. AreLinesOf (S.message space.now) limits offset table lines) }
-    // Memory is needed only for a message of one segment that is not canonical.
+    // `Memory` is returned only for a message of one segment that is not canonical.
     ensures memory { IsErr result → HasMismatch (S.message space.now) limits }
 {
     let finding = finding_of(alloc, space, limits, measured)?;
@@ -49,8 +49,8 @@ pub fn lines_of_measured<S: Space, A: Allocator + Copy>(
     })
 }
 
-/// Returns the number of bytes of a message's contents and that of its canonical bytes, if the lines have them. `made`
-/// is the number of canonical bytes, if they were made already.
+/// Returns the number of bytes of the message's contents and the number of canonical bytes, if the line `lengths` shows
+/// them. `made` is the number of canonical bytes, if canonical bytes were made already.
 fn lengths_of<S: Space>(
     space: &S,
     limits: Limits,
@@ -76,13 +76,14 @@ fn lengths_of<S: Space>(
     Some((contents, canonical))
 }
 
-/// Returns the number of canonical bytes of a message. This is `made` if there is one, else they are counted.
+/// Returns the number of canonical bytes of a message: the number in `made`, or the result of a count if `made` is
+/// `None`.
 fn canonical_length<S: Space>(space: &S, limits: Limits, made: Option<u64>) -> u64
     requires accepted { (v : Value) × IsValueOf (S.message space.now) limits v }
     requires made { IfSome made (HasCanonicalLength (S.message space.now) limits) }
     ensures { HasCanonicalLength (S.message space.now) limits result }
 {
-    // These calls bring in the bounds of a message and of limits, which the count needs.
+    // These two calls give the prover the bounds of a message and of limits, which the count needs.
     let _segments = space.segments();
     let _budget = limits.budget();
     match made {

@@ -1,27 +1,28 @@
-//! The answer to whether a message is canonical.
+//! The result of the test whether a message is canonical.
 
 use crate::whose::Whose;
 use std::alloc::{Allocator, Global};
 
 /// The mismatch of a message with its canonical bytes: none, or the first reason why the message isn't canonical.
-/// (Own.)
+/// (Our own.)
 ///
-/// Words are counted from the first of the message's only segment.
+/// Words are numbered from 0, from the first word of the message's only segment on.
 #[derive(Debug, Drop)]
 pub enum Mismatch<A: Allocator = Global> {
-    /// The message is canonical: it has one segment, whose bytes are its canonical bytes.
+    /// The message is canonical: its only segment has the canonical bytes.
     Canonical,
-    /// The message has more than one segment. This is their number.
+    /// The message has more than one segment. The number is the number of segments.
     Segments(u32),
-    /// The value has a capability. These are the index of the first in preorder, and the path to its slot.
+    /// The value has a capability. The fields are the index of the first capability in preorder, and the path to that
+    /// capability's slot.
     Capability(u32, Vec<u32, A>),
     /// A word differs from the word at the same place in the canonical bytes.
     Word {
         /// The number of the word.
         word: u32,
-        /// Its value in the message.
+        /// The value of the word in the message.
         is: u64,
-        /// Its value in the canonical bytes.
+        /// The value of the word in the canonical bytes.
         canonical: u64,
         /// The owner of the word in the canonical bytes.
         whose: Whose<A>,
@@ -30,7 +31,7 @@ pub enum Mismatch<A: Allocator = Global> {
     After {
         /// The number of the word.
         word: u32,
-        /// Its value in the message.
+        /// The value of the word in the message.
         is: u64,
     },
 }

@@ -11,21 +11,22 @@ use std::alloc::{Allocator, Global};
 use std::fmt;
 
 /// The lines about the canonical form of an accepted message. The line `canonical` says that the message is canonical,
-/// or why not. The line `lengths` says how long it and its canonical bytes are, if that is known. (Own.)
+/// or why it isn't. The line `lengths` has the lengths of the message and of the canonical bytes, if `lengths` is
+/// `Some`. (Our own.)
 #[derive(Debug, Drop)]
 pub struct CanonicalLines<A: Allocator = Global> {
     /// `Canonical`, or the first reason why the message isn't canonical.
     pub mismatch: Mismatch<A>,
-    /// The byte of the stream at which the message begins, with its segment table if it has one.
+    /// The byte of the stream at which the message begins, including any segment table.
     pub offset: u64,
-    /// The number of words of the segment table, and 0 for a bare message.
+    /// The number of words of the segment table, or 0 for a bare message.
     pub table: u32,
-    /// The number of bytes of the message's contents, and that of its canonical bytes. They are given if the message
-    /// isn't canonical, has no capability, and the two numbers differ.
+    /// The number of bytes of the message's contents, and the number of canonical bytes. The two numbers are given if
+    /// they differ, the message isn't canonical, and the message has no capability.
     pub lengths: Option<(u64, u64)>,
 }
 
-/// Returns the byte at which `word` of the first segment lies.
+/// Returns the byte of the stream at which `word` of the first segment begins.
 fn byte_of(offset: u64, table: u32, word: u32) -> u128
     ensures { result ≡ spec.byte_of offset table word }
 {
@@ -65,7 +66,8 @@ impl<A: Allocator> CanonicalLines<A> {
     }
 }
 
-/// The line of two lengths: that of a message's contents, and that of its canonical bytes.
+/// The line `lengths`, which shows the length of a message's contents and the length of the canonical bytes; empty for
+/// `None`.
 #[derive(Drop)]
 struct LengthsLine(Option<(u64, u64)>);
 

@@ -13,9 +13,9 @@ use std::alloc::Allocator;
 
 /// Descends from the slot at `at` to the slot that owns `word`. Returns the kind of the word there.
 ///
-/// From an object it continues to the likely slot only, so it reads few words. `None` says only that this way leads to
-/// no owner. `path` has the numbers that lead to the slot at `at`. If something is found, `path` then leads to the slot
-/// of the find. If not, any numbers may have been appended.
+/// From an object the descent continues only to the likely slot, so few words are read. `None` says only that the
+/// descent met no owner. `path` has the numbers that lead to the slot at `at`. If the result is `Some`, `path` then
+/// leads to the slot that owns `word`. If the result is `None`, any numbers may have been appended to `path`.
 #[cycle(descent)]
 pub fn descend<S: Space, A: Allocator>(
     space: &S,
@@ -58,7 +58,8 @@ pub fn descend<S: Space, A: Allocator>(
     }
 }
 
-/// Descends from the object of `shape` whose content starts at `start`, as [`descend`] does.
+/// Descends from the object of `shape` whose content starts at `start` to the slot that owns `word`. The results are
+/// those of [`descend`].
 #[cycle(descent)]
 fn descend_below<S: Space, A: Allocator>(
     space: &S,

@@ -12,32 +12,32 @@ use capn_words::{Bare, Place, Space};
 pub enum Difference {
     /// The words are equal.
     None,
-    /// A word differs.
+    /// A word differs, and all words before are equal.
     Word {
         /// The number of the word.
         word: u32,
-        /// Its value in the message.
+        /// The value of the word in the message.
         is: u64,
-        /// Its value in the other words.
+        /// The value of the word in the other words.
         other: u64,
     },
-    /// The other words have ended.
+    /// The other words end before the words of the message, and are equal up to their end.
     After {
         /// The number of the word.
         word: u32,
-        /// Its value in the message.
+        /// The value of the word in the message.
         is: u64,
     },
-    /// The words of the message have ended.
+    /// The words of the message end before the other words, and are equal up to their end.
     Short {
         /// The number of the word.
         word: u32,
-        /// Its value in the other words.
+        /// The value of the word in the other words.
         other: u64,
     },
 }
 
-/// Finds the first difference between the words of the first segment of the message `space` and those of `other`.
+/// Finds the first difference between the words of the first segment of the message `space` and the words of `other`.
 pub fn first_difference<S: Space>(space: &S, other: &Bare<'_>) -> Difference
     requires message { IsMessage (S.message space.now) }
     requires other { IsMessage (other.now ∷ []) }

@@ -1,9 +1,9 @@
-//! The mismatch of a message with its canonical bytes: the first reason why it isn't canonical.
+//! The mismatch of a message with its canonical bytes: the first reason why the message isn't canonical.
 //!
-//! - [`mismatch`] tests whether a message that its walk accepts is canonical, and if not, finds the first reason. The
-//!   reasons are more segments than one, a capability, and a word that differs from the same word of the canonical
-//!   bytes.
-//! - [`Whose`] is the owner of that word, given by the path to a slot.
+//! - [`mismatch`] tests whether an accepted message is canonical, and if not, finds the first reason. The reasons are
+//!   more than one segment, a capability, a word that differs from the same word of the canonical bytes, and a word
+//!   after the end of the canonical bytes.
+//! - [`Whose`] is the owner of a word that differs, given by the path to a slot.
 //! - [`lines_of_measured`] returns the lines that explain the mismatch of an accepted message that was measured, as
 //!   [`CanonicalLines`]. [`measure_surveyed`] measures a message that was surveyed.
 //!

@@ -1,4 +1,4 @@
-//! The likely slot of an object on the way down to a word.
+//! The likely slot of an object for a descent to a word.
 
 ghost use Rattle.std.specs.Prelude.{◌≡◌, ◌+◌, ◌*◌, ◌<◌, ◌≤◌, IfSome, length};
 ghost use Rattle.capn_words.specs.Message.{IsPlace};
@@ -9,22 +9,22 @@ use crate::slot_rows::{SlotRows, slot_rows};
 use capn_target::{Shape, Target, content_words, resolve};
 use capn_words::{Place, Space};
 
-/// A slot of an object, to which the way down leads.
+/// A slot of an object, to which a descent leads.
 #[derive(Clone, Copy)]
 pub struct Step {
-    /// The number of its row.
+    /// The number of the slot's row.
     pub row: u32,
-    /// Its number in the row.
+    /// The number of the slot in the row.
     pub slot: u32,
-    /// Its place.
+    /// The place of the slot.
     pub at: Place,
 }
 
-/// Returns the slot of an object below which `word` is to be looked for.
+/// Returns the slot of the object of `shape` at `start` at or below which `word` is likely to be found.
 ///
-/// If `word` is one of the object's own, that is the slot at `word`. If it lies behind the object, it is the slot of
-/// the last object that begins at or before `word`, since canonical bytes have the word there. No contract says so,
-/// since what is found there is tested.
+/// If `word` is one of the object's own words, the likely slot is the slot at `word`. If `word` lies after the object,
+/// the likely slot is that of the last object that begins at or before `word`, since canonical bytes have the word
+/// below that slot. No clause promises so, since the caller tests every find.
 pub fn likely_step<S: Space>(space: &S, start: Place, shape: Shape, word: Place) -> Option<Step>
     requires content { IsContent (S.message space.now) start (extent shape) }
     requires rows { RowsFit shape }
@@ -102,8 +102,8 @@ fn last_before<S: Space>(space: &S, rows: SlotRows, word: Place) -> Option<u32>
     low.checked_sub(1)
 }
 
-/// Finds the first of the slots from `from` up to but not including `to` whose object has any words. Returns its
-/// number, and the word at which the object begins.
+/// Finds the first of the slots from `from` up to but not including `to` whose object has any words. Returns the number
+/// of that slot, and the word at which the slot's object begins.
 fn next_start<S: Space>(space: &S, rows: SlotRows, from: u32, to: u32) -> Option<(u32, u32)>
     requires within { AreWithin (S.message space.now) rows }
     requires some { 0 < rows.slots }
@@ -121,7 +121,7 @@ fn next_start<S: Space>(space: &S, rows: SlotRows, from: u32, to: u32) -> Option
     None
 }
 
-/// Returns the word at which the object of the slot at `at` begins, if it has words.
+/// Returns the word at which the object of the slot at `at` begins, if the object has words.
 fn start_at<S: Space>(space: &S, at: Place) -> Option<u32>
     requires place { IsPlace (S.message space.now) at }
 {

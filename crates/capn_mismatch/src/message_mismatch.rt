@@ -24,31 +24,31 @@ use capn_walk::Limits;
 use capn_words::{Bare, Memory, Space};
 use std::alloc::Allocator;
 
-/// Tests whether the message `space` is canonical within `limits`, and if not, finds the first reason: its segments,
-/// its first capability, or the first word that differs from its canonical bytes.
+/// Tests whether the message `space` is canonical within `limits`, and if not, finds the first reason: the number of
+/// segments, the first capability, or the first word that is not as in the canonical bytes.
 ///
 /// `Walk` is returned if the message is not accepted within the limits. `Memory` is returned only for a message of one
-/// segment that is not canonical, if a growth on `alloc` was refused. There is no other refusal. Memory: the canonical
-/// bytes while it looks for the word, and the path, which has at most two numbers for each level of the depth limit.
-/// (Own.)
+/// segment that is not canonical, if an allocation on `alloc` was refused. There is no other refusal. Memory: the
+/// canonical bytes during the search for the word, and the path, with at most two numbers for each level of the depth
+/// limit. (Our own.)
 pub fn mismatch<S: Space, A: Allocator + Copy>(
     alloc: A,
     space: &S,
     limits: Limits,
 ) -> Result<Mismatch<A>, Refusal>
-    // If `result` is `Ok`, it is the mismatch of the message.
+    // If `result` is `Ok`, `result` has the mismatch of the message.
     ensures found { IfOk result (λ d. IsMismatch (S.message space.now) limits d) }
-    // `result` says that the message is canonical if and only if it is.
+    // `result` says that the message is canonical if and only if the message is canonical.
     ensures canonical { IfOk result (λ d. (v : Value) → IsValueOf (S.message space.now) limits v
         → AnswersCanonical d ↔ IsCanonicalOf (S.message space.now) v) }
-    // `result` says that the message has more than one segment if and only if it has.
+    // `result` says that the message has more than one segment if and only if the number of segments is not 1.
     ensures segments { IfOk result (λ d. AnswersSegments d ↔ (length (S.message space.now) ≢ 1)) }
-    // An accepted message gives `Ok`, unless memory runs out.
+    // An accepted message gives `Ok`, unless an allocation is refused.
     ensures only { (v : Value) → IsValueOf (S.message space.now) limits v
         → MatchResult result (λ d. ⊤) (λ e. e ≡ refusals.Memory) }
-    // Any refusal is `Memory`, or `Walk` with the stop of this message's walk.
+    // Any refusal is `Memory`, or `Walk` with the stop of the walk of `space`.
     ensures refused { IfErr result (λ e. IsUnaccepted (S.message space.now) limits e) }
-    // Memory is needed only for a message of one segment that is not canonical.
+    // `Memory` is returned only for a message of one segment that is not canonical.
     ensures memory { IsErrOf result refusals.Memory → HasMismatch (S.message space.now) limits }
 {
     let measured = measure(alloc, space, limits)?;
@@ -87,8 +87,8 @@ pub fn finding_of<S: Space, A: Allocator + Copy>(
     }
 }
 
-/// Finds the mismatch of a message of one segment that is not canonical and has canonical bytes. The message is read as
-/// that segment alone.
+/// Finds the mismatch of a message of one segment that is not canonical and has canonical bytes. Only that segment is
+/// read.
 fn from_only_segment<S: Space, A: Allocator + Copy>(
     alloc: A,
     space: &S,
@@ -116,7 +116,7 @@ fn from_canonical<S: Space, A: Allocator + Copy>(
     ensures found { IfOk result (λ f. IsMismatch (S.message space.now) limits f.mismatch) }
     ensures made { IfOk result (λ f. IfSome f.length (HasCanonicalLength (S.message space.now) limits)) }
 {
-    // These calls bring in the bounds of a message and of limits, which the layout needs.
+    // These two calls give the prover the bounds of a message and of limits, which the layout needs.
     let _segments = space.segments();
     let _budget = limits.budget();
     let bytes = surveyed_layout(alloc, space, limits.depth(), paid)?;
@@ -141,7 +141,7 @@ fn apart<S: Space, A: Allocator + Copy>(
     requires differs { segment_at (S.message space.now) 0 ≢ canonical.now }
     ensures { IfOk result (λ d. IsMismatch (S.message space.now) limits d) }
 {
-    // These calls bring in the bounds of a message and of limits, which the clauses need.
+    // These four calls give the prover the bounds of the messages and of limits, which the clauses need.
     let _segments = space.segments();
     let _other = canonical.segments();
     let _budget = limits.budget();

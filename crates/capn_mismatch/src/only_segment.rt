@@ -1,4 +1,4 @@
-//! A message of one segment, read as that segment alone.
+//! A message of one segment, read as a bare segment.
 
 ghost use Rattle.std.specs.Prelude.{◌≡◌, [], ◌∷◌, length};
 

@@ -36,7 +36,7 @@ pub fn owner<A: Allocator + Copy>(
 }
 
 /// Finds the slot that owns `word`. Returns the kind of the word there, and the path to the slot. The direct descent is
-/// tried first. The full search that follows always succeeds.
+/// tried first. If the descent finds no slot, a full search follows, which always finds the slot.
 fn slot_of<A: Allocator + Copy>(
     alloc: A,
     canonical: &Bare<'_>,

@@ -13,7 +13,7 @@ pub struct SlotRows {
     pub at: Place,
     /// The number of rows. A struct and a list of pointers are one row.
     pub count: u32,
-    /// The number of data words of a row, which lie before its slots.
+    /// The number of data words of a row, which lie before the row's slots.
     pub words: u32,
     /// The number of slots of a row.
     pub slots: u32,

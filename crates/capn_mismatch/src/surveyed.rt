@@ -13,11 +13,12 @@ use capn_canon::{MeasuredBare, SurveyedBare, survey_canonical};
 use capn_walk::{Limits, Measured};
 use capn_words::Space;
 
-/// Measures the accepted message `space` from its survey. Returns what [`measure`](capn_canon::measure) does.
+/// Measures the accepted message `space`, given the result of a survey. The measure is the one that
+/// [`measure`](capn_canon::measure) returns.
 ///
-/// `surveyed` is the result of [`survey_depth`](capn_walk::survey_depth) for this message within `limits`. A message of
-/// one segment is read once more, in one pass up to the word at which it leaves the canonical form. It takes no memory.
-/// (Own.)
+/// `surveyed` is the result of [`survey_depth`](capn_walk::survey_depth) for `space` within `limits`. A message of one
+/// segment is read once more, in one pass up to the word at which the message leaves the canonical form. No memory is
+/// taken. (Our own.)
 pub fn measure_surveyed<S: Space>(space: &S, limits: Limits, surveyed: Measured) -> MeasuredBare
     requires survey { IsSurvey (S.message space.now) limits surveyed.survey }
     requires depth { IsDepth (S.message space.now) limits surveyed.depth }

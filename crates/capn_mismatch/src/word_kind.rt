@@ -7,7 +7,8 @@ use capn_path::Aim;
 use capn_target::{Fault, Shape, Target, content_words};
 use capn_words::{Place, Width};
 
-/// The aim that finds the slot that owns a word. A slot owns its pointer, and the tag or the last word of its object.
+/// The aim that finds the slot that owns a word. A slot owns the slot's pointer, and the tag or the last word of the
+/// object that the pointer names.
 #[derive(Drop)]
 pub struct Owner {
     /// The place of the word.
@@ -21,7 +22,7 @@ pub enum WordKind {
     Pointer,
     /// The word is the tag of the list of structs that the slot names.
     Tag,
-    /// The word is the last of the list of small numbers that the slot names.
+    /// The word is the last word of the list of small numbers that the slot names.
     LastWord,
 }
 
@@ -37,8 +38,8 @@ impl Aim for Owner {
     }
 }
 
-/// Returns the kind of `word` at the slot at `at`, if the slot owns the word. `named` is the slot's target or the fault
-/// of its pointer.
+/// Returns the kind of `word` at the slot at `at`, if the slot owns the word. `named` is the target or the fault of the
+/// slot's pointer.
 pub fn finds(word: Place, at: Place, named: Result<Target, Fault>) -> Option<WordKind>
     ensures { result ≡ search.finds word at named }
 {
@@ -51,7 +52,7 @@ pub fn finds(word: Place, at: Place, named: Result<Target, Fault>) -> Option<Wor
     }
 }
 
-/// Returns the kind of `word` in the object that a slot names, if the word is its tag or its last word.
+/// Returns the kind of `word` in the object that a slot names, if `word` is the object's tag or last word.
 fn found_in(word: Place, target: Target) -> Option<WordKind>
     ensures { result ≡ search.found_in word target }
 {

@@ -1,4 +1,4 @@
--- The slot at which a word is found, as it is reached from another slot.
+-- The slot at which a word is found, reached from another slot.
 use Rattle.std.specs.Prelude.{◌≡◌, ℕ, ◌+◌, ◌*◌, ◌<◌, ◌≤◌, ◌^◌, List, [], ◌∷◌, ◌++◌, length, Some}
 use Rattle.capn_words.specs.Message.{segment_at}
 use Rattle.capn_words.specs.declared.space.Place.{Place}
@@ -32,7 +32,7 @@ place_in rows row slot = record {
   word = rows.at.word + row * (rows.words + rows.slots) + rows.words + slot;
 }
 
--- the rows lie inside their segment, and the number of words of a row fits in 32 bits
+-- the rows lie inside a segment of the message, and the number of words of a row fits in 32 bits
 pub record AreWithin (message : List (List ℕ)) (rows : SlotRows) : Type 0 where
   pub inside : rows.at.word + rows.count * (rows.words + rows.slots) ≤ length (segment_at message rows.at.segment)
   pub small : rows.words + rows.slots < 2 ^ 32
@@ -43,7 +43,7 @@ numbers (shapes.Rows n a b span) row slot = row ∷ slot ∷ []
 numbers shape row slot = slot ∷ []
 
 module _ (m : List (List ℕ)) (base : ℕ) (word : Place) where
-  -- the new path continues the old one with the numbers that lead to a slot, at which the word has the kind `x`
+  -- the path `new` continues the path `old` with the numbers that lead to a slot, at which the word has the kind `x`
   pub record ReachesIn (Onward : List ℕ → Place → ℕ → Type 0) (old new : List ℕ) (x : WordKind) : Type 0 where
     pub rest : List ℕ
     pub is : new ≡ old ++ rest
@@ -52,11 +52,12 @@ module _ (m : List (List ℕ)) (base : ℕ) (word : Place) where
     pub found : finds word to (target m to) ≡ Some x
     pub leads : Onward rest to number
 
-  -- the slot is reached from the slot at `at`
+  -- the numbers added to the path lead from the slot at `at` to a slot, at which the word has the kind `x`
   abbrev pub Reaches : ℕ → Place → List ℕ → List ℕ → WordKind → Type 0
   Reaches depth at = ReachesIn (Leads m base depth at)
 
-  -- the slot is reached from the object of `shape` whose content starts at `start`
+  -- the numbers added to the path lead from the object of `shape` at `start` to a slot, at which the word has the kind
+  -- `x`
   abbrev pub ReachesBelow : ℕ → Place → Shape → List ℕ → List ℕ → WordKind → Type 0
   ReachesBelow depth start shape =
       ReachesIn (DescendsTo m base depth (slots start.segment start.word shape) (AreNumbersIn shape))

@@ -1,4 +1,4 @@
--- What searches among the visits of a walk find: the first capability, and the slot that owns a word.
+-- The finds of searches among the visits of a walk: the first capability, and the slot that owns a word.
 use Rattle.std.specs.Prelude.{ℕ, ◌+◌, ◌==◌, ◌&&◌, nat_lt, Bool, true, false}
 use Rattle.std.specs.Prelude.{Option, Some, None, Result, Ok, Err, if◌then◌else◌}
 use Rattle.capn_words.specs.declared.space.Place.{Place}
@@ -30,7 +30,7 @@ is_small width = false
 abbrev pub ends_at : ℕ → ℕ → ℕ → Place → Bool
 ends_at s start n place = (s == place.segment) && (nat_lt 0 n && (start + n == place.word + 1))
 
--- the kind of the word in the target of a slot, if it is its tag or its last word
+-- the kind of the word in the target of a slot, if the word is the tag or the last word of the target
 abbrev pub found_in : Place → Target → Option WordKind
 found_in word (targets.Content s start (shapes.Rows n a b span) pads) =
     if is_at s start word then Some found.Tag else None
@@ -43,19 +43,19 @@ abbrev pub found_there : Place → Result Target Fault → Option WordKind
 found_there word (Ok named) = found_in word named
 found_there word (Err e) = None
 
--- the kind of the word at the slot that owns it, as the slot's pointer or a word of its target
+-- the kind of the word at the slot at `at`, if the word is the slot's pointer or a word that the slot's target owns
 abbrev pub finds : Place → Place → Result Target Fault → Option WordKind
 finds word at named = if is_at at.segment at.word word then Some found.Pointer else found_there word named
 
--- what the search for the owner of a word finds at a slot
+-- the find of a search for the owner of a word at a slot
 abbrev pub owned : Owner → Place → Result Target Fault → Option WordKind
 owned aim = finds aim.word
 
 module _ {G : Type 0} where
-  -- what the search for a capability finds at a slot, which is the capability's index
+  -- the find of a search for a capability at a slot, which is the capability's index
   abbrev pub capability : G → Place → Result Target Fault → Option ℕ
   capability aim at named = cap_of named
 
-  -- the aim after a visit, which no visit changes
+  -- the aim after a visit, which is the aim before the visit
   abbrev pub same : G → G
   same aim = aim
