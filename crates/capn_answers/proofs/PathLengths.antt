@@ -1,4 +1,4 @@
--- A path has at most two numbers for each level of depth. (For `SurveyedMismatches` and `WalksTold`.)
+-- Lemmas: a path has at most two numbers for each level of depth. (For `SurveyedMismatches` and `WalksTold`.)
 use Rattle.std.proofs.Common.{ℕ, zero, suc, ◌*◌, ◌≤◌, List, [], ◌∷◌, length, ap, arith, inl, inr, eq-zero-or-pos}
 use Rattle.std.proofs.lemmas.List.{length-append}
 use Rattle.capn_words.specs.declared.space.Place.{Place}
@@ -37,7 +37,7 @@ few (targets.Cap index) k [] h = absurd h
 few (targets.Cap index) k (slot ∷ []) h = omega arith
 few (targets.Cap index) k (slot ∷ (x ∷ xs)) h = absurd h
 
--- each step of a path goes one level of depth down
+-- each step of a path leads one level of depth down
 short : (m : List (List ℕ)) (b depth : ℕ) (from : Place) (path : List ℕ) (to : Place) (between : ℕ)
     → Leads m b depth from path to between → length path ≤ 2 * depth
 short m b zero from [] to between h = omega arith
@@ -48,7 +48,7 @@ short m b (suc depth) from (i ∷ path) to between h =
     let later = short m b depth h.slot h.rest to h.later h.onward in
     omega (arith, two, later, ap length h.is, length-append h.numbers h.rest)
 
--- the path to the slot at which a walk stopped is short enough
+-- the path to the slot at which a walk stopped has at most two numbers for each level of the depth limit
 pub stop_short : (m : List (List ℕ)) (limits : Bounds) (s : Stopped) (path : List ℕ) → IsRefusedAt m limits s path
     → length path ≤ 2 * limits.depth
 stop_short m limits s path h = elim (eq-zero-or-pos s.visits) [
@@ -57,7 +57,7 @@ stop_short m limits s path h = elim (eq-zero-or-pos s.visits) [
       short m (base limits.tariff) limits.depth root path s.place _ (h.leads p)
 ]
 
--- the path to the slot that owns a word is short enough
+-- the path to the slot that owns a word has at most two numbers for each level of the depth limit
 owner_short : {A : Type 0} (canonical : List ℕ) (limits : Bounds) (w : ℕ) (whose : Whose A)
     → IsOwner canonical limits w whose → length (owner_path whose) ≤ 2 * limits.depth
 owner_short canonical limits w (Pointer path) (n, leads) =

@@ -1,4 +1,4 @@
--- The mismatch of a message with its canonical bytes, for bytes in a form. (Own.)
+-- The mismatch of a message with its canonical bytes, for bytes in a form. (Our own.)
 use Rattle.std.specs.Prelude.{◌⊎◌, ℕ, List, []}
 use Rattle.capn_walk.specs.Limits.{Bounds}
 use Rattle.capn_canon.specs.MemoryNeed.{MayNeedMemory}
@@ -10,20 +10,19 @@ use Rattle.capn_mismatch.specs.declared.answer.Mismatch.TheVariants.{Canonical, 
 use Rattle.capn_mismatch.specs.declared.whose.Whose.{Whose}
 use Rattle.capn_mismatch.specs.declared.whose.Whose.TheVariants.{Pointer, Tag, LastWord}
 
--- `bs` are read as a message whose mismatch with its canonical bytes is `d`
+-- `bs` are read as a message, and `d` is the mismatch of that message with its canonical bytes
 pub record IsMismatchIn {A : Type 0} (form : Form) (bs : List ℕ) (limits : Bounds) (d : Mismatch A) : Type 0 where
   pub message : List (List ℕ)
   pub reads : Reads form bs limits.message_words message
   pub is : IsMismatch message limits d
 
--- `bs` are read as a message of one segment, which is accepted and isn't canonical
+-- `bs` are read as a message of one segment that is accepted and isn't canonical
 pub record HasMismatchIn (form : Form) (bs : List ℕ) (limits : Bounds) : Type 0 where
   pub message : List (List ℕ)
   pub reads : Reads form bs limits.message_words message
   pub mismatched : HasMismatch message limits
 
--- finding the mismatch of `bs` may need memory: to read them, or since they are a message of one segment that isn't
--- canonical
+-- finding the mismatch of `bs` may need memory: to read `bs`, or for a message of one segment that isn't canonical
 abbrev pub MayNeedMismatch : Form → List ℕ → Bounds → Type 0
 MayNeedMismatch form bs limits = MayNeedMemory form bs limits ⊎ HasMismatchIn form bs limits
 
@@ -34,7 +33,7 @@ module _ {A : Type 0} where
   owner_path (Tag path) = path.items
   owner_path (LastWord path) = path.items
 
-  -- the path in a mismatch, or no numbers if its kind has none
+  -- the path in a mismatch, or no numbers if that kind of mismatch has no path
   abbrev pub path_of : Mismatch A → List ℕ
   path_of Canonical = []
   path_of (Segments n) = []

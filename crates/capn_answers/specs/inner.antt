@@ -1,1 +1,2 @@
+-- Definitions that no public clause cites.
 pub mod Answered

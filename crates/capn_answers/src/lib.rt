@@ -1,11 +1,12 @@
-//! Calls that explain one message, in any of the three forms of its bytes: the path to a refusal, and its mismatch.
+//! Calls that explain why one message, in any of the three forms, is refused or is not canonical.
 //!
-//! - [`walk_in`] returns the survey of the message or, if its walk is refused, the reason and the path to the slot at
-//!   which it stopped.
-//! - [`mismatch_and_survey_in`] finds the first word at which an accepted message differs from its canonical bytes, and
-//!   the reason, and returns its survey.
+//! - [`walk_in`] returns the survey of the message. If the walk is refused, it returns the reason and the path to the
+//!   slot at which the walk stopped.
+//! - [`mismatch_and_survey_in`] finds the first reason why an accepted message is not canonical, such as the first word
+//!   that differs from the canonical bytes. It also returns the survey of the message.
 //!
-//! Both read the bytes once. Bytes that are no message are refused as by [`capn_canon::survey_bytes`].
+//! Both calls read the bytes once. Bytes that are no message are refused with the refusal of
+//! [`capn_canon::survey_bytes`].
 //!
 //! ```text
 //! match walk_in(alloc, Form::Packed, bytes, limits)? {
@@ -23,7 +24,7 @@ pub use mismatch_input::{SurveyedMismatch, mismatch_and_survey_in};
 pub use path_input::walk_in;
 pub use walked::Walked;
 
-// The types in the signatures above.
+// The types that the signatures of this crate name.
 pub use capn_canon::{Form, Refusal};
 pub use capn_mismatch::{Mismatch, Whose};
 pub use capn_path::Refused;

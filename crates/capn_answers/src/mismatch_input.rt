@@ -1,4 +1,4 @@
-//! The call `mismatch_and_survey_in`: the first difference between a message in any form and its canonical bytes.
+//! The call `mismatch_and_survey_in`, which finds the first reason why a message in any form is not canonical.
 
 ghost use Rattle.std.specs.Prelude.{◌≡◌, ◌≤◌, ◌*◌, length, ⊤, IfOk, IfErr, IsErrOf, MatchResult};
 ghost use Rattle.capn_value.specs.Tree.{Tree as Value};
@@ -16,16 +16,16 @@ use capn_walk::{Limits, Surveyed};
 use capn_words::Space;
 use std::alloc::{Allocator, Global};
 
-/// The mismatch of a message with its canonical bytes, and its survey.
+/// The mismatch of a message with its canonical bytes, and the survey of the message.
 #[derive(Debug, Drop)]
 pub struct SurveyedMismatch<A: Allocator = Global> {
     /// `Canonical`, or the first reason why the message is not canonical.
     pub mismatch: Mismatch<A>,
-    /// The survey, as [`capn_canon::survey_bytes`] returns it.
+    /// The survey that [`capn_canon::survey_bytes`] returns for the message.
     pub survey: Surveyed,
 }
 
-/// The task of `mismatch_and_survey_in`: surveys the message that was read, and finds its mismatch.
+/// The task of `mismatch_and_survey_in`: surveys a message, and finds the first reason why it is not canonical.
 #[derive(Clone, Copy)]
 struct MismatchTask;
 
@@ -48,26 +48,25 @@ impl<A: Allocator + Copy> MessageTask<A> for MismatchTask {
     }
 }
 
-/// Tests whether the message that `bytes` encode in `form` is canonical within `limits`. If it is not, finds the first
-/// reason: its segments, its first capability, or the first word that differs from its canonical bytes. Returns that
-/// with the survey of [`capn_canon::survey_bytes`]. A path has at most two numbers for each level of the depth limit.
-/// The bytes are read once.
+/// Tests whether the message that `bytes` encode in `form` is canonical within `limits`. If the message is not
+/// canonical, finds the first reason: several segments, the first capability, or the first word that differs from the
+/// canonical bytes. Returns the mismatch with the survey of [`capn_canon::survey_bytes`]. A path has at most two
+/// numbers for each level of the depth limit. The bytes are read once.
 ///
-/// It refuses what [`capn_canon::survey_bytes`] refuses, with the same refusal. `Memory` is returned only if a growth
-/// on `alloc` was refused. Memory is taken for the table of a frame of more than 64 segments and for the words that are
-/// unpacked. A message of one segment that is not canonical also takes it for its canonical bytes and for the path.
-/// (Own.)
+/// The refusals are those of [`capn_canon::survey_bytes`]. `Memory` is returned only if an allocation on `alloc` was
+/// refused. Memory is taken for the ends of more than 64 segments and for the unpacked words. A message of one segment
+/// that is not canonical also takes memory for its canonical bytes and for the path. (Our own.)
 pub fn mismatch_and_survey_in<A: Allocator + Copy>(
     alloc: A,
     form: Form,
     bytes: &[u8],
     limits: Limits,
 ) -> Result<SurveyedMismatch<A>, Refusal>
-    // If `result` is `Ok`, it has the first reason why the message is not canonical, or says that it is.
+    // If `result` is `Ok`, `mismatch` is the first reason why the message is not canonical, or `Canonical`.
     ensures found { IfOk result (λ d. IsMismatchIn form bytes.now limits d.mismatch) }
-    // If `result` is `Ok`, the bytes are an accepted message, and the survey is that of the message.
+    // If `result` is `Ok`, the bytes are an accepted message, and `survey` is the survey of that message.
     ensures surveyed { IfOk result (λ d. Surveys form bytes.now limits d.survey) }
-    // If the bytes denote a value, `result` is `Ok`, unless memory runs out.
+    // If the bytes denote a value, `result` is `Ok` or `Memory`.
     ensures only { (v : Value) → Denotes form bytes.now limits v
         → MatchResult result (λ d. ⊤) (λ e. e ≡ refusals.Memory) }
     // A path has at most two numbers for each level of the depth limit.
@@ -77,7 +76,7 @@ pub fn mismatch_and_survey_in<A: Allocator + Copy>(
     // `Memory` is returned only for the ends of more than 64 segments, for the words that a packed text unpacks to, or
     // for a message of one segment that is not canonical.
     ensures memory { IsErrOf result refusals.Memory → MayNeedMismatch form bytes.now limits }
-    // The walk pays at most the budget, also if it is refused.
+    // The walk pays at most the budget, also if the message is refused.
     ensures bounded { MatchResult result (λ d. IsBounded limits.budget d.survey.paid d.survey.visits)
         (λ e. IsPaidWithin limits.budget e) }
 {

@@ -1,4 +1,4 @@
-//! The call `walk_in`: the walk of a message in any form, and the path to the slot at which it stopped.
+//! The call `walk_in`, which walks a message in any form and finds the path to the slot at which the walk stopped.
 
 ghost use Rattle.std.specs.Prelude.{◌≡◌, ◌≤◌, ◌*◌, length, IfOk, IfErr, IsErrOf, MatchResult};
 ghost use Rattle.capn_value.specs.Tree.{Tree as Value};
@@ -41,33 +41,32 @@ impl<A: Allocator + Copy> MessageTask<A> for Walk {
     }
 }
 
-/// Walks the message that `bytes` encode in `form` within `limits`. Returns its survey or, if the walk is refused, the
-/// place, the reason and the path to the slot at which it stopped. A path has at most two numbers for each level of the
-/// depth limit. The bytes are read once.
+/// Walks the message that `bytes` encode in `form` within `limits`. Returns the survey of the message. If the walk is
+/// refused, returns the place, the reason and the path to the slot at which the walk stopped. A path has at most two
+/// numbers for each level of the depth limit. The bytes are read once.
 ///
-/// An `Err` says why the bytes are no message. It is never a refusal of the walk or of a capability. `Memory` is
-/// returned only if a growth on `alloc` was refused: for the table of a frame of more than 64 segments, for the words
-/// that are unpacked, or for the path. It walks a message twice at most. (Own.)
+/// An `Err` says why the bytes are no message, or is `Memory`. It is never a refusal of the walk or of a capability.
+/// `Memory` is returned only if an allocation on `alloc` was refused: for the ends of more than 64 segments, for the
+/// unpacked words, or for the path. A message is walked at most twice. (Our own.)
 pub fn walk_in<A: Allocator + Copy>(
     alloc: A,
     form: Form,
     bytes: &[u8],
     limits: Limits,
 ) -> Result<Walked<A>, Refusal>
-    // `Accepted` has the survey of the message. `Refused` has the stop of its walk, and the path that leads to the
-    // slot.
+    // `Accepted` has the survey of the message. `Refused` has the stop of the walk, and the path to the stop.
     ensures found { IfOk result (λ w. IsWalkedIn form bytes.now limits w) }
-    // If the bytes denote a value, `result` is `Accepted`, unless memory runs out.
+    // If the bytes denote a value, `result` is `Accepted` or `Memory`.
     ensures only { (v : Value) → Denotes form bytes.now limits v
         → MatchResult result (λ w. AnswersAccepted w) (λ e. e ≡ refusals.Memory) }
     // A path has at most two numbers for each level of the depth limit.
     ensures short { IfOk result (λ w. length (walked_path w) ≤ 2 * limits.depth) }
-    // If `result` is `Err(e)`, the reason that `e` gives is true.
+    // If `result` is `Err(e)`, and `e` is not `Memory`, the reason that `e` gives is true.
     ensures refused { IfErr result (λ e. IsUnread form bytes.now limits e) }
     // `Memory` is returned only for the ends of more than 64 segments, for the words that a packed text unpacks to, or
     // for the path of a message whose walk is refused.
     ensures memory { IsErrOf result refusals.Memory → MayNeedItsPath form bytes.now limits }
-    // The walk pays at most the budget, also if it is refused.
+    // The walk pays at most the budget, also if the message is refused.
     ensures bounded { IfOk result (λ w. IsWalkedWithin limits.budget w) }
 {
     run_task(alloc, &mut Walk, form, bytes, limits)

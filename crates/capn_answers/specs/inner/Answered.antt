@@ -16,13 +16,13 @@ use Rattle.capn_answers.specs.declared.mismatch_input.SurveyedMismatch.{Surveyed
 use Rattle.capn_answers.specs.declared.walked.Walked.{Walked}
 use Rattle.capn_answers.specs.declared.walked.Walked.TheVariants as walks
 
--- `message` is accepted with the survey returned; or its walk stops as returned, with the path to the slot at which it
--- stopped
+-- `message` is accepted with the survey returned; or the walk of `message` stops at the place and for the reason
+-- returned, with the path to the slot of the stop
 abbrev pub IsWalked : {A : Type 0} → List (List ℕ) → Bounds → Walked A → Type 0
 IsWalked message limits (walks.Accepted s) = IsSurvey message limits s
 IsWalked message limits (walks.Refused f) = IsRefusedAt message limits f.stopped f.path.items
 
--- `r` has the outcome of the walk of `message`; memory runs out only for the path of one that is refused
+-- `r` is the outcome of the walk of `message`, or `Memory`; `Memory` is returned only if the walk is refused
 pub record IsWalkTold {A : Type 0} (message : List (List ℕ)) (limits : Bounds) (r : Result (Walked A) Refusal)
     : Type 0 where
   pub found : IfOk r (λ w. IsWalked message limits w)
@@ -30,7 +30,8 @@ pub record IsWalkTold {A : Type 0} (message : List (List ℕ)) (limits : Bounds)
   pub memory : IfErr r (λ e. (e ≡ refusals.Memory)
       × ((s : Stopped) × IsWalkRefused message limits s.fault s.place s.paid s.visits))
 
--- `r` has the mismatch of `message` with its canonical bytes, and its survey, or the reason why it isn't accepted
+-- `r` is the mismatch of `message` with its canonical bytes and the survey, or the reason why `message` isn't accepted;
+-- `Memory` is returned only if `message` may need it for the mismatch
 pub record IsMismatchSurveyed {A : Type 0} (message : List (List ℕ)) (limits : Bounds)
     (r : Result (SurveyedMismatch A) Refusal) : Type 0 where
   pub found : IfOk r (λ d. IsMismatch message limits d.mismatch)
