@@ -1,4 +1,4 @@
--- Lemmas for `read_bare` and `run_bare`: how a run over a bare input ends, from what was read of it.
+-- Lemmas for `read_bare` and `run_bare`: the end of a run over a bare input, derived from what was read.
 use Rattle.std.proofs.Common.{◌≡◌, ◌⊎◌, ◌↔◌, inl, inr, ℕ, ◌<◌, ◌≤◌, List, [], ◌∷◌, ◌++◌, length, take, Bool, true}
 use Rattle.std.proofs.Common.{false, Option, None, Some, IfSome, Result, Ok, Err, Vec, OnOk, IsErrOf, IsOkUnless, refl}
 use Rattle.std.proofs.Common.{ap, sym, subst, ◌∙◌, append-nil, arith, length-append}
@@ -28,7 +28,7 @@ Ending = Result (Unit {0}) RunFault
 abbrev stopped : RunFault → Ending
 stopped fault = Err fault
 
--- an input was not read to its end, or is no segment
+-- An input was not read to its end, or is not one segment.
 abbrev Unread : Position → Option (List ℕ) → Option (List ℕ) → Bool → RunFault → Type 0
 Unread at a b failed fault =
     IsUntaken a b failed fault ⊎ ((bytes : List ℕ) × HasGivenAll a b failed bytes × IsUnbare at bytes fault)
@@ -95,7 +95,7 @@ module _ {X : Type 0} (f : Fold X) (x y : X) (going : f.done x ≡ false) (a b c
   none_needed : (bytes : List ℕ) → f.done x ≡ true → bytes ≡ []
   none_needed bytes done = absurd (not_both (f.done x) done going)
 
-  -- Case: nothing is written of the bytes.
+  -- Case: nothing is written for the bytes.
   ends_none : (d : Option (List ℕ)) (failed : Bool) (bytes : List ℕ) (fault : RunFault) → HasGivenAll a b failed bytes
       → IsUnbare (f.place x) bytes fault ⊎ RefusesBare f x bytes fault → Appends c d [] → Leaves f x fault y
       → IfSome a (EndsAs f x c d (Err fault) y)
@@ -123,7 +123,7 @@ module _ {X : Type 0} (f : Fold X) (x y : X) (going : f.done x ≡ false) (a b c
         written = inl (Appends-nil c);
       }
 
-  -- Case: more is served, and nothing was written.
+  -- Case: the state `x` is not done, and nothing was written.
   heard_none : (d : Option (List ℕ)) → Appends c d [] → IfGoing (f.done x) (Appends c d [])
   heard_none d wrote = if_going (f.done x) (Appends c d []) going wrote
 
@@ -145,7 +145,7 @@ module _ {X : Type 0} (f : Fold X) (x y : X) (going : f.done x ≡ false) (a b c
   known bytes fault (inr (words, r, bare, refuses, is)) io =
       let bad : faults.Refused (f.place x) r ≡ faults.Io = sym is ∙ io in cc
 
-  -- Case: the input was not read to its end, or is no segment.
+  -- Case: the input was not read to its end, or is not one segment.
   pub runs_unread : (r w : Bool) (fault : RunFault) → w ≡ false → Unread (f.place x) a b r fault → x ≡ y
       → RunsBare f x a b c c r w (Err fault) y
   runs_unread r w fault good (inl (bytes, inl (h, inl (memory, some)))) same = record {
@@ -217,7 +217,7 @@ module _ {X : Type 0} (f : Fold X) (x y : X) (going : f.done x ≡ false) (a b c
         let begun = begun_less c d count text (adds_begun c (outgoing d kept) (take count text) adds) in
         inr (text, mid, begun.0, (words, bare, step), begun.1)
 
-    -- Case: nothing is written of the message.
+    -- Case: nothing is written for the message.
     runs_none : (d : Option (List ℕ)) (kept : List ℕ) (fault : RunFault) → w ≡ false
         → IsUnbare (f.place x) bytes fault ⊎ RefusesBare f x bytes fault → Adds (sent c) (outgoing d kept) []
         → Leaves f x fault y → RunsBare f x a b c d r w (Err fault) y
@@ -305,7 +305,7 @@ module _ {X : Type 0} (f : Fold X) (x y : X) (going : f.done x ≡ false) (a b c
         (subst (λ (l : List ℕ). OnOk ending (Appends d e l)) is ok)
         (subst (λ (l : List ℕ). HasBegun d e l) is begun) io only
 
--- Case: no more is served before the first read.
+-- Case: the service is done before the first read.
 pub runs_done : {X : Type 0} (f : Fold X) (x : X) (a c : Option (List ℕ)) (r w : Bool) → f.done x ≡ true → r ≡ false
     → w ≡ false → RunsBare f x a a c c r w (Ok tt) x
 runs_done f x a c r w done fine good = record {

@@ -1,4 +1,4 @@
--- Lemmas for `serve_form_with`: the messages of an input in each form, served by the loop of that form, for any fold.
+-- Lemmas for `serve_form_with`: for any fold, the loop of each form serves the messages of an input in that form.
 use Rattle.std.proofs.Common.{inl, inr, ℕ, List, [], Option, Some, None, IfSome, Bool, Result, Ok, Err, IfErr, refl}
 use Rattle.std.specs.Prelude.{⊤}
 use Rattle.capn_canon.specs.declared.form.Form.TheVariants as forms
@@ -12,7 +12,7 @@ use Rattle.capn_serve.specs.BareRun as bares
 abbrev Served : Type 0
 Served = Result (Unit {0}) RunFault
 
--- Nothing is stated about the bytes that are held of a bare input.
+-- The definitions state nothing about the bytes that are held of a bare input.
 pub came_bare : (a : Option (List ℕ)) (r : Served) → IfSome a (λ input. IfErr r (λ e. ⊤))
 came_bare None r = tt
 came_bare (Some input) (Ok u) = tt

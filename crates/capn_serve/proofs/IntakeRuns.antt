@@ -1,4 +1,5 @@
--- Lemmas for `serve_pieces`: the run of an intake between two chunks and at its end, and what it says of the input.
+-- Lemmas for `serve_pieces`: the run of an intake between two chunks and at its end, and what the run states about its
+-- input.
 use Rattle.std.proofs.Common.{◌≡◌, ◌⊎◌, ◌↔◌, inl, inr, ℕ, ◌+◌, ◌-◌, ◌<◌, ◌≤◌, min, List, [], ◌++◌, length, take, Bool}
 use Rattle.std.proofs.Common.{true, false, Option, Some, None, IfSome, Result, Ok, Err, refl, ap, sym, subst, ◌∙◌}
 use Rattle.std.proofs.Common.{arith, append-nil, length-append, length-take-le}
@@ -44,7 +45,7 @@ pub not_broken : {I X : Type 0} {takes : Taking I X} {gives : Giving I X} {done 
     → Feeds takes gives done bytes c d e failed (Ok u) s y → failed ≡ false
 not_broken {failed = failed} fed = unless_true failed (λ is. (let bad = fed.broken.1 is in cc))
 
--- Case: no more is served before the first read.
+-- Case: the service is done before the first read.
 pub run_none : {I X : Type 0} (takes : Taking I X) (gives : Giving I X) (done : X → Bool) (limit : ℕ) (s : I) (x : X)
     (a c : Option (List ℕ)) (rf wf : Bool) → rf ≡ false → wf ≡ false → takes s x [] c c
     → Over (gives s x) [] c c (Ok tt) → Reads takes gives done limit s x a a c c rf wf (Ok tt)
@@ -194,7 +195,7 @@ module _ {I X : Type 0} (takes : Taking I X) (gives : Giving I X) (done : X → 
 
 -- ---- what a run says of its input
 
--- A statement that holds for every rest of an input holds for the input, if that is known.
+-- A statement that holds for every rest of an input holds for the input, if the input is known.
 known : (a b : Option (List ℕ)) (bytes : List ℕ) (P : List ℕ → Type 0) → Consumes a b bytes
     → ((more : List ℕ) → (IsAtEnd b → more ≡ []) → P (bytes ++ more)) → IfSome a P
 known None b bytes P read h = tt

@@ -1,4 +1,5 @@
--- Lemmas on a stream that is served in chunks: more bytes of it, and the places where a run stops. (For `serve_bytes`.)
+-- Lemmas on a stream that is served in chunks: the effect of further bytes, and the places where a run stops. (For
+-- `serve_bytes`.)
 use Rattle.std.proofs.Common.{◌≡◌, ◌≢◌, inl, inr, ℕ, ◌+◌, ◌≤◌, List, [], ◌∷◌, ◌++◌, length, take, Bool, true}
 use Rattle.std.proofs.Common.{false, Option, Result, Err, refl, ap, sym, subst, ◌∙◌, append-nil, append_assoc}
 use Rattle.std.proofs.Math.Seq.{take-append-add, take-length}
@@ -81,7 +82,7 @@ module _ {X : Type 0} (f : Fold X) where
     subst (Adds a b) (sym (append-nil text)) wrote,
   )
 
-  -- All of the texts are a prefix of the texts.
+  -- If all texts were added, a prefix of the texts was added.
   pub tells_begun : (x y : X) (stream rest : List ℕ) (a b : Outgoing) → Tells f x stream rest a b y
       → TellsBegun f x stream a b
   tells_begun x y stream rest a b (parts, are, adds) = (
@@ -96,7 +97,8 @@ module _ {X : Type 0} (f : Fold X) where
   begun_none : (x : X) (stream : List ℕ) (a b : Outgoing) → Adds a b [] → TellsBegun f x stream a b
   begun_none x stream a b adds = ([], stream, x, 0, parts_none x stream, adds)
 
-  -- A prefix of the texts after some messages, added after theirs, is a prefix of the texts of the whole stream.
+  -- If all texts of some messages were added, and then a prefix of the texts after them, a prefix of the texts of the
+  -- whole stream was added.
   pub begun_behind : (x y : X) (s mid e : List ℕ) (a b c : Outgoing) → Tells f x s mid a b y
       → TellsBegun f y (mid ++ e) b c → TellsBegun f x (s ++ e) a c
   begun_behind x y s mid e a b c told (parts, rest, z, count, are, adds) =
@@ -181,7 +183,7 @@ module _ {X : Type 0} (f : Fold X) where
     due = inl refl;
   }
 
-  -- Case: no frame can follow.
+  -- Case: no frame can follow, because the segment table is refused.
   pub stops_framed : (x : X) (stream : List ℕ) (a : Outgoing) (failed : Bool) (e : FrameFault) → failed ≡ false
       → e ≢ frame_faults.Memory → IsHeadRefused stream f.most e → f.done x ≡ false
       → Stops f x stream a a failed (faults.Refused (f.place x) (refusals.Frame e)) x
@@ -221,7 +223,7 @@ module _ {X : Type 0} (f : Fold X) where
         ends = ends_going f x (stream ++ more) behind _ going (inl (frame_faults.TooManyWords n, other, stop, refl));
       }
 
-  -- A prefix of the text of the first message was added.
+  -- If a prefix of the text of the first message was added, a prefix of the texts of the whole stream was added.
   begun_one : (x : X) (frame e : List ℕ) (message : List (List ℕ)) (a b : Outgoing) → Frames frame message
       → total message ≤ f.most → f.done x ≡ false → AddsBeginning (f.step x frame message) a b
       → TellsBegun f x (frame ++ e) a b
@@ -235,7 +237,7 @@ module _ {X : Type 0} (f : Fold X) where
     subst (λ (t : List ℕ). Adds a b (take count t)) (sym (append-nil text)) adds,
   )
 
-  -- Case: a message is refused, or memory was, or the writer failed.
+  -- Case: a message is refused, or memory was refused, or the writer failed.
   pub stops_message : (x y : X) (frame e : List ℕ) (message : List (List ℕ)) (a b : Outgoing) (failed : Bool)
       (fault : RunFault) → Frames frame message → total message ≤ f.most → f.done x ≡ false
       → AddsMessage f x frame message a b failed (Err fault) y → Stops f x (frame ++ e) a b failed fault y

@@ -27,11 +27,11 @@ use Rattle.capn_serve.proofs.Sends.{adds_all, breaks_less, breaks_rest}
 use Rattle.capn_serve.proofs.More.{tells_begun, tells_more, tells_none, tells_one, stops_framed, stops_memory}
 use Rattle.capn_serve.proofs.More.{stops_message, stops_more}
 
--- No bytes, which are left after a frame was taken, are no whole frame.
+-- The empty list, which is left after a frame was taken, is no whole frame.
 pub empty_unfinished : (most : ℕ) → IsUnfinished [] most
 empty_unfinished most = inl refl
 
--- a frame has the four bytes of its count
+-- A frame has at least the four bytes of its number of segments.
 pub frame_some : (frame : List ℕ) (message : List (List ℕ)) (most : ℕ) → Frames frame message → total message ≤ most
     → 4 ≤ length frame
 frame_some frame message most is room = (frame_whole frame most (message, is, room)).0.0.0
@@ -43,7 +43,7 @@ module _ {S : Type 0} (serves : S → Position → List ℕ → List (List ℕ) 
   abbrev f : Fold (Run S)
   f = fold_until serves refuses done most
 
-  -- Messages that were served leave room for the bytes that they did not take.
+  -- After messages that were served, there is room for the bytes that follow them.
   room_after : (x y : Run S) (ps : List Part) (k : ℕ) → AreServed f x ps y
       → HasRoom x.at (length (frames_of ps) + k) → HasRoom y.at k
   room_after x y [] k is room =
@@ -68,7 +68,7 @@ module _ {S : Type 0} (serves : S → Position → List ℕ → List (List ℕ) 
         index = room.index;
       })
 
-  -- A message that was served leaves room for the bytes after it.
+  -- After a message that was served, there is room for the bytes that follow it.
   pub room_step : (x y : Run S) (frame : List ℕ) (message : List (List ℕ)) (text : List ℕ) (k : ℕ)
       → 4 ≤ length frame → f.step x frame message text y → HasRoom x.at (length frame + k) → HasRoom y.at k
   room_step x y frame message text k some step room =
@@ -79,7 +79,7 @@ module _ {S : Type 0} (serves : S → Position → List ℕ → List (List ℕ) 
 
 -- ---- a message that was held
 
--- If a framer's bytes begin with a whole message, they are that message and no more.
+-- If the bytes of a framer begin with a whole message, that message takes all of these bytes.
 pub held_whole : (rest : List ℕ) (most : ℕ) (message : List (List ℕ)) (taken : ℕ) → StandsFirst rest most message taken
     → IsFrame rest most ⊎ IsUnfinished rest most → ((m : List (List ℕ)) (t : ℕ) → StandsFirst rest most m t
     → (message ≡ m) × (taken ≡ t)) → take taken rest ≡ rest
@@ -91,7 +91,7 @@ held_whole rest most message taken first (inr (inl none)) only =
 held_whole rest most message taken first (inr (inr cut)) only =
     let bad = refused_whole rest most frame_faults.Cut (whole_of rest most message taken first) cut in absurd (cc)
 
--- If a framer's bytes begin with no whole message, they are an unfinished one.
+-- If the bytes of a framer begin with no whole message, these bytes are an unfinished message or nothing.
 pub held_open : (rest : List ℕ) (most : ℕ) (e : FrameFault) → e ≢ frame_faults.Memory
     → IsFrame rest most ⊎ IsUnfinished rest most
     → ((m : List (List ℕ)) (t : ℕ) → StandsFirst rest most m t → e ≡ frame_faults.Memory) → IsUnfinished rest most
@@ -99,13 +99,13 @@ held_open rest most e other (inl (m, frames, room)) only =
     absurd (other (only m (length rest) (stands_alone rest most m frames room)))
 held_open rest most e other (inr part) only = part
 
--- If a framer's bytes begin with a whole message, they are a frame.
+-- If the bytes of a framer begin with a whole message, these bytes are a frame.
 pub held_frame : (rest : List ℕ) (most other : ℕ) (message : List (List ℕ)) (taken : ℕ)
     → StandsFirst rest most message taken → take taken rest ≡ rest → other ≡ most → IsFrame rest other
 held_frame rest most other message taken first all same =
     (message, subst (λ (p : List ℕ). Frames p message) all first.frame, omega (arith, first.room, same))
 
--- The state of a framer after its message was taken.
+-- After its message was taken, a framer holds no bytes.
 pub cleared : (before : Framing) (got : Option (List (List ℕ))) (after : Framing) → before.failed ≡ false
     → IsFrame before.rest before.most → TakeGives before got after
     → after ≡ record { rest = []; most = before.most; failed = false }
@@ -177,7 +177,7 @@ module _ {X : Type 0} (f : Fold X) (x : X) (before : Framing) (bytes : List ℕ)
       ]
   moves (suc n) mid fed some = omega arith
 
-  -- Case: the bytes were taken, and the held message was served if it is whole.
+  -- Case: the bytes were taken, and the held message was served if that message is whole.
   pub next_ok : (y : X) (n : ℕ) (mid after : Framing) (a b : Outgoing) (failed : Bool) (u : Unit {0})
       → Feeds before bytes n mid → ServesHeld f x mid a b failed (Ok u) after y
       → ServesNext f x before bytes a b failed (Ok n) after y
@@ -289,7 +289,7 @@ whole_memory f x y bytes at a b failed told fine =
 
 -- ---- whole messages, or the next one
 
--- If no byte was served, the state is as it was.
+-- If no byte was served, the state is unchanged.
 pub state_same : {X : Type 0} (f : Fold X) (x y : X) (parts : List Part) → AreParts f x [] parts [] y → x ≡ y
 state_same f x y [] are = are.each
 state_same f x y (p ∷ ps) are =
@@ -319,7 +319,7 @@ module _ {X : Type 0} (f : Fold X) (x y : X) (before : Framing) (bytes : List �
     ),
   )
 
-  -- Case: the run stopped within these messages.
+  -- Case: the run stopped within the whole messages of the bytes.
   pub some_stop : (failed : Bool) (fault : RunFault) → before.rest ≡ [] → Stops f x bytes a b failed fault y
       → Stops f x (before.rest ++ bytes) a b failed fault y
   some_stop failed fault none stop = subst (λ (p : List ℕ). Stops f x (p ++ bytes) a b failed fault y) (sym none) stop

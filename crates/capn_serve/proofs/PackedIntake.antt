@@ -1,5 +1,5 @@
--- Lemmas for `packed_into` and the intake of a packed stream: what is served of it, how a run over it ends, and what is
--- held of its last message.
+-- Lemmas for `packed_into` and the intake of a packed stream: what the intake has served, how a run ends, and which
+-- bytes are held of the last message.
 use Rattle.std.proofs.Common.{◌≡◌, ◌≢◌, inl, inr, ℕ, ◌-◌, ◌^◌, ◌<◌, ◌≤◌, List, [], ◌∷◌, ◌++◌, length}
 use Rattle.std.proofs.Common.{take, Bool, true, false, Option, IfErr, IfSome}
 use Rattle.std.proofs.Common.{Result, Ok, Err, refl, ap, sym, subst, ◌∙◌}
@@ -49,7 +49,7 @@ Ending = Result (Unit {0}) RunFault
 abbrev stopped : RunFault → Ending
 stopped fault = Err fault
 
--- The unpacked bytes of all whole groups begin with the known bytes of the first groups.
+-- The unpacked bytes of all whole groups begin with the unpacked bytes of the first groups.
 pub split_after : (s tail words : List ℕ) → packing.Begins s [] words → (group : List ℕ) × (more : List ℕ) × (at : ℕ)
     × Splits (s ++ tail) group [] (words ++ more) at
 split_after s tail words b =
@@ -74,7 +74,7 @@ split_after s tail words b =
       },
     )
 
--- A run that ends at the end of its input does not end with Memory.
+-- The end of a run at the end of its input is not `Memory`.
 end_unrefused : (at : Position) (e : FrameFault) (group : List ℕ) (offset : ℕ) → e ≢ frames.Memory
     → end_of at e (cut_group at group offset) ≢ Err faults.Memory
 end_unrefused at frames.Empty [] offset other = λ h. cc
@@ -86,7 +86,7 @@ end_unrefused at (frames.TooManySegments n) group offset other = λ h. cc
 end_unrefused at (frames.TooManyWords n) group offset other = λ h. cc
 end_unrefused at frames.Failed group offset other = λ h. cc
 
--- A text, perhaps an empty one, was appended to the output if messages were reached.
+-- If messages were reached, a text was appended to the output, which may be empty.
 reach_wrote : {X : Type 0} (f : Fold X) (y z : X) (q : Pending) (s : List ℕ) (d e : Option (List ℕ))
     → ReachesPacked f y q s (sent d) (sent e) z → (text : List ℕ) × Appends d e text
 reach_wrote f y z q s d e (stream, begins, rest, (parts, are, adds)) =
@@ -188,7 +188,7 @@ module _ {X : Type 0} (f : Fold X) (x : X) (limit : ℕ) where
       let due = due_open y s q is_longer ending frames.Cut c d told going (λ h. cc) cut refl in
       (ending, due.0, due.1, due.2)
 
-  -- the offset of the unfinished group
+  -- The offset of the unfinished group is the number of bytes of the whole groups.
   offset_is : (y : X) (s : List ℕ) (q : Pending) (c d : Option (List ℕ))
       (told : TellsPacked f x (fresh limit) s q (sent c) (sent d) y) → length s ≤ 2 ^ 64 - 1
       → q.group.offset ≡ told.len
@@ -227,7 +227,7 @@ module _ {X : Type 0} (f : Fold X) (x : X) (limit : ℕ) where
         }),
       )
 
-  -- Case: no more is served, whatever follows.
+  -- Case: the state `y` is done, whatever bytes follow.
   gives_done : (y : X) (held : Held) (now : Framing) (s : List ℕ) (c d : Option (List ℕ)) (u : Unit {0})
       → ReachesPacked f x (fresh limit) s (sent c) (sent d) y → f.done y ≡ true
       → Over (GivesPacked f x limit held now y) s c d (Ok u)
@@ -411,7 +411,7 @@ module _ {X : Type 0} (f : Fold X) (x : X) (limit : ℕ) where
       gives_done x held now [] c c tt (reach_all f x (fresh limit) x [] (pending held now left) (sent c) (sent c) told)
       done
 
-  -- The lemmas for any intake that holds an unpacker, a framer and a number of bytes left.
+  -- The lemmas below hold for any intake that holds an unpacker, a framer and a number of bytes left.
   module _ {I : Type 0} (held : I → Held) (framer : I → Framing) (left : I → ℕ) where
     abbrev Takes : I → X → List ℕ → Option (List ℕ) → Option (List ℕ) → Type 0
     Takes s y bytes c d = TakesPacked f x limit (held s) (framer s) (left s) y bytes c d

@@ -1,5 +1,5 @@
--- Lemmas for `serve_part`, `serve_slice` and `serve_slices`: more bytes of a packed stream, and the places where a run
--- stops.
+-- Lemmas for `serve_part`, `serve_slice` and `serve_slices`: the effect of further bytes of a packed stream, and the
+-- places where a run stops.
 use Rattle.std.proofs.Common.{◌≡◌, ◌≢◌, inl, inr, ℕ, ◌+◌, ◌-◌, ◌<◌, ◌≤◌, min, List, [], ◌++◌, length, take, drop, Bool}
 use Rattle.std.proofs.Common.{true, false, Option, Some, Result, Ok, Err, nat_lt, refl, ap, sym, subst, ◌∙◌}
 use Rattle.std.proofs.Common.{append-nil, append_assoc, arith, length-append}
@@ -85,8 +85,7 @@ module _ {X : Type 0} (f : Fold X) where
     ends = ends_any y due.rest other fault apart (f.done y) due.ends behind;
   }
 
-  -- Messages that were served, followed by the text and the ending of what is after them, give those of the whole
-  -- stream.
+  -- The text and the ending of what follows some served messages give those of the whole stream.
   folded_more : (x y z : X) (s mid e more : List ℕ) (ps : List Part) (behind : Option RunFault) (ending : Ending)
       → AreParts f x s ps mid y → IsFolded f y (mid ++ e) behind more ending z
       → IsFolded f x (s ++ e) behind (texts_of ps ++ more) ending z
@@ -200,7 +199,7 @@ module _ {X : Type 0} (f : Fold X) (x y : X) (left : ℕ) (rest stream end : Lis
     ]));
   }
 
--- The bytes taken of a part, by their number.
+-- The first `within` bytes of a part are the taken bytes of that part.
 pub within_taken : (left within count : ℕ) (stream got : List ℕ) → got ≡ stream → count ≡ length stream
     → within ≡ min left count → take within got ≡ taken_of left stream
 within_taken left within count stream got same size least =
@@ -210,7 +209,7 @@ within_taken left within count stream got same size least =
       | inr short ↦ take_all within stream (omega (arith, short, size, least)) ∙ sym (take_all left stream short)
     ]
 
--- Cases: the bytes of a part that are taken were served.
+-- Cases: the taken bytes of a part were served.
 module _ {X : Type 0} (f : Fold X) (x : X) (left within count : ℕ) (rest stream got : List ℕ) (a b : Outgoing)
     (failed : Bool) (same : got ≡ stream) (size : count ≡ length stream) (least : within ≡ min left count) where
   pub part_stops : {w : X} (fault : RunFault) → Stops f x (rest ++ take within got) a b failed fault w
@@ -228,7 +227,7 @@ module _ {X : Type 0} (f : Fold X) (x : X) (left within count : ℕ) (rest strea
       (subst (λ (p : List ℕ). Tells f x (rest ++ p) end a b y)
       (within_taken left within count stream got same size least) told)
 
-  -- Case: the bytes that are taken were served, and no more is served.
+  -- Case: the taken bytes were served, and the state `y` is done.
   pub part_done : (y : X) (end : List ℕ) (room : ℕ) (before after : Framing) → before.rest ≡ rest → failed ≡ false
       → f.done y ≡ true → Tells f x (rest ++ take within got) end a b y
       → ServesPart f x left before stream a b failed (Ok tt) room after y
@@ -298,7 +297,7 @@ module _ {X : Type 0} (f : Fold X) (x y : X) (left room : ℕ) (rest mid w v : L
 
 -- ---- what was unpacked
 
--- A split that appends its words to words that were there before.
+-- A split that unpacks to `words` also appends `words` to words that were there before.
 shifted : (stream rest words old : List ℕ) (len : ℕ) → Splits stream rest [] words len
     → Splits stream rest old (old ++ words) len
 shifted stream rest words old len s = record {
@@ -340,7 +339,7 @@ module _ {X : Type 0} (f : Fold X) (x y : X) (p q : Pending) (s t : List ℕ) (a
             (tells_more f x y z (p.rest ++ w) q.rest v r.rest a b c told.told more.told);
       }
 
-  -- Messages were reached in the bytes after those that were served.
+  -- Messages that were reached in the bytes after served ones were reached in all of these bytes.
   pub packed_reach : (z : X) (c : Outgoing) → ReachesPacked f y q t b c z → ReachesPacked f x p (s ++ t) a c z
   packed_reach z c (v, begins, rest, next) =
       let w = told.stream in
@@ -391,7 +390,7 @@ module _ {X : Type 0} (f : Fold X) (x : X) (p : Pending) where
         (stops_memory f x (p.rest ++ taken_of p.left []) a failed fine),
   )
 
-  -- If all whole messages in some bytes were served, they were reached.
+  -- If all whole messages in some bytes were served, these messages were reached.
   pub reach_all : (y : X) (bytes : List ℕ) (q : Pending) (a b : Outgoing) → TellsPacked f x p bytes q a b y
       → ReachesPacked f x p bytes a b y
   reach_all y bytes q a b told = (
@@ -585,7 +584,7 @@ module _ {X : Type 0} (f : Fold X) (x y : X) (p : Pending) (next : Held) (after 
       room y) none s)
       (subst (λ (l : List ℕ). SendsRest served l d e broken failed result) is r)
 
--- Messages that were served leave room for the bytes that they did not take.
+-- After packed bytes that were served, there is room for the unpacked bytes that may still be taken.
 pub packed_room : {S : Type 0} (serves : S → Position → List ℕ → List (List ℕ) → List ℕ → S → Type 0)
     (refuses : S → Position → List ℕ → List (List ℕ) → Refusal → Type 0) (done : S → Position → Bool) (most : ℕ)
     (x y : Run S) (p q : Pending) (bytes : List ℕ) (a b : Outgoing)

@@ -58,7 +58,7 @@ module _ (most : ℕ) (ranges : List Range) (p : Picker) (same : p.rest.now ≡ 
         (subst (Follows ranges (w.at.index + 1)) (sym served.1)
         (follows_next ranges w.service.rest.now w.at.index on))
 
-    -- The relation between both runs holds after messages that the service serves.
+    -- The relation between both runs holds after any messages that the service serves.
     on : (w y : Run Picker) (ps : List Part) → AreServed until w ps y → IsOn w → IsOn y
     on w y [] is h = subst IsOn is h
     on w y (q ∷ ps) (mid, part, step, more) h = on mid y ps more (goes_on w mid q h step)
@@ -84,7 +84,7 @@ module _ (most : ℕ) (ranges : List Range) (p : Picker) (same : p.rest.now ≡ 
         → AreParts (pick_fold most) (first_run ranges) bytes ps rest (view y)
     parts_of y bytes rest ps are = record { each = served x y ps are.each starts; is = are.is }
 
-    -- If no more is served, the last number of the ranges has been reached.
+    -- If the service is done, the last number of the ranges has been reached.
     past : (y : Run Picker) → IsOn y → until.done y ≡ true → last_of ranges ≤ y.at.index
     past y h over = none_left ranges y.service.rest.now y.at.index h over
 

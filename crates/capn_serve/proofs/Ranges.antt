@@ -1,4 +1,4 @@
--- Lemmas on the ranges that are left after some messages, and all ranges. (For `run_only` and `picking`.)
+-- Lemmas on the ranges that are left after some messages, compared with all ranges. (For `run_only` and `picking`.)
 use Rattle.std.proofs.Common.{◌≡◌, ◌⊎◌, inl, inr, ℕ, ◌+◌, ◌<◌, ◌≤◌, max, List, [], ◌∷◌, Bool, true, false, nat_le}
 use Rattle.std.proofs.Common.{nat_lt, refl, sym, subst, ◌∙◌, arith}
 use Rattle.std.proofs.Math.Nat.{le-max_left, le-max_right}
@@ -47,7 +47,7 @@ behind r n high = elim (known (nat_le r.from n)) [
   | inr low ↦ rw low refl
 ]
 
--- A number above the last numbers of all ranges is in none of them.
+-- A number above the last numbers of all ranges is in none of the ranges.
 none_reached : (rs : List Range) (n : ℕ) → last_of rs < n → is_picked rs n ≡ false
 none_reached [] n h = refl
 none_reached (r ∷ rs) n h =
@@ -55,7 +55,7 @@ none_reached (r ∷ rs) n h =
     let others : last_of rs < n = omega (arith, h, le-max_right r.to (last_of rs)) in
     rw (behind r n first, none_reached rs n others) refl
 
--- A number that is not above the bound below some ascending ranges is in none of them.
+-- If ranges ascend above a bound, a number that is not above that bound is in none of the ranges.
 none_above : (rs : List Range) (before_all n : ℕ) → AreAbove before_all rs → n ≤ before_all → is_picked rs n ≡ false
 none_above [] before_all n h k = refl
 none_above (r ∷ rs) before_all n (low, some, more) k =
@@ -68,7 +68,7 @@ picked_none ranges index frame past = rw (none_reached ranges (index + 1) (omega
 
 -- ---- the ranges that are left after a number of messages
 
--- The ranges ascend, and the first of them ends after the first `index` messages.
+-- The ranges ascend, and the last number of the first range is above `index`.
 abbrev pub AreLeft : ℕ → List Range → Type 0
 AreLeft index [] = Unit {0}
 AreLeft index (r ∷ rs) = (index < r.to) × (r.from ≤ r.to) × AreAbove r.to rs
@@ -93,7 +93,7 @@ follows_first ranges h = record {
   lower = omega arith;
 }
 
--- The ranges that are left after the next message.
+-- The ranges that are left after the next message have the same numbers as all ranges after that message.
 pub follows_next : (ranges rest : List Range) (index : ℕ) → Follows ranges index rest
     → Follows ranges (index + 1) (left rest (index + 1))
 follows_next ranges [] index h = record {

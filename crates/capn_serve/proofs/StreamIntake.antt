@@ -1,5 +1,5 @@
--- Lemmas for `stream_into` and the intake of a stream: what is served of it, how a run over it ends, and what is held
--- of its last message.
+-- Lemmas for `stream_into` and the intake of a stream: what the intake has served, how a run ends, and which bytes are
+-- held of the last message.
 use Rattle.std.proofs.Common.{◌≡◌, ◌≢◌, inl, inr, ℕ, ◌+◌, ◌<◌, ◌^◌, List, [], ◌++◌, length, take, Bool}
 use Rattle.std.proofs.Common.{true, false, Option, None, Some, IfErr, IfSome, Result, Ok, Err, refl, ap, sym, subst}
 use Rattle.std.proofs.Common.{◌∙◌, append-nil, arith}
@@ -41,7 +41,7 @@ new_listening f framer is = record {
   most = ap (λ (g : Framing). g.most) is;
 }
 
--- A framer that listens holds no whole frame.
+-- A framer for which `IsListening` holds has no whole frame.
 pub unfinished : {X : Type 0} (f : Fold X) (now : Framing) → IsListening f now → IsUnfinished now.rest f.most
 unfinished f now listening = subst (λ (m : ℕ). IsUnfinished now.rest m) listening.most listening.part
 
@@ -121,7 +121,7 @@ module _ {X : Type 0} (f : Fold X) (x : X) where
         inr (record { cut = λ at h. absurd (cc); words = λ at n h. absurd (cc) }),
       )
 
-  -- Case: no more is served, whatever follows.
+  -- Case: the state `y` is done, whatever bytes follow.
   gives_done : (y : X) (now : Framing) (s rest : List ℕ) (c d : Option (List ℕ)) (u : Unit {0})
       → Tells f x s rest (sent c) (sent d) y → f.done y ≡ true → Over (GivesStream f x now y) s c d (Ok u)
   gives_done y now s rest c d u told done = λ more longer. (let (parts, are, adds) = told in (
@@ -224,7 +224,7 @@ module _ {X : Type 0} (f : Fold X) (x : X) where
 
   -- ---- a run
 
-  -- The conditions hold before the first read.
+  -- Before the first read, no bytes of the stream were taken, and the new framer holds none.
   pub stream_new : (now : Framing) (c : Option (List ℕ)) → f.place x ≡ start
       → now ≡ record { rest = []; most = f.most; failed = false } → TakesStream f x now x [] c c
   stream_new now c place is = (
@@ -284,7 +284,7 @@ module _ {X : Type 0} (f : Fold X) (x : X) where
         (λ bytes longer. IfErr r (λ e. CameOf f x bytes e last.rest y))
         (λ is bytes longer. (io_ended r bytes longer is).1) (λ bytes longer gives. gives.2)
 
--- a run that began at the start of its stream has room for more bytes
+-- A run that began at the start of its stream has room for the bytes that may still be taken.
 pub room_heard : {S : Type 0} (serves : S → Position → List ℕ → List (List ℕ) → List ℕ → S → Type 0)
     (refuses : S → Position → List ℕ → List (List ℕ) → Refusal → Type 0) (done : S → Position → Bool) (most : ℕ)
     (x y : Run S) (now : Framing) (bytes : List ℕ) (c d : Option (List ℕ)) (k : ℕ)

@@ -1,4 +1,4 @@
--- Lemmas for `read_all`: a reader gives an input, read by read.
+-- Lemmas for `read_all`: the bytes that a reader has returned, read by read.
 use Rattle.std.proofs.Common.{◌≡◌, inl, inr, ℕ, ◌+◌, ◌-◌, ◌≤◌, ◌<◌, ◌^◌, List, ◌++◌, length, take, refl, sym, ap}
 use Rattle.std.proofs.Common.{◌∙◌, arith, length-take, append-nil, Option, Bool, true}
 use Rattle.std.proofs.Common.{Result, Ok, Err}
@@ -11,7 +11,7 @@ use Rattle.capn_serve.specs.WholeInput.{HasGiven, HasGivenAll, IsUntaken, TakesA
 use Rattle.capn_serve.specs.declared.fault.RunFault.{RunFault}
 use Rattle.capn_serve.specs.declared.fault.RunFault.TheVariants as faults
 
--- A reader has given `len` bytes, and the first of them, at most `most`, are kept.
+-- A reader has returned `len` bytes, and the first of these bytes, at most `most`, are `kept`.
 pub record Keeps (old new : Option (List ℕ)) (failed : Bool) (most len : ℕ) (kept : List ℕ) : Type 0 where
   pub seen : List ℕ
   pub given : HasGiven old new failed seen
@@ -32,7 +32,7 @@ pub given_long : (a b : Option (List ℕ)) (f : Bool) (seen : List ℕ) → HasG
     → IsUntaken a b f faults.InputTooLong
 given_long a b f seen h long = (seen, inl (h, inr (refl, long)))
 
--- The first bytes after one more read.
+-- After one more read, the kept bytes are still the first bytes, at most `most`.
 pub first_more : (most : ℕ) (seen buf tail kept new : List ℕ) (n k : ℕ) → take most seen ≡ kept → n ≤ length buf
     → k ≡ min n (most - length kept) → new ≡ kept ++ take k (buf ++ tail) → take most (seen ++ take n buf) ≡ new
 first_more most seen buf tail kept new n k first within least is = elim (cases_lt most (length seen)) [
@@ -67,7 +67,7 @@ first_more most seen buf tail kept new n k first within least is = elim (cases_l
           ∙ ap (λ (i : ℕ). take i (buf ++ tail)) (sym (omega (arith, size, all)))
     ]
 
--- The result for an input that was read to its end.
+-- The result of an input that was read to its end.
 pub takes_so : {T : Type 0} (P : List ℕ → Result T RunFault → Type 0) (a b : Option (List ℕ)) (f : Bool)
     (r : Result T RunFault) (bytes : List ℕ) → HasGivenAll a b f bytes → P bytes r → TakesAll P a b f r
 takes_so P a b f (Ok x) bytes all p = (bytes, all, p)

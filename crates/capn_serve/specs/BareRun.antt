@@ -1,4 +1,5 @@
--- A run over a bare input: what is written of the one message that it is, how it ends, and the state after it. (Own.)
+-- A run over a bare input, which is one message: what is written, how the run ends, and the state after the run. (Our
+-- own.)
 use Rattle.std.specs.Prelude.{◌≡◌, ◌⊎◌, ◌↔◌, ℕ, ◌+◌, ◌<◌, ◌≤◌, List, [], ◌∷◌, length, take, Bool, true}
 use Rattle.std.specs.Prelude.{false, Option, IfSome, Result, Ok, Err, Vec}
 use Rattle.std.specs.Io.KnownBytes.{Consumes, Appends, IsAtEnd}
@@ -15,39 +16,40 @@ use Rattle.capn_serve.specs.ChunkRun.{AddsMessage}
 use Rattle.capn_serve.specs.StreamRun.{TakesBytes}
 use Rattle.capn_serve.specs.WholeInput.{most_input}
 
--- `bytes` are no segment, and `fault` refuses them at the position `at`, with the reason.
+-- `bytes` are not one segment, and `fault` is their refusal as a segment, at the position `at`.
 abbrev pub IsUnbare : Position → List ℕ → RunFault → Type 0
 IsUnbare at bytes fault = (e : BareFault) × (fault ≡ faults.Refused at (refusals.Bare e)) × ReadsBare bytes (Err e)
 
--- The result of reading a bare input: all of its bytes, or their refusal as one segment.
+-- The result of reading a bare input is all of its bytes, or their refusal as one segment.
 abbrev pub IsShortBare : {A : Type 0} → Position → List ℕ → Result (Vec ℕ A) RunFault → Type 0
 IsShortBare at bytes (Ok held) = bytes ≡ held.items
 IsShortBare at bytes (Err fault) = IsUnbare at bytes fault
 
 module _ {X : Type 0} (f : Fold X) (x : X) where
-  -- `bytes` are one segment. Served in the state `x`, with `bytes` as its frame, its message writes `text` and leads to
-  -- `y`.
+  -- `bytes` are one segment. Served in the state `x`, with `bytes` as its frame, the message of that segment writes
+  -- `text` and leads to `y`.
   abbrev pub WritesBare : List ℕ → List ℕ → X → Type 0
   WritesBare bytes text y = (words : List ℕ) × IsBare bytes words × f.step x bytes (words ∷ []) text y
 
-  -- `bytes` are one segment, and its message is refused with `fault`.
+  -- `bytes` are one segment, and the message of that segment is refused with `fault` in the state `x`.
   abbrev pub RefusesBare : List ℕ → RunFault → Type 0
   RefusesBare bytes fault = (words : List ℕ) × (r : Refusal) × IsBare bytes words × f.refuses x bytes (words ∷ []) r
       × (fault ≡ faults.Refused (f.place x) r)
 
-  -- `fault` is the reason why nothing is written for `bytes`: they are too many, are no segment, or their message is
-  -- refused.
+  -- `fault` is the reason why nothing is written for `bytes`: there are too many bytes, the bytes are not one segment,
+  -- or their message is refused.
   abbrev pub EndsBare : List ℕ → RunFault → Type 0
   EndsBare bytes fault = ((most_input < length bytes) × (fault ≡ faults.InputTooLong))
       ⊎ ((length bytes ≤ most_input) × (IsUnbare (f.place x) bytes fault ⊎ RefusesBare bytes fault))
 
-  -- The text of a bare input and the state after it. The first argument says whether the state before it serves no
-  -- more. If so, the text is empty and the state stays; else the text is that of the one message.
+  -- `text` is the text of a bare input, and `y` is the state after that input. The first argument says whether the
+  -- state `x` is done. If so, `text` is empty and `y` is `x`. Otherwise `text` is that of the one message.
   abbrev pub WritesBy : Bool → List ℕ → List ℕ → X → Type 0
   WritesBy true bytes text y = (text ≡ []) × (y ≡ x)
   WritesBy false bytes text y = (length bytes ≤ most_input) × WritesBare bytes text y
 
-  -- The one message of `bytes` was served; or they are no segment, nothing was added, and the state is as it was.
+  -- `bytes` are one segment and their message was served, as the result says. Or `bytes` are not one segment, nothing
+  -- was added, and the state stayed `x`.
   abbrev pub ServesBare : List ℕ → Outgoing → Outgoing → Bool → Result (Unit {0}) RunFault → X → Type 0
   ServesBare bytes old new failed (Ok u) y =
       (words : List ℕ) × IsBare bytes words × AddsMessage f x bytes (words ∷ []) old new failed (Ok u) y
@@ -55,21 +57,22 @@ module _ {X : Type 0} (f : Fold X) (x : X) where
       ((words : List ℕ) × IsBare bytes words × AddsMessage f x bytes (words ∷ []) old new failed (Err fault) y)
       ⊎ (IsUnbare (f.place x) bytes fault × Adds old new [] × (failed ≡ false) × (x ≡ y))
 
-  -- A run has ended over a bare input. After `Ok` the text of its message was written, and `y` is the state after it.
-  -- After a fault memory was refused, the reader or the writer failed, or `e` is the reason why nothing is written.
+  -- A run has ended over a bare input. After `Ok` the text of the message was written, and `y` is the state after the
+  -- message. After a fault, memory was refused, the reader or the writer failed, or `e` is the reason why nothing is
+  -- written.
   abbrev pub EndsAs : Option (List ℕ) → Option (List ℕ) → Result (Unit {0}) RunFault → X → List ℕ → Type 0
   EndsAs old new (Ok u) y input = (text : List ℕ) × WritesBy (f.done x) input text y × Appends old new text
   EndsAs old new (Err e) y input =
       (e ≡ faults.Memory)
       ⊎ ((e ≡ faults.Io) ⊎ (IfGoing (f.done x) (EndsBare input e) × Appends old new [] × Leaves f x e y))
 
-  -- Nothing was written for `bytes`, or a prefix of their text.
+  -- Nothing was written for `bytes`, or a prefix of the text of their message.
   abbrev pub HasWritten : List ℕ → Option (List ℕ) → Option (List ℕ) → Type 0
   HasWritten bytes old new = Appends old new []
       ⊎ ((text : List ℕ) × (y : X) × (count : ℕ) × WritesBare bytes text y × Appends old new (take count text))
 
-  -- A reader gave at most one byte more than an input may have, and none if no more is served. A writer took a prefix
-  -- of the text of these bytes.
+  -- A reader returned at most one byte more than an input may have, and no byte if the state `x` is done. A prefix of
+  -- the text of these bytes was written.
   pub record Begins (a b c d : Option (List ℕ)) : Type 0 where
     pub bytes : List ℕ
     pub read : Consumes a b bytes
@@ -77,8 +80,8 @@ module _ {X : Type 0} (f : Fold X) (x : X) where
     pub needed : f.done x ≡ true → bytes ≡ []
     pub written : HasWritten bytes c d
 
-  -- The effect of a run on a reader (from `a` to `b`) and a writer (from `c` to `d`), its result, and the state after
-  -- it.
+  -- States the effect of a run on a reader (from `a` to `b`) and a writer (from `c` to `d`), the result `r` of the run,
+  -- and the state `y` after the run.
   pub record RunsBare (a b c d : Option (List ℕ)) (reader_failed writer_failed : Bool) (r : Result (Unit {0}) RunFault)
       (y : X) : Type 0 where
     pub exact : IfSome a (EndsAs c d r y)

@@ -1,4 +1,4 @@
--- A stream that is served in chunks: what has been written for the bytes that were read. (Own.)
+-- A stream that is served in chunks: what has been written for the bytes that were read. (Our own.)
 use Rattle.std.specs.Prelude.{◌≡◌, ◌≢◌, ◌⊎◌, ◌↔◌, ℕ, ◌*◌, ◌+◌, ◌<◌, ◌≤◌, ◌^◌, List, [], ◌++◌, length, take, Bool, true}
 use Rattle.std.specs.Prelude.{false, Option, Result, Ok, Err}
 use Rattle.capn_stream.specs.StreamPieces.{Framing, IsUnfinished}
@@ -13,7 +13,7 @@ use Rattle.capn_serve.specs.Outgoing.{Outgoing, Adds, AddsBeginning, Breaks, Bre
 
 module _ {X : Type 0} (f : Fold X) where
   -- The whole messages of `stream` were served, from the state `x` to `y`. Their texts were added, and `rest` follows
-  -- them.
+  -- these messages.
   abbrev pub Tells : X → List ℕ → List ℕ → Outgoing → Outgoing → X → Type 0
   Tells x stream rest old new y = (parts : List Part) × AreParts f x stream parts rest y × Adds old new (texts_of parts)
 
@@ -29,15 +29,16 @@ module _ {X : Type 0} (f : Fold X) where
       (parts : List Part) × (rest : List ℕ) × (y : X) × (count : ℕ) × AreParts f x stream parts rest y
       × Breaks old new count (texts_of parts)
 
-  -- Every stream with the prefix `stream` has the text that was added, ends with `fault`, and leaves the state `left`.
+  -- For every stream with the prefix `stream`, the text is what was added, the ending is `fault`, and the run leaves
+  -- the state `left`, as `Leaves` states.
   abbrev pub IsDueSo : X → List ℕ → Outgoing → Outgoing → RunFault → X → Type 0
   IsDueSo x stream old new fault left =
       (more : List ℕ) (behind : Option RunFault) → (text : List ℕ) × (y : X)
       × IsFolded f x (stream ++ more) behind text (Err fault) y × Adds old new text × Leaves f y fault left
 
   -- A run over a stream with the prefix `stream` stopped with `fault` and left the state `left`. Memory was refused,
-  -- the writer failed, or every such stream ends with `fault`. A prefix of the texts was added. It may end within a
-  -- text only if memory was refused or the writer failed.
+  -- the writer failed, or every stream with that prefix ends with `fault`. A prefix of the texts was added. Only if
+  -- memory was refused or the writer failed, that prefix may end within a text.
   pub record Stops (x : X) (stream : List ℕ) (old new : Outgoing) (failed : Bool) (fault : RunFault) (left : X)
       : Type 0 where
     pub told : failed ≡ false → TellsBegun x stream old new
@@ -45,8 +46,8 @@ module _ {X : Type 0} (f : Fold X) where
     pub io : (fault ≡ faults.Io) ↔ (failed ≡ true)
     pub due : (fault ≡ faults.Memory) ⊎ ((fault ≡ faults.Io) ⊎ IsDueSo x stream old new fault left)
 
-  -- The effect of serving one message. Its text was added; or it is refused and nothing was added; or memory was
-  -- refused before or within its text; or the writer failed within the text.
+  -- States the effect of serving one message. The text of the message was added, or the message is refused and nothing
+  -- was added. Or memory was refused before or within the text, or the writer failed within the text.
   abbrev pub AddsMessage : X → List ℕ → List (List ℕ) → Outgoing → Outgoing → Bool → Result (Unit {0}) RunFault → X
       → Type 0
   AddsMessage x frame message old new failed (Ok u) y =
@@ -59,14 +60,14 @@ module _ {X : Type 0} (f : Fold X) where
       BreaksWithin (f.step x frame message) old new × (failed ≡ true)
   AddsMessage x frame message old new failed (Err faults.InputTooLong) y = ⊥
 
-  -- `framer` has the run's limit, has not failed, and holds no whole message.
+  -- `framer` has the limit `f.most`, has not failed, and holds no whole message.
   pub record IsListening (framer : Framing) : Type 0 where
     pub good : framer.failed ≡ false
     pub part : IsUnfinished framer.rest framer.most
     pub most : framer.most ≡ f.most
 
-  -- `bytes` were served after those that the framer `before` holds. All messages that they complete were served and
-  -- `after` holds the rest; or the state `y` serves no more; or the run stopped.
+  -- `bytes` were served after the bytes that the framer `before` holds. All messages that `bytes` complete were served
+  -- and `after` holds the rest, or the state `y` is done, or the run stopped.
   abbrev pub Serves : X → Framing → List ℕ → Outgoing → Outgoing → Bool → Result (Unit {0}) RunFault → Framing → X
       → Type 0
   Serves x before bytes old new failed (Ok u) after y = (rest : List ℕ)
@@ -74,15 +75,15 @@ module _ {X : Type 0} (f : Fold X) where
       × (f.done y ≡ false → (after.rest ≡ rest) × IsListening after) × (failed ≡ false)
   Serves x before bytes old new failed (Err fault) after y = Stops x (before.rest ++ bytes) old new failed fault y
 
-  -- The message that the framer `before` held was served, and `after` holds none; or it holds no whole message; or the
-  -- run stopped.
+  -- The whole messages in the bytes of the framer `before` were served, and `after` holds the rest. Or the run stopped,
+  -- whatever bytes follow.
   abbrev pub ServesHeld : X → Framing → Outgoing → Outgoing → Bool → Result (Unit {0}) RunFault → Framing → X → Type 0
   ServesHeld x before old new failed (Ok u) after y =
       Tells x before.rest after.rest old new y × IsListening after × (failed ≡ false)
   ServesHeld x before old new failed (Err fault) after y =
       (more : List ℕ) → Stops x (before.rest ++ more) old new failed fault y
 
-  -- The first `n` of `bytes` were served, up to the end of a message or of `bytes`; or the run stopped.
+  -- The first `n` bytes of `bytes` were served, up to the end of a message or of `bytes`, or the run stopped.
   abbrev pub ServesNext : X → Framing → List ℕ → Outgoing → Outgoing → Bool → Result ℕ RunFault → Framing → X → Type 0
   ServesNext x before bytes old new failed (Ok n) after y =
       (n ≤ length bytes) × (0 < length bytes → 0 < n)
@@ -90,13 +91,13 @@ module _ {X : Type 0} (f : Fold X) where
   ServesNext x before bytes old new failed (Err fault) after y =
       Stops x (before.rest ++ bytes) old new failed fault y
 
-  -- The first `n` of `bytes` are whole messages and were served, or the run stopped within `bytes`.
+  -- The first `n` bytes of `bytes` are whole messages and were served, or the run stopped within `bytes`.
   abbrev pub ServesWhole : X → List ℕ → Outgoing → Outgoing → Bool → Result ℕ RunFault → X → Type 0
   ServesWhole x bytes old new failed (Ok n) y = (n ≤ length bytes) × Tells x (take n bytes) [] old new y
       × (failed ≡ false)
   ServesWhole x bytes old new failed (Err fault) y = Stops x bytes old new failed fault y
 
--- `count` bytes fit after the position `at`: neither its offset nor its index reaches 2^64.
+-- After `count` bytes from the position `at` on, neither the offset nor the index reaches 2^64.
 pub record HasRoom (at : Position) (count : ℕ) : Type 0 where
   pub offset : at.offset + count < 2 ^ 64
   pub index : 4 * at.index ≤ at.offset
@@ -106,7 +107,7 @@ abbrev pub Passes : FrameFault → Result (Unit {0}) RunFault → Type 0
 Passes fault (Ok u) = fault ≢ frames.Memory
 Passes fault (Err e) = (fault ≡ frames.Memory) × (e ≡ faults.Memory)
 
--- The fault of a run whose framer has refused a frame at a position.
+-- The fault of a run whose framer has refused the frame at the position `at`.
 abbrev pub fault_at : Position → FrameFault → RunFault
 fault_at at frames.Memory = faults.Memory
 fault_at at frames.Empty = faults.Refused at (refusals.Frame frames.Empty)

@@ -1,4 +1,4 @@
--- The text of a fault that ends a run, and its exit status. (Own.)
+-- The text and the exit status of a fault that ends a run. (Our own.)
 use Rattle.std.specs.Prelude.{ℕ, ◌+◌, ◌≡◌, List, ◌++◌, codes, refl}
 use Rattle.std.specs.Fmt.{decimal, digits}
 use Rattle.capn_serve.specs.Ending.{out_of_memory}
@@ -8,7 +8,7 @@ use Rattle.capn_serve.specs.declared.position.Position.{Position}
 use Rattle.capn_serve.specs.declared.fault.RunFault.{RunFault}
 use Rattle.capn_serve.specs.declared.fault.RunFault.TheVariants as faults
 
--- the number of a message, counted from 1, and its offset
+-- The number of a message, counted from 1, and its offset.
 abbrev pub place_text : Position → List ℕ
 place_text at = decimal (at.index + 1) ++ (codes " at " ++ decimal at.offset)
 

@@ -1,5 +1,5 @@
 -- A fold over the messages of a stream: what each message writes, the state after it, and why the stream ends. (Page:
--- serialization over a stream; the order of the faults is own.)
+-- serialization over a stream; the order of the faults is our own.)
 use Rattle.std.specs.Prelude.{◌≡◌, ◌≢◌, ◌⊎◌, ℕ, ◌+◌, ◌≤◌, List, [], ◌∷◌, ◌++◌, length, Bool, true, Option}
 use Rattle.std.specs.Prelude.{false, Some, None, Result, Ok, Err}
 use Rattle.std.specs.List.{flat_map}
@@ -15,9 +15,10 @@ use Rattle.capn_serve.specs.declared.service.Run.{Run}
 use Rattle.capn_serve.specs.declared.fault.RunFault.{RunFault}
 use Rattle.capn_serve.specs.declared.fault.RunFault.TheVariants as faults
 
--- A fold with states of type `X`. `step` relates a state, a frame, its message, the text that it writes and the next
--- state. `refuses` has the refusal of a message. `place` is the position of the next message. `most` is the greatest
--- number of words of a message, and `done` is true of a state that serves no more.
+-- A fold with states of type `X`. `step` relates a state, a frame, its message, the text that the message writes, and
+-- the next state. `refuses` relates a state, a frame, its message and the refusal of the message. `place` is the
+-- position of the next message. `most` is the greatest number of words of a message. `done` says whether a state is
+-- done, so that no further message is served.
 pub record Fold (X : Type 0) : Type 1 where
   pub step : X → List ℕ → List (List ℕ) → List ℕ → X → Type 0
   pub refuses : X → List ℕ → List (List ℕ) → Refusal → Type 0
@@ -25,7 +26,7 @@ pub record Fold (X : Type 0) : Type 1 where
   pub most : ℕ
   pub done : X → Bool
 
--- `P` holds, and more is served. The first argument is true if no more is served.
+-- `P` holds and the first argument, which says whether a state is done, is false.
 abbrev pub IfGoing : Bool → Type 0 → Type 0
 IfGoing true P = ⊥
 IfGoing false P = P
@@ -34,8 +35,8 @@ IfGoing false P = P
 abbrev pub after : Position → List ℕ → Position
 after at frame = record { index = at.index + 1; offset = at.offset + length frame }
 
--- The fold of a service. Its states are the runs of the service, and it ends at the first position at which the service
--- is done.
+-- The fold of a service. The states are the runs of the service, and the fold ends at the first position at which the
+-- service is done.
 abbrev pub fold_until : {S : Type 0} → (S → Position → List ℕ → List (List ℕ) → List ℕ → S → Type 0)
     → (S → Position → List ℕ → List (List ℕ) → Refusal → Type 0) → (S → Position → Bool) → ℕ → Fold (Run S)
 fold_until serves refuses done most = record {
@@ -78,27 +79,29 @@ abbrev pub texts_of : List Part → List ℕ
 texts_of parts = flat_map text_of parts
 
 module _ {X : Type 0} (f : Fold X) where
-  -- `part` can be served in the state `x`: its frame is that of its message, which has no more words than allowed, and
-  -- `x` still serves messages.
+  -- `part` can be served in the state `x`: its frame is that of its message, the message has at most `f.most` words,
+  -- and `x` is not done.
   pub record IsPart (x : X) (part : Part) : Type 0 where
     pub frame : Frames part.frame part.message
     pub room : total part.message ≤ f.most
     pub going : f.done x ≡ false
 
-  -- The messages of the parts are served one after the other, from the state `x` to the state `y`, and each writes its
-  -- text.
+  -- The messages of the parts are served one after the other, from the state `x` to the state `y`, and each message
+  -- writes the text of its part.
   abbrev pub AreServed : X → List Part → X → Type 0
   AreServed x [] y = x ≡ y
   AreServed x (p ∷ ps) y =
       (mid : X) × IsPart x p × f.step x p.frame p.message p.text mid × AreServed mid ps y
 
-  -- `bytes` are the frames of `parts`, whose messages are served from `x` to `y`, followed by `rest`.
+  -- `bytes` are the frames of `parts`, followed by `rest`. The messages of `parts` are served from the state `x` to
+  -- `y`.
   pub record AreParts (x : X) (bytes : List ℕ) (parts : List Part) (rest : List ℕ) (y : X) : Type 0 where
     pub each : AreServed x parts y
     pub is : bytes ≡ frames_of parts ++ rest
 
--- The end of a run at a position where no whole frame follows, by the reason. A count that is too great is reported
--- first. Then comes the fault that keeps more bytes from being read, if there is one, and then a frame that is cut.
+-- The end of a run at the position `at`, where no whole frame follows for the given reason. A count that is too great
+-- is refused in any case. Otherwise a fault that keeps further bytes from being read ends the run. Without such a fault
+-- a frame that is cut is refused, and the run is done if no byte follows.
 abbrev pub end_of : Position → FrameFault → Option RunFault → Result (Unit {0}) RunFault
 end_of at frame_faults.Empty (Some fault) = Err fault
 end_of at frame_faults.Empty None = Ok tt
@@ -117,14 +120,14 @@ module _ {X : Type 0} (f : Fold X) where
       (e : FrameFault) × (e ≢ frame_faults.Memory) × frames.IsFrameRefused rest f.most e
       × (ending ≡ end_of (f.place x) e behind)
 
-  -- `rest` begins with a message that is refused, and the run ends with that refusal.
+  -- `rest` begins with a message that is refused, and the run ends with the refusal of that message.
   abbrev pub EndsRefused : X → List ℕ → Result (Unit {0}) RunFault → Type 0
   EndsRefused x rest ending =
       (frame more : List ℕ) × (message : List (List ℕ)) × (r : Refusal) × (rest ≡ frame ++ more)
       × Frames frame message × (total message ≤ f.most) × f.refuses x frame message r
       × (ending ≡ Err (faults.Refused (f.place x) r))
 
-  -- Some message is refused in the state `x`, and `fault` is its refusal.
+  -- `fault` is the refusal of some message in the state `x`.
   abbrev pub RefusesOne : X → RunFault → Type 0
   RefusesOne x fault =
       (frame : List ℕ) × (message : List (List ℕ)) × (r : Refusal) × f.refuses x frame message r
@@ -134,14 +137,14 @@ module _ {X : Type 0} (f : Fold X) where
   abbrev pub Leaves : X → RunFault → X → Type 0
   Leaves x fault y = (x ≡ y) ⊎ RefusesOne x fault
 
-  -- The end of a run in the state `y`. The first argument is true if `y` serves no more. Then the run is done, whatever
-  -- `rest` is; else `rest` decides.
+  -- `ending` is the end of a run in the state `y`. The first argument says whether `y` is done. If so, the run is done,
+  -- whatever `rest` is. Otherwise `rest` decides.
   abbrev pub EndsBy : Bool → X → List ℕ → Option RunFault → Result (Unit {0}) RunFault → Type 0
   EndsBy true y rest behind ending = ending ≡ Ok tt
   EndsBy false y rest behind ending = EndsUnframed y rest behind ending ⊎ EndsRefused y rest ending
 
-  -- The text and the ending of a stream that begins with `bytes`, and the state `y` after them. The text is that of its
-  -- messages, up to the first refused one, or to the first state that serves no more.
+  -- `text` and `ending` are those of a stream that begins with `bytes`, and `y` is the state at the end. `text` joins
+  -- the texts of the messages before the first refused one, or before the first state that is done.
   pub record IsFolded (x : X) (bytes : List ℕ) (behind : Option RunFault) (text : List ℕ)
       (ending : Result (Unit {0}) RunFault) (y : X) : Type 0 where
     pub parts : List Part

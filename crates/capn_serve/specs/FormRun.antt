@@ -1,4 +1,5 @@
--- A run over an input in any of the three forms: what it writes, how it ends, and the state after it. (Own.)
+-- A run over an input in any of the three forms: what is written, how the run ends, and the state after the run. (Our
+-- own.)
 use Rattle.std.specs.Prelude.{◌≡◌, ◌⊎◌, ◌↔◌, ℕ, ◌+◌, ◌-◌, ◌^◌, ◌≤◌, List, [], length, Bool, true, Option, IfSome}
 use Rattle.std.specs.Prelude.{Result, Ok, Err}
 use Rattle.std.specs.Io.KnownBytes.{Consumes, Appends, IsAtEnd}
@@ -13,18 +14,19 @@ use Rattle.capn_serve.specs.PackedRun as packings
 use Rattle.capn_serve.specs.BareRun as bares
 use Rattle.capn_serve.specs.WholeInput.{most_input}
 
--- the most bytes that a stream may have
+-- The greatest number of bytes that a stream may have.
 abbrev pub most_stream : ℕ
 most_stream = 2 ^ 64 - 1
 
--- A run may end with `Memory`: some bytes were read, or all bytes of a bare input, which may be empty.
+-- A run may end with `Memory`: some bytes were read, or a bare input, which may be empty, was read to its end.
 abbrev pub MayNeedMemory : Form → Option (List ℕ) → Option (List ℕ) → Type 0
 MayNeedMemory forms.Stream a b = TakesBytes a b
 MayNeedMemory forms.Packed a b = TakesBytes a b
 MayNeedMemory forms.Bare a b = TakesBytes a b ⊎ IsAtEnd b
 
 module _ {X : Type 0} (f : Fold X) (x : X) where
-  -- `text` is that of the messages of `input`, `ending` is the end of a run over them, and `y` the state after them.
+  -- `text` is the text of the messages of `input`, `ending` is the end of a run over the messages, and `y` is the state
+  -- after them.
   abbrev pub AreMessages : Form → List ℕ → List ℕ → Result (Unit {0}) RunFault → X → Type 0
   AreMessages forms.Stream input text ending y =
       streams.IsDue f x most_stream (streams.taken_of most_stream input) (streams.has_more most_stream input) text
@@ -44,8 +46,8 @@ module _ {X : Type 0} (f : Fold X) (x : X) where
       packings.HasWrittenPacked f x most_stream (streams.taken_of most_stream bytes) old new
   HasWritten forms.Bare bytes old new = bares.HasWritten f x bytes old new
 
-  -- The text of the messages of `input` was written, and the run ended as they do, in the state after them; or memory
-  -- was refused, or the reader or the writer failed.
+  -- A run has written the text of the messages of `input`, ended as these messages require, and left the state after
+  -- them, unless a message is refused in that state. Or memory was refused, or the reader or the writer failed.
   abbrev pub MessagesEnd : Form → Option (List ℕ) → Option (List ℕ) → Result (Unit {0}) RunFault → X → List ℕ → Type 0
   MessagesEnd form old new (Ok u) y input =
       (text : List ℕ) × AreMessages form input text (Ok tt) y × Appends old new text
@@ -54,8 +56,8 @@ module _ {X : Type 0} (f : Fold X) (x : X) where
       ⊎ ((e ≡ faults.Io)
       ⊎ ((text : List ℕ) × (z : X) × AreMessages form input text (Err e) z × Appends old new text × Leaves f z e y))
 
-  -- The limit on how far a run reads. It reads at most one byte more than an input may have. Of a stream it reads at
-  -- most a chunk of 65,536 bytes beyond those that were served, with their texts written.
+  -- A run reads at most one byte more than an input may have. For a stream, packed or not, the texts of all messages in
+  -- the bytes before the last chunk were written. That chunk has at most 65,536 bytes.
   abbrev pub IsReadSoFar : Form → List ℕ → Option (List ℕ) → Option (List ℕ) → Type 0
   IsReadSoFar forms.Stream bytes old new = (length bytes ≤ most_stream + 1)
       × IsAhead (streams.HasWrittenAll f x most_stream) bytes old new
@@ -63,14 +65,14 @@ module _ {X : Type 0} (f : Fold X) (x : X) where
       × IsAhead (packings.HasWrittenAllPacked f x most_stream) bytes old new
   IsReadSoFar forms.Bare bytes old new = length bytes ≤ most_input + 1
 
-  -- No chunk was read after the one that leads to the end. Nothing was read of a bare input if no more is served.
+  -- No chunk was read after the one that leads to the end. If the state `x` is done, nothing was read of a bare input.
   abbrev pub IsNeededSoFar : Form → List ℕ → Type 0
   IsNeededSoFar forms.Stream bytes = IsNeeded (streams.IsShort f x most_stream) bytes
   IsNeededSoFar forms.Packed bytes = IsNeeded (packings.IsShortPacked f x most_stream) bytes
   IsNeededSoFar forms.Bare bytes = f.done x ≡ true → bytes ≡ []
 
-  -- A reader gave some bytes, no more than a run may read, and a writer took a prefix of the texts of the messages in
-  -- them.
+  -- A reader returned some bytes, no more than a run may read, and a prefix of the texts of the messages in these bytes
+  -- was written.
   pub record BeginsMessages (form : Form) (a b c d : Option (List ℕ)) : Type 0 where
     pub bytes : List ℕ
     pub read : Consumes a b bytes
@@ -78,15 +80,15 @@ module _ {X : Type 0} (f : Fold X) (x : X) where
     pub needed : IsNeededSoFar form bytes
     pub written : HasWritten form bytes c d
 
-  -- All texts of the messages in the bytes that a reader gave were written, and more is served. Nothing was written of
-  -- a bare input, which is served at its end.
+  -- All texts of the messages in the bytes that a reader returned were written, and the state after these messages is
+  -- not done. For a bare input, which is served at its end, nothing was written.
   abbrev pub KeepsUp : Form → Option (List ℕ) → Option (List ℕ) → Option (List ℕ) → Option (List ℕ) → Type 0
   KeepsUp forms.Stream a b c d = streams.KeepsUp f x most_stream a b c d
   KeepsUp forms.Packed a b c d = packings.KeepsUpPacked f x most_stream most_stream a b c d
   KeepsUp forms.Bare a b c d = IfGoing (f.done x) (Appends c d [])
 
-  -- The effect of a run over an input in `form` on a reader (from `a` to `b`) and a writer (from `c` to `d`), its
-  -- result, and the state after it.
+  -- States the effect of a run over an input in `form` on a reader (from `a` to `b`) and a writer (from `c` to `d`),
+  -- the result of the run, and the state `y` after the run.
   pub record ServesMessages (form : Form) (a b c d : Option (List ℕ)) (reader_failed writer_failed : Bool)
       (r : Result (Unit {0}) RunFault) (y : X) : Type 0 where
     pub exact : IfSome a (MessagesEnd form c d r y)

@@ -1,11 +1,11 @@
--- Laws of the definitions alone. (Own.)
+-- Laws of the definitions, without any function. (Our own.)
 use Rattle.std.specs.Prelude.{◌≡◌, ℕ, List, Result}
 use Rattle.capn_serve.specs.declared.fault.RunFault.{RunFault}
 use Rattle.capn_serve.specs.declared.pick.Range.{Range}
 use Rattle.capn_serve.specs.declared.pick.StreamForm.TheVariants as forms
 use Rattle.capn_serve.specs.PickRun.{IsPicked}
 
--- The text that is picked from a stream of frames is unique, and so is the ending of a run over it.
+-- The text that is picked from a stream of frames is unique, and so is the ending of a run over the stream.
 abbrev pub PicksOne : Type 0
 PicksOne = (most : ℕ) (ranges : List Range) (input t u : List ℕ) (r s : Result (Unit {0}) RunFault)
     → IsPicked most ranges forms.Stream input t r → IsPicked most ranges forms.Stream input u s → (t ≡ u) × (r ≡ s)

@@ -1,4 +1,4 @@
--- A packed stream that is served in chunks: what has been written for the bytes that were read. (Own.)
+-- A packed stream that is served in chunks: what has been written for the bytes that were read. (Our own.)
 use Rattle.std.specs.Prelude.{◌≡◌, ◌≢◌, ◌⊎◌, ◌↔◌, ℕ, ◌+◌, ◌<◌, ◌^◌, List, [], ◌++◌, length, Bool, true, false, Option}
 use Rattle.std.specs.Prelude.{Result, Ok, Err}
 use Rattle.std.specs.Io.KnownBytes.{Consumes}
@@ -30,7 +30,7 @@ pub record Pending : Type 0 where
   pub rest : List ℕ
   pub left : ℕ
 
--- The state that an unpacker, a framer and a remaining limit hold.
+-- The state of an unpacker `held`, a `framer`, and `left` unpacked bytes that may still be taken.
 abbrev pub pending : Held → Framing → ℕ → Pending
 pending held framer left = record { group = held; rest = framer.rest; left = left }
 
@@ -39,7 +39,8 @@ abbrev pub fresh : ℕ → Pending
 fresh limit = record { group = record { rest = []; offset = 0; failed = false }; rest = []; left = limit }
 
 module _ {X : Type 0} (f : Fold X) where
-  -- Whatever follows the unpacked bytes `stream`, a run over those that are taken ends with `fault` and leaves `last`.
+  -- Whatever unpacked bytes follow `stream`, a run over the bytes that are taken ends with `fault` and leaves the state
+  -- `last`.
   abbrev pub IsDueWithin : X → ℕ → List ℕ → List ℕ → Outgoing → Outgoing → RunFault → X → Type 0
   IsDueWithin x left rest stream old new fault last = (more : List ℕ) → (text : List ℕ) × (y : X)
       × ((behind : Option RunFault) → IsFolded f x (rest ++ taken_of left (stream ++ more))
@@ -47,7 +48,7 @@ module _ {X : Type 0} (f : Fold X) where
       × Leaves f y fault last
 
   -- A run over unpacked bytes stopped with `fault` and left the state `last`. Memory was refused, the writer failed, or
-  -- the run ends with `fault` whatever follows.
+  -- the run ends with `fault` whatever bytes follow.
   pub record Halts (x : X) (left : ℕ) (rest stream : List ℕ) (old new : Outgoing) (failed : Bool) (fault : RunFault)
       (last : X) : Type 0 where
     pub told : failed ≡ false → TellsBegun f x (rest ++ taken_of left stream) old new
@@ -55,7 +56,7 @@ module _ {X : Type 0} (f : Fold X) where
     pub io : (fault ≡ faults.Io) ↔ (failed ≡ true)
     pub due : (fault ≡ faults.Memory) ⊎ ((fault ≡ faults.Io) ⊎ IsDueWithin x left rest stream old new fault last)
 
-  -- The unpacked bytes `stream` were served, up to their end, or to a state that serves no more; or the run stopped.
+  -- The unpacked bytes `stream` were served, up to their end or to a state that is done, or the run stopped.
   abbrev pub ServesPart : X → ℕ → Framing → List ℕ → Outgoing → Outgoing → Bool → Result (Unit {0}) RunFault → ℕ
       → Framing → X → Type 0
   ServesPart x left before stream old new failed (Ok u) room after y = (rest : List ℕ)
@@ -65,8 +66,8 @@ module _ {X : Type 0} (f : Fold X) where
   ServesPart x left before stream old new failed (Err fault) room after y =
       Halts x left before.rest stream old new failed fault y
 
-  -- `bytes` were read after the state `before`. Their whole groups unpack to no more than is taken, the whole messages
-  -- in that were served, and `after` holds the rest.
+  -- `bytes` were read after the state `before`. The whole groups unpack to no more bytes than may be taken. The whole
+  -- messages in these unpacked bytes were served, and `after` holds the rest.
   pub record TellsPacked (x : X) (before : Pending) (bytes : List ℕ) (after : Pending) (old new : Outgoing) (y : X)
       : Type 0 where
     pub stream : List ℕ
@@ -77,19 +78,18 @@ module _ {X : Type 0} (f : Fold X) where
     pub size : length stream + after.left ≡ before.left
     pub told : Tells f x (before.rest ++ stream) after.rest old new y
 
-  -- Some first groups were unpacked, and messages in the bytes that are taken of that were served.
+  -- Some number of the first groups were unpacked. The messages in the unpacked bytes that are taken were served.
   abbrev pub ReachesPacked : X → Pending → List ℕ → Outgoing → Outgoing → X → Type 0
   ReachesPacked x before bytes old new y = (stream : List ℕ) × packing.Begins (before.group.rest ++ bytes) [] stream
       × (rest : List ℕ) × Tells f x (before.rest ++ taken_of before.left stream) rest old new y
 
-  -- The run stopped within the bytes that some first groups unpack to, and left the state `last`.
+  -- The run stopped within the unpacked bytes of some number of the first groups, and left the state `last`.
   abbrev pub HaltsPacked : X → Pending → List ℕ → Outgoing → Outgoing → Bool → RunFault → X → Type 0
   HaltsPacked x before bytes old new failed fault last = (stream : List ℕ)
       × packing.Begins (before.group.rest ++ bytes) [] stream
       × Halts x before.left before.rest stream old new failed fault last
 
-  -- The packed `bytes` were served: all messages that they complete, or up to a state that serves no more; or the run
-  -- stopped.
+  -- All messages that the packed `bytes` complete were served, or those up to a state that is done, or the run stopped.
   abbrev pub ServesPacked : X → Pending → List ℕ → Outgoing → Outgoing → Bool → Result (Unit {0}) RunFault → Held
       → Framing → ℕ → X → Type 0
   ServesPacked x before bytes old new failed (Ok u) held framer left y =
@@ -99,7 +99,7 @@ module _ {X : Type 0} (f : Fold X) where
   ServesPacked x before bytes old new failed (Err fault) held framer left y =
       HaltsPacked x before bytes old new failed fault y
 
-  -- A reader gave `taken` bytes, and the whole messages in what they unpack to were served.
+  -- A reader returned `taken` bytes, and the whole messages in what these bytes unpack to were served.
   abbrev pub HearsPacked : X → ℕ → Option (List ℕ) → Option (List ℕ) → ℕ → Pending → Option (List ℕ)
       → Option (List ℕ) → X → Type 0
   HearsPacked x limit a b taken after c d y = (bytes : List ℕ) × Consumes a b bytes × (length bytes ≡ taken)

@@ -1,4 +1,4 @@
--- The messages of a stream that are picked, and what each writes. (Own.)
+-- The messages of a stream that are picked, and what each message writes. (Our own.)
 use Rattle.std.specs.Prelude.{◌≡◌, ℕ, ◌+◌, ◌<◌, ◌≤◌, max, nat_le, nat_lt, if◌then◌else◌, ◌&&◌, ◌||◌, List, [], ◌∷◌}
 use Rattle.std.specs.Prelude.{Bool, false, ⊤, refl}
 use Rattle.capn_canon.specs.declared.refusal.Refusal.{Refusal}
@@ -14,32 +14,32 @@ use Rattle.capn_serve.specs.StreamRun.{first_run}
 abbrev pub is_in : Range → ℕ → Bool
 is_in r number = nat_le r.from number && nat_le number r.to
 
--- Tests whether a number is in one of some ranges.
+-- Tests whether `number` is in one of the ranges.
 abbrev pub is_picked : List Range → ℕ → Bool
 is_picked [] number = false
 is_picked (r ∷ rs) number = is_in r number || is_picked rs number
 
--- The text of the message with `number`, counted from 1: its frame if it is picked, and else nothing.
+-- The text of the message with `number`, counted from 1: its frame if the message is picked, and else nothing.
 abbrev pub picked : List Range → ℕ → List ℕ → List ℕ
 picked ranges number frame = if is_picked ranges number then frame else []
 
--- The greatest number in some ranges, or 0 if there is none. The message with that number is the last one that is
+-- The greatest number in the ranges, or 0 if there is no range. The message with that number is the last one that is
 -- looked at.
 abbrev pub last_of : List Range → ℕ
 last_of [] = 0
 last_of (r ∷ rs) = max r.to (last_of rs)
 
--- The ranges ascend above the number `before`: the first number of each is greater than all numbers before it, and not
--- greater than its last number.
+-- The ranges ascend above the number `before`: the first number of each range is greater than `before` and all numbers
+-- of the ranges before, and not greater than the last number of its own range.
 abbrev pub AreAbove : ℕ → List Range → Type 0
 AreAbove before [] = ⊤
 AreAbove before (r ∷ rs) = (before < r.from) × (r.from ≤ r.to) × AreAbove r.to rs
 
--- The ranges ascend, and their numbers are at least 1.
+-- The ranges ascend, and all of their numbers are at least 1.
 abbrev pub AreAscending : List Range → Type 0
 AreAscending ranges = AreAbove 0 ranges
 
--- The range from `from` to `to`, or none if `to` is less than `from` or is 0.
+-- The range from `from` to `to`, or no range if `to` is less than `from` or is 0.
 abbrev pub range_of : ℕ → ℕ → List Range
 range_of from to = if nat_lt to (max from 1) then [] else (record { from = max from 1; to = to }) ∷ []
 
@@ -60,7 +60,8 @@ third_picked = refl
 fourth_left : picked (range_of 2 3) 4 (7 ∷ []) ≡ []
 fourth_left = refl
 
--- The range 3 to 2 is empty, and no message is looked at. With the range 0 to 3 the third message is the last.
+-- The range 3 to 2 is empty, and no message is looked at. With the range 0 to 3 the third message is the last one that
+-- is looked at.
 none_picked : picked (range_of 3 2) 3 (7 ∷ []) ≡ []
 none_picked = refl
 
@@ -70,7 +71,7 @@ none_looked = refl
 third_looked : last_of (range_of 0 3) ≡ 3
 third_looked = refl
 
--- The ranges with the message 1 and with the messages 3 and 4.
+-- The two ranges of message 1, and of the messages 3 and 4.
 abbrev two : List Range
 two = (record { from = 1; to = 1 }) ∷ (record { from = 3; to = 4 }) ∷ []
 
@@ -90,7 +91,7 @@ last_of_two = refl
 abbrev pub Picking : Type 0
 Picking = Run (List Range)
 
--- A message writes its frame if it is picked. The ranges stay the same, and no message is refused.
+-- A message writes its frame if its number is in the ranges. The ranges stay the same, and no message is refused.
 abbrev pub serves : List Range → Position → List ℕ → List (List ℕ) → List ℕ → List Range → Type 0
 serves ranges at frame message text same = (text ≡ picked ranges (at.index + 1) frame) × (same ≡ ranges)
 
@@ -102,14 +103,13 @@ abbrev pub pick_fold : ℕ → Fold Picking
 pick_fold most = fold_of serves refuses most
 
 module _ (most : ℕ) (ranges : List Range) where
-  -- `bytes` contain all messages up to the last one that is looked at, and `text` is picked from them, whatever
-  -- follows.
+  -- `bytes` contain all messages up to the last one that is looked at, and `text` is picked from these messages.
   abbrev pub IsEnough : List ℕ → List ℕ → Type 0
   IsEnough bytes text = (parts : List Part) × (rest : List ℕ) × (y : Picking)
       × AreParts (pick_fold most) (first_run ranges) bytes parts rest y × (last_of ranges ≤ y.at.index)
       × (text ≡ texts_of parts)
 
-  -- `bytes` contain fewer whole messages than are looked at, and no whole frame follows them.
+  -- `bytes` contain fewer whole messages than are looked at, and no whole frame follows these messages.
   abbrev pub IsTooFew : List ℕ → Type 0
   IsTooFew bytes = (parts : List Part) × (rest : List ℕ) × (y : Picking)
       × AreParts (pick_fold most) (first_run ranges) bytes parts rest y × IsUnfinished rest most

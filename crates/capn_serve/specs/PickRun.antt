@@ -1,4 +1,4 @@
--- A run that picks messages: what it writes, how it ends, and how far it reads. (Own.)
+-- A run that picks messages: what is written, how the run ends, and how far the run reads. (Our own.)
 use Rattle.std.specs.Prelude.{◌≡◌, ◌⊎◌, ◌↔◌, ℕ, ◌+◌, ◌-◌, ◌^◌, ◌<◌, ◌≤◌, List, [], length}
 use Rattle.std.specs.Prelude.{Bool, true, Option, IfSome, Result, Ok, Err}
 use Rattle.std.specs.Io.KnownBytes.{Consumes, Appends}
@@ -14,14 +14,14 @@ use Rattle.capn_serve.specs.StreamRun as streams
 use Rattle.capn_serve.specs.StreamRun.{TakesBytes, first_run, has_more, taken_of}
 use Rattle.capn_serve.specs.PackedRun as packings
 
--- The greatest number of bytes that are taken of an input, and of what it unpacks to.
+-- The greatest number of bytes that are taken of an input, and of the bytes that a packed input unpacks to.
 abbrev pub most_taken : ℕ
 most_taken = 2 ^ 64 - 1
 
 module _ (most : ℕ) (ranges : List Range) where
   -- `text` is picked from `bytes`, which are taken of an input, and `ending` is the end of the run. The run is done
-  -- once the messages up to the last one that is looked at are whole. Otherwise it ends as the stream does. The same
-  -- holds of what the whole groups of a packed input unpack to.
+  -- once all messages up to the last one that is looked at are whole. Otherwise the run ends as the stream does. For a
+  -- packed input the stream is what the whole groups unpack to.
   abbrev pub IsPickedOf : StreamForm → List ℕ → Bool → List ℕ → Result (Unit {0}) RunFault → Type 0
   IsPickedOf forms.Stream bytes is_longer text ending =
       (IsEnough most ranges bytes text × (ending ≡ Ok tt))
@@ -39,14 +39,14 @@ module _ (most : ℕ) (ranges : List Range) where
   IsPicked form input text ending =
       IsPickedOf form (taken_of most_taken input) (has_more most_taken input) text ending
 
-  -- A run has written what is picked from its input, and ended as that does; or memory was refused, or the reader or
-  -- the writer failed.
+  -- A run has written what is picked from `input`, and ended as `input` requires. Or memory was refused, or the reader
+  -- or the writer failed.
   abbrev pub EndsAs : StreamForm → Option (List ℕ) → Option (List ℕ) → Result (Unit {0}) RunFault → List ℕ → Type 0
   EndsAs form old new r input =
       (r ≡ Err faults.Memory)
       ⊎ ((r ≡ Err faults.Io) ⊎ ((text : List ℕ) × IsPicked form input text r × Appends old new text))
 
-  -- Fewer messages than are looked at are whole in `bytes`, or in what their whole groups unpack to.
+  -- `bytes`, or the bytes that their whole groups unpack to, contain fewer whole messages than are looked at.
   abbrev pub IsShort : StreamForm → List ℕ → Type 0
   IsShort forms.Stream bytes = IsTooFew most ranges bytes
   IsShort forms.Packed bytes = (stream : List ℕ) × (group : List ℕ) × (offset : ℕ)
@@ -67,8 +67,8 @@ module _ (most : ℕ) (ranges : List Range) where
   HasWrittenAll forms.Packed bytes old new =
       packings.HasWrittenAllPacked (pick_fold most) (first_run ranges) most_taken bytes old new
 
-  -- A reader gave some bytes, in no more chunks than needed, and a writer took a prefix of what is picked from them.
-  -- All that the bytes before the last chunk decide was written before that chunk was read.
+  -- A reader returned some bytes, in no more chunks than needed, and a prefix of what is picked from these bytes was
+  -- written. Before the last chunk was read, all that is picked from the bytes before that chunk was written.
   pub record Begins (form : StreamForm) (a b c d : Option (List ℕ)) : Type 0 where
     pub bytes : List ℕ
     pub read : Consumes a b bytes
@@ -77,13 +77,13 @@ module _ (most : ℕ) (ranges : List Range) where
     pub needed : streams.IsNeeded (IsShort form) bytes
     pub written : HasWritten form bytes c d
 
-  -- All that is picked from the bytes that a reader gave was written.
+  -- All that is picked from the bytes that a reader returned was written.
   abbrev pub KeepsUp : StreamForm → Option (List ℕ) → Option (List ℕ) → Option (List ℕ) → Option (List ℕ) → Type 0
   KeepsUp forms.Stream a b c d = streams.KeepsUp (pick_fold most) (first_run ranges) most_taken a b c d
   KeepsUp forms.Packed a b c d =
       packings.KeepsUpPacked (pick_fold most) (first_run ranges) most_taken most_taken a b c d
 
-  -- The effect of a run on a reader (from `a` to `b`) and a writer (from `c` to `d`), and its result.
+  -- States the effect of a run on a reader (from `a` to `b`) and a writer (from `c` to `d`), and the result of the run.
   pub record PicksRanges (form : StreamForm) (a b c d : Option (List ℕ)) (reader_failed writer_failed : Bool)
       (r : Result (Unit {0}) RunFault) : Type 0 where
     pub exact : IfSome a (EndsAs form c d r)
@@ -92,7 +92,7 @@ module _ (most : ℕ) (ranges : List Range) where
     pub heard : reader_failed ≡ true → KeepsUp form a b c d
     pub memory : r ≡ Err faults.Memory → TakesBytes a b
 
--- The effect of a run that picks the messages from one number to another.
+-- States the effect of a run with the options `p`, which picks the messages from number `p.from` to number `p.to`.
 abbrev pub Picks : ℕ → Pick → StreamForm → Option (List ℕ) → Option (List ℕ) → Option (List ℕ) → Option (List ℕ) → Bool
     → Bool → Result (Unit {0}) RunFault → Type 0
 Picks most p = PicksRanges most (ranges_of p)

@@ -1,4 +1,4 @@
--- The effect of a service on one message. (Own.)
+-- The effect of a service on one message. (Our own.)
 use Rattle.std.specs.Prelude.{◌≡◌, ℕ, ◌<◌, List, [], ◌++◌, length, Bool, true, false, Result, Ok, Err}
 use Rattle.capn_canon.specs.declared.refusal.Refusal.{Refusal}
 use Rattle.capn_serve.specs.declared.position.Position.{Position}
@@ -6,8 +6,8 @@ use Rattle.capn_serve.specs.declared.fault.ServeFault.{ServeFault}
 use Rattle.capn_serve.specs.declared.fault.ServeFault.TheVariants as faults
 use Rattle.capn_serve.specs.Outgoing.{Outgoing, Adds, AddsBeginning, BreaksWithin}
 
--- A service added the text of a message and went to its next state; or the message is refused and nothing was added. Or
--- memory was refused, before the text or within it; or the writer failed within the text.
+-- The service added the text of a message and went to the next state, or the message is refused and nothing was added.
+-- Or memory was refused before or within the text, or the writer failed within the text.
 abbrev pub AddsOne : {S : Type 0} → (S → Position → List ℕ → List (List ℕ) → List ℕ → S → Type 0)
     → (S → Position → List ℕ → List (List ℕ) → Refusal → Type 0) → S → Position → List ℕ → List (List ℕ) → Outgoing
     → Outgoing → Bool → Result (Unit {0}) ServeFault → S → Type 0
@@ -20,9 +20,9 @@ AddsOne serves refuses s at frame message old new failed (Err faults.Memory) t =
 AddsOne serves refuses s at frame message old new failed (Err faults.Io) t =
     BreaksWithin (serves s at frame message) old new × (failed ≡ true)
 
--- The effect of a service on one message, with a limit on the kept text. If less than 65,536 bytes were kept before a
--- message that is served, less than 65,536 bytes are kept after it. So the kept text does not grow without being
--- written.
+-- States the effect of a service on one message, with a limit on the kept text. If less than 65,536 bytes were kept
+-- before a message that is served, less than 65,536 bytes are kept after that message. So the kept text does not grow
+-- without being written.
 abbrev pub DoesService : {S : Type 0} → (S → Position → List ℕ → List (List ℕ) → List ℕ → S → Type 0)
     → (S → Position → List ℕ → List (List ℕ) → Refusal → Type 0) → S → Position → List ℕ → List (List ℕ) → Outgoing
     → Outgoing → Bool → Result (Unit {0}) ServeFault → S → Type 0
@@ -32,8 +32,8 @@ DoesService serves refuses s at frame message old new failed (Ok u) t =
 DoesService serves refuses s at frame message old new failed (Err fault) t =
     AddsOne serves refuses s at frame message old new failed (Err fault) t
 
--- The effect of a service that does not use the writer. It appended the text of a message and went to its next state;
--- or the message or memory was refused, and the text is as it was.
+-- States the effect of a service that does not use the writer. The service appended the text of a message and went to
+-- the next state. Or the message or memory was refused, and nothing was appended.
 abbrev pub PutsMessage : {S : Type 0} → (S → Position → List ℕ → List (List ℕ) → List ℕ → S → Type 0)
     → (S → Position → List ℕ → List (List ℕ) → Refusal → Type 0) → S → Position → List ℕ → List (List ℕ) → List ℕ
     → List ℕ → Result (Unit {0}) ServeFault → S → Type 0

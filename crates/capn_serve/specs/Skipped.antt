@@ -1,4 +1,4 @@
--- The messages that a run has skipped, and the line that counts them. (Own.)
+-- The messages that a run has skipped, and the line that counts them. (Our own.)
 use Rattle.std.specs.Prelude.{ℕ, ◌≡◌, ◌+◌, ◌-◌, ◌^◌, min, Option, Some, None, List, ◌++◌, codes, refl}
 use Rattle.std.specs.Fmt.{decimal, digits}
 use Rattle.capn_serve.specs.FaultText.{place_text}
@@ -6,16 +6,17 @@ use Rattle.capn_serve.specs.declared.position.Position.{Position}
 use Rattle.capn_serve.specs.declared.skipped.Skipped.{Skipped}
 use Rattle.capn_serve.specs.declared.skipped.SkippedSoFar.{SkippedSoFar}
 
--- The record of skipped messages after one more at `at`. The first one is kept, and the count stops at 2^64 - 1.
+-- The record of skipped messages after one more at the position `at`. The first position is kept, and the count stops
+-- at 2^64 - 1.
 abbrev pub one_more : Option SkippedSoFar → Position → SkippedSoFar
 one_more None at = record { count = 1; first = at }
 one_more (Some s) at = record { count = min (s.count + 1) (2 ^ 64 - 1); first = s.first }
 
--- The record of a run over `messages` messages that skipped those of `s`.
+-- The numbers of a run over `messages` messages that skipped the messages counted in `s`.
 abbrev pub skipped_of : SkippedSoFar → ℕ → Skipped
 skipped_of s messages = record { refused = s.count; messages = messages; first = s.first }
 
--- The text with the number of skipped messages, the number of all, and the position of the first skipped one.
+-- The text with the number of skipped messages, the number of all messages, and the position of the first skipped one.
 abbrev pub text_of_skipped : Skipped → List ℕ
 text_of_skipped skipped =
     decimal skipped.refused ++ (codes " of " ++ (decimal skipped.messages

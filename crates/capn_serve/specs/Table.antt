@@ -1,10 +1,10 @@
--- The table of a message in an input. (Own.)
+-- The length of the segment table of a message in an input. (Our own.)
 use Rattle.std.specs.Prelude.{◌≡◌, ℕ, ◌+◌, ◌/◌, List, [], ◌∷◌, length, refl}
 use Rattle.capn_canon.specs.declared.form.Form.{Form}
 use Rattle.capn_canon.specs.declared.form.Form.TheVariants as forms
 
--- The number of words of a message's segment table: none if the form is bare. Otherwise the table has 4 bytes for the
--- number of segments, 4 for each segment, and 4 more if these are no whole words.
+-- The number of words of a message's segment table, which is 0 if the form is bare. Otherwise the table has 4 bytes for
+-- the number of segments, 4 bytes for each segment, and 4 bytes more if these are no whole words.
 abbrev pub table_words : Form → List (List ℕ) → ℕ
 table_words forms.Bare message = 0
 table_words forms.Stream message = length message / 2 + 1

@@ -1,4 +1,4 @@
-//! Adds bytes to the output of a run: short ones are kept in its text, long ones go to the writer.
+//! Adds bytes to the output of a run. Short bytes are kept in the text of the run, and long ones are written at once.
 
 ghost use Rattle.std.specs.Prelude.{◌≡◌, false};
 ghost use Rattle.capn_words.specs.Watched.{inner_of, has_failed};
@@ -10,7 +10,7 @@ use capn_words::Watched;
 use std::alloc::Allocator;
 use std::io::Write;
 
-/// Writes `text` and then `bytes` to `writer`. Once `text` is written, it is cleared.
+/// Writes `text` to `writer`, clears `text`, and then writes `bytes`.
 fn send_bytes<W: Write, A: Allocator>(
     bytes: &[u8],
     text: &mut Vec<u8, A>,
@@ -30,11 +30,12 @@ fn send_bytes<W: Write, A: Allocator>(
     }
 }
 
-/// Adds `bytes` to the output of a message: short ones to `text`, long ones to `writer`, after `text`.
+/// Adds `bytes` to the output of a message. Short bytes are appended to `text`. Long bytes are written to `writer`,
+/// after `text`.
 ///
-/// `bytes` are short if they and `text` together are below 65,536 bytes. Long ones take no memory, and `text` is empty
-/// after them. `Memory` is returned if room for short ones is refused, and nothing is added then. `Io` is returned if
-/// the writer fails. A prefix of the text and of the bytes was written then.
+/// `bytes` are short if `text` and `bytes` together are below 65,536 bytes. Long bytes take no memory, and once they
+/// are written, `text` is empty. `Memory` is returned if room for short bytes is refused, and then nothing is added.
+/// `Io` is returned if the writer fails, after a prefix of `text` and `bytes` was written.
 pub fn add_bytes<W: Write, A: Allocator>(
     bytes: &[u8],
     text: &mut Vec<u8, A>,

@@ -21,7 +21,7 @@ use capn_words::{Bare, BareFault, MOST_WORDS, Watched};
 use std::alloc::Allocator;
 use std::io::{Read, Write};
 
-/// Returns the fault of a bare input of `len` bytes, more than one segment can have.
+/// Returns the fault of a bare input of `len` bytes, which is more than a segment can have.
 fn bare_fault(len: u64) -> BareFault
     requires { 8 * most_words < len }
     ensures { (bytes : List ℕ) → length bytes ≡ len → ReadsBare bytes (Err result) }
@@ -52,7 +52,7 @@ pub fn read_bare<R: Read, A: Allocator>(
     Err(RunFault::Refused(at, Refusal::Bare(fault)))
 }
 
-/// Serves `bytes` as one message, or refuses them if they are not one segment.
+/// Serves `bytes` as one message. Refuses `bytes` that are not one segment.
 fn serve_bare<S: Service, W: Write, A: Allocator + Copy>(
     alloc: A,
     run: &mut Run<S>,
@@ -72,14 +72,14 @@ fn serve_bare<S: Service, W: Write, A: Allocator + Copy>(
     }
 }
 
-/// Reads a bare input to its end, in chunks of at most 65,536 bytes, and serves it as one message. If the service is
-/// done before that, nothing is read.
+/// Reads a bare input to its end, in chunks of at most 65,536 bytes, and serves the input as one message. If the
+/// service is done at the start, nothing is read.
 ///
-/// The frame that the service gets is the input itself. An input that is not whole words, or has more than 2^28 + 1 of
-/// them, is refused at its start. If it has more than 2^32 bytes, the run ends as `InputTooLong`. The service may
-/// refuse the message too. `Io` is returned if and only if the reader or the writer failed, and `Memory` if a growth
-/// was refused. Nothing is written before the input has ended. The run holds the input, up to 2^28 + 1 words, and what
-/// the service holds, with the text that is not written yet.
+/// The input itself is the frame that the service gets. An input of more than 2^32 bytes ends the run as
+/// `InputTooLong`. Any other input that is not whole words, or has more than 2^28 + 1 words, is refused at its start.
+/// The service may refuse the message too. `Io` is returned if and only if the reader or the writer failed, and
+/// `Memory` if an allocation was refused. Nothing is written before the input has ended. The run holds the input, up to
+/// 2^28 + 1 words, the text that is not written yet, and what the service holds.
 pub fn run_bare<S: Service, R: Read, W: Write, A: Allocator + Copy>(
     alloc: A,
     run: &mut Run<S>,

@@ -1,4 +1,4 @@
-//! The part of its input that a run held when it ended.
+//! What a run had read of an unfinished message, and of an unfinished packed group, when the run ended.
 
 ghost use Rattle.std.specs.Prelude.{◌≡◌, []};
 
@@ -7,10 +7,10 @@ use capn_stream::Framer;
 use std::alloc::{Allocator, Global};
 use std::marker::Model;
 
-/// The unfinished message and the unfinished packed group that a run held when it ended. (Own.)
+/// The bytes that a run had read of an unfinished message and an unfinished packed group when the run ended. (Our own.)
 ///
-/// [`serve_form_with`](crate::serve_form_with) stores them here, so that a refusal can be explained from the bytes that
-/// caused it. The bytes of the message are those of its frame. If the input is packed, they are the unpacked bytes.
+/// [`serve_form_with`](crate::serve_form_with) stores the bytes here, so that a refusal can be explained. The bytes of
+/// the message are those of its frame. If the input is packed, they are unpacked bytes.
 #[derive(Drop)]
 pub struct Begun<A: Allocator + Copy = Global> {
     pub(crate) framer: Framer<A>,
@@ -26,7 +26,7 @@ impl<A: Allocator + Copy> Model for Begun<A> {
 }
 
 impl<A: Allocator + Copy> Begun<A> {
-    /// Returns a state that holds no bytes, as before any run. It takes no memory.
+    /// Returns a `Begun` without bytes, as before any run. No memory is allocated.
     pub fn new(alloc: A) -> Begun<A>
         ensures { result ≡ record { rest = []; group = [] } }
     {
@@ -36,16 +36,17 @@ impl<A: Allocator + Copy> Begun<A> {
         }
     }
 
-    /// Returns the bytes of the message at which the run ended, or an empty slice if none had begun. If the message is
-    /// cut, these are all bytes that were read of it. If it has too many words, they are at least its table with the
-    /// padding.
+    /// Returns the bytes of the message at which the run ended, or an empty slice if no message had begun. If the
+    /// message is cut, the slice has all bytes that were read of that message. If the message has too many words, the
+    /// slice has at least the segment table with its padding.
     pub fn message(&self) -> &[u8]
         ensures { result.now ≡ self.now.rest }
     {
         self.framer.held()
     }
 
-    /// Returns the bytes of the packed group that is cut, from its tag on, or an empty slice if none had begun.
+    /// Returns the bytes that were read of an unfinished packed group, from its tag on, or an empty slice if no group
+    /// had begun.
     pub fn group(&self) -> &[u8]
         ensures { result.now ≡ self.now.group }
     {

@@ -1,4 +1,4 @@
-//! The most bytes of one read.
+//! The greatest number of bytes of one read.
 
-/// The most bytes that one call of a reader may return.
+/// The greatest number of bytes that one call of a reader may return.
 pub const CHUNK: u64 = 65_536;

@@ -29,7 +29,7 @@ pub trait Ending {
         ensures { result ≡ exit self.now };
 }
 
-/// Writes the line of `fault` to `errors`.
+/// Writes the error line of `fault` to `errors`.
 fn tell<F: Ending, E: Write>(fault: &F, errors: &mut Watched<E>)
     requires { has_failed errors.old ≡ false }
     ensures { WritesFault (F.text fault.now) (E.contents (inner_of errors.old)) (E.contents (inner_of errors.new))
@@ -42,7 +42,7 @@ fn tell<F: Ending, E: Write>(fault: &F, errors: &mut Watched<E>)
     line.send(errors);
 }
 
-/// Returns the exit status of a run with this `outcome`: 0 if it is `Ok`, or else the status of its fault.
+/// Returns the exit status of a run with this `outcome`: 0 for `Ok`, and the status of the fault for an `Err`.
 pub fn status<F: Ending>(outcome: &Result<(), F>) -> u8
     ensures { result ≡ status_of_ending F.exit outcome.now }
 {
@@ -52,11 +52,11 @@ pub fn status<F: Ending>(outcome: &Result<(), F>) -> u8
     }
 }
 
-/// Returns the exit status of a run with this `outcome`. If it is an `Err`, a line that says why is written to
+/// Returns the exit status of a run with this `outcome`. If `outcome` is an `Err`, an error line is written to
 /// `errors`.
 ///
-/// The line is `capn: `, the text of the fault and a newline. A line of at most 256 bytes is one write, if `errors`
-/// takes all of them at once. If `errors` fails, a prefix of the line was written. No memory is allocated.
+/// The line is `capn: `, the text of the fault and a newline. A line of at most 256 bytes is written by one call, if
+/// `errors` takes the whole line at once. If `errors` fails, a prefix of the line was written. No memory is allocated.
 pub fn end<F: Ending, E: Write>(outcome: &Result<(), F>, errors: &mut Watched<E>) -> u8
     requires { has_failed errors.old ≡ false }
     ensures status { result ≡ status_of_ending F.exit outcome.now }

@@ -1,4 +1,4 @@
-//! The faults that end a run over a stream, and those of its service.
+//! The faults that end a run over a stream, and the faults of a service.
 
 ghost use Rattle.std.specs.Prelude.{◌≡◌, ◌≢◌, ◌⊎◌};
 ghost use Rattle.capn_target.specs.declared.target.Fault.TheVariants as walk_faults;
@@ -16,15 +16,16 @@ use std::io::Write;
 /// The reason why a service did not serve a message.
 #[derive(Clone, Copy, Debug, PartialEq, Eq)]
 pub enum ServeFault {
-    /// A growth was refused, before the first byte of the message's text or within it.
+    /// An allocation was refused, before the first byte of the message's text or within that text.
     Memory,
     /// The writer failed while the text was written.
     Io,
-    /// The message or its value is refused. No byte of its text was added.
+    /// The message or its value is refused. No byte of the message's text was added.
     Refused(Refusal),
 }
 
-/// Returns the fault of a message whose survey `stopped`: `Memory` if memory was refused, else its refusal.
+/// Returns the fault of a message whose survey `stopped`: `Memory` if an allocation was refused, and otherwise the
+/// refusal of the message.
 pub fn fault_of_stop(stopped: Stopped) -> ServeFault
     ensures { ((stopped.fault ≡ walk_faults.Memory) × (result ≡ serve_faults.Memory))
         ⊎ ((stopped.fault ≢ walk_faults.Memory) × (result ≡ serve_faults.Refused (refusals.Walk stopped))) }
@@ -38,7 +39,7 @@ pub fn fault_of_stop(stopped: Stopped) -> ServeFault
 /// The reason why a run over a stream ends before all of its input was served.
 #[derive(Clone, Copy, Debug, PartialEq, Eq)]
 pub enum RunFault {
-    /// A growth was refused.
+    /// An allocation was refused.
     Memory,
     /// The reader or the writer failed.
     Io,

@@ -22,11 +22,11 @@ use capn_words::Watched;
 use std::alloc::Allocator;
 use std::io::{Read, Write};
 
-/// Serves the messages of an input in `form` as [`serve_form`] does, and leaves the bytes of an unfinished message in
-/// `begun`.
+/// Serves the messages of an input in `form`, and leaves the bytes of an unfinished message in `begun`. The other
+/// arguments are those of [`serve_form`].
 ///
-/// `begun` then holds what was read of a frame that is cut or has too many words, and of a packed group that is cut.
-/// Its earlier content is dropped. If the input is bare, `begun` stays as it was.
+/// After a refusal `begun` holds what was read of a frame that is cut or has too many words, and of a packed group that
+/// is cut. The earlier content of `begun` is dropped. If the input is bare, `begun` stays as it was.
 pub fn serve_form_with<S: Service, R: Read, W: Write, A: Allocator + Copy>(
     alloc: A,
     form: Form,
@@ -77,7 +77,7 @@ pub fn serve_form_with<S: Service, R: Read, W: Write, A: Allocator + Copy>(
 }
 
 /// Serves the messages of an input in `form`. `most` is the greatest number of words of a message in a frame. A stream
-/// may have up to 2^64 - 1 bytes, and so may what a packed stream unpacks to.
+/// may have up to 2^64 - 1 bytes. A packed stream may also unpack to up to 2^64 - 1 bytes.
 pub fn serve_form<S: Service, R: Read, W: Write, A: Allocator + Copy>(
     alloc: A,
     form: Form,

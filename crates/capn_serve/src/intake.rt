@@ -1,8 +1,10 @@
-//! The one loop that reads an input, [`serve_pieces`], and the trait [`Intake`] of what takes the chunks that it reads.
+//! The one loop that reads streams for services over messages: [`serve_pieces`]. The trait [`Intake`] describes the
+//! state that takes the chunks. `make`, `pack --streaming`, `unpack --streaming` and the functions that read an input
+//! whole have loops of their own.
 //!
-//! An intake serves each message once its last byte is there. Its ghost members state what it holds after the bytes
-//! that it took ([`Intake::takes`]), and how a run over them ends ([`Intake::gives`]). The clauses of [`serve_pieces`]
-//! use these members to state what every run promises.
+//! An intake serves each message once the last byte of that message is read. The ghost member [`Intake::takes`] states
+//! what an intake holds after some bytes, and [`Intake::gives`] states how a run over some bytes ends. The clauses of
+//! [`serve_pieces`] use both members to state what every run promises.
 
 ghost use Rattle.std.specs.Prelude.{◌≡◌, ◌≤◌, ℕ, Bool, false, List, length, Option, Result};
 ghost use Rattle.capn_words.specs.Message.{most_message_words};
@@ -20,14 +22,14 @@ use std::io::{Read, Write};
 
 /// A state that takes an input in chunks, and serves the messages that each chunk completes.
 pub(crate) trait Intake<A: Allocator + Copy> {
-    /// The effect of bytes that were taken, for a fold. The arguments are the intake and the state of the fold before
-    /// the bytes, both after them, the bytes, and the writer's content before and after.
+    /// States the effect of some bytes for a fold. The arguments are the intake and the state of the fold before the
+    /// bytes, the intake and the state after the bytes, the bytes, and the writer's content before and after the bytes.
     ghost takes: { (X : Type 0) → Fold X → Self → X → Self → X → List ℕ → Option (List ℕ) → Option (List ℕ)
         → Type 0 };
 
-    /// The end of a run, for a fold. The arguments are the intake and the state of the fold before the run, both after
-    /// it, the bytes that were taken, whether the input has more, the writer's content before and after, and the run's
-    /// result.
+    /// States how a run ends for a fold. The arguments are the intake and the state of the fold before the run, the
+    /// intake and the state after the run, the bytes that were taken, whether the input has more bytes, the writer's
+    /// content before and after the run, and the result of the run.
     ghost gives: { (X : Type 0) → Fold X → Self → X → Self → X → List ℕ → Bool → Option (List ℕ) → Option (List ℕ)
         → Result (Unit {0}) RunFault → Type 0 };
 
@@ -50,7 +52,8 @@ pub(crate) trait Intake<A: Allocator + Copy> {
             piece.now (W.contents (inner_of writer.old)) (W.contents (inner_of writer.new)) (has_failed writer.new)
             result self.new run.new };
 
-    /// Ends a run at the end of its input, with a fault if a message is cut. The intake keeps the bytes that it holds.
+    /// Ends `run` at the end of the input, with a fault if a message or a packed group is cut. The intake keeps the
+    /// bytes that it holds.
     fn finish<S: Service>(&mut self, run: &Run<S>) -> Result<(), RunFault>
         requires going { S.done run.now.service run.now.at ≡ false }
         requires taken { (most : ℕ) × (d : Option (List ℕ))
@@ -59,8 +62,8 @@ pub(crate) trait Intake<A: Allocator + Copy> {
             (gives _ (fold_until S.serves S.refuses S.done most)) self.old run.now result self.new };
 }
 
-/// Reads an input in chunks of at most 65,536 bytes, and lets `intake` serve each chunk before the next is read. The
-/// loop ends if the service is done, if the input ends, or at the first fault. At most `limit` bytes are taken. One
+/// Reads an input in chunks of at most 65,536 bytes, and lets `intake` serve each chunk before the next chunk is read.
+/// The loop ends if the service is done, if the input ends, or at the first fault. At most `limit` bytes are taken. One
 /// more byte may be read, to find out whether the input is longer.
 pub(crate) fn serve_pieces<I: Intake<A>, S: Service, R: Read, W: Write, A: Allocator + Copy>(
     alloc: A,

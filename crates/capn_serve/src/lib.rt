@@ -1,12 +1,12 @@
 //! The read loop over the messages of an input: reads it in chunks, and hands each message to a service.
 //!
 //! A [`Service`] is a fold over messages, and is itself the state of that fold. A [`Run`] is a service with the
-//! position of its next message. [`run_stream`], [`run_packed`] and [`run_bare`] are the loops over the three forms.
+//! position of the next message. [`run_stream`], [`run_packed`] and [`run_bare`] are the loops over the three forms.
 //! [`serve_form`] runs the loop for a given form. A loop reads no further once the service is done. [`serve_form_with`]
-//! also leaves the bytes of a message that is cut in a [`Begun`].
+//! also fills a [`Begun`] with the bytes of a message that is cut.
 //!
-//! [`run_only`] and [`run_pick`] write the frames of chosen messages byte for byte, and are done after the last of
-//! them.
+//! [`run_only`] and [`run_pick`] write the frames of chosen messages byte for byte, and are done after the last chosen
+//! message.
 #![tactic(auto)]
 
 mod adding;

@@ -10,10 +10,10 @@ use capn_words::Watched;
 use std::io::Write;
 use std::marker::Model;
 
-/// The most bytes of a line that are held back.
+/// The greatest number of bytes of a line that are kept before they are written.
 const ROOM: usize = 256;
 
-/// The part of a line that is not written yet, at most 256 bytes in an array. It takes no memory.
+/// The part of a line that is not written yet: at most 256 bytes, in an array, so that no memory is allocated.
 #[derive(Drop)]
 pub struct Line {
     bytes: [u8; ROOM],
@@ -51,7 +51,7 @@ impl Line {
         }
     }
 
-    /// Appends `part` to the bytes that are held back.
+    /// Appends `part` to the bytes that are not written yet.
     fn hold(&mut self, part: &[u8])
         requires { length self.old + length part.now ≤ 256 }
         ensures { self.new ≡ self.old ++ part.now }
@@ -61,7 +61,8 @@ impl Line {
         self.filled = filled;
     }
 
-    /// Writes the bytes that are held back to `errors`, unless `errors` has failed before, and drops them.
+    /// Writes the bytes that are not written yet to `errors`, unless `errors` has failed before. The line is empty
+    /// afterwards.
     pub fn send<E: Write>(&mut self, errors: &mut Watched<E>)
         ensures empty { self.new ≡ [] }
         ensures sent { Says [] (way self.old (E.contents (inner_of errors.old)) (has_failed errors.old))
@@ -71,8 +72,8 @@ impl Line {
         self.filled = 0;
     }
 
-    /// Appends `part` to the line. If there is no room to hold it back, the bytes before it and `part` are written to
-    /// `errors`.
+    /// Appends `part` to the line. If the array has no room for `part`, the bytes before `part` and then `part` are
+    /// written to `errors`.
     pub fn put<E: Write>(&mut self, part: &[u8], errors: &mut Watched<E>)
         ensures { Says part.now (way self.old (E.contents (inner_of errors.old)) (has_failed errors.old))
             (way self.new (E.contents (inner_of errors.new)) (has_failed errors.new)) }
@@ -85,7 +86,7 @@ impl Line {
         }
     }
 
-    /// Appends `out of memory`, the text for refused memory.
+    /// Appends `out of memory`, the text of the fault `Memory`.
     pub fn put_memory<E: Write>(&mut self, errors: &mut Watched<E>)
         ensures { Says out_of_memory (way self.old (E.contents (inner_of errors.old)) (has_failed errors.old))
             (way self.new (E.contents (inner_of errors.new)) (has_failed errors.new)) }

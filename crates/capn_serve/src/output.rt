@@ -27,10 +27,10 @@ pub fn write_all<W: Write>(writer: &mut Watched<W>, text: &[u8]) -> Result<(), R
     }
 }
 
-/// Writes `text` and clears it, if it has at least 65,536 bytes.
+/// Writes and clears `text`, if `text` has at least 65,536 bytes.
 ///
-/// A service that appends the output of a message to `text` calls this at its end. It takes no memory. If the writer
-/// fails, a prefix of `text` was written, and `Io` is returned.
+/// A service that appends the output of a message to `text` calls this function at the end of that output. No memory is
+/// allocated. If the writer fails, a prefix of `text` was written, and `Io` is returned.
 pub fn flush_long<W: Write, A: Allocator>(
     text: &mut Vec<u8, A>,
     writer: &mut Watched<W>,
@@ -51,8 +51,8 @@ pub fn flush_long<W: Write, A: Allocator>(
     }
 }
 
-/// Writes `text`, which a run has kept, unless the writer has failed before. Returns `served`, or `Io` if the writer
-/// fails now.
+/// Writes `text`, which was not written yet, unless the writer has failed before. Returns `served`, or `Io` if the
+/// writer fails now.
 pub(crate) fn send_rest<W: Write>(
     served: Result<(), RunFault>,
     text: &[u8],

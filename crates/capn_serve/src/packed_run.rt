@@ -26,11 +26,12 @@ use capn_words::Watched;
 use std::alloc::Allocator;
 use std::io::{Read, Write};
 
-/// The most packed bytes that are unpacked at once. They unpack to at most 1,024 times as many.
+/// The greatest number of packed bytes that are unpacked at once. The groups within these bytes unpack to at most 1,024
+/// times as many bytes.
 const SLICE: usize = 512;
 
-/// Serves all messages that the unpacked bytes `packed.part` complete, until the service is done. Bytes past the limit
-/// `packed.left` are not served. If the service is not done before them, the run ends as `InputTooLong`.
+/// Serves all messages that the unpacked bytes `packed.part` complete, until the service is done. At most `packed.left`
+/// bytes are served. If there are more bytes, and the service is not done by then, the run ends as `InputTooLong`.
 fn serve_part<S: Service, W: Write, A: Allocator + Copy>(
     alloc: A,
     most: u32,
@@ -70,7 +71,8 @@ fn serve_part<S: Service, W: Write, A: Allocator + Copy>(
     Ok(())
 }
 
-/// Unpacks the slice `bytes`, and serves all messages that it completes. All that the slice unpacks to is held at once.
+/// Unpacks the slice `bytes`, and serves all messages that the slice completes. All bytes that the slice unpacks to are
+/// in memory at once.
 fn serve_slice<S: Service, W: Write, A: Allocator + Copy>(
     alloc: A,
     most: u32,
@@ -173,8 +175,9 @@ impl<A: Allocator + Copy> Intake<A> for Packed<A> {
     }
 }
 
-/// Reads and serves a packed stream as [`run_packed`] does. `packed` must be new, with the limit `limit`. Afterwards it
-/// holds what was read of the last message and of the last group.
+/// Reads a packed stream, and serves each message once that message is complete. `packed` must be new, with the limit
+/// `limit`. Afterwards `packed` holds what was read of the last message and of the last group. The other arguments are
+/// those of [`run_packed`].
 pub(crate) fn packed_into<S: Service, R: Read, W: Write, A: Allocator + Copy>(
     alloc: A,
     most: u32,
@@ -204,20 +207,20 @@ pub(crate) fn packed_into<S: Service, R: Read, W: Write, A: Allocator + Copy>(
     serve_pieces(alloc, most, most_packed, run, packed, reader, writer)
 }
 
-/// Reads a packed stream in chunks of at most 65,536 bytes, and serves each message that is complete before it reads
-/// again.
+/// Reads a packed stream in chunks of at most 65,536 bytes, and serves each message that is complete before the next
+/// read.
 ///
-/// `most` is the greatest number of words of a message. At most `most_packed` bytes of the stream are taken, and at
-/// most `limit` bytes of what it unpacks to. Positions count unpacked bytes. Once the service is done, nothing more is
-/// read or served, and the rest of the input is not looked at. A chunk is unpacked in slices of 512 bytes. A slice
-/// unpacks to at most 512 KiB, in addition to a group that began before it.
+/// `most` is the greatest number of words of a message. At most `most_packed` packed bytes and at most `limit` unpacked
+/// bytes are taken. Positions count unpacked bytes. Once the service is done, nothing more is read or served, and the
+/// rest of the input is not looked at. A chunk is unpacked in slices of 512 bytes. A slice unpacks to at most 512 KiB,
+/// in addition to a group that began before the slice.
 ///
 /// The run ends as done, or with the first fault: a frame or a message that is refused, at its position;
 /// `InputTooLong`; a group that is cut at the end of the input, at the position of the message that has begun or would
-/// begin; `Io` if and only if the reader or the writer failed; `Memory` if a growth was refused. The texts of the
-/// messages before the fault have been written. At `Memory` a prefix of one more text may have been written too. The
-/// run holds an unfinished message, what a slice unpacks to, the texts of a chunk that are not written yet, and what
-/// the service holds.
+/// begin; `Io` if and only if the reader or the writer failed; `Memory` if an allocation was refused. The texts of the
+/// messages before the fault have been written. Before `Memory` a prefix of one more text may have been written too.
+/// The run holds an unfinished message, what a slice unpacks to, the texts of a chunk that are not written yet, and
+/// what the service holds.
 pub fn run_packed<S: Service, R: Read, W: Write, A: Allocator + Copy>(
     alloc: A,
     most: u32,

@@ -11,20 +11,20 @@ pub enum StreamForm {
     Packed,
 }
 
-/// The options of `pick`, which writes messages of a stream by their numbers. (Own.)
+/// The options of `pick`, which writes messages of a stream by their numbers. (Our own.)
 #[derive(Clone, Copy, Debug, PartialEq, Eq)]
 pub struct Pick {
     /// The encoding of the input.
     pub form: StreamForm,
-    /// The limits of a message. Only the limit on its words is used.
+    /// The limits of a message. Only the greatest number of words is used.
     pub limits: Limits,
     /// The number of the first message that is picked, counted from 1.
     pub from: u64,
-    /// The number of the last message that is picked. If it is less than `from`, none is picked.
+    /// The number of the last message that is picked. If this number is less than `from`, no message is picked.
     pub to: u64,
 }
 
-/// The numbers of messages that follow each other in a stream, counted from 1, with both ends.
+/// A range of message numbers, which are counted from 1. Both ends belong to the range.
 #[derive(Clone, Copy, Debug, PartialEq, Eq)]
 pub struct Range {
     /// The number of the first message.

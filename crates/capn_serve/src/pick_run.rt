@@ -19,17 +19,18 @@ use std::io::{Read, Write};
 /// Reads a stream in chunks of at most 65,536 bytes, and writes the frames of the messages whose numbers are in
 /// `ranges`, byte for byte. The frames of a packed stream are written unpacked.
 ///
-/// The ranges ascend: the first number of each is at least 1, greater than all numbers before it, and not greater than
-/// its last number. Of `limits` only the number of words of a message is used. No message is walked. The run ends as
-/// done with the chunk that completes the last picked message. It does not read again, and does not look at what
-/// follows. Before each read, all picked messages that are complete by then have been written. If the stream has fewer
-/// messages than the ranges name, those that exist are written. Without a range nothing is read.
+/// The ranges ascend: the first number of each range is at least 1, greater than the last number of the range before,
+/// and not greater than the last number of its own range. Of `limits` only the greatest number of words of a message is
+/// used. No message is walked. The run ends as done with the chunk that completes the last picked message. Then the run
+/// does not read again, and does not look at what follows. Before each read, all picked messages that are complete by
+/// then have been written. If the stream has fewer messages than the ranges name, those that exist are written. Without
+/// a range nothing is read.
 ///
 /// The run holds an unfinished message, less than 65,536 bytes of short frames, and for a packed stream what
-/// [`run_packed`](crate::run_packed) holds. A long frame is written from where it lies. The cost of a message does not
-/// depend on the number of ranges. The run ends as done or with the first fault before that: a frame or a group that is
-/// refused, at its position; `InputTooLong`; `Io` if and only if the reader or the writer failed; `Memory` if a growth
-/// was refused. The picked frames before the fault have been written.
+/// [`run_packed`](crate::run_packed) holds. A long frame is written without another copy. The cost of a message does
+/// not depend on the number of ranges. The run ends as done, or before that with the first fault: a frame or a group
+/// that is refused, at its position; `InputTooLong`; `Io` if and only if the reader or the writer failed; `Memory` if
+/// an allocation was refused. The picked frames before the fault have been written.
 pub fn run_only<R: Read, W: Write, A: Allocator + Copy>(
     alloc: A,
     form: StreamForm,
@@ -55,7 +56,8 @@ pub fn run_only<R: Read, W: Write, A: Allocator + Copy>(
     }
 }
 
-/// Writes the messages from number `pick.from` to number `pick.to`, as [`run_only`] does with one range.
+/// Writes the frames of the messages from number `pick.from` to number `pick.to`. [`run_only`] states how the stream is
+/// read and how the run ends.
 ///
 /// If the stream has fewer than `pick.from` messages, nothing is written. If `pick.to` is less than `pick.from`,
 /// nothing is read either.

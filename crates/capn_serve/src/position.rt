@@ -2,10 +2,10 @@
 
 ghost use Rattle.std.specs.Prelude.{◌≡◌, ◌+◌};
 
-/// The place of a message in a stream. (Own.)
+/// The place of a message in a stream. (Our own.)
 ///
-/// The offset is where the segment table of the message begins, in bytes from the start of the stream. In a packed
-/// stream it counts unpacked bytes. In a bare input both numbers are 0.
+/// The offset counts the bytes from the start of the stream to the segment table of the message. In a packed stream the
+/// offset counts unpacked bytes. In a bare input the index and the offset are 0.
 #[derive(Clone, Copy, Debug, PartialEq, Eq)]
 pub struct Position {
     /// The number of the message, counted from 0.
@@ -14,7 +14,7 @@ pub struct Position {
     pub offset: u64,
 }
 
-/// Returns the number, counted from 1, of the message that comes after `index` others.
+/// Returns the number, counted from 1, of the message that follows `index` other messages.
 pub fn number_of(index: u64) -> u128
     ensures { result ≡ index + 1 }
 {

@@ -25,7 +25,7 @@ pub fn say_place<E: Write>(at: &Position, line: &mut Line, errors: &mut Watched<
     ensures { Says (place_text at.now) (way line.old (E.contents (inner_of errors.old)) (has_failed errors.old))
         (way line.new (E.contents (inner_of errors.new)) (has_failed errors.new)) }
 {
-    // The number after the greatest index does not fit into 64 bits.
+    // The greatest index plus one does not fit into 64 bits.
     let mut digits = itoa::Buffer::new();
     line.put(digits.format(number_of(at.index)).as_bytes(), errors);
     line.put_named(b" at ", at.offset, errors);
@@ -103,7 +103,7 @@ fn name_of(fault: Fault) -> &'static [u8]
     }
 }
 
-/// Appends the fault and the place at which a walk stopped, the price that it had paid, and its number of visits.
+/// Appends the fault and the place at which a walk stopped, the price paid by then, and the number of visits.
 fn say_stopped<E: Write>(stopped: &Stopped, line: &mut Line, errors: &mut Watched<E>)
     ensures { Says (stopped_text stopped.now)
         (way line.old (E.contents (inner_of errors.old)) (has_failed errors.old))

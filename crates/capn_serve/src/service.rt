@@ -1,4 +1,5 @@
-//! The trait of a service over the messages of a stream, and the state of a run of it.
+//! The trait of a service over the messages of a stream, and the state of a run: a service and the position of the next
+//! message.
 
 ghost use Rattle.std.specs.Prelude.{◌≡◌, Bool, List, ℕ, false};
 ghost use Rattle.capn_words.specs.Watched.{inner_of, has_failed};
@@ -24,21 +25,24 @@ pub trait Service {
     /// refusal.
     ghost refuses: { Self → Position → List ℕ → List (List ℕ) → Refusal → Type 0 };
 
-    /// True if no more is served, by the state and the position of the next message.
+    /// Says, for a state and the position of the next message, whether the service is done, so that no further message
+    /// is served.
     ghost done: { Self → Position → Bool };
 
-    /// Returns `true` if no more is served. `at` is the position of the next message.
+    /// Tests whether the service is done, so that no further message is served. `at` is the position of the next
+    /// message.
     ///
-    /// It is called before each read and after each message. If it returns `true`, nothing more is read or served, and
-    /// the run ends as done, whatever follows. A service of all messages always returns `false`.
+    /// A run calls this function before each read and after each message. After `true` nothing more is read or served,
+    /// and the run ends as done, whatever follows. A service that serves all messages always returns `false`.
     fn is_done(&self, at: Position) -> bool
         ensures { result ≡ done self.now at };
 
-    /// Adds the output for `message` to `text`, which is written next, or to `writer` after `text`.
+    /// Adds the output for `message`, either to the end of `text`, which the run writes later, or to `writer` once
+    /// `text` is written.
     ///
-    /// A service may append to `text`, and call [`flush_long`](crate::flush_long) at its end. It may add bytes that
-    /// exist already by [`add_bytes`](crate::add_bytes). Or it may write `text` to `writer`, and then its own output
-    /// chunk by chunk, so that no long output is held. A refusal is returned before the first byte of the message's
+    /// A service may append to `text`, and call [`flush_long`](crate::flush_long) at the end. For bytes that exist
+    /// already a service may call [`add_bytes`](crate::add_bytes). A service with a long output may write `text` to
+    /// `writer`, and then its own output chunk by chunk. A refusal is returned before the first byte of the message's
     /// output. After `Memory` or `Io` a prefix of that output may have been added.
     fn serve<S: Space, W: Write, A: Allocator + Copy>(
         &mut self,
@@ -55,7 +59,7 @@ pub trait Service {
             (outgoing (W.contents (inner_of writer.new)) text.new.items) (has_failed writer.new) result self.new };
 }
 
-/// A service, and the position of its next message.
+/// A service, and the position of the next message.
 #[derive(Drop)]
 pub struct Run<S> {
     /// The service.
@@ -65,7 +69,7 @@ pub struct Run<S> {
 }
 
 impl<S> Run<S> {
-    /// Returns the run of `service` before the first message.
+    /// Returns a run of `service` whose next message is the first, at index 0 and offset 0.
     pub fn new(service: S) -> Run<S>
         ensures { result ≡ first_run service }
     {
@@ -80,7 +84,7 @@ impl<S> Run<S> {
 }
 
 impl<S: Service> Run<S> {
-    /// Returns `true` if the service serves no more.
+    /// Tests whether the service is done, so that no further message is served.
     #[inline(always)]
     pub(crate) fn is_done(&self) -> bool
         ensures { result ≡ S.done self.now.service self.now.at }

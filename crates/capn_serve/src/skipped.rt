@@ -21,18 +21,19 @@ pub struct SkippedSoFar {
     pub first: Position,
 }
 
-/// The messages that were skipped in a run.
+/// The numbers of skipped messages and of all messages of a run, and the position of the first skipped one.
 #[derive(Clone, Copy, Debug, PartialEq, Eq)]
 pub struct Skipped {
     /// The number of skipped messages.
     pub refused: u64,
-    /// The number of all messages, or of those before the fault that ended the run.
+    /// The number of all messages, or of the messages before the fault that ended the run.
     pub messages: u64,
     /// The position of the first skipped message.
     pub first: Position,
 }
 
-/// Counts the message at `at` as skipped, in addition to those skipped `so_far`. The position of the first is kept.
+/// Counts the message at `at` as skipped, in addition to the messages skipped `so_far`. The position of the first
+/// skipped message is kept.
 pub fn one_more(so_far: Option<SkippedSoFar>, at: Position) -> SkippedSoFar
     ensures { result ≡ spec.one_more so_far at }
 {
@@ -48,7 +49,7 @@ pub fn one_more(so_far: Option<SkippedSoFar>, at: Position) -> SkippedSoFar
     }
 }
 
-/// Returns the record of a run over `messages` messages that has `skipped` some of them.
+/// Returns the numbers of a run over `messages` messages that skipped the ones counted in `skipped`.
 pub fn skipped_of(skipped: SkippedSoFar, messages: u64) -> Skipped
     ensures { result ≡ spec.skipped_of skipped messages }
 {

@@ -30,7 +30,7 @@ pub(crate) fn fault_at(at: Position, fault: FrameFault) -> RunFault
     }
 }
 
-/// Returns an `Err` only if memory was refused. An incomplete frame is not an error yet, and the framer reports any
+/// Returns an `Err` only if `fault` is `Memory`. An incomplete frame is not an error yet, and the framer reports any
 /// other fault of a frame.
 fn pass(fault: FrameFault) -> Result<(), RunFault>
     ensures { Passes fault result }
@@ -41,8 +41,8 @@ fn pass(fault: FrameFault) -> Result<(), RunFault>
     }
 }
 
-/// Serves a message of any number of segments, and moves the run to the position of the next one. It is not inlined, so
-/// that the loop over messages of one segment stays short.
+/// Serves `message`, which may have any number of segments, and moves the run to the position of the next message. This
+/// function is not inlined, so that the loop over messages of one segment stays short.
 #[inline(never)]
 fn add_framed<S: Service, W: Write, A: Allocator + Copy>(
     alloc: A,
@@ -61,8 +61,8 @@ fn add_framed<S: Service, W: Write, A: Allocator + Copy>(
     add_message(alloc, run, frame, message, text, writer)
 }
 
-/// Serves the messages that lie whole in `bytes`, until the service is done, and copies none of them. Returns the
-/// number of bytes that they take. The framer finds out why no further message follows.
+/// Serves the complete messages at the start of `bytes`, until the service is done, and copies none of them. Returns
+/// the number of bytes of the served messages. The framer finds out why no further message follows.
 #[inline(always)]
 fn serve_whole<S: Service, W: Write, A: Allocator + Copy>(
     alloc: A,
@@ -113,7 +113,7 @@ fn clear<A: Allocator + Copy>(framer: &mut Framer<A>)
     let _served = framer.take();
 }
 
-/// Serves the message that `framer` holds and drops it, if it is complete.
+/// Serves and drops the message that `framer` holds, if that message is complete.
 fn serve_held<S: Service, W: Write, A: Allocator + Copy>(
     alloc: A,
     most: u32,
@@ -170,8 +170,9 @@ fn serve_next<S: Service, W: Write, A: Allocator + Copy>(
     }
 }
 
-/// Serves the messages at the start of `bytes` if `framer` holds nothing. If it does, or if no message is complete,
-/// feeds `bytes` to `framer` up to the end of one message. Returns the number of bytes taken.
+/// Serves the complete messages at the start of `bytes` if `framer` is empty. If `framer` holds bytes, or if `bytes`
+/// begin with no complete message, feeds `bytes` to `framer` up to the end of one message, and serves that message if
+/// it is complete. Returns the number of bytes taken.
 fn serve_some<S: Service, W: Write, A: Allocator + Copy>(
     alloc: A,
     most: u32,

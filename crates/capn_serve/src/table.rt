@@ -1,4 +1,4 @@
-//! The table of a message in an input.
+//! The length of the segment table of a message in an input.
 
 ghost use Rattle.std.specs.Prelude.{◌≡◌, length};
 ghost use Rattle.capn_serve.specs.Table as spec;
@@ -6,7 +6,7 @@ ghost use Rattle.capn_serve.specs.Table as spec;
 use capn_canon::Form;
 use capn_words::Space;
 
-/// Returns the number of words of the segment table of `message` in an input in `form`, which is 0 if the form is bare.
+/// Returns the number of words of the segment table of `message` in an input in `form`, which is 0 for a bare input.
 pub fn table_words<S: Space>(form: Form, message: &S) -> u32
     ensures { result ≡ spec.table_words form (S.message message.now) }
 {

@@ -10,7 +10,7 @@ use capn_words::Watched;
 use std::alloc::Allocator;
 use std::io::Read;
 
-/// The most bytes of an input that is read to its end.
+/// The greatest number of bytes of an input that is read to its end.
 pub const MOST_INPUT: usize = 1 << 32;
 
 /// The first bytes of an input, and its length.
@@ -22,12 +22,12 @@ pub struct WholeInput<A: Allocator> {
     pub len: usize,
 }
 
-/// Reads an input to its end, and keeps at most its first `most` bytes. The bytes after them are dropped as they are
-/// read.
+/// Reads an input to its end, and keeps at most the first `most` bytes. The bytes after the kept ones are dropped as
+/// they are read.
 ///
 /// Each call of the reader requests at most 65,536 bytes, and no byte past the one that makes the input too long.
-/// `InputTooLong` is returned if the input has more than 2^32 bytes, `Io` if the reader failed, and `Memory` if a
-/// growth for bytes that were read was refused.
+/// `InputTooLong` is returned if the input has more than 2^32 bytes, `Io` if the reader failed, and `Memory` if an
+/// allocation for bytes that were read was refused.
 pub fn read_all<R: Read, A: Allocator>(
     alloc: A,
     reader: &mut Watched<R>,

@@ -1,4 +1,4 @@
--- Lemmas for a service that appends its texts, and calls `flush_long` at its end.
+-- Lemmas for a service that appends its texts, and calls `flush_long` at the end of each text.
 use Rattle.std.proofs.Common.{◌≡◌, inl, ℕ, List, [], Bool, false, Option, take, Result, Ok, Err, IsErrAnd, sym, subst}
 use Rattle.std.proofs.Common.{◌∙◌, append-nil}
 use Rattle.std.specs.Io.KnownBytes.{Appends}
@@ -22,7 +22,7 @@ stopped fault = Err fault
 module _ {S : Type 0} (serves : S → Position → List ℕ → List (List ℕ) → List ℕ → S → Type 0)
     (refuses : S → Position → List ℕ → List (List ℕ) → Refusal → Type 0) (s t : S) (at : Position) (frame : List ℕ)
     (message : List (List ℕ)) (c : Option (List ℕ)) (old new : List ℕ) where
-  -- Case: the message is refused, or memory was, and nothing was appended.
+  -- Case: the message is refused, or memory was refused, and nothing was appended.
   put_stopped : (failed : Bool) (fault : ServeFault) → failed ≡ false
       → PutsMessage serves refuses s at frame message old new (stopped fault) t
       → DoesService serves refuses s at frame message (outgoing c old) (outgoing c new) failed (stopped fault) t
@@ -39,7 +39,7 @@ module _ {S : Type 0} (serves : S → Position → List ℕ → List (List ℕ) 
       subst (λ (g : ServeFault). DoesService serves refuses s at frame message (outgoing c old) (outgoing c new) failed
       (stopped g) t) (sym is) (put_stopped failed fault fine put)
 
-  -- Case: the message's text was appended, and the text was written if it was long.
+  -- Case: the message's text was appended, and the kept text was written if the kept text was long.
   pub does_flush : (d : Option (List ℕ)) (kept : List ℕ) (failed : Bool) (r : Ending)
       → PutsMessage serves refuses s at frame message old new done t
       → Flushes (outgoing c new) (outgoing d kept) failed r

@@ -1,15 +1,15 @@
--- Lemmas on the bytes that a reader has given, read by read. (For `read_all` and `read_words`.)
+-- Lemmas on the bytes that a reader has returned, read by read. (For `read_all` and `read_words`.)
 use Rattle.std.proofs.Common.{◌≡◌, ℕ, ◌+◌, ◌≤◌, ◌<◌, ◌^◌, List, [], ◌++◌, length, take, ap, subst}
 use Rattle.std.proofs.Common.{arith, length-append, length-take-le, append-nil, Option, Bool, false}
 use Rattle.std.specs.Io.KnownBytes.{Consumes, IsAtEnd}
 use Rattle.std.proofs.KnownBytes.{Consumes-nil, Consumes-trans}
 use Rattle.capn_serve.specs.WholeInput.{HasGiven, HasGivenAll}
 
--- nothing was read
+-- Case: nothing was read yet.
 pub given_none : (old : Option (List ℕ)) (failed : Bool) → failed ≡ false → HasGiven old old failed []
 given_none old failed fine = record { read = Consumes-nil old; bounded = omega arith; fine = fine }
 
--- one more read
+-- Case: one more read returned bytes.
 pub given_more : (a b c : Option (List ℕ)) (f g : Bool) (seen buf : List ℕ) (n : ℕ) → HasGiven a b f seen
     → Consumes b c (take n buf) → n ≤ length buf → length seen + n ≤ 2 ^ 32 + 1 → g ≡ false
     → HasGiven a c g (seen ++ take n buf)
@@ -19,7 +19,7 @@ given_more a b c f g seen buf n h more within bound fine = record {
   fine = fine;
 }
 
--- A read found the end of the input.
+-- Case: a read found the end of the input.
 pub given_all : (a b c : Option (List ℕ)) (f g : Bool) (seen buf : List ℕ) (n : ℕ) → HasGiven a b f seen → n ≡ 0
     → Consumes b c (take n buf) × (n ≡ 0 → 0 < length buf → IsAtEnd c) → 0 < length buf → length seen ≤ 2 ^ 32
     → g ≡ false → HasGivenAll a c g seen
@@ -35,7 +35,7 @@ given_all a b c f g seen buf n h zero more some short fine =
       ended = more.1 zero some;
     }
 
--- The number of bytes after some were appended.
+-- After `k` bytes were appended, the length has grown by `k`.
 pub size_kept : (xs part new : List ℕ) (k : ℕ) → new ≡ xs ++ take k part → k ≤ length part
     → length new ≡ length xs + k
 size_kept xs part new k is within =

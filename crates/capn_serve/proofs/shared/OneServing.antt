@@ -45,7 +45,7 @@ pub record IsOneWay {X : Type 0} (f : Fold X) : Type 0 where
   pub never_both : (x : X) (frame : List ℕ) (message : List (List ℕ)) (t : List ℕ) (y : X) (r : Refusal)
       → f.step x frame message t y → f.refuses x frame message r → ⊥
 
--- Bytes that begin with a frame have its message first.
+-- Bytes that begin with the frame of a message have that message first.
 stands_first : (most : ℕ) (frame more : List ℕ) (message : List (List ℕ)) → Frames frame message
     → total message ≤ most → StandsFirst (frame ++ more) most message (length frame)
 stands_first most frame more message framed room =
@@ -68,15 +68,15 @@ one_front most a b x y m n framed room also few joined =
     (same.0, append_same a b x y same.1 joined)
 
 module _ {X : Type 0} (f : Fold X) (one : IsOneWay f) (last : X → Option RunFault) where
-  -- The ending of a run after its parts.
+  -- `ending` is the end of a run in the state `y`, where `rest` is left after the parts.
   abbrev pub Behind : X → List ℕ → Ending → Type 0
   Behind y rest ending = EndsBy f (f.done y) y rest (last y) ending
 
-  -- The ending of a run after its parts, if more is served.
+  -- `ending` is the end of a run in the state `y`, which is not done, where `rest` is left after the parts.
   abbrev pub Open : X → List ℕ → Ending → Type 0
   Open y rest ending = EndsUnframed f y rest (last y) ending ⊎ EndsRefused f y rest ending
 
-  -- A message that is refused is the first one of the bytes that are left.
+  -- A message that is refused is the first message of the bytes that are left.
   refused_first : (y : X) (rest : List ℕ) (r : Ending) → EndsRefused f y rest r → (message : List (List ℕ))
       × (taken : ℕ) × StandsFirst rest f.most message taken
   refused_first y rest r (frame, more, message, refusal, is, framed, room, why, e) = (
@@ -169,7 +169,7 @@ module _ {X : Type 0} (f : Fold X) (one : IsOneWay f) (last : X → Option RunFa
       k.ends in
       (h.joined ∙ same.0 ∙ sym k.joined, same.1)
 
--- Two runs have the same text, the same ending, and the same state after their messages.
+-- Two runs have the same text, the same ending, and the same state after the messages.
 abbrev pub AreSame : {X : Type 0} → List ℕ → List ℕ → Ending → Ending → X → X → Type 0
 AreSame t u r s y z = (t ≡ u) × ((r ≡ s) × (y ≡ z))
 
@@ -229,7 +229,7 @@ module _ {X : Type 0} (f : Fold X) (one : IsOneWay f) (x : X) where
       one.never_both x bytes (ws ∷ []) t y r step
       (subst (λ (l : List ℕ). f.refuses x bytes (l ∷ []) r) words refuses)
 
-  -- The messages of an input have one text, one ending and one state after them.
+  -- The messages of an input have one text, one ending and one state after the messages.
   pub one_serving : (form : Form) (input t u : List ℕ) (r s : Ending) (y z : X) → AreMessages f x form input t r y
       → AreMessages f x form input u s z → AreSame t u r s y z
   one_serving forms.Stream input t u r s y z h k =

@@ -27,7 +27,7 @@ going_of true P none = absurd none
 going_of false P holds = (refl, holds)
 
 module _ {X : Type 0} (f : Fold X) (y : X) (rest : List ℕ) (behind : Option RunFault) (ending : Ending) where
-  -- If more is served in a state, the bytes that are left decide how a run ends there.
+  -- If a state is not done, the bytes that are left decide how a run ends in that state.
   pub ends_going : f.done y ≡ false → EndsUnframed f y rest behind ending ⊎ EndsRefused f y rest ending
       → EndsBy f (f.done y) y rest behind ending
   ends_going going h = subst (λ (b : Bool). EndsBy f b y rest behind ending) (sym going) h
@@ -36,7 +36,7 @@ module _ {X : Type 0} (f : Fold X) (y : X) (rest : List ℕ) (behind : Option Ru
       → EndsUnframed f y rest behind ending ⊎ EndsRefused f y rest ending
   ends_open going h = subst (λ (b : Bool). EndsBy f b y rest behind ending) going h
 
-  -- If no more is served in a state, a run ends there as done.
+  -- If a state is done, a run in that state ends as done.
   pub ends_done : f.done y ≡ true → ending ≡ Ok tt → EndsBy f (f.done y) y rest behind ending
   ends_done done is = subst (λ (b : Bool). EndsBy f b y rest behind ending) (sym done) is
 
@@ -53,7 +53,7 @@ module _ {S : Type 0} (serves : S → Position → List ℕ → List (List ℕ) 
   abbrev all : Fold (Run S)
   all = fold_of serves refuses most
 
-  -- Messages that are served until a service is done are served by a service that never is.
+  -- Messages that are served until a service is done are also served by the same service if it is never done.
   served_of : (x y : Run S) (ps : List Part) → AreServed f x ps y → AreServed all x ps y
   served_of x y [] is = is
   served_of x y (p ∷ ps) (mid, part, step, more) =
@@ -63,7 +63,7 @@ module _ {S : Type 0} (serves : S → Position → List ℕ → List (List ℕ) 
       → AreParts all x bytes ps rest y
   parts_of x y bytes rest ps are = record { each = served_of x y ps are.each; is = are.is }
 
-  -- A run that ends before its service is done ends in the same way if the service never is.
+  -- A run that ends before its service is done ends in the same way if the service is never done.
   pub folded_of : (x y : Run S) (bytes text : List ℕ) (behind : Option RunFault) (ending : Ending)
       → IsFolded f x bytes behind text ending y → f.done y ≡ false → IsFolded all x bytes behind text ending y
   folded_of x y bytes text behind ending due going = record {

@@ -16,21 +16,22 @@ use Rattle.capn_serve.specs.WhatCame.{HoldsTable, IsOwnRefusal}
 abbrev pub IsOfMessage : {X : Type 0} → Fold X → RunFault → Type 0
 IsOfMessage f fault = (fault ≡ faults.Memory) ⊎ ((fault ≡ faults.Io) ⊎ IsOwnRefusal f fault)
 
--- `fault` is not one that is found at the end of an input, as a frame or a group that is cut is.
+-- `fault` is not found at the end of an input: no frame is cut, and no group is cut.
 pub record IsWithin (fault : RunFault) : Type 0 where
   pub frame : (at : Position) → fault ≡ faults.Refused at (refusals.Frame frames.Cut) → ⊥
   pub group : (at : Position) (o : ℕ) → fault ≡ faults.Refused at (refusals.Packed (cuts.Cut o)) → ⊥
 
 module _ {X : Type 0} (f : Fold X) (x : X) where
-  -- A run that stopped with `fault` within `stream` holds, in `came`, the table that announces too many words, if
-  -- `fault` says so.
+  -- `fault` is the refusal of a message, or is not found at the end of an input. In the second case, if `fault` refuses
+  -- a frame with too many words, `came` holds the segment table of that frame.
   abbrev pub Holds : List ℕ → RunFault → List ℕ → X → Type 0
   Holds stream fault came y = IsOwnRefusal f fault
       ⊎ (IsWithin fault × ((at : Position) (n : ℕ)
       → fault ≡ faults.Refused at (refusals.Frame (frames.TooManyWords n)) → HoldsTable f x stream n came y))
 
-  -- A run that stopped with `fault` within the packed `bytes`, read after the state `before`, holds in `came` the table
-  -- that announces too many words, if `fault` says so.
+  -- `fault` stopped a run within the packed `bytes`, read after the state `before`. `fault` is the refusal of a
+  -- message, or is not found at the end of an input. In the second case, if `fault` refuses a frame with too many
+  -- words, `came` holds the segment table of that frame.
   abbrev pub HoldsPacked : Pending → List ℕ → RunFault → List ℕ → X → Type 0
   HoldsPacked before bytes fault came y = IsOwnRefusal f fault
       ⊎ (IsWithin fault × ((at : Position) (n : ℕ)

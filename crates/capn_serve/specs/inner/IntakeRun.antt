@@ -22,13 +22,14 @@ Closing = List ℕ → Bool → Option (List ℕ) → Option (List ℕ) → Resu
 abbrev pub Giving : Type 0 → Type 0 → Type 1
 Giving I X = I → X → Closing
 
--- Some bytes were taken, from some first states on. Together with `count` further bytes they are less than 2^64.
+-- Some bytes were taken, from some first states on. These bytes and `count` further bytes are less than 2^64 in number.
 abbrev pub HasSome : {I X : Type 0} → (I → X → Taking I X) → I → X → ℕ → Option (List ℕ) → Type 0
 HasSome {I} {X} takes s y count d = (first : I) × (x : X) × (bytes : List ℕ) × (c : Option (List ℕ))
     × takes first x s y bytes c d × (length bytes + count < 2 ^ 64)
 
--- A chunk of `count` bytes can be served in the states `s` and `y`: the limit of words is one of messages, the writer
--- has not failed, more is served, the chunk is no longer than those that are read, and the bytes before it were taken.
+-- A chunk of `count` bytes can be served in the states `s` and `y`: `f.most` is at most the greatest number of words of
+-- any message, the writer has not failed, `y` is not done, the chunk has at most 65,536 bytes, and the bytes before the
+-- chunk were taken.
 pub record CanFeed {I X : Type 0} (f : Fold X) (takes : I → X → Taking I X) (s : I) (y : X) (count : ℕ)
     (d : Option (List ℕ)) (failed : Bool) : Type 0 where
   pub small : f.most ≤ most_message_words
@@ -37,12 +38,12 @@ pub record CanFeed {I X : Type 0} (f : Fold X) (takes : I → X → Taking I X) 
   pub few : count ≤ 65536
   pub some : HasSome takes s y count d
 
--- A run over `bytes` ends with `r`, whatever follows.
+-- A run over `bytes` ends with `r`, whatever bytes follow.
 abbrev pub Over : Closing → List ℕ → Option (List ℕ) → Option (List ℕ) → Result (Unit {0}) RunFault → Type 0
 Over ends bytes c d r = (more : List ℕ) (is_longer : Bool) → ends (bytes ++ more) is_longer c d r
 
--- `bytes` are taken, and a run that finds more than it takes ends with `InputTooLong`; or no more is served, or the run
--- stopped, and in both cases it is over.
+-- After `Ok` in a state `y` that is not done, `bytes` are taken, and a run that finds more than it takes ends with
+-- `InputTooLong`. After `Ok` in a state that is done, and after a fault, the run is over.
 abbrev pub GoesOn : {I X : Type 0} → Taking I X → Giving I X → (X → Bool) → I → X → List ℕ → Option (List ℕ)
     → Option (List ℕ) → Result (Unit {0}) RunFault → Type 0
 GoesOn takes gives done s y bytes c d (Ok u) =
@@ -50,7 +51,7 @@ GoesOn takes gives done s y bytes c d (Ok u) =
     × (done y ≡ true → Over (gives s y) bytes c d (Ok u))
 GoesOn takes gives done s y bytes c d (Err fault) = Over (gives s y) bytes c d (Err fault)
 
--- `bytes`, which end with the last chunk, were served: the run continues or is over, something was written, and the
+-- `bytes`, which end with the last chunk, were served. The run continues or is over, some text was written, and the
 -- result is `Io` if and only if the writer failed.
 pub record Feeds {I X : Type 0} (takes : Taking I X) (gives : Giving I X) (done : X → Bool) (bytes : List ℕ)
     (c d e : Option (List ℕ)) (failed : Bool) (r : Result (Unit {0}) RunFault) (s : I) (y : X) : Type 0 where
@@ -75,33 +76,34 @@ abbrev pub EndsAfter : {I X : Type 0} → (I → X → Taking I X) → (I → X 
 EndsAfter {I} {X} takes gives s y r t = (first : I) (x : X) (bytes : List ℕ) (c d : Option (List ℕ))
     → takes first x s y bytes c d → length bytes < 2 ^ 64 → Ends (gives first x t y) bytes c d r
 
--- Nothing was taken yet. If no more is served, the run is over.
+-- Nothing was taken yet. If the state `x` is done, the run is over.
 abbrev pub IsNew : {I X : Type 0} → Taking I X → Giving I X → (X → Bool) → I → X → Option (List ℕ) → Type 0
 IsNew takes gives done s x c = takes s x [] c c × (done x ≡ true → Over (gives s x) [] c c (Ok tt))
 
--- All bytes before the last chunk of `bytes`, which has at most 65,536, were taken before that chunk was read. More was
--- served then, unless nothing was read.
+-- `bytes` end with a chunk of at most 65,536 bytes. All bytes before that chunk were taken before that chunk was read.
+-- Unless nothing was read, the state was not done by then.
 abbrev pub IsTakenAhead : {I X : Type 0} → Taking I X → (X → Bool) → List ℕ → Option (List ℕ) → Option (List ℕ)
     → Type 0
 IsTakenAhead {I} {X} takes done bytes c d = (before : List ℕ) × (piece : List ℕ) × (s : I) × (y : X)
     × (mid : Option (List ℕ)) × (more : List ℕ) × (bytes ≡ before ++ piece) × (length piece ≤ 65536)
     × takes s y before c mid × Appends mid d more × ((bytes ≡ []) ⊎ (done y ≡ false))
 
--- The effect of a run on a reader (from `a` to `b`) and a writer (from `c` to `d`), its last states, and its result.
+-- States the effect of a run on a reader (from `a` to `b`) and a writer (from `c` to `d`), the last states of the
+-- intake and of the fold, and the result of the run.
 pub record Reads {I X : Type 0} (takes : Taking I X) (gives : Giving I X) (done : X → Bool) (limit : ℕ) (s : I) (y : X)
     (a b c d : Option (List ℕ)) (reader_failed writer_failed : Bool) (r : Result (Unit {0}) RunFault) : Type 0 where
-  -- `bytes` were read, at most one more than are taken.
+  -- `bytes` were read, at most one byte more than `limit`.
   pub bytes : List ℕ
   pub read : Consumes a b bytes
   pub bounded : length bytes ≤ limit + 1
-  -- Unless the reader failed, the run ended as the bytes that are taken of the input say, whatever is left unread.
+  -- Unless the reader failed, the taken bytes of the input decide how the run ended, whatever is left unread.
   pub ended : (reader_failed ≡ true) ⊎ ((more : List ℕ) → (IsAtEnd b → more ≡ [])
       → gives s y (taken_of limit (bytes ++ more)) (has_more limit (bytes ++ more)) c d r)
   -- The result is `Io` if and only if the reader or the writer has failed.
   pub broken : (r ≡ Err faults.Io) ↔ ((reader_failed ≡ true) ⊎ (writer_failed ≡ true))
-  -- if the reader failed, all bytes that it gave were taken, and more is served
+  -- If the reader failed, all bytes that it returned were taken, and the state `y` is not done.
   pub heard : reader_failed ≡ true → (length bytes ≤ limit) × (done y ≡ false) × takes s y bytes c d
-  -- The run has read at most one chunk beyond the bytes that were taken, for every result.
+  -- At most one chunk was read beyond the bytes that were taken, for every result.
   pub ahead : IsTakenAhead takes done bytes c d
-  -- memory was refused only after a byte was read
+  -- Memory was refused only after a byte was read.
   pub memory : r ≡ Err faults.Memory → 0 < length bytes

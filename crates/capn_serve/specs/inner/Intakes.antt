@@ -1,4 +1,4 @@
--- The relations `takes` and `gives` of the two intakes: that of a stream, and that of a packed stream.
+-- The relations `takes` and `gives` of the two intakes: the intake of a stream, and the intake of a packed stream.
 use Rattle.std.specs.Prelude.{◌≡◌, ◌⊎◌, ℕ, List, Bool, Option, Result, IfErr}
 use Rattle.capn_pack.specs.PackedPieces.{Held}
 use Rattle.capn_stream.specs.StreamPieces.{Framing}
@@ -12,23 +12,24 @@ use Rattle.capn_serve.specs.PackedChunkRun.{TellsPacked, fresh, pending}
 use Rattle.capn_serve.specs.WhatCame.{IsOwnRefusal, TellsGroups, TellsStream}
 
 module _ {X : Type 0} (f : Fold X) (x : X) where
-  -- The whole messages of `bytes`, from the start of a stream on, were served, and the framer `now` holds the rest.
+  -- The whole messages of `bytes`, which begin at the start of a stream, were served, and the framer `now` holds the
+  -- rest.
   abbrev pub TakesStream : Framing → X → List ℕ → Option (List ℕ) → Option (List ℕ) → Type 0
   TakesStream now y bytes c d = (f.place x ≡ start) × Tells f x bytes now.rest (sent c) (sent d) y × IsListening f now
 
-  -- A message was refused with `fault`, or `came` is what was read of the message at which the run stopped.
+  -- `fault` is the refusal of a message, or `came` is what was read of the message at which the run stopped.
   abbrev pub CameOf : List ℕ → RunFault → List ℕ → X → Type 0
   CameOf bytes fault came y = IsOwnRefusal f fault ⊎ TellsStream f x bytes fault came y
 
-  -- A run over a stream has ended with `r`. A prefix of its texts was written, and the framer `now` holds what was read
-  -- of the last message.
+  -- A run over a stream has ended with `r`. A prefix of the texts of its messages was written. After a fault the framer
+  -- `now` holds what was read of the last message.
   abbrev pub GivesStream : Framing → X → List ℕ → Bool → Option (List ℕ) → Option (List ℕ)
       → Result (Unit {0}) RunFault → Type 0
   GivesStream now y bytes is_longer c d r = HasEnded f x 0 bytes is_longer c d r y × HasWritten f x 0 bytes c d
       × IfErr r (λ e. CameOf bytes e now.rest y)
 
   module _ (limit : ℕ) where
-    -- The relations of the intake of a packed stream, which takes at most `limit` of the unpacked bytes.
+    -- The relations of the intake of a packed stream, which takes at most `limit` unpacked bytes.
     abbrev pub TakesPacked : Held → Framing → ℕ → X → List ℕ → Option (List ℕ) → Option (List ℕ) → Type 0
     TakesPacked held now left y bytes c d = HasRoom (f.place x) limit
         × TellsPacked f x (fresh limit) bytes (pending held now left) (sent c) (sent d) y × IsListening f now

@@ -1,17 +1,17 @@
--- The service that picks messages: it looks at the first of the ranges that are left.
+-- The service that picks messages, which looks only at the first range that is left.
 use Rattle.std.specs.Prelude.{◌≡◌, ℕ, ◌+◌, nat_lt, if◌then◌else◌, List, [], ◌∷◌, Bool, true, false, refl}
 use Rattle.capn_canon.specs.declared.refusal.Refusal.{Refusal}
 use Rattle.capn_serve.specs.declared.pick.Range.{Range}
 use Rattle.capn_serve.specs.declared.picker.Picker.{Picker}
 use Rattle.capn_serve.specs.declared.position.Position.{Position}
 
--- Tests whether `number` is in the first of some ranges.
+-- Tests whether `number` is in the first of the ranges.
 abbrev pub is_first : List Range → ℕ → Bool
 is_first [] number = false
 is_first (r ∷ rs) number = if nat_lt number r.from then false else (if nat_lt r.to number then false else true)
 
--- The ranges that are left after the message `number`: without the first range, if `number` is not less than its last
--- one.
+-- The ranges that are left after the message `number`. The first range is dropped if `number` is at least the last
+-- number of that range.
 abbrev pub left : List Range → ℕ → List Range
 left [] number = []
 left (r ∷ rs) number = if nat_lt number r.to then r ∷ rs else rs
@@ -21,14 +21,15 @@ abbrev pub is_none : List Range → Bool
 is_none [] = true
 is_none (r ∷ rs) = false
 
--- The range 3 to 4 is left after the message 3, and dropped after the message 4.
+-- The range 3 to 4 is left after the message 3, and is dropped after the message 4.
 still_left : left ((record { from = 3; to = 4 }) ∷ []) 3 ≡ (record { from = 3; to = 4 }) ∷ []
 still_left = refl
 
 left_no_more : left ((record { from = 3; to = 4 }) ∷ []) 4 ≡ []
 left_no_more = refl
 
--- A message with a number in the first range writes its frame, and any other one nothing. None is refused.
+-- A message with a number in the first range writes its frame, and any other message writes nothing. No message is
+-- refused.
 abbrev pub serves : Picker → Position → List ℕ → List (List ℕ) → List ℕ → Picker → Type 0
 serves p at frame message text q =
     (text ≡ (if is_first p.rest.now (at.index + 1) then frame else []))

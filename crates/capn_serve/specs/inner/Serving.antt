@@ -11,33 +11,36 @@ use Rattle.capn_serve.specs.PackedChunkRun.{Pending, ServesPacked}
 use Rattle.capn_serve.specs.inner.Holding.{Holds, HoldsPacked}
 
 module _ {X : Type 0} (f : Fold X) (x : X) where
-  -- Messages of `count` bytes can be served: the limit of their words is one of messages, the writer has not failed,
-  -- and the position has room for them.
+  -- Messages of `count` bytes in all can be served: `f.most` is at most the greatest number of words of any message,
+  -- the writer has not failed, and the position has room for the bytes.
   pub record CanServe (count : ℕ) (failed : Bool) : Type 0 where
     pub small : f.most ≤ most_message_words
     pub fine : failed ≡ false
     pub room : HasRoom (f.place x) count
 
-  -- `count` bytes can be served after those in the framer `before`, which holds no whole message, and more is served.
+  -- `count` bytes can be served after the bytes in the framer `before`, which holds no whole message, and the state `x`
+  -- is not done.
   pub record IsReady (before : Framing) (count : ℕ) (failed : Bool) : Type 0 where
     pub can : CanServe (length before.rest + count) failed
     pub going : f.done x ≡ false
     pub listening : IsListening f before
 
-  -- `bytes` were served up to the end of a message or to their end. If the run stopped at a refused table, `after`
-  -- holds it.
+  -- `bytes` were served up to the end of a message or up to their own end. If the run stopped at a segment table that
+  -- is refused, `after` holds that table.
   pub record HasServedNext (before : Framing) (bytes : List ℕ) (old new : Outgoing) (failed : Bool)
       (r : Result ℕ RunFault) (after : Framing) (y : X) : Type 0 where
     pub served : ServesNext f x before bytes old new failed r after y
     pub came : IfErr r (λ e. Holds f x (before.rest ++ bytes) e after.rest y)
 
-  -- All of `bytes` were served. If the run stopped at a refused table, `after` holds it.
+  -- All of `bytes` were served, or the run stopped. If the run stopped at a segment table that is refused, `after`
+  -- holds that table.
   pub record HasServed (before : Framing) (bytes : List ℕ) (old new : Outgoing) (failed : Bool)
       (r : Result (Unit {0}) RunFault) (after : Framing) (y : X) : Type 0 where
     pub served : Serves f x before bytes old new failed r after y
     pub came : IfErr r (λ e. Holds f x (before.rest ++ bytes) e after.rest y)
 
-  -- All of the packed `bytes` were served. If the run stopped at a refused table, `after` holds it.
+  -- All of the packed `bytes` were served, or the run stopped. If the run stopped at a segment table that is refused,
+  -- `after` holds that table.
   pub record HasServedPacked (before : Pending) (bytes : List ℕ) (old new : Outgoing) (failed : Bool)
       (r : Result (Unit {0}) RunFault) (held : Held) (after : Framing) (left : ℕ) (y : X) : Type 0 where
     pub served : ServesPacked f x before bytes old new failed r held after left y

@@ -6,7 +6,7 @@ use Rattle.std.proofs.KnownBytes.{Appends-trans}
 use Rattle.capn_words.specs.Watched.{HasBegun}
 use Rattle.capn_serve.proofs.adding.send_bytes.Goals as goal
 
--- The text was written, and then a prefix of the bytes.
+-- If a text was written, and then a prefix of some bytes, a prefix of the text and the bytes was written.
 begun_after : (c d e : Option (List ℕ)) (text seen bytes : List ℕ) → seen ≡ text → Appends c d seen
     → HasBegun d e bytes → HasBegun c e (text ++ bytes)
 begun_after c d e text seen bytes same wrote (count, begun) = (

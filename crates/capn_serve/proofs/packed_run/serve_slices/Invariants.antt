@@ -6,7 +6,7 @@ use Rattle.capn_serve.specs.ChunkRun.{HasRoom, IsListening}
 use Rattle.capn_serve.specs.PackedChunkRun.{TellsPacked, pending}
 use Rattle.capn_serve.proofs.packed_run.serve_slices.Given as goal
 
--- The messages that the bytes so far complete are served.
+-- The messages that the first `at` bytes complete are served.
 abbrev pub invariant-loop-at : goal.invariant-loop-at
 invariant-loop-at g l = record {
   fine : has_failed l.writer ≡ false;
