@@ -1,4 +1,4 @@
--- Lemmas for `add_message`: a message that the service serves or skips does what the fold says.
+-- Lemmas for `add_message`: a message that the service serves or skips has the effect that the fold states.
 use Rattle.std.proofs.Common.{◌≡◌, inl, inr, ℕ, List, [], Bool, true, false, Option, Result, Ok, Err, refl, sym}
 use Rattle.std.proofs.Common.{ap, subst, ◌∙◌, append-nil}
 use Rattle.std.proofs.KnownBytes.{Appends-nil}
@@ -25,7 +25,7 @@ abbrev state : ArchiveOrder → Tally → ArchiveService
 state order tally = record { order = order; tally = tally }
 
 module _ (order : ArchiveOrder) (tally : Tally) (at : Position) (frame : List ℕ) (message : List (List ℕ)) where
-  -- Case: the message was served, or is refused and ends the run, or the call failed within its text.
+  -- Case: the message was served, or is refused and ends the run, or the call failed within the text of the message.
   pub served_does : (after : Tally) (a b : Outgoing) (failed : Bool) (r : Ending)
       → AddsServed order.task order.limits tally at frame message a b failed r after
       → ((e : Refusal) → r ≡ stopped (faults.Refused e) → order.keep_going ≡ false)

@@ -1,4 +1,4 @@
--- Lemmas for `serve` of `filter`: a message that is let through or held back does what the fold says.
+-- Lemmas for `serve` of `filter`: a message, let through or not, has the effect that the fold states.
 use Rattle.std.proofs.Common.{◌≡◌, inl, inr, ℕ, List, [], Bool, true, false, Option, Some, Result, Ok, refl, ap}
 use Rattle.capn_serve.specs.declared.position.Position.{Position}
 use Rattle.capn_serve.specs.declared.fault.ServeFault.{ServeFault}
@@ -17,7 +17,7 @@ Ending = Result (Unit {0}) ServeFault
 abbrev done : Ending
 done = Ok tt
 
--- The state of the service with these fields.
+-- The state of the service with `order`, `skipped` and `ended`.
 abbrev state : FilterOrder → Option SkippedSoFar → Option Position → FilterService
 state order skipped ended = record { order = order; skipped = skipped; ended = ended }
 

@@ -67,7 +67,7 @@ module _ (order : FilterOrder) where
     pub is : text ≡ frames_of parts
     pub short : length text ≤ length bytes
 
-  -- One more message that is let through.
+  -- `Kept` still holds after one more message that is let through.
   one_kept : (p : Part) (text bytes : List ℕ) → Frames p.frame p.message → total p.message ≤ order.limits.message_words
       → Passes order.canonical p.message order.limits → p.text ≡ p.frame → Kept text bytes
       → Kept (p.text ++ text) (p.frame ++ bytes)
@@ -84,7 +84,7 @@ module _ (order : FilterOrder) where
     );
   }
 
-  -- One more message that is held back.
+  -- `Kept` still holds after one more message that is not let through.
   none_kept : (p : Part) (text bytes : List ℕ) → p.text ≡ [] → Kept text bytes
       → Kept (p.text ++ text) (p.frame ++ bytes)
   none_kept p text bytes none kept = record {
@@ -100,7 +100,7 @@ module _ (order : FilterOrder) where
     );
   }
 
-  -- One more message, which is let through or held back. The order of the service stays the same.
+  -- `Kept` still holds after one more message, let through or not. The order of the service stays the same.
   more_kept : (s t : FilterService) (at : Position) (p : Part) (text bytes : List ℕ) → s.order ≡ order
       → Frames p.frame p.message → total p.message ≤ order.limits.message_words
       → serves s at p.frame p.message p.text t → (t.order ≡ order → Kept text bytes)
@@ -160,7 +160,7 @@ module _ (order : FilterOrder) where
       subst (λ (t : List ℕ). IsLetThrough order t) (sym (of_closed messages text served y r closes))
       (of_messages order.form input messages served y other are)
 
-  -- ---- what `list` does with it
+  -- ---- a run of `list` over frames that are let through
 
   abbrev g : Fold Listing
   g = archives.archive_fold (listing limits)
@@ -172,7 +172,7 @@ module _ (order : FilterOrder) where
   abbrev Open : Listing → List ℕ → Ending → Type 0
   Open y rest r = EndsUnframed g y rest None r ⊎ EndsRefused g y rest r
 
-  -- The frame of an accepted message is the first frame of bytes that begin with it.
+  -- Bytes that begin with the frame of an accepted message have that frame as their first.
   first_whole : (p : Part) (more : List ℕ) → Frames p.frame p.message → total p.message ≤ limits.message_words
       → StandsFirst (p.frame ++ more) limits.message_words p.message (length p.frame)
   first_whole p more framed room =
@@ -216,7 +216,7 @@ module _ (order : FilterOrder) where
       not_refused p.message limits refusal is
       (subst (λ (m : List (List ℕ)). IsRefusedBy tasks.List m limits refusal) one.0 refused)
 
-  -- A message is listed, and none is skipped.
+  -- `list` without `--keep-going` skips no message.
   listed_tally : (tally after : Tally) (at : Position) (frame text : List ℕ) (message : List (List ℕ))
       → (IsServedBy tasks.List limits tally at frame message text after
       ⊎ IsSkippedBy (listing limits) tally at frame message text after) → after.skipped ≡ tally.skipped

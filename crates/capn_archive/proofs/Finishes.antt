@@ -23,8 +23,8 @@ use Rattle.capn_archive.proofs.ToldAlone.{TellsAlone}
 module _ {X : Type 0} (f : Fold X) (x : X) (finish : Finish X) (form : Form) where
   -- ---- a run that a fault ended
 
-  -- A run that a fault ended has the same result by the state before the fault and by the state after it. If the states
-  -- differ, a message was refused, and that is reported without the count of skipped messages.
+  -- A run that a fault ended has the same result by the state before the fault and by the state after the fault. If the
+  -- states differ, a message was refused, and its refusal is reported without the count of skipped messages.
   left_same : TellsAlone f → (z y : X) (e : RunFault) → Leaves f z e y
       → stopped_by f x finish y e ≡ stopped_by f x finish z e
   left_same alone z y e (inl same) = ap (λ (w : X). stopped_by f x finish w e) (sym same)
@@ -90,7 +90,7 @@ module _ {X : Type 0} (f : Fold X) (x : X) (finish : Finish X) (form : Form) whe
   failed_exact None c d = tt
   failed_exact (Some input) c d = inr (inl refl)
 
--- A prefix of this text of messages was written.
+-- If a prefix of the text of messages was written, some text was written.
 begun_text : {X : Type 0} (f : Fold X) (x : X) (form : Form) (bytes : List ℕ) (c d : Option (List ℕ))
     → HasWritten f x form bytes c d → (text : List ℕ) × Appends c d text
 begun_text f x forms.Stream bytes c d (parts, rest, y, count, are, wrote) = (take count (texts_of parts), wrote)
@@ -99,7 +99,7 @@ begun_text f x forms.Packed bytes c d (stream, begins, parts, rest, y, count, ar
 begun_text f x forms.Bare bytes c d (inl wrote) = ([], wrote)
 begun_text f x forms.Bare bytes c d (inr (text, y, count, writes, wrote)) = (take count text, wrote)
 
--- If a part of the text was written ahead, so it was after `more` was written too.
+-- `IsAhead` still holds after `more` was written too.
 ahead_more : (P : List ℕ → Option (List ℕ) → Option (List ℕ) → Type 0) (bytes more : List ℕ)
     (c m d : Option (List ℕ)) → IsAhead P bytes c m → Appends m d more → IsAhead P bytes c d
 ahead_more P bytes more c m d (before, piece, mid, first, is, small, written, wrote) after =
@@ -163,7 +163,7 @@ module _ {X : Type 0} (f : Fold X) (x : X) (finish : Finish X) (form : Form) (a 
   finished_done none =
       finished_closed m before (subst (Appends m m) (sym none) (Appends-nil m)) (writer_fine reader before run.io)
 
-  -- Case: memory was refused for the closing text.
+  -- Case: an allocation was refused for the closing text.
   unclosed : (d : Option (List ℕ)) (after : Bool) → d ≡ m → after ≡ false → finish.closing y ≢ []
       → Finished f x finish form a b c d reader after (Err faults.Memory)
   unclosed d after same fine some = record {
@@ -212,7 +212,7 @@ module _ {X : Type 0} (f : Fold X) (x : X) (finish : Finish X) (form : Form) (a 
       (broken d after begun failed)
 
 module _ {X : Type 0} where
-  -- The messages were served by the limits of the order, from the first state.
+  -- The state `x` and the limit `most` can be replaced by `first` and `words`, which are equal to them.
   pub of_order : (fold : ℕ → Fold X) (form : Form) (words most : ℕ) (first x : X) → most ≡ words → x ≡ first
       → (a b c d : Option (List ℕ)) (reader writer : Bool) (r : Result (Unit {0}) RunFault) (y : X)
       → ServesMessages (fold most) x form a b c d reader writer r y

@@ -25,7 +25,7 @@ Ending = Result (Unit {0}) ServeFault
 abbrev stopped : ServeFault → Ending
 stopped fault = Err fault
 
--- Bytes that were added are a text that was added.
+-- `AddsBytes` of a text implies `AddsText` of that text.
 pub text_added : (text : List ℕ) (a b : Outgoing) (failed : Bool) (r : Ending) → AddsBytes text a b failed r
     → AddsText text a b failed r
 text_added text a b failed (Ok u) (adds, short, fine) = (adds, fine, λ h. short)
@@ -75,7 +75,7 @@ module _ (limits : Bounds) (tally : Tally) (at : Position) (frame : List ℕ) (m
       ((framed answer, tally, count, (answer, price, is, refl, refl), breaks), broken)
   frame_added answer price is a b failed (Err (faults.Refused r)) none = absurd none
 
-  -- The line of a message was appended, or memory was refused.
+  -- The line of a message was appended, or an allocation was refused.
   pub line_added : (task : Task) (line : MessageHead → List ℕ) (head : MessageHead) → head ≡ head_of at frame message
       → IsServedBy task limits tally at frame message (line (head_of at frame message)) tally
       → (c : Option (List ℕ)) (old new : List ℕ) (r : Ending) → PutsText (line head) old new r

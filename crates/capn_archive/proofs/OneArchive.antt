@@ -1,4 +1,4 @@
--- Lemmas for `one_text`: the state and the message decide what a run over an archive does.
+-- Lemmas for `one_text`: the state and the message determine the effect of a run over an archive.
 use Rattle.std.proofs.Common.{◌≡◌, ◌↔◌, inl, inr, ℕ, List, Bool, true, false, Option, Some, None, refl, ap, sym}
 use Rattle.std.proofs.Common.{subst, ◌∙◌, arith}
 use Rattle.std.proofs.lemmas.Bool.{cases_lt}
@@ -183,7 +183,7 @@ module _ (s : ArchiveService) (at : Position) (frame : List ℕ) (m : List (List
   not_both t p r (o, inr (going, other, why, line, a)) (stays, refused) = let bad : true ≡ false = sym going
       ∙ stays in cc
 
--- The order and the input decide the text and the result of a run over an archive.
+-- The options and the input determine the text and the result of a run over an archive.
 pub archive_one_way : (order : ArchiveOrder) → IsOneWay (archive_fold order)
 archive_one_way order = record {
   steps = λ x frame m t u y z h k.

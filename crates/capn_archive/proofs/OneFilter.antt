@@ -1,4 +1,4 @@
--- Lemmas for `one_text`: the state and the message decide what `filter` does.
+-- Lemmas for `one_text`: the state and the message determine the effect of `filter`.
 use Rattle.std.proofs.Common.{◌≡◌, inl, inr, ℕ, List, Bool, true, false, sym, subst, ◌∙◌}
 use Rattle.capn_value.specs.Tree.{Tree}
 use Rattle.capn_walk.specs.Limits.{Bounds}
@@ -22,7 +22,7 @@ module _ (m : List (List ℕ)) (limits : Bounds) where
   accepted_of false passes = passes
   accepted_of true (v, is, own) = is.accepted
 
-  -- A message that is held back as not canonical is accepted.
+  -- A message that is not let through because it is not canonical is accepted.
   uncanonical_accepted : (canonical : Bool) → IsUncanonical canonical m limits → IsAccepted m limits
   uncanonical_accepted false none = absurd none
   uncanonical_accepted true (v, is, other) = is.accepted
@@ -68,7 +68,7 @@ module _ (s : FilterService) (at : Position) (frame : List ℕ) (m : List (List 
   not_both t p r (inr (inr (too, uncanonical, e, a))) (stays, refused) =
       not_refused m s.order.limits r (uncanonical_accepted m s.order.limits s.order.canonical uncanonical) refused
 
--- The order and the input decide the text and the result of a run of `filter`.
+-- The options and the input determine the text and the result of a run of `filter`.
 pub filter_one_way : (order : FilterOrder) → IsOneWay (filter_fold order)
 filter_one_way order = record {
   steps = λ x frame m t u y z h k.

@@ -1,4 +1,4 @@
--- Lemmas for `one_text`: the state and the message decide what `uniq` does.
+-- Lemmas for `one_text`: the state and the message determine the effect of `uniq`.
 use Rattle.std.proofs.Common.{◌≡◌, inl, inr, ℕ, List, true, false, ap, sym, ◌∙◌}
 use Rattle.capn_canon.specs.declared.refusal.Refusal.{Refusal}
 use Rattle.capn_canon.proofs.shared.OneRefusal.{one_message_refusal}
@@ -34,7 +34,7 @@ module _ (s : UniqState) (at : Position) (frame : List ℕ) (m : List (List ℕ)
   not_both t p r (inr (going, other, why, line, a)) (stays, undigested) = let bad : true ≡ false = sym going
       ∙ stays in cc
 
--- The order and the input decide the text and the result of a run of `uniq`.
+-- The options and the input determine the text and the result of a run of `uniq`.
 pub uniq_one_way : (order : UniqOrder) → IsOneWay (uniq_fold order)
 uniq_one_way order = record {
   steps = λ x frame m t u y z h k.

@@ -1,4 +1,5 @@
--- Lemmas for `deduplicate` and `serve` of `uniq`: a message that is served or skipped does what the fold says.
+-- Lemmas for `deduplicate` and `serve` of `uniq`: a message that is served or skipped has the effect that the fold
+-- states.
 use Rattle.std.proofs.Common.{◌≡◌, inl, inr, ℕ, List, [], Bool, true, false, Option, Some, Result, Ok, Err, refl}
 use Rattle.std.proofs.Common.{IsErrAnd}
 use Rattle.std.proofs.Common.{ap, sym, subst, ◌∙◌}
@@ -20,7 +21,7 @@ use Rattle.capn_archive.specs.Digest.{IsDigest, IsUndigested}
 use Rattle.capn_archive.specs.UniqMessages.{UniqState, IsSkipped, Deduplicates, and_one, has, one_served}
 use Rattle.capn_archive.specs.UniqMessages.{refuses, serves, kept_text, TriesToDeduplicate}
 
--- The state of the service with these fields.
+-- The state of the service with `order`, `digests`, `served` and `skipped`.
 abbrev pub state : UniqOrder → FinSet (slice_cmp nat_cmp) → ℕ → Option SkippedSoFar → UniqState
 state order digests served skipped =
     record { order = order; digests = digests; served = served; skipped = skipped }
@@ -65,7 +66,7 @@ module _ (s : UniqState) (frame : List ℕ) (message : List (List ℕ)) (a b : O
   kept_added t text is (Err faults.Io) ((count, breaks), broken) = ((text, t, count, is, breaks), broken)
   kept_added t text is (Err (faults.Refused r)) none = absurd none
 
-  -- Case: the message was served, or is refused and ends the run, or the call failed within its text.
+  -- Case: the message was served, or is refused and ends the run, or the call failed within the text of the message.
   pub tried_does : (t : UniqState) (at : Position) (r : Ending) → TriesToDeduplicate s frame message a b failed r t
       → ((e : Refusal) → r ≡ stopped (faults.Refused e) → s.order.keep_going ≡ false)
       → DoesService serves refuses s at frame message a b failed r t
@@ -78,7 +79,7 @@ module _ (s : UniqState) (frame : List ℕ) (message : List (List ℕ)) (a b : O
   tried_does t at (Err (faults.Refused e)) (undigested, same, kept, fine) ends =
       ((ends e refl, undigested), subst (λ (x : Outgoing). Adds a x []) (sym same) (added_none a), fine)
 
-  -- Case: memory was refused, or the writer failed.
+  -- Case: an allocation was refused, or the writer failed.
   pub fault_does : (t : UniqState) (at : Position) (fault other : ServeFault) → fault ≡ other
       → TriesToDeduplicate s frame message a b failed (stopped fault) t
       → ((e : Refusal) → stopped other ≡ stopped (faults.Refused e) → s.order.keep_going ≡ false)
@@ -94,7 +95,7 @@ module _ (s : UniqState) (frame : List ℕ) (message : List (List ℕ)) (a b : O
   undigested t fault r same tried =
       subst (λ (e : ServeFault). TriesToDeduplicate s frame message a b failed (stopped e) t) same tried
 
-  -- Case: memory was refused before anything was added.
+  -- Case: an allocation was refused before anything was added.
   pub memory_refused : (t : UniqState) (fault : ServeFault) (r : Ending) → IsErrAnd r (λ e. e ≡ fault)
       → fault ≡ faults.Memory → Adds a b [] → failed ≡ false → TriesToDeduplicate s frame message a b failed r t
   memory_refused t fault (Ok u) told is none fine = absurd told

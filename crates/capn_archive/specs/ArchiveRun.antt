@@ -1,5 +1,5 @@
--- A whole run over an archive: its closing text, and the rest by `Finish`, which defines every run that writes a
--- closing text. (Own.)
+-- A whole run over an archive. Its closing text is defined here, and the rest by `Finish`, for every run that writes a
+-- closing text. (Our own.)
 use Rattle.std.specs.Prelude.{ℕ, List, [], Bool, Option, None, Result}
 use Rattle.capn_serve.specs.declared.service.Run.{Run}
 use Rattle.capn_serve.specs.Fold.{Fold, fold_of}
@@ -31,12 +31,12 @@ needs_of order run = record {
   tariff = order.limits.tariff;
 }
 
--- The closing text: the lines of `limits`, and nothing for the other tasks.
+-- The closing text, which is the lines of `limits` for that task, and empty for the others.
 abbrev pub closing_by : Task → Needs → List ℕ
 closing_by tasks.Limits needs = limits_text needs
 closing_by _ needs = []
 
--- The closing text of a run by its order and its state.
+-- The closing text of a run with the options `order` in the state `run`.
 abbrev pub closing : ArchiveOrder → Run ArchiveService → List ℕ
 closing order run = closing_by order.task (needs_of order run)
 
@@ -48,7 +48,8 @@ archive_finish order = record {
   ended = λ y. None;
 }
 
--- The effect of a run: the reader goes from `a` to `b`, the writer from `c` to `d`, and `r` is the result.
+-- A run with the options `order` takes the reader from `a` to `b` and the writer from `c` to `d`, and returns `r`.
+-- `reader_failed` and `writer_failed` say whether the reader and the writer failed.
 abbrev pub Archived : ArchiveOrder → Option (List ℕ) → Option (List ℕ) → Option (List ℕ) → Option (List ℕ) → Bool → Bool
     → Result (Unit {0}) ArchiveFault → Type 0
 Archived order a b c d reader_failed writer_failed r =

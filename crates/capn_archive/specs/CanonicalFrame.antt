@@ -6,26 +6,27 @@ use Rattle.capn_serve.specs.declared.fault.ServeFault.TheVariants as faults
 use Rattle.capn_serve.specs.Outgoing.{Outgoing, Adds, Breaks}
 
 -- The segment table of a frame with one segment of `words` words: four zero bytes, because there is no second segment,
--- and the number.
+-- and then `words` in four bytes.
 abbrev pub head : ℕ → List ℕ
 head words = 0 ∷ 0 ∷ 0 ∷ 0 ∷ entry words
 
--- The frame of one segment with the contents `bytes`, 8 for each word.
+-- The frame of one segment with the contents `bytes`, 8 bytes for each word.
 abbrev pub framed : List ℕ → List ℕ
 framed bytes = head (length bytes / 8) ++ bytes
 
--- `text` was appended to `old`. If memory was refused, nothing was.
+-- `new` is `old` with `text` appended. Or an allocation was refused, and `new` is `old`.
 abbrev pub PutsText : List ℕ → List ℕ → List ℕ → Result (Unit {0}) ServeFault → Type 0
 PutsText text old new (Ok u) = new ≡ old ++ text
 PutsText text old new (Err fault) = (fault ≡ faults.Memory) × (new ≡ old)
 
--- `text` was appended to `old`. If memory was refused, some bytes were.
+-- `new` is `old` with `text` appended. Or an allocation was refused, and `new` is `old` with any bytes appended.
 abbrev pub PutsFront : {E : Type 0} → List ℕ → List ℕ → List ℕ → Result (Unit {0}) E → Type 0
 PutsFront text old new (Ok u) = new ≡ old ++ text
 PutsFront text old new (Err e) = (some : List ℕ) × (new ≡ old ++ some)
 
--- `text` was added to the output. If fewer than 65,536 bytes were held back before, fewer are held back after. If
--- memory was refused, a prefix of `text` was added. Otherwise the writer failed within `text`.
+-- `text` was added to the output `old`, which gives `new`, and if `old` held back fewer than 65,536 bytes, so does
+-- `new`. Or an allocation was refused after a prefix of `text` was added. Or the writer failed within `text`. `failed`
+-- says whether the writer failed.
 abbrev pub AddsText : List ℕ → Outgoing → Outgoing → Bool → Result (Unit {0}) ServeFault → Type 0
 AddsText text old new failed (Ok u) =
     Adds old new text × (failed ≡ false) × (length old.kept < 65536 → length new.kept < 65536)

@@ -1,4 +1,4 @@
--- The digest of a message: the SHA-256 of its canonical bytes. (Own.)
+-- The digest of a message: the SHA-256 of its canonical bytes. (Our own.)
 use Rattle.std.specs.Prelude.{◌≡◌, ◌≢◌, ℕ, List, Option, Some, None}
 use Rattle.sha2.specs.Sha256.{sha256}
 use Rattle.capn_walk.specs.Limits.{Bounds}
@@ -7,16 +7,17 @@ use Rattle.capn_canon.specs.Refusal.{IsRefusedMessage}
 use Rattle.capn_canon.specs.declared.refusal.Refusal.{Refusal}
 use Rattle.capn_canon.specs.declared.refusal.Refusal.TheVariants as refusals
 
--- `digest` is the digest of `message`, which is the SHA-256 of its canonical bytes.
+-- `digest` is the SHA-256 of the canonical bytes of `message`, which has such bytes within `limits`.
 abbrev pub IsDigest : List (List ℕ) → Bounds → List ℕ → Type 0
 IsDigest message limits digest =
     (answer : List ℕ) × (price : ℕ) × AnswersMessage message limits answer price × (digest ≡ sha256 answer)
 
--- `message` has no digest, because it is refused by its walk or for a capability.
+-- `message` has no digest, because `r` refuses the message within `limits`, by its walk or for a capability.
 abbrev pub IsUndigested : List (List ℕ) → Bounds → Refusal → Type 0
 IsUndigested message limits r = IsRefusedMessage message limits r × (r ≢ refusals.Memory)
 
--- The digest of an accepted message, or `None` if its value has a capability.
+-- The last argument is the digest of `message`, which is accepted within `limits`, or `None` if its value has a
+-- capability.
 abbrev pub IsDigestIfAny : List (List ℕ) → Bounds → Option (List ℕ) → Type 0
 IsDigestIfAny message limits (Some digest) = IsDigest message limits digest
 IsDigestIfAny message limits None = (index : ℕ) × IsRefusedMessage message limits (refusals.Capability index)

@@ -1,4 +1,4 @@
--- The text of a fault that ends a run over an archive, and its exit status. (Own.)
+-- The text of a fault that ends a run over an archive, and its exit status. (Our own.)
 use Rattle.std.specs.Prelude.{ℕ, ◌≡◌, List, ◌++◌, codes, refl}
 use Rattle.std.specs.Fmt.{digits}
 use Rattle.capn_serve.specs.Ending.{out_of_memory}
@@ -12,7 +12,7 @@ use Rattle.capn_serve.specs.declared.position.Position.{Position}
 use Rattle.capn_archive.specs.declared.fault.ArchiveFault.{ArchiveFault}
 use Rattle.capn_archive.specs.declared.fault.ArchiveFault.TheVariants as faults
 
--- The text for a message at `at` that is refused, or for a place where no message can begin.
+-- The text for a message that `refusal` refuses at `at`, or for a position `at` where no message can begin.
 abbrev pub text_of_refused : Position → Refusal → List ℕ
 text_of_refused at refusal = codes "message " ++ (place_text at ++ (codes ": " ++ refusal_text refusal))
 

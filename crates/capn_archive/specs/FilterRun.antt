@@ -1,4 +1,4 @@
--- A whole run of `filter`. (Own.)
+-- A whole run of `filter`. (Our own.)
 use Rattle.std.specs.Prelude.{ℕ, List, [], Bool, Option, Result}
 use Rattle.capn_serve.specs.declared.service.Run.{Run}
 use Rattle.capn_serve.specs.Fold.{Fold, fold_until}
@@ -17,7 +17,7 @@ filter_fold order = fold_until serves refuses done order.limits.message_words
 abbrev pub first_run : FilterOrder → Run FilterService
 first_run order = record { service = first_state order; at = start }
 
--- The end of a run after its last message: nothing more is written.
+-- The end of a run after its last message, where no closing text is written.
 abbrev pub filter_finish : Finish (Run FilterService)
 filter_finish = record {
   closing = λ y. [];
@@ -25,7 +25,8 @@ filter_finish = record {
   ended = λ y. y.service.ended;
 }
 
--- The effect of a run: the reader goes from `a` to `b`, the writer from `c` to `d`, and `r` is the result.
+-- A run with the options `order` takes the reader from `a` to `b` and the writer from `c` to `d`, and returns `r`.
+-- `reader_failed` and `writer_failed` say whether the reader and the writer failed.
 abbrev pub Filtered : FilterOrder → Option (List ℕ) → Option (List ℕ) → Option (List ℕ) → Option (List ℕ) → Bool → Bool
     → Result (Unit {0}) ArchiveFault → Type 0
 Filtered order a b c d reader_failed writer_failed r =

@@ -1,4 +1,4 @@
--- Laws: statements about the definitions alone, which hold whatever the code does. (Own.)
+-- The laws, which follow from the definitions whatever the code does. (Our own.)
 use Rattle.std.specs.Prelude.{◌≡◌, ◌≢◌, ℕ, ◌≤◌, List, [], ◌∷◌, length, false, Result, Ok, ⊤}
 use Rattle.capn_words.specs.Message.{total}
 use Rattle.capn_walk.specs.Limits.{Bounds}
@@ -17,7 +17,7 @@ use Rattle.capn_archive.specs.declared.task.ArchiveOrder.{ArchiveOrder}
 use Rattle.capn_archive.specs.declared.task.Task.TheVariants as tasks
 use Rattle.capn_archive.specs.declared.uniq_order.UniqOrder.{UniqOrder}
 
--- The order and the input decide the text and the result of a run over an archive.
+-- The options and the input determine the text and the result of a run over an archive.
 abbrev pub OneArchive : Type 0
 OneArchive = (order : ArchiveOrder) (input t u : List ℕ) (r s : Result (Unit {0}) ArchiveFault)
     → IsWholeText (archives.archive_fold order) (archives.first_run order) (archives.archive_finish order) order.form
@@ -25,42 +25,44 @@ OneArchive = (order : ArchiveOrder) (input t u : List ℕ) (r s : Result (Unit {
     → IsWholeText (archives.archive_fold order) (archives.first_run order) (archives.archive_finish order) order.form
     input u s → (t ≡ u) × (r ≡ s)
 
--- The order and the input decide the text and the result of a run of `uniq`.
+-- The options and the input determine the text and the result of a run of `uniq`.
 abbrev pub OneUniq : Type 0
 OneUniq = (order : UniqOrder) (input t u : List ℕ) (r s : Result (Unit {0}) ArchiveFault)
     → IsWholeText (uniqs.uniq_fold order) (uniqs.first_run order) uniqs.uniq_finish order.form input t r
     → IsWholeText (uniqs.uniq_fold order) (uniqs.first_run order) uniqs.uniq_finish order.form input u s
     → (t ≡ u) × (r ≡ s)
 
--- The order and the input decide the text and the result of a run of `filter`.
+-- The options and the input determine the text and the result of a run of `filter`.
 abbrev pub OneFilter : Type 0
 OneFilter = (order : FilterOrder) (input t u : List ℕ) (r s : Result (Unit {0}) ArchiveFault)
     → IsWholeText (filters.filter_fold order) (filters.first_run order) filters.filter_finish order.form input t r
     → IsWholeText (filters.filter_fold order) (filters.first_run order) filters.filter_finish order.form input u s
     → (t ≡ u) × (r ≡ s)
 
--- Each part is the frame of a message that `filter` lets through by `order`.
+-- Each part has the frame of a message that `filter` with the options `order` lets through, with no more words than
+-- `order.limits` allows.
 abbrev pub AreLetThrough : FilterOrder → List Part → Type 0
 AreLetThrough order [] = ⊤
 AreLetThrough order (p ∷ ps) = Frames p.frame p.message × (total p.message ≤ order.limits.message_words)
     × Passes order.canonical p.message order.limits × AreLetThrough order ps
 
--- `text` consists of frames of messages that `filter` lets through, and is no longer than a stream may be.
+-- `text` consists of frames of messages that `filter` with the options `order` lets through, and is no longer than a
+-- stream may be.
 pub record IsLetThrough (order : FilterOrder) (text : List ℕ) : Type 0 where
   pub parts : List Part
   pub each : AreLetThrough order parts
   pub is : text ≡ frames_of parts
   pub short : length text ≤ most_stream
 
--- The output of `filter` over a stream, packed or not, consists of frames that it lets through, whatever the input is
--- and however the run ends.
+-- The output of `filter` over a stream, packed or not, consists of frames of messages that are let through, whatever
+-- the input is and however the run ends.
 abbrev pub FiltersAccepted : Type 0
 FiltersAccepted = (order : FilterOrder) (input text : List ℕ) (r : Result (Unit {0}) ArchiveFault)
     → order.form ≢ forms.Bare
     → IsWholeText (filters.filter_fold order) (filters.first_run order) filters.filter_finish order.form input text r
     → IsLetThrough order text
 
--- The order of `list` over a stream, with `limits`.
+-- The options of `list` over a stream, with `limits`.
 abbrev pub listing : Bounds → ArchiveOrder
 listing limits = record { task = tasks.List; form = forms.Stream; limits = limits; keep_going = false }
 

@@ -1,4 +1,4 @@
--- The lines that are written for messages. (Own.)
+-- The lines that `list` and `limits` write. (Our own.)
 use Rattle.std.specs.Prelude.{◌≡◌, ℕ, ◌+◌, ◌*◌, ◌^◌, min, max, List, [], ◌∷◌, ◌++◌, codes, Bool, true, false, Option}
 use Rattle.std.specs.Prelude.{Some, None, refl}
 use Rattle.std.specs.Fmt.{decimal, digits}
@@ -25,12 +25,12 @@ abbrev pub capability_text : Option ℕ → List ℕ
 capability_text (Some index) = decimal index
 capability_text None = codes "no"
 
--- `yes` or `no`.
+-- The text `yes` for `true`, and `no` for `false`.
 abbrev pub answer_text : Bool → List ℕ
 answer_text true = codes "yes"
 answer_text false = codes "no"
 
--- The figures of an accepted message.
+-- The text of the figures of an accepted message.
 abbrev pub measured_text : MeasuredBare → List ℕ
 measured_text measured =
     codes "paid " ++ (decimal measured.survey.paid ++ (codes " visits " ++ (decimal measured.survey.visits
@@ -57,8 +57,8 @@ digests_line head measured digest =
 abbrev pub refused_line : MessageHead → Refusal → List ℕ
 refused_line head refusal = head_text head ++ (codes " refused " ++ (refusal_text refusal ++ codes "\n"))
 
--- The greatest amount of a message, and the number of the first message that has it, counted from 1. Zeros if there is
--- no message.
+-- The greatest amount of a message, and the number of the first message that has it, counted from 1. If there is no
+-- message, both are 0.
 abbrev pub greatest_text : Option Greatest → List ℕ
 greatest_text None = codes "0 message 0"
 greatest_text (Some g) = decimal g.amount ++ (codes " message " ++ decimal (g.index + 1))
@@ -73,7 +73,7 @@ abbrev pub tariff_text : Tariff → List ℕ
 tariff_text tariffs.Strict = codes ""
 tariff_text tariffs.Plain = codes " --tariff plain"
 
--- The number of messages, and the greatest words, price and depth of one.
+-- The number of messages, and the greatest number of words, price and depth of a message.
 abbrev pub needs_text : Needs → List ℕ
 needs_text needs =
     codes "messages " ++ (decimal needs.messages
@@ -81,7 +81,8 @@ needs_text needs =
     ++ (codes "\nbudget " ++ (greatest_text needs.tally.price
     ++ (codes "\ndepth " ++ greatest_text needs.tally.depth))))))
 
--- The options whose limits leave room: four times the words and the price, and twice the depth, within their ranges.
+-- The advised options, whose limits leave room: four times the words and the price, and twice the depth, within the
+-- ranges of these options.
 abbrev pub advice_text : Needs → List ℕ
 advice_text needs =
     codes "use --message-words " ++ (decimal (min (max (4 * amount_of needs.tally.words) 1) (2 ^ 28))
@@ -93,7 +94,7 @@ advice_text needs =
 abbrev pub limits_text : Needs → List ℕ
 limits_text needs = needs_text needs ++ (codes "\n" ++ (advice_text needs ++ codes "\n"))
 
--- ---- a line of each kind
+-- Examples of each kind of line.
 
 -- The second message of a stream, whose root has one word.
 abbrev second : MessageHead

@@ -1,17 +1,17 @@
--- The tally: what a run keeps of the messages that it has served. (Own.)
+-- The tally, which a run keeps of the messages that it has served or skipped. (Our own.)
 use Rattle.std.specs.Prelude.{ℕ, nat_lt, if◌then◌else◌, Option, Some, None}
 use Rattle.capn_serve.specs.Skipped.{one_more}
 use Rattle.capn_serve.specs.declared.position.Position.{Position}
 use Rattle.capn_archive.specs.declared.tally.Greatest.{Greatest}
 use Rattle.capn_archive.specs.declared.tally.Tally.{Tally}
 
--- The greater of the greatest amount so far and `amount`, that of the message `index`. If both are equal, it is the
--- earlier one.
+-- The greater of the greatest amount so far and the `amount` of the message `index`. If both are equal, the amount so
+-- far stays.
 abbrev pub greater : Option Greatest → ℕ → ℕ → Greatest
 greater None amount index = record { amount = amount; index = index }
 greater (Some g) amount index = if nat_lt g.amount amount then record { amount = amount; index = index } else g
 
--- The tally after a message of `words`, `price` and `depth` is counted.
+-- The tally after the message `index`, which has `words` words, costs `price` and needs `depth`, is counted.
 abbrev pub counted : Tally → ℕ → ℕ → ℕ → ℕ → Tally
 counted tally index words price depth = record {
   skipped = tally.skipped;

@@ -1,4 +1,5 @@
--- The messages that `uniq` keeps: those whose canonical bytes no earlier message had, compared by their SHA-256. (Own.)
+-- The messages that `uniq` keeps, whose canonical bytes no earlier message had. The bytes are compared by their
+-- SHA-256. (Our own.)
 use Rattle.std.specs.Prelude.{◌≡◌, ◌⊎◌, ℕ, ◌+◌, ◌-◌, ◌^◌, ◌<◌, min, List, [], length, Bool, true, false, Option, None}
 use Rattle.std.specs.Prelude.{Some, Result, Ok, Err}
 use Rattle.std.specs.FinSet as set
@@ -14,15 +15,15 @@ use Rattle.capn_archive.specs.declared.uniq_order.UniqOrder.{UniqOrder}
 use Rattle.capn_archive.specs.Digest.{IsDigest, IsUndigested}
 use Rattle.capn_serve.specs.Skipped.{one_more}
 
--- The state of `uniq`: its order, the set of the digests of the messages that it has kept, the number that it has
--- served, and the count of those that it has skipped.
+-- The state of `uniq`: its options, the set of the digests of the messages kept, the number of messages served, and the
+-- count of the messages skipped.
 pub record UniqState : Type 0 where
   pub order : UniqOrder
   pub digests : set.FinSet (slice_cmp nat_cmp)
   pub served : ℕ
   pub skipped : Option SkippedSoFar
 
--- The state before the first message.
+-- The state of `uniq` before the first message.
 abbrev pub first_state : UniqOrder → UniqState
 first_state order = record { order = order; digests = set.empty; served = 0; skipped = None }
 
@@ -30,11 +31,11 @@ first_state order = record { order = order; digests = set.empty; served = 0; ski
 abbrev pub has : set.FinSet (slice_cmp nat_cmp) → List ℕ → Bool
 has digests digest = set.contains digests digest
 
--- `digests` with `digest` inserted, unless it is among them.
+-- The set `digests` with `digest` inserted.
 abbrev pub and_one : set.FinSet (slice_cmp nat_cmp) → List ℕ → set.FinSet (slice_cmp nat_cmp)
 and_one digests digest = set.insert digests digest
 
--- The number of served messages after one more. It stops at 2^64 - 1.
+-- The number of served messages after one more message, or 2^64 - 1 if that is less.
 abbrev pub one_served : ℕ → ℕ
 one_served served = min (served + 1) (2 ^ 64 - 1)
 
@@ -44,8 +45,8 @@ kept_text true is_duplicate frame = []
 kept_text false true frame = []
 kept_text false false frame = frame
 
--- `message` is served: its frame is written unless it is a duplicate or messages are only counted, and its digest is
--- inserted.
+-- `message` is served: `frame` is written unless the message is a duplicate or messages are only counted, and the
+-- digest of the message is inserted.
 abbrev pub Deduplicates : UniqState → List ℕ → List (List ℕ) → List ℕ → UniqState → Type 0
 Deduplicates s frame message text t =
     (digest : List ℕ) × IsDigest message s.order.limits digest
@@ -57,7 +58,7 @@ Deduplicates s frame message text t =
       skipped = s.skipped;
     })
 
--- `message` is skipped, because it has no digest and the order says to keep going. Nothing is written, and it is not
+-- `message` is skipped, because it has no digest and `keep_going` is set. Nothing is written, and the message is not
 -- counted as served.
 abbrev pub IsSkipped : UniqState → Position → List (List ℕ) → List ℕ → UniqState → Type 0
 IsSkipped s at message text t =
@@ -69,22 +70,22 @@ IsSkipped s at message text t =
       skipped = Some (one_more s.skipped at);
     })
 
--- The message takes the state `s` to `t`: it is served or skipped.
+-- `message` takes the state `s` to `t` and writes `text`: the message is served or skipped.
 abbrev pub serves : UniqState → Position → List ℕ → List (List ℕ) → List ℕ → UniqState → Type 0
 serves s at frame message text t = Deduplicates s frame message text t ⊎ IsSkipped s at message text t
 
--- The message ends the run: it has no digest, and the order does not say to keep going.
+-- `message` ends the run: it has no digest, because `r` refuses it, and `keep_going` is not set.
 abbrev pub refuses : UniqState → Position → List ℕ → List (List ℕ) → Refusal → Type 0
 refuses s at frame message r = (s.order.keep_going ≡ false) × IsUndigested message s.order.limits r
 
--- `digest` was inserted, and the result says whether it was there before. Or memory was refused.
+-- `digest` was inserted, and the result says whether the set `old` had it before. Or an allocation was refused.
 abbrev pub InsertsDigest : set.FinSet (slice_cmp nat_cmp) → set.FinSet (slice_cmp nat_cmp) → List ℕ
     → Result Bool ServeFault → Type 0
 InsertsDigest old new digest (Ok is_duplicate) = (is_duplicate ≡ has old digest) × (new ≡ and_one old digest)
 InsertsDigest old new digest (Err fault) = fault ≡ faults.Memory
 
--- The message was served. Or it has no digest, and the output and the state are unchanged. Or memory was refused,
--- before its text or within it. Or the writer failed within its text.
+-- `message` was served. Or the message has no digest, and the output and the state are unchanged. Or an allocation was
+-- refused before or within the text of the message. Or the writer failed within that text.
 abbrev pub TriesToDeduplicate : UniqState → List ℕ → List (List ℕ) → Outgoing → Outgoing → Bool
     → Result (Unit {0}) ServeFault → UniqState → Type 0
 TriesToDeduplicate s frame message old new failed (Ok u) t =

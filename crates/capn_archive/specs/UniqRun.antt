@@ -1,4 +1,4 @@
--- A whole run of `uniq`. (Own.)
+-- A whole run of `uniq`. (Our own.)
 use Rattle.std.specs.Prelude.{◌≡◌, ℕ, List, [], ◌++◌, codes, Bool, true, false, Option, None, Result, refl}
 use Rattle.std.specs.FinSet as set
 use Rattle.std.specs.Fmt.{decimal, digits}
@@ -18,7 +18,7 @@ uniq_fold order = fold_of serves refuses order.limits.message_words
 abbrev pub first_run : UniqOrder → Run UniqState
 first_run order = record { service = first_state order; at = start }
 
--- The line that `uniq --count` writes: how many messages are kept, and how many were served.
+-- The line that `uniq --count` writes, with the numbers of messages kept and served.
 abbrev pub count_line : ℕ → ℕ → List ℕ
 count_line kept served = decimal kept ++ (codes " of " ++ (decimal served ++ codes "\n"))
 
@@ -26,12 +26,12 @@ two_of_five : count_line 2 5 ≡ codes "2 of 5\n"
 unfolding digits
 two_of_five = refl
 
--- The closing text: the counting line if messages are only counted, else nothing.
+-- The closing text, which is the counting line if messages are only counted, and empty otherwise.
 abbrev pub closing_by : Bool → ℕ → ℕ → List ℕ
 closing_by true kept served = count_line kept served
 closing_by false kept served = []
 
--- The closing text by the state of the service.
+-- The closing text for the state `s` of the service.
 abbrev pub closing : UniqState → List ℕ
 closing s = closing_by s.order.count (set.len s.digests) s.served
 
@@ -39,7 +39,8 @@ closing s = closing_by s.order.count (set.len s.digests) s.served
 abbrev pub uniq_finish : Finish (Run UniqState)
 uniq_finish = record { closing = λ y. closing y.service; skipped = λ y. y.service.skipped; ended = λ y. None }
 
--- The effect of a run: the reader goes from `a` to `b`, the writer from `c` to `d`, and `r` is the result.
+-- A run with the options `order` takes the reader from `a` to `b` and the writer from `c` to `d`, and returns `r`.
+-- `reader_failed` and `writer_failed` say whether the reader and the writer failed.
 abbrev pub Deduplicated : UniqOrder → Option (List ℕ) → Option (List ℕ) → Option (List ℕ) → Option (List ℕ) → Bool
     → Bool → Result (Unit {0}) ArchiveFault → Type 0
 Deduplicated order a b c d reader_failed writer_failed r =

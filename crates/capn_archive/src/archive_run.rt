@@ -1,4 +1,5 @@
-//! `run_archive`: a whole run of `list`, `limits` or `canonical --framed`, from its first message to its result.
+//! The call `run_archive`, which does a whole run of `list`, `limits` or `canonical --framed`, from the first message
+//! to the result.
 
 ghost use Rattle.std.specs.Prelude.{◌≡◌, false};
 ghost use Rattle.capn_words.specs.Watched.{inner_of, has_failed};
@@ -47,22 +48,23 @@ fn serve_messages<R: Read, W: Write, A: Allocator + Copy>(
     serve_form(alloc, order.form, most, run, reader, writer)
 }
 
-/// Returns the fault with which `run` ends, from the `fault` that stopped its loop or its closing text.
+/// Returns the fault with which `run` ends after `fault` stopped the loop over the messages, or the closing text.
 fn fault_of(run: &Run<ArchiveService>, fault: RunFault) -> ArchiveFault
     ensures { result ≡ finish.fault_after run.now.service.tally.skipped run.now.at.index fault }
 {
     fault_after(run.service.tally.skipped, run.at.index, fault)
 }
 
-/// Reads the messages of an archive from `reader`, and writes to `writer` what the task of `order` writes for each
+/// Reads the messages of an archive from `reader`, and writes to `writer` the text of the task `order.task` for each
 /// message and at the end.
 ///
-/// Input is read as [`serve_form`] reads it. The run ends with `Ok`, with `Skipped` after all of its input if messages
-/// were skipped, or with the first fault. The fault is `Refused`, with the position, if a frame, a group or a message
-/// is refused. It is `RefusedAfterSkipped` if messages were skipped before a refused frame or group. It is
-/// `InputTooLong`, or `Io` if and only if the reader or the writer failed, or `Memory` if a growth was refused. The
-/// texts of the messages before a fault have been written, and nothing after them. A run holds what its loop holds, the
-/// canonical bytes of one message, and a tally.
+/// Input is read as [`serve_form`] reads it. The run ends with `Ok`, with `Skipped` if all of the input was read and
+/// messages were skipped, or with the first fault. The fault is `Refused`, with the position, if a frame, a group or a
+/// message is refused. The fault is `RefusedAfterSkipped` if messages were skipped before a refused frame or group. The
+/// other faults are `InputTooLong`, `Io` if and only if the reader or the writer failed, and `Memory` if an allocation
+/// was refused. If the input is refused or too long, the texts of the messages before the fault have been written, and
+/// nothing else. A run holds in memory what the loop over the messages holds, the canonical bytes of one message, and a
+/// tally.
 pub fn run_archive<R: Read, W: Write, A: Allocator + Copy>(
     alloc: A,
     order: ArchiveOrder,

@@ -1,4 +1,4 @@
-//! `ArchiveService`: serves the messages of an archive for each `Task`.
+//! The service `ArchiveService`, which does a `Task` for the messages of an archive.
 
 ghost use Rattle.std.specs.Prelude.{◌≡◌, ℕ, List, Option, false};
 ghost use Rattle.capn_words.specs.Watched.{inner_of, has_failed};
@@ -24,11 +24,11 @@ use capn_words::{Space, Watched};
 use std::alloc::Allocator;
 use std::io::Write;
 
-/// The service of a run over an archive: its order, and the tally of the messages before.
+/// The service of a run over an archive, with the options of the run and the tally of the messages served so far.
 ///
-/// For each message it writes what the task writes. A refused message ends the run, or is skipped if the order says to
-/// keep going. A skipped message is counted, and `list` writes its line, with `--digest` or without. The tally takes
-/// the same room however long the run is.
+/// For each message the service writes the text of the task. A refused message ends the run, or is skipped if
+/// `order.keep_going` is set. A skipped message is counted, and `list` writes a line for it, with or without
+/// `--digest`. The size of the tally does not depend on the length of the run.
 #[derive(Clone, Copy, Debug, PartialEq, Eq)]
 pub struct ArchiveService {
     /// The task, the limits, and whether refused messages are skipped.
@@ -37,8 +37,8 @@ pub struct ArchiveService {
     pub tally: Tally,
 }
 
-/// Adds the canonical bytes of `message` as a frame. If the message is canonical, one pass finds its own bytes, and no
-/// others are made.
+/// Adds a frame with the canonical bytes of `message` to the output. If one pass finds the message canonical, its own
+/// bytes are used, and none are made.
 fn serve_canonical<S: Space, W: Write, A: Allocator + Copy>(
     alloc: A,
     limits: Limits,
@@ -62,7 +62,7 @@ fn serve_canonical<S: Space, W: Write, A: Allocator + Copy>(
     }
 }
 
-/// Appends the line of `message` for `list` to `text`.
+/// Appends to `text` the line that `list` writes for `message`.
 fn serve_list<S: Space, A: Allocator + Copy>(
     alloc: A,
     limits: Limits,
@@ -78,7 +78,7 @@ fn serve_list<S: Space, A: Allocator + Copy>(
     put_list_line(&head_of(at, frame, message), &measured, text)
 }
 
-/// Appends the line of `message` for `list --digest` to `text`.
+/// Appends to `text` the line that `list --digest` writes for `message`.
 fn serve_digests<S: Space, A: Allocator + Copy>(
     alloc: A,
     limits: Limits,
@@ -119,7 +119,7 @@ fn serve_limits<S: Space, A: Allocator + Copy>(
     Ok(())
 }
 
-/// Serves `message` by the task of `order`.
+/// Does the task `order.task` for `message`.
 fn serve_task<S: Space, W: Write, A: Allocator + Copy>(
     alloc: A,
     order: &ArchiveOrder,
@@ -143,7 +143,8 @@ fn serve_task<S: Space, W: Write, A: Allocator + Copy>(
     }
 }
 
-/// Counts a refused message as skipped. For a `list` it also appends the message's line.
+/// Counts the refused `message` as skipped. For the tasks `List` and `Digests`, also appends a line for the message to
+/// `text`.
 fn skip_message<S: Space, A: Allocator + Copy>(
     alloc: A,
     task: Task,
@@ -168,7 +169,8 @@ fn skip_message<S: Space, A: Allocator + Copy>(
 }
 
 impl ArchiveService {
-    /// Serves `message` by the task, or skips it if it is refused and the order says to keep going.
+    /// Does the task of `self.order` for `message`. If the message is refused and `keep_going` is set, counts it as
+    /// skipped instead.
     fn add_message<S: Space, W: Write, A: Allocator + Copy>(
         &mut self,
         alloc: A,

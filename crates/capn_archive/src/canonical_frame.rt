@@ -19,7 +19,7 @@ fn head_of(words: u32) -> [u8; 8]
     [0, 0, 0, 0, a, b, c, d]
 }
 
-/// Adds the frame of one segment with the contents `bytes`, which are not copied if they are long.
+/// Adds the frame of one segment with the contents `bytes` to the output. Long contents are not copied.
 pub(crate) fn add_frame<W: Write, A: Allocator>(
     bytes: &[u8],
     text: &mut Vec<u8, A>,

@@ -12,8 +12,8 @@ use capn_words::Space;
 use sha2::{Digest, Sha256};
 use std::alloc::Allocator;
 
-/// Returns the SHA-256 of the canonical bytes of `message`. If the message is canonical, one pass finds its own bytes,
-/// which are hashed where they lie.
+/// Returns the SHA-256 of the canonical bytes of `message`. If one pass finds the message canonical, its own bytes are
+/// hashed, and none are made.
 pub(crate) fn digest_of<S: Space, A: Allocator + Copy>(
     alloc: A,
     limits: Limits,
@@ -33,8 +33,8 @@ pub(crate) fn digest_of<S: Space, A: Allocator + Copy>(
     }
 }
 
-/// Returns the digest of `message`, or `None` if its value has a capability. The error is `Refused` if its walk refuses
-/// it.
+/// Returns the digest of `message`, or `None` if the value of `message` has a capability. The error is `Refused` if the
+/// walk refuses the message.
 pub(crate) fn digest_if_any<S: Space, A: Allocator + Copy>(
     alloc: A,
     limits: Limits,

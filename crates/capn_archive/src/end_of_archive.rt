@@ -1,4 +1,4 @@
-//! Closing lines and outcome of a run over an archive.
+//! The closing text and the outcome of a run over an archive.
 
 ghost use Rattle.std.specs.Prelude.{◌≡◌, ◌≢◌, [], IfOk, IfErr, string_bytes, false};
 ghost use Rattle.capn_words.specs.Watched.{inner_of, has_failed};
@@ -17,8 +17,8 @@ use capn_words::Watched;
 use std::alloc::Allocator;
 use std::io::Write;
 
-/// Returns the fault of an input that is refused at the position `at`. If some of the `messages` before `at` were
-/// skipped, the fault counts them.
+/// Returns the fault of an input that `refusal` refuses at the position `at`. If some of the `messages` messages before
+/// `at` were skipped, the fault counts the skipped ones.
 fn after_skipped(
     skipped: Option<SkippedSoFar>,
     messages: u64,
@@ -35,8 +35,8 @@ fn after_skipped(
     }
 }
 
-/// Returns the fault of a run that `refusal` ended at the position `at`. Only a refused frame, or refused packed bytes,
-/// is reported with the number of messages skipped before.
+/// Returns the fault of a run that `refusal` ended at the position `at`. Only for a refused frame, or refused packed
+/// bytes, the fault also counts the messages skipped before.
 fn refused_after(
     skipped: Option<SkippedSoFar>,
     messages: u64,
@@ -93,8 +93,8 @@ fn needs_of(order: &ArchiveOrder, run: &Run<ArchiveService>) -> Needs
     }
 }
 
-/// Returns the text that follows the last message: for `Task::Limits` the limits that the messages need, for any other
-/// task nothing.
+/// Returns the text that follows the last message. For `Task::Limits` the text shows the limits that the messages need,
+/// and for any other task the text is empty.
 fn closing_text<A: Allocator>(alloc: A, task: Task, needs: &Needs) -> Result<String<A>, RunFault>
     ensures found { IfOk result (λ text. string_bytes text ≡ spec.closing_by task needs.now) }
     ensures only { IfErr result (λ e. (e ≡ faults.Memory) × (spec.closing_by task needs.now ≢ [])) }

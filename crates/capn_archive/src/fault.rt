@@ -12,7 +12,7 @@ use std::io::Write;
 /// The reason why a run over an archive does not end with `Ok`.
 #[derive(Clone, Copy, Debug, PartialEq, Eq)]
 pub enum ArchiveFault {
-    /// A growth was refused.
+    /// An allocation was refused.
     Memory,
     /// The reader or the writer failed.
     Io,
@@ -24,8 +24,7 @@ pub enum ArchiveFault {
     NotCanonical(Position),
     /// All of the input was served, except for messages that were skipped.
     Skipped(Skipped),
-    /// The frame or the packed bytes at this position are refused. Messages before it were skipped, as the first field
-    /// counts.
+    /// The frame or the packed bytes at this position are refused. The first field counts the messages skipped before.
     RefusedAfterSkipped(Skipped, Position, Refusal),
 }
 

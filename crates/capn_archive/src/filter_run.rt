@@ -1,4 +1,4 @@
-//! `run_filter`: a whole run of `filter`, from its first message to its result.
+//! The call `run_filter`, which does a whole run of `filter`, from the first message to the result.
 
 ghost use Rattle.std.specs.Prelude.{◌≡◌, false};
 ghost use Rattle.capn_words.specs.Watched.{inner_of, has_failed};
@@ -21,8 +21,8 @@ fn first_run(order: FilterOrder) -> Run<FilterService>
     Run::new(FilterService::new(order))
 }
 
-/// Returns the outcome of `run`, whose loop ended without a fault. Either a message that is not canonical ended it, or
-/// all of its input was read.
+/// Returns the outcome of `run`, whose loop ended without a fault. Either a message that is not canonical ended the
+/// loop, or all of the input was read.
 fn outcome_of(run: &Run<FilterService>) -> Result<(), ArchiveFault>
     ensures { result ≡ finish.outcome_unless run.now.service.ended run.now.service.skipped run.now.at.index }
 {
@@ -32,14 +32,14 @@ fn outcome_of(run: &Run<FilterService>) -> Result<(), ArchiveFault>
     }
 }
 
-/// Returns the fault with which `run` ends, from the `fault` that stopped its loop.
+/// Returns the fault with which `run` ends after `fault` stopped the loop over the messages.
 fn fault_of(run: &Run<FilterService>, fault: RunFault) -> ArchiveFault
     ensures { result ≡ finish.fault_after run.now.service.skipped run.now.at.index fault }
 {
     fault_after(run.service.skipped, run.at.index, fault)
 }
 
-/// Serves all messages of the input, up to the one that ends the run.
+/// Serves the messages of the input, up to one that ends the run, and returns the outcome of the run.
 fn run_service<R: Read, W: Write, A: Allocator + Copy>(
     alloc: A,
     order: &FilterOrder,
@@ -63,16 +63,17 @@ fn run_service<R: Read, W: Write, A: Allocator + Copy>(
 
 /// Reads the messages of an archive from `reader`, and writes the frame of each accepted one to `writer`, unchanged. If
 /// the input is packed, the unpacked bytes of the frame are written. If the input is bare, all of it is written. If
-/// `order.canonical` is true, only canonical messages are written: those of one segment that holds the canonical bytes
-/// of their value.
+/// `order.canonical` is true, only canonical messages are written. A canonical message has one segment, which holds the
+/// canonical bytes of its value.
 ///
-/// Input is read as [`serve_form`] reads it. The frames that a chunk of input decided are written before more is read.
-/// The run ends with `Ok`, with `Skipped` after all of its input if messages were skipped, or with the first fault. The
-/// fault is `Refused`, with the position, if a frame, a group or a message is refused. It is `RefusedAfterSkipped` if
-/// messages were skipped before a refused frame or group. It is `NotCanonical`, with the position, if a message is
-/// accepted but not canonical, and nothing is read after that message. It is `InputTooLong`, or `Io` if and only if the
-/// reader or the writer failed, or `Memory` if a growth was refused. The frames let through before a fault have been
-/// written, and nothing after them. A run holds what its loop holds.
+/// Input is read as [`serve_form`] reads it. A frame that is let through is written before the next chunk of input is
+/// read. The run ends with `Ok`, with `Skipped` if all of the input was read and messages were skipped, or with the
+/// first fault. The fault is `Refused`, with the position, if a frame, a group or a message is refused. The fault is
+/// `RefusedAfterSkipped` if messages were skipped before a refused frame or group. The fault is `NotCanonical`, with
+/// the position, if a message is accepted but not canonical, and nothing is read after that message. The other faults
+/// are `InputTooLong`, `Io` if and only if the reader or the writer failed, and `Memory` if an allocation was refused.
+/// If a message ends the run, or the input is refused or too long, the frames let through before have been written, and
+/// nothing else. A run holds in memory only what the loop over the messages holds.
 pub fn run_filter<R: Read, W: Write, A: Allocator + Copy>(
     alloc: A,
     order: FilterOrder,

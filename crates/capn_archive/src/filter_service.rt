@@ -1,4 +1,4 @@
-//! `FilterService`: copies the frames of accepted messages, or only of canonical ones.
+//! The service `FilterService`, which copies the frames of accepted messages, or only of canonical ones.
 
 ghost use Rattle.std.specs.Prelude.{◌≡◌, true};
 ghost use Rattle.capn_archive.specs.FilterMessages.{first_state};
@@ -15,16 +15,16 @@ use std::io::Write;
 /// The service of `filter`. It writes the frame of each accepted message unchanged, or only the frames of canonical
 /// messages.
 ///
-/// Nothing is written for a message that is not let through. If the order says to keep going, that message is skipped.
-/// Otherwise it ends the run: with the refusal of its walk, or, if it is accepted but not canonical, by its position in
-/// `ended`. The service counts the skipped messages, and takes no memory.
+/// Nothing is written for a message that is not let through. If `order.keep_going` is set, such a message is skipped
+/// and counted. Otherwise the message ends the run: with the refusal of its walk, or, if it is accepted but not
+/// canonical, by its position in `ended`. The service takes no memory.
 #[derive(Clone, Copy, Debug, PartialEq, Eq)]
 pub struct FilterService {
     /// The options of the run.
     pub order: FilterOrder,
     /// The count of the skipped messages, if there are any.
     pub skipped: Option<SkippedSoFar>,
-    /// The position of the message that ended the run because it is not canonical, if one did.
+    /// The position of a message that ended the run because it is not canonical.
     pub ended: Option<Position>,
 }
 
@@ -39,7 +39,8 @@ pub(crate) enum Verdict {
     Refused(Refusal),
 }
 
-/// Decides whether `message` is canonical, by the same measure as `list`. No canonical bytes are made.
+/// Decides whether `message` is let through as canonical, by the call `measure`, which `list` uses too. No canonical
+/// bytes are made.
 fn judge_canonical<S: Space, A: Allocator + Copy>(alloc: A, limits: Limits, message: &S) -> Verdict
     ensures { IsVerdict true (S.message message.now) limits result }
 {
@@ -54,7 +55,7 @@ fn judge_canonical<S: Space, A: Allocator + Copy>(alloc: A, limits: Limits, mess
     }
 }
 
-/// Decides whether `message` is let through. It takes no memory.
+/// Decides whether `message` is let through. The call takes no memory.
 fn judge<S: Space, A: Allocator + Copy>(alloc: A, order: &FilterOrder, message: &S) -> Verdict
     ensures { IsVerdict order.now.canonical (S.message message.now) order.now.limits result }
 {

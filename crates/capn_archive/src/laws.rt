@@ -2,15 +2,16 @@
 
 ghost use Rattle.capn_archive.specs.Laws.{FilteredIsListed, FiltersAccepted, OneArchive, OneFilter, OneUniq};
 
-/// States that the order and the input decide the text and the ending of a run: there is exactly one of each.
+/// States that the options and the input of a run determine the text and the result, for each kind of run over an
+/// archive.
 pub fn one_text()
     ensures archive { OneArchive }
     ensures uniq { OneUniq }
     ensures filter { OneFilter }
 {}
 
-/// States that a filter writes only frames of accepted messages, or only of canonical ones. So `list` with the same
-/// limits accepts all of its output.
+/// States that over a stream, packed or not, `filter` writes only frames of messages that it lets through, and that
+/// `list` with the same limits accepts all messages of that output.
 pub fn let_through()
     ensures accepted { FiltersAccepted }
     ensures listed { FilteredIsListed }

@@ -1,10 +1,11 @@
 //! The commands of the program over an archive, which is a stream of messages or a bare input: `list`, `limits`,
 //! `canonical --framed`, `uniq` and `filter`.
 //!
-//! [`run_archive`] carries out an [`ArchiveOrder`] by an [`ArchiveService`]: for each message, and at the end, it
-//! writes what the order's [`Task`] writes. [`run_uniq`] carries out a [`UniqOrder`] by a [`UniqService`]: it leaves
-//! out each message whose canonical bytes equal an earlier message's. [`run_filter`] carries out a [`FilterOrder`] by a
-//! [`FilterService`]: it lets accepted messages through. The loops over the messages are those of [`capn_serve`].
+//! [`run_archive`] carries out an [`ArchiveOrder`] with an [`ArchiveService`], which writes the text of the order's
+//! [`Task`] for each message and at the end. [`run_uniq`] carries out a [`UniqOrder`] with a [`UniqService`], which
+//! leaves out each message whose canonical bytes equal an earlier message's. [`run_filter`] carries out a
+//! [`FilterOrder`] with a [`FilterService`], which lets accepted messages through. The loops over the messages are
+//! those of [`capn_serve`].
 #![tactic(auto)]
 
 mod archive_run;

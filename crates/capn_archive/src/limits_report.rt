@@ -42,7 +42,7 @@ impl fmt::Display for Peak {
     }
 }
 
-/// The `--tariff` option for a tariff, displayed as nothing if it is the default.
+/// The `--tariff` option for a tariff. The default tariff is displayed as nothing.
 #[derive(Drop)]
 struct TariffOption(Tariff);
 
@@ -60,7 +60,8 @@ impl fmt::Display for TariffOption {
     }
 }
 
-/// The lines with the number of messages, and the greatest words, price and depth of one.
+/// Displays a line with the number of messages, and a line each with the greatest number of words, price and depth of a
+/// message.
 impl fmt::Display for Needs {
     ghost use Rattle.std.specs.Prelude.{Some};
     ghost use Rattle.capn_archive.specs.Lines.{needs_text};
@@ -90,7 +91,7 @@ fn amount_of(greatest: Option<Greatest>) -> u64
     }
 }
 
-/// The last line: options whose limits leave room above the greatest amounts.
+/// The last line, with options whose limits leave room above the greatest amounts.
 #[derive(Drop)]
 struct Advice<'a>(&'a Needs);
 
@@ -112,7 +113,7 @@ impl<'a> fmt::Display for Advice<'a> {
     }
 }
 
-/// Returns the five lines of the limits that the messages of an archive need.
+/// Returns the five lines that `limits` writes for `needs`.
 pub(crate) fn limits_text<A: Allocator>(alloc: A, needs: &Needs) -> Result<String<A>, RunFault>
     ensures found { IfOk result (λ text. string_bytes text ≡ spec.limits_text needs.now) }
     ensures only { IfErr result (λ e. (e ≡ faults.Memory) × (spec.limits_text needs.now ≢ [])) }

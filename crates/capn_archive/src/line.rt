@@ -1,4 +1,4 @@
-//! `Line`: a line of `list`, built from its end to its beginning in a fixed buffer.
+//! The type `Line`, a line of `list` that is built from its end to its beginning in a fixed buffer.
 
 ghost use Rattle.std.specs.Prelude.{◌≡◌, ◌+◌, ◌≤◌, [], ◌++◌, length};
 ghost use Rattle.std.specs.Fmt.{decimal};
@@ -13,7 +13,7 @@ use std::marker::Model;
 /// The size of the buffer, which is the greatest length of a line in bytes.
 const ROOM: usize = 352;
 
-/// A line that is built from its end to its beginning, as the digits of a number are. It takes no memory.
+/// A line that is built from its end to its beginning, like the digits of a number. Building a line takes no memory.
 #[derive(Drop)]
 pub struct Line {
     bytes: [u8; ROOM],
@@ -89,7 +89,7 @@ impl Line {
         self.put(digits.format(number_of(head.at.index)).as_bytes());
     }
 
-    /// Writes the index of `capability` in front of the line, or `no` if it is `None`.
+    /// Writes the index `capability` in front of the line, or `no` if `capability` is `None`.
     fn put_capability(&mut self, capability: Option<u32>)
         requires { 20 + length self.old ≤ most_line }
         ensures capability { self.new ≡ spec.capability_text capability ++ self.old }
@@ -128,7 +128,7 @@ impl Line {
         self.put_named(b"paid ", measured.survey.paid as u64);
     }
 
-    /// Writes `digest` in front of the line, as 64 hexadecimal digits, or as `-` if it is `None`.
+    /// Writes `digest` in front of the line, as 64 hexadecimal digits, or as `-` if `digest` is `None`.
     pub(crate) fn put_digest(&mut self, digest: Option<[u8; 32]>)
         requires { 64 + length self.old ≤ most_line }
         ensures digest { self.new ≡ spec.digest_text digest ++ self.old }
@@ -137,7 +137,7 @@ impl Line {
         match digest {
             Some(digest) => {
                 let mut digits = [0; 64];
-                // The buffer has room for 64 digits, so this cannot fail.
+                // The buffer has room for 64 digits, so the encoding cannot fail.
                 let _done = hex::encode_to_slice(digest.as_slice(), &mut digits);
                 self.put(&digits);
             }

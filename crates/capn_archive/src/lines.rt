@@ -38,7 +38,7 @@ fn digests_line(head: &MessageHead, measured: &MeasuredBare, digest: Option<[u8;
     line
 }
 
-/// Returns the first part of a message's line: its position and its size.
+/// Returns the first part of a message's line, which shows the position and the size of the message.
 fn head_text(head: &MessageHead) -> Line
     ensures { result ≡ spec.head_text head.now }
 {
@@ -47,7 +47,7 @@ fn head_text(head: &MessageHead) -> Line
     line
 }
 
-/// Returns the last part of a skipped message's line: the reason why it is refused.
+/// Returns the last part of a skipped message's line, which shows why the message is refused.
 fn refusal_end<A: Allocator>(alloc: A, refusal: &Refusal) -> Result<String<A>, ServeFault>
     ensures found { IfOk result (λ text. string_bytes text ≡ codes " refused " ++ (refusal_text refusal.now
         ++ codes "\n")) }
@@ -59,7 +59,7 @@ fn refusal_end<A: Allocator>(alloc: A, refusal: &Refusal) -> Result<String<A>, S
     }
 }
 
-/// Appends `bytes` to `text`, or nothing if memory is refused.
+/// Appends `bytes` to `text`, or nothing if an allocation is refused.
 fn put_bytes<A: Allocator>(text: &mut Vec<u8, A>, bytes: &[u8]) -> Result<(), ServeFault>
     ensures { PutsText bytes.now text.old.items text.new.items result }
 {
@@ -69,7 +69,7 @@ fn put_bytes<A: Allocator>(text: &mut Vec<u8, A>, bytes: &[u8]) -> Result<(), Se
     }
 }
 
-/// Appends `front` and `back` to `text`. If memory is refused, a prefix of them may have been appended.
+/// Appends `front` and `back` to `text`. If an allocation is refused, some of these bytes may have been appended.
 fn push_both<A: Allocator>(
     text: &mut Vec<u8, A>,
     front: &[u8],
@@ -81,7 +81,7 @@ fn push_both<A: Allocator>(
     text.extend_from_slice(back)
 }
 
-/// Appends `front` and `back` to `text`, or nothing if memory is refused.
+/// Appends `front` and `back` to `text`, or nothing if an allocation is refused.
 fn put_both<A: Allocator>(
     text: &mut Vec<u8, A>,
     front: &[u8],
@@ -97,7 +97,7 @@ fn put_both<A: Allocator>(
     Ok(())
 }
 
-/// Appends the line of an accepted message to `text`, or nothing if memory is refused.
+/// Appends the line of an accepted message to `text`, or nothing if an allocation is refused.
 pub(crate) fn put_list_line<A: Allocator>(
     head: &MessageHead,
     measured: &MeasuredBare,
@@ -108,7 +108,7 @@ pub(crate) fn put_list_line<A: Allocator>(
     put_bytes(text, list_line(head, measured).as_bytes())
 }
 
-/// Appends the line of an accepted message with its digest to `text`, or nothing if memory is refused.
+/// Appends the line of an accepted message with its digest to `text`, or nothing if an allocation is refused.
 pub(crate) fn put_digests_line<A: Allocator>(
     head: &MessageHead,
     measured: &MeasuredBare,
@@ -120,7 +120,7 @@ pub(crate) fn put_digests_line<A: Allocator>(
     put_bytes(text, digests_line(head, measured, digest).as_bytes())
 }
 
-/// Appends the line of a skipped message to `text`, or nothing if memory is refused.
+/// Appends the line of a skipped message to `text`, or nothing if an allocation is refused.
 pub(crate) fn put_refused_line<A: Allocator + Copy>(
     alloc: A,
     head: &MessageHead,

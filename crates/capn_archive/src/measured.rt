@@ -10,8 +10,8 @@ use capn_walk::Limits;
 use capn_words::Space;
 use std::alloc::Allocator;
 
-/// Returns the figures of the message `space`, if it is accepted within `limits`, or else the refusal of its walk. It
-/// takes no memory.
+/// Returns the figures of the message `space` if it is accepted within `limits`, or else the refusal of its walk. The
+/// call takes no memory.
 pub(crate) fn measured_of<S: Space, A: Allocator + Copy>(
     alloc: A,
     space: &S,

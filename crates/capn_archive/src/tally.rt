@@ -5,12 +5,12 @@ ghost use Rattle.capn_archive.specs.Tally as spec;
 
 use capn_serve::{Position, SkippedSoFar, one_more};
 
-/// The greatest amount of a message so far, and the first message that has it.
+/// The greatest amount of a message so far, and the first message with that amount.
 #[derive(Clone, Copy, Debug, PartialEq, Eq)]
 pub struct Greatest {
     /// The amount.
     pub amount: u32,
-    /// The number of messages before the first that has it.
+    /// The number of messages before the first one with that amount.
     pub index: u64,
 }
 
@@ -27,7 +27,8 @@ pub struct Tally {
     pub depth: Option<Greatest>,
 }
 
-/// Returns the greater of `so_far` and the `amount` of the message `index`. If both amounts are equal, it is `so_far`.
+/// Returns the greater of `so_far` and the `amount` of the message `index`. If both amounts are equal, returns
+/// `so_far`.
 fn greater(so_far: Option<Greatest>, amount: u32, index: u64) -> Greatest
     ensures { result ≡ spec.greater so_far amount index }
 {

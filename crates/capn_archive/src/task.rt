@@ -5,9 +5,10 @@ use capn_canon::{Form, Limits};
 /// The work that is done with the messages of an archive.
 #[derive(Clone, Copy, Debug, PartialEq, Eq)]
 pub enum Task {
-    /// Writes a line for each message: its position, its size, its cost, and whether it is canonical.
+    /// Writes a line for each message, with the position, size and cost of the message, and whether it is canonical.
     List,
-    /// Writes the lines of `List`, each with the SHA-256 of the canonical bytes, or `-` if the value has a capability.
+    /// Writes the lines of `List`, and in each also the SHA-256 of the canonical bytes, or `-` if the value has a
+    /// capability.
     Digests,
     /// Writes the limits that all messages need, at the end.
     Limits,

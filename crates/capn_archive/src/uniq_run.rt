@@ -1,4 +1,4 @@
-//! `run_uniq`: a whole run of `uniq`, from its first message to its result.
+//! The call `run_uniq`, which does a whole run of `uniq`, from the first message to the result.
 
 ghost use Rattle.std.specs.Prelude.{◌≡◌, ◌≢◌, [], false, IfOk, IfErr, string_bytes};
 ghost use Rattle.capn_words.specs.Watched.{inner_of, has_failed};
@@ -35,7 +35,7 @@ fn count_line<A: Allocator>(alloc: A, kept: usize, served: u64) -> Result<String
     }
 }
 
-/// Writes the counting line after the last message, if the order says to count.
+/// Writes the counting line after the last message, if `count` is set in the order of `run`.
 fn write_count<W: Write, A: Allocator + Copy>(
     alloc: A,
     run: &Run<UniqService<A>>,
@@ -60,14 +60,15 @@ fn outcome_of<A: Allocator>(run: &Run<UniqService<A>>) -> Result<(), ArchiveFaul
     outcome(run.service.skipped(), run.at.index)
 }
 
-/// Returns the fault with which `run` ends, from the `fault` that stopped its loop or its closing line.
+/// Returns the fault with which `run` ends after `fault` stopped the loop over the messages, or the closing line.
 fn fault_of<A: Allocator>(run: &Run<UniqService<A>>, fault: RunFault) -> ArchiveFault
     ensures { result ≡ finish.fault_after run.now.service.skipped run.now.at.index fault }
 {
     fault_after(run.service.skipped(), run.at.index, fault)
 }
 
-/// Serves all messages of the input, and writes the counting line, if it is needed.
+/// Serves all messages of the input, writes the counting line if `order.count` is set, and returns the outcome of the
+/// run.
 fn run_service<R: Read, W: Write, A: Allocator + Copy>(
     alloc: A,
     order: &UniqOrder,
@@ -92,17 +93,19 @@ fn run_service<R: Read, W: Write, A: Allocator + Copy>(
     }
 }
 
-/// Reads the messages of an archive from `reader`, and writes those whose canonical bytes no earlier message had to
-/// `writer`. Canonical bytes are compared by their SHA-256. Each message is written as its frame stands. If the input
-/// is packed, the unpacked bytes of the frame are written. If the input is bare, all of it is written. If `order.count`
-/// is true, only a line `U of N` is written, at the end: the number of messages kept, and the number served.
+/// Reads the messages of an archive from `reader`, and writes to `writer` each one whose canonical bytes no earlier
+/// message had. Canonical bytes are compared by their SHA-256. The frame of a message is written unchanged. If the
+/// input is packed, the unpacked bytes of the frame are written. If the input is bare, all of it is written. If
+/// `order.count` is true, only a line `U of N` is written at the end, with the number `U` of messages kept and the
+/// number `N` of messages served.
 ///
-/// Input is read as [`serve_form`] reads it. The run ends with `Ok`, with `Skipped` after all of its input if messages
-/// were skipped, or with the first fault. The fault is `Refused`, with the position, if a frame, a group or a message
-/// is refused. It is `RefusedAfterSkipped` if messages were skipped before a refused frame or group. It is
-/// `InputTooLong`, or `Io` if and only if the reader or the writer failed, or `Memory` if a growth was refused. The
-/// frames kept before a fault have been written, and nothing after them. A run holds what its loop holds, the canonical
-/// bytes of one message, and the digests of the messages kept.
+/// Input is read as [`serve_form`] reads it. The run ends with `Ok`, with `Skipped` if all of the input was read and
+/// messages were skipped, or with the first fault. The fault is `Refused`, with the position, if a frame, a group or a
+/// message is refused. The fault is `RefusedAfterSkipped` if messages were skipped before a refused frame or group. The
+/// other faults are `InputTooLong`, `Io` if and only if the reader or the writer failed, and `Memory` if an allocation
+/// was refused. If the input is refused or too long, the frames kept before the fault have been written, and nothing
+/// else. A run holds in memory what the loop over the messages holds, the canonical bytes of one message, and the
+/// digests of the messages kept.
 pub fn run_uniq<R: Read, W: Write, A: Allocator + Copy>(
     alloc: A,
     order: UniqOrder,

@@ -1,4 +1,4 @@
-//! `UniqService`: leaves out each message whose canonical bytes equal an earlier message's.
+//! The service `UniqService`, which leaves out each message whose canonical bytes equal an earlier message's.
 
 ghost use Rattle.std.specs.Prelude.{◌≡◌, false, OnErr};
 ghost use Rattle.std.specs.FinSet as set;
@@ -18,12 +18,12 @@ use std::alloc::Allocator;
 use std::io::Write;
 use std::marker::Model;
 
-/// The service of `uniq`. It writes the frame of a message, unchanged, if no message before it had the same canonical
-/// bytes. Canonical bytes are compared by their SHA-256.
+/// The service of `uniq`, which writes the frame of a message, unchanged, unless an earlier message had the same
+/// canonical bytes. Canonical bytes are compared by their SHA-256.
 ///
-/// A message that is refused, by its walk or for a capability, ends the run, or is skipped if the order says to keep
-/// going. Nothing is written for a skipped message, and later ones are not compared with it. The service holds the
-/// digests of the messages that it has kept.
+/// A message that is refused, by its walk or for a capability, ends the run, or is skipped if `keep_going` is set in
+/// the order. Nothing is written for a skipped message, and later messages are not compared with it. The service holds
+/// the digests of the messages kept.
 #[derive(Drop)]
 pub struct UniqService<A: Allocator> {
     order: UniqOrder,
@@ -47,7 +47,7 @@ impl<A: Allocator> Model for UniqService<A> {
         record { order = s.order; digests = s.digests.seen; served = s.served; skipped = s.skipped } };
 }
 
-/// Inserts `digest` into `digests`. Returns `true` if it was there before.
+/// Inserts `digest` into `digests`. Returns `true` if `digests` had it before.
 fn insert_digest<A: Allocator + Copy>(
     digests: &mut DigestSet<A>,
     digest: [u8; 32],
@@ -109,7 +109,7 @@ impl<B: Allocator> UniqService<B> {
 }
 
 impl<B: Allocator + Copy> UniqService<B> {
-    /// Returns a service that has kept no message. It takes no memory.
+    /// Returns a service that has kept no message. The call takes no memory.
     pub(crate) fn new(alloc: B, order: UniqOrder) -> UniqService<B>
         ensures { result ≡ spec.first_state order }
     {
@@ -121,7 +121,8 @@ impl<B: Allocator + Copy> UniqService<B> {
         }
     }
 
-    /// Writes the frame of `message` unless it is a duplicate or messages are only counted, and keeps its digest.
+    /// Keeps the digest of `message`, and writes `frame` unless the message is a duplicate or messages are only
+    /// counted.
     fn deduplicate<S: Space, W: Write, A: Allocator + Copy>(
         &mut self,
         alloc: A,

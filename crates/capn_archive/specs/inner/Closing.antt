@@ -1,12 +1,12 @@
--- The closing text of a run, as a call writes it.
+-- The effect of a call that writes the closing text of a run.
 use Rattle.std.specs.Prelude.{◌≡◌, ◌≢◌, ◌⊎◌, ℕ, List, [], Bool, true, false, Option, Result, Ok, Err}
 use Rattle.std.specs.Io.KnownBytes.{Appends}
 use Rattle.capn_words.specs.Watched.{HasBegun}
 use Rattle.capn_serve.specs.declared.fault.RunFault.{RunFault}
 use Rattle.capn_serve.specs.declared.fault.RunFault.TheVariants as faults
 
--- `text` was written. Or memory was refused for a text that is not empty, and nothing was written. Or the writer failed
--- within `text`.
+-- `text` was written. Or an allocation was refused for a text that is not empty, and nothing was written. Or the writer
+-- failed within `text`.
 abbrev pub PutsClosing : List ℕ → Option (List ℕ) → Option (List ℕ) → Bool → Result (Unit {0}) RunFault → Type 0
 PutsClosing text old new failed (Ok u) = Appends old new text × (failed ≡ false)
 PutsClosing text old new failed (Err fault) =
