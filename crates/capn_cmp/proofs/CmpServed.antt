@@ -1,4 +1,4 @@
--- Lemmas for `compare`: a message that was compared does what the fold says.
+-- Lemmas for `compare`: a message that was compared has the effect that the fold states.
 use Rattle.std.proofs.Common.{◌≡◌, ◌≢◌, inl, inr, ℕ, List, [], Bool, true, false, Result, Ok, Err, refl, ap, subst}
 use Rattle.std.proofs.Common.{sym, ◌∙◌}
 use Rattle.capn_walk.specs.Limits.{Bounds}
@@ -20,7 +20,7 @@ done = Ok tt
 abbrev stopped : ServeFault → Ending
 stopped fault = Err fault
 
--- The state of the service with these fields.
+-- The state of the service with `limits`, `first` and `differs`.
 abbrev pub state : Bounds → List ℕ → Bool → CmpState
 state limits first differs = record { limits = limits; first = first; differs = differs }
 
@@ -41,7 +41,7 @@ module _ (s : CmpState) (at : Position) (bytes : List ℕ) where
     pub agrees : at.index ≢ 0 → bytes ≡ s.first → TriesToCompare s at bytes a a failed done s
     agrees later same = silent s (inr (inl (later, same, refl, refl)))
 
-    -- Case: memory was refused before anything was written.
+    -- Case: an allocation was refused before anything was written.
     pub no_memory : (t : CmpState) (fault : ServeFault) → fault ≡ faults.Memory
         → TriesToCompare s at bytes a a failed (stopped fault) t
     no_memory t fault is =
@@ -59,7 +59,7 @@ module _ (s : CmpState) (at : Position) (bytes : List ℕ) where
       ((text, state s.limits s.first true, count, inr (inr (later, other, report, refl)), breaks), broken)
   differs_with later other text report a b failed (Err (faults.Refused r)) none = absurd none
 
--- A message that was compared is served as the fold says.
+-- A message that was compared has the effect that the fold states.
 pub tried_does : (s : CmpState) (at : Position) (frame : List ℕ) (message : List (List ℕ)) (bytes : List ℕ) (price : ℕ)
     → AnswersMessage message s.limits bytes price → (a b : Outgoing) (failed : Bool) (r : Ending) (t : CmpState)
     → TriesToCompare s at bytes a b failed r t → DoesService serves refuses s at frame message a b failed r t

@@ -8,7 +8,7 @@ use Rattle.std.proofs.lemmas.List.{append_assoc}
 use Rattle.capn_cmp.specs.LinesApart.{AreApart, AreLines, IsUnbroken, joined}
 use Rattle.capn_cmp.specs.inner.Alike.{BeginAlike}
 
--- Bytes without a newline stay so if a byte that is no newline is appended.
+-- Bytes without a newline have none after a byte that is no newline is appended.
 pub unbroken_more : (xs : List ℕ) (c : ℕ) → IsUnbroken xs → c ≢ 10 → IsUnbroken (xs ++ c ∷ [])
 unbroken_more [] c h other = (other, tt)
 unbroken_more (x ∷ xs) c h other = (h.0, unbroken_more xs c h.1 other)
@@ -38,7 +38,7 @@ found_equal xs ys r is e = (same_bytes xs ys).0 (sym is ∙ e)
 pub found_other : (xs ys : List ℕ) (r : Bool) → r ≡ pointwise nat_eq xs ys → r ≡ false → xs ≢ ys
 found_other xs ys r is e same = let bad : true ≡ false = sym ((same_bytes xs ys).1 same) ∙ sym is ∙ e in cc
 
--- One more line at the end of lines.
+-- Lines with one more line at the end are lines.
 lines_more : (lines : List (List ℕ)) (line : List ℕ) → AreLines lines → IsUnbroken line → AreLines (lines ++ line ∷ [])
 lines_more [] line h is = (is, tt)
 lines_more (l ∷ ls) line h is = (h.0, lines_more ls line h.1 is)
@@ -78,7 +78,7 @@ alike_apart text other rest left first second more behind h is also one two diff
   differ = differ;
 }
 
--- ---- texts that go on
+-- ---- longer texts
 
 pub apart_longer : (text other first second more behind : List ℕ) → AreApart text other first second
     → AreApart (text ++ more) (other ++ behind) first second
@@ -98,7 +98,7 @@ apart_longer text other first second more behind h = record {
   differ = h.differ;
 }
 
--- ---- two texts have one such pair of lines
+-- ---- two texts have at most one pair of first lines that differ
 
 -- Equal texts have the same first line and the same rest.
 one_line : (a b x y : List ℕ) → IsUnbroken a → IsUnbroken b → a ++ 10 ∷ x ≡ b ++ 10 ∷ y → (a ≡ b) × (x ≡ y)
@@ -111,7 +111,7 @@ one_line (c ∷ a) (d ∷ b) x y h k e =
     let same = one_line a b x y h.1 k.1 rest in
     (λ i. first i ∷ same.0 i, same.1)
 
--- A text that begins with lines has the first of them as its first line.
+-- If a text begins with the line `q`, then `q` is its first line.
 after_line : (a q x more : List ℕ) (qs : List (List ℕ)) → IsUnbroken a → IsUnbroken q
     → a ++ 10 ∷ x ≡ joined (q ∷ qs) ++ more → (a ≡ q) × (x ≡ joined qs ++ more)
 after_line a q x more qs one other e =

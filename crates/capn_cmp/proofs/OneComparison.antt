@@ -1,4 +1,4 @@
--- Lemmas for `one_text`: the state and the message decide what `cmp` does.
+-- Lemmas for `one_text`: the state and the message determine the effect of `cmp`.
 use Rattle.std.proofs.Common.{◌≡◌, ◌≢◌, inl, inr, ℕ, List, [], ◌∷◌, Bool, true, false, Some, None, Result}
 use Rattle.std.proofs.Common.{refl, ap, ap₂, sym, subst, ◌∙◌}
 use Rattle.capn_words.proofs.shared.OneSegment.{one_bare}

@@ -1,4 +1,4 @@
--- The messages that `cmp` finds to differ from the first one: those with other canonical bytes. (Own.)
+-- The messages that `cmp` finds to differ from the first one, which have other canonical bytes. (Our own.)
 use Rattle.std.specs.Prelude.{◌≡◌, ◌≢◌, ◌⊎◌, ℕ, ◌<◌, List, [], ◌∷◌, ◌++◌, codes, length, Bool, true, false, Result}
 use Rattle.std.specs.Prelude.{Ok, Err, refl}
 use Rattle.std.specs.Fmt.{digits}
@@ -15,23 +15,23 @@ use Rattle.capn_serve.specs.Outgoing.{Outgoing, Adds, AddsBeginning, BreaksWithi
 use Rattle.capn_cmp.specs.LinesApart.{AreApart}
 use Rattle.capn_cmp.specs.ShownText.{IsShown}
 
--- The state of a comparison: the limits of a message, the canonical bytes of the first one, and whether a message
--- differed.
+-- The state of a comparison: the limits of each message, the canonical bytes of the first message, and whether a
+-- message differed from the first.
 pub record CmpState : Type 0 where
   pub limits : Bounds
   pub first : List ℕ
   pub differs : Bool
 
--- The state before the first message.
+-- The state of a comparison before the first message.
 abbrev pub first_state : Bounds → CmpState
 first_state limits = record { limits = limits; first = []; differs = false }
 
--- `bytes` are the canonical bytes of `message`, which is accepted.
+-- `bytes` are the canonical bytes of `message`, which is accepted within `limits`.
 abbrev pub IsForm : List (List ℕ) → Bounds → List ℕ → Type 0
 IsForm message limits bytes = (price : ℕ) × AnswersMessage message limits bytes price
 
--- The report on the message at `at`: the first lines that differ are `line` of the first message and `other` of that
--- message.
+-- The report on the message at `at`. The first lines that differ are `line` in the text of the first message, and
+-- `other` in the text of the message at `at`.
 abbrev pub report : Position → List ℕ → List ℕ → List ℕ
 report at line other =
     codes "message " ++ (place_text at ++ (codes " differs from message 1\n< " ++ (line ++ (codes "\n> "
@@ -42,47 +42,49 @@ second : report (record { index = 1; offset = 24 }) (codes "0\t  word 0000000000
 unfolding digits
 second = refl
 
--- `text` is the report on the message at `at`. `first` and `bytes` are the canonical bytes of the first message and of
--- that one.
+-- `text` is the report on the message at `at`. `first` are the canonical bytes of the first message, and `bytes` those
+-- of the message at `at`.
 abbrev pub IsReport : Position → List ℕ → List ℕ → List ℕ → Type 0
 IsReport at first bytes text =
     (shown : List ℕ) × (other : List ℕ) × (line : List ℕ) × (other_line : List ℕ)
     × IsShown first shown × IsShown bytes other × AreApart shown other line other_line
     × (text ≡ report at line other_line)
 
--- The message is the first: its canonical bytes are kept, and nothing is written.
+-- The message at `at` is the first: its canonical bytes `bytes` are kept, and nothing is written.
 abbrev pub Keeps : CmpState → Position → List ℕ → List ℕ → CmpState → Type 0
 Keeps s at bytes text t =
     (at.index ≡ 0) × (text ≡ []) × (t ≡ record { limits = s.limits; first = bytes; differs = s.differs })
 
--- The message is a later one with the canonical bytes of the first: nothing is written.
+-- The message at `at` is a later one, whose canonical bytes `bytes` are those of the first. Nothing is written.
 abbrev pub Agrees : CmpState → Position → List ℕ → List ℕ → CmpState → Type 0
 Agrees s at bytes text t = (at.index ≢ 0) × (bytes ≡ s.first) × (text ≡ []) × (t ≡ s)
 
--- The message is a later one with other canonical bytes: the report on it is written.
+-- The message at `at` is a later one, whose canonical bytes `bytes` are not those of the first. The report on it is
+-- written.
 abbrev pub Differs : CmpState → Position → List ℕ → List ℕ → CmpState → Type 0
 Differs s at bytes text t =
     (at.index ≢ 0) × (bytes ≢ s.first) × IsReport at s.first bytes text
     × (t ≡ record { limits = s.limits; first = s.first; differs = true })
 
--- A message with the canonical bytes `bytes` is the first, agrees with the first, or differs from it.
+-- The message at `at`, with the canonical bytes `bytes`, is the first, agrees with the first, or differs from the
+-- first.
 abbrev pub Compares : CmpState → Position → List ℕ → List ℕ → CmpState → Type 0
 Compares s at bytes text t = Keeps s at bytes text t ⊎ (Agrees s at bytes text t ⊎ Differs s at bytes text t)
 
--- The message takes the state `s` to `t`: it is compared by its canonical bytes.
+-- `message` takes the state `s` to `t` and writes `text`: the canonical bytes of the message are compared.
 abbrev pub serves : CmpState → Position → List ℕ → List (List ℕ) → List ℕ → CmpState → Type 0
 serves s at frame message text t = (bytes : List ℕ) × IsForm message s.limits bytes × Compares s at bytes text t
 
--- The message ends the run: it has no canonical bytes, because it is refused by its walk or for a capability.
+-- `message` ends the run: `r` refuses it by its walk or for a capability, so that it has no canonical bytes.
 abbrev pub refuses : CmpState → Position → List ℕ → List (List ℕ) → Refusal → Type 0
 refuses s at frame message r = IsRefusedMessage message s.limits r × (r ≢ refusals.Memory)
 
--- No more messages are served after one that differed.
+-- Tests whether a message differed from the first, so that no further message is served.
 abbrev pub done : CmpState → Position → Bool
 done s at = s.differs
 
--- A message with the canonical bytes `bytes` was compared. Or memory was refused, before its text or within it. Or the
--- writer failed within its text.
+-- The message at `at`, with the canonical bytes `bytes`, was compared. Or an allocation was refused before or within
+-- the text for that message. Or the writer failed within that text.
 abbrev pub TriesToCompare : CmpState → Position → List ℕ → Outgoing → Outgoing → Bool → Result (Unit {0}) ServeFault
     → CmpState → Type 0
 TriesToCompare s at bytes old new failed (Ok u) t =

@@ -1,4 +1,4 @@
--- A whole run of `cmp`, and its result. (Own.)
+-- A whole run of `cmp`, and its result. (Our own.)
 use Rattle.std.specs.Prelude.{◌≡◌, ℕ, nat_lt, List, Bool, cond, Option, Result, Ok, Err}
 use Rattle.capn_canon.specs.declared.form.Form.{Form}
 use Rattle.capn_canon.specs.declared.form.Form.TheVariants as forms
@@ -16,7 +16,7 @@ use Rattle.capn_cmp.specs.declared.cmp_run.Comparison.TheVariants as comparisons
 use Rattle.capn_cmp.specs.declared.fault.CmpFault.{CmpFault}
 use Rattle.capn_cmp.specs.declared.fault.CmpFault.TheVariants as faults
 
--- The form of an input that holds a stream in the form of the argument.
+-- The form of an input that holds a stream in the given form of streams.
 abbrev pub form_of : StreamForm → Form
 form_of streams.Stream = forms.Stream
 form_of streams.Packed = forms.Packed
@@ -29,18 +29,19 @@ cmp_fold order = fold_until serves refuses done order.limits.message_words
 abbrev pub first_run : CmpOrder → Run CmpState
 first_run order = record { service = first_state order.limits; at = start }
 
--- The result of a run whose loop ended without a fault, by whether a message differed, and the number of messages.
+-- The result of a run whose loop ended without a fault after `messages` messages. `differs` says whether a message
+-- differed.
 abbrev pub found_by : Bool → ℕ → Result Comparison CmpFault
 found_by differs messages = cond differs (Ok comparisons.Different)
     (cond (nat_lt messages 2) (Err faults.TooFew) (Ok comparisons.Same))
 
--- The result of a run, by how its loop ended, and the state after it.
+-- The result of a run whose loop ended with the first argument, in the state `y`.
 abbrev pub outcome : Result (Unit {0}) RunFault → Run CmpState → Result Comparison CmpFault
 outcome (Ok u) y = found_by y.service.differs y.at.index
 outcome (Err fault) y = Err (faults.Run fault)
 
--- The effect of a run: the reader goes from `a` to `b`, the writer from `c` to `d`. The messages are served, and `r` is
--- the result that follows.
+-- A run with the options `order` takes the reader from `a` to `b` and the writer from `c` to `d`, and returns `r`.
+-- `reader_failed` and `writer_failed` say whether the reader and the writer failed.
 abbrev pub Compared : CmpOrder → Option (List ℕ) → Option (List ℕ) → Option (List ℕ) → Option (List ℕ) → Bool → Bool
     → Result Comparison CmpFault → Type 0
 Compared order a b c d reader_failed writer_failed r =

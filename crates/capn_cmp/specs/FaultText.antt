@@ -1,4 +1,4 @@
--- The text of a fault that ends a run of `cmp`, and its exit status. (Own.)
+-- The text of a fault that ends a run of `cmp`, and its exit status. (Our own.)
 use Rattle.std.specs.Prelude.{ℕ, ◌≡◌, List, codes, refl}
 use Rattle.std.specs.Fmt.{digits}
 use Rattle.capn_canon.specs.declared.refusal.Refusal.TheVariants as refusals
@@ -17,7 +17,7 @@ refused : cmp_text (faults.Run (run_faults.Refused (record { index = 2; offset =
 unfolding digits
 refused = refl
 
--- The exit status: 1 if there are fewer than two messages, else that of the fault of the loop.
+-- The exit status, which is 1 if there are fewer than two messages, and the status for the fault of the loop otherwise.
 abbrev pub status_of : CmpFault → ℕ
 status_of (faults.Run fault) = served.status_of fault
 status_of faults.TooFew = 1

@@ -1,4 +1,4 @@
--- Laws: statements about the definitions alone, which hold whatever the code does. (Own.)
+-- The laws, which follow from the definitions whatever the code does. (Our own.)
 use Rattle.std.specs.Prelude.{◌≡◌, ◌≢◌, ◌↔◌, ℕ, ◌≤◌, List, [], ◌∷◌, length, Result, Ok, ⊤}
 use Rattle.capn_words.specs.Message.{total}
 use Rattle.capn_stream.specs.Frames.{Frames}
@@ -12,7 +12,7 @@ use Rattle.capn_cmp.specs.CmpRun.{cmp_fold, first_run, form_of, outcome}
 use Rattle.capn_cmp.specs.declared.cmp_order.CmpOrder.{CmpOrder}
 use Rattle.capn_cmp.specs.declared.cmp_run.Comparison.TheVariants as comparisons
 
--- The order and the input decide the text and the result of a comparison.
+-- The options and the input determine the text and the result of a comparison.
 abbrev pub OneCmp : Type 0
 OneCmp = (order : CmpOrder) (input t u : List ℕ) (r s : Result (Unit {0}) RunFault) (y z : Run CmpState)
     → AreMessages (cmp_fold order) (first_run order) (form_of order.form) input t r y
@@ -25,7 +25,7 @@ WritesExactly = (order : CmpOrder) (input text : List ℕ) (r : Result (Unit {0}
     → AreMessages (cmp_fold order) (first_run order) (form_of order.form) input text r y
     → (outcome r y ≡ Ok comparisons.Different) ↔ (text ≢ [])
 
--- Each part is the frame of an accepted message with the canonical bytes `bytes`, for which nothing is written.
+-- Each part has the frame of an accepted message with the canonical bytes `bytes`, and nothing is written for the part.
 abbrev pub AllHave : CmpOrder → List ℕ → List Part → Type 0
 AllHave order bytes [] = ⊤
 AllHave order bytes (p ∷ ps) = Frames p.frame p.message × (total p.message ≤ order.limits.message_words)
@@ -39,7 +39,8 @@ pub record IsOfOneValue (order : CmpOrder) (stream : List ℕ) : Type 0 where
   pub is : stream ≡ frames_of parts
   pub many : 2 ≤ length parts
 
--- A comparison of a stream returns `Same` if and only if it has at least two messages with the same canonical bytes.
+-- A comparison of a stream returns `Same` if and only if the stream has at least two messages, and all have the same
+-- canonical bytes.
 abbrev pub SameExactly : Type 0
 SameExactly = (order : CmpOrder) (stream text : List ℕ) (r : Result (Unit {0}) RunFault) (y : Run CmpState)
     → length stream ≤ most_stream

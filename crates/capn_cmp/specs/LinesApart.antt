@@ -1,4 +1,4 @@
--- The first lines in which two texts differ. (Own.)
+-- The first lines in which two texts differ. (Our own.)
 use Rattle.std.specs.Prelude.{◌≡◌, ◌≢◌, ℕ, List, [], ◌∷◌, ◌++◌, ⊤}
 
 -- The bytes have no newline.
@@ -11,12 +11,12 @@ abbrev pub AreLines : List (List ℕ) → Type 0
 AreLines [] = ⊤
 AreLines (line ∷ lines) = IsUnbroken line × AreLines lines
 
--- The lines, each with its newline, joined.
+-- The lines joined, each followed by a newline.
 abbrev pub joined : List (List ℕ) → List ℕ
 joined [] = []
 joined (line ∷ lines) = line ++ 10 ∷ joined lines
 
--- `text` and `other` begin with the same lines, and then have the different lines `first` and `second`, both whole.
+-- `text` and `other` begin with the same lines, and then have the whole lines `first` and `second`, which differ.
 pub record AreApart (text other first second : List ℕ) : Type 0 where
   pub lines : List (List ℕ)
   pub each : AreLines lines

@@ -1,4 +1,4 @@
--- The text of canonical bytes, as `show --ways --form bare` writes it. (Own.)
+-- The text of canonical bytes, as `show --ways --form bare` writes it. (Our own.)
 use Rattle.std.specs.Prelude.{◌≡◌, ℕ, List, [], ◌∷◌, ◌++◌, codes, true, false}
 use Rattle.capn_words.specs.Message.{IsBare}
 use Rattle.capn_value.specs.Tree.{Tree}
@@ -15,11 +15,11 @@ ways_alone = record { offsets = false; ways = true; quoted = false; offset = 0; 
 abbrev pub end_line : List ℕ
 end_line = codes "\tend\n"
 
--- The text of one segment with the value `v` at its root: the lines with their paths, and the line `end`.
+-- The text of the segment `words` with the value `v` at its root: the lines with their paths, and the line `end`.
 abbrev pub shown_with_ways : List ℕ → Tree → List ℕ
 shown_with_ways words v = marked_at (words ∷ []) ways_alone [] v ++ end_line
 
--- `text` is the text of `bytes`, read as one segment.
+-- `text` is the whole text of `bytes`, read as the words of one segment.
 pub record IsShown (bytes text : List ℕ) : Type 0 where
   pub words : List ℕ
   pub value : Tree

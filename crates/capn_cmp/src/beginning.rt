@@ -1,4 +1,4 @@
-//! A prefix of the text that `show` writes of canonical bytes, of a limited length.
+//! A prefix of limited length of the text that `show` writes of canonical bytes.
 
 ghost use Rattle.std.specs.Prelude.{◌≡◌, [], IfErr, IfOk};
 ghost use Rattle.capn_serve.specs.declared.fault.ServeFault.TheVariants as faults;
@@ -14,7 +14,7 @@ use capn_words::{Bare, Watched};
 use std::alloc::Allocator;
 use std::io::{self, Write};
 
-/// The marks for each line of the text: only the path to its slot, as `show --ways` writes it.
+/// The marks for each line of the text: only the path to the slot, as in `show --ways`.
 const WAYS: Marks = Marks {
     offsets: false,
     ways: true,
@@ -23,8 +23,8 @@ const WAYS: Marks = Marks {
     table: 0,
 };
 
-/// A writer that keeps the first `room` bytes written to it, and takes no more. Its memory is allocated before it
-/// writes, so that a refused growth is never mistaken for the end of its room.
+/// A writer that keeps the first `room` bytes written to it, and takes no more. The memory is allocated before the
+/// first write, so that a refused allocation is never mistaken for the end of the room.
 #[derive(Drop)]
 struct Beginning<A: Allocator> {
     bytes: Vec<u8, A>,
@@ -58,7 +58,7 @@ fn with_room<A: Allocator>(alloc: A, room: usize) -> Result<Vec<u8, A>, ServeFau
     }
 }
 
-/// Returns a writer that appends to `bytes`, which is empty, and takes `room` bytes.
+/// Returns a writer that appends at most `room` bytes to `bytes`, which is empty.
 fn new_writer<A: Allocator>(bytes: Vec<u8, A>, room: usize) -> Watched<Beginning<A>>
     requires empty { bytes.items ≡ [] }
     ensures empty { (inner_of result).bytes.items ≡ [] }
@@ -87,8 +87,8 @@ fn end_text<A: Allocator>(
     }
 }
 
-/// Returns a prefix of the text that `show --ways --form bare` writes of the `canonical` bytes, or all of it. The
-/// prefix has `room` bytes or a few less.
+/// Returns a prefix of the text that `show --ways --form bare` writes of the `canonical` bytes. If the prefix is not
+/// the whole text, its length is `room` bytes or a few less.
 pub(crate) fn begin_text<A: Allocator + Copy>(
     alloc: A,
     limits: Limits,

@@ -6,7 +6,7 @@ use capn_walk::Limits;
 /// The options of a run of `cmp`, which compares the messages of a stream with the first one.
 #[derive(Clone, Copy, Debug, PartialEq, Eq)]
 pub struct CmpOrder {
-    /// The form in which the input holds the messages.
+    /// The encoding of the input.
     pub form: StreamForm,
     /// The limits of each message.
     pub limits: Limits,

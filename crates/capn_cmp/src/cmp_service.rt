@@ -1,4 +1,4 @@
-//! `CmpService`: compares each message with the first one.
+//! The service `CmpService`, which compares each message with the first one.
 
 ghost use Rattle.std.specs.Prelude.{◌≡◌, false};
 ghost use Rattle.capn_words.specs.Watched.{inner_of, has_failed};
@@ -18,8 +18,9 @@ use std::marker::Model;
 /// The service that compares each message with the first one.
 ///
 /// A message that is refused, by its walk or for a capability, ends the run. The service keeps the canonical bytes of
-/// the first message. At the first message with other canonical bytes it writes the position of that message and the
-/// first lines that differ in the texts of both values, and is done. Nothing is written for any other message.
+/// the first message. At the first message with other canonical bytes, the service writes the position of that message
+/// and the first lines that differ in the texts of both values, and then is done. Nothing is written for any other
+/// message.
 #[derive(Drop)]
 pub struct CmpService<A: Allocator> {
     limits: Limits,
@@ -36,7 +37,7 @@ impl<A: Allocator> Model for CmpService<A> {
 }
 
 impl<B: Allocator> CmpService<B> {
-    /// Returns a service that has not served a message. It takes no memory.
+    /// Returns a service that has not served a message. The call takes no memory.
     pub(crate) fn new(alloc: B, limits: Limits) -> CmpService<B>
         ensures { result ≡ spec.first_state limits }
     {
@@ -54,7 +55,8 @@ impl<B: Allocator> CmpService<B> {
         self.differs
     }
 
-    /// Compares the `canonical` bytes of a message with those of the first one, or keeps them if it is the first.
+    /// Keeps the `canonical` bytes of the message at `at` if the message is the first, and compares them with those of
+    /// the first otherwise.
     #[tactic(auto, using(crate::proofs::CmpServed::keeps, crate::proofs::CmpServed::no_memory))]
     fn compare<W: Write, A: Allocator + Copy>(
         &mut self,

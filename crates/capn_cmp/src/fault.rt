@@ -7,7 +7,7 @@ use std::io::Write;
 /// The reason why a run of `cmp` does not end with a result.
 #[derive(Clone, Copy, Debug, PartialEq, Eq)]
 pub enum CmpFault {
-    /// Not all messages were served: one is refused, or memory, input or output failed, as `RunFault` says.
+    /// The loop over the messages ended with this fault before all messages were served.
     Run(RunFault),
     /// The input has fewer than two messages.
     TooFew,

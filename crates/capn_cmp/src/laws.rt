@@ -2,8 +2,8 @@
 
 ghost use Rattle.capn_cmp.specs.Laws.{OneCmp, SameExactly, WritesExactly};
 
-/// States that the order and the input decide the text and the ending of a comparison, and that it writes something if
-/// and only if a message differs.
+/// States that the options and the input determine the text and the result of a comparison, and that a comparison
+/// writes something if and only if a message differs.
 pub fn one_text()
     ensures one { OneCmp }
     ensures written { WritesExactly }

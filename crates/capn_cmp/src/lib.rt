@@ -1,8 +1,9 @@
 //! The comparison of the messages of a stream with the first of them: the command `cmp`.
 //!
-//! [`run_cmp`] carries out a [`CmpOrder`] by the service [`CmpService`]. Two values are the same if their canonical
-//! bytes are equal. At the first message that differs, the service writes its position, and the first lines that differ
-//! in the texts of both values, which [`capn_marks`] writes. The loop over the messages is that of [`capn_serve`].
+//! [`run_cmp`] carries out a [`CmpOrder`] with the service [`CmpService`]. Two values are the same if their canonical
+//! bytes are equal. At the first message that differs, the service writes the position of that message, and the first
+//! lines that differ in the texts of both values. [`capn_marks`] makes these texts. The loop over the messages is that
+//! of [`capn_serve`].
 #![tactic(auto)]
 
 mod beginning;

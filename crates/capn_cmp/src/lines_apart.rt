@@ -16,8 +16,8 @@ fn split_line(bytes: &[u8]) -> Option<(&[u8], &[u8])>
     None
 }
 
-/// Returns the first two lines that differ between `text` and `other`, without their newlines. `None` means that the
-/// texts do not differ within the whole lines that both have.
+/// Returns the first line of `text` that differs from the same line of `other`, and that line of `other`, without their
+/// newlines. `None` means that the texts do not differ within the whole lines that both have.
 pub(crate) fn lines_apart<'a>(text: &'a [u8], other: &'a [u8]) -> Option<(&'a [u8], &'a [u8])>
     ensures { IfSome result (λ lines. AreApart text.now other.now lines.0.now lines.1.now) }
 {

@@ -1,4 +1,4 @@
-//! The report of `cmp` on a message that differs: its position and the first lines that differ.
+//! The report of `cmp` on a message that differs, with its position and the first lines that differ.
 
 ghost use Rattle.std.specs.Prelude.{◌≡◌, ◌++◌, IfErr, IfOk, IfSome, OnOk};
 ghost use Rattle.capn_serve.specs.declared.fault.ServeFault.TheVariants as faults;
@@ -21,8 +21,8 @@ fn put_part<A: Allocator>(text: &mut Vec<u8, A>, part: &[u8]) -> Result<(), Serv
     }
 }
 
-/// Returns the report on the message at `at`. The first lines that differ are `line` of the first message, and `other`
-/// of the message at `at`.
+/// Returns the report on the message at `at`. The first lines that differ are `line` in the text of the first message,
+/// and `other` in the text of the message at `at`.
 #[tactic(auto, using(crate::proofs::Reports::in_parts))]
 fn report_of<A: Allocator + Copy>(
     alloc: A,
@@ -49,8 +49,8 @@ fn report_of<A: Allocator + Copy>(
 }
 
 /// Returns the report on the message at `at`, or `None` if the prefixes `text` and `other` end before the first lines
-/// that differ. `text` is a prefix of the text of `first`, the canonical bytes of the first message, and `other` of the
-/// text of `bytes`, those of the message at `at`.
+/// that differ. `first` and `bytes` are the canonical bytes of the first message and of the message at `at`. `text` is
+/// a prefix of the text of `first`, and `other` a prefix of the text of `bytes`.
 fn report_by<A: Allocator + Copy>(
     alloc: A,
     at: Position,
@@ -75,9 +75,9 @@ fn report_by<A: Allocator + Copy>(
 
 /// Returns the report on the message at `at`, whose canonical `bytes` differ from those of the `first` message.
 ///
-/// The call makes a prefix of each text, at first of 65,536 bytes, and doubles that size until both reach the first
-/// lines that differ. It holds both prefixes. Each is at most twice as long as the text up to the end of these lines,
-/// or 65,536 bytes.
+/// The call makes a prefix of each text, at first of 65,536 bytes, and doubles that size until both prefixes have the
+/// first lines that differ. Both prefixes are in memory at once. If more than 65,536 bytes are needed, the size is less
+/// than twice the number of bytes needed.
 pub(crate) fn find_report<A: Allocator + Copy>(
     alloc: A,
     at: Position,

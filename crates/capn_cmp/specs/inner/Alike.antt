@@ -1,8 +1,8 @@
--- Two texts that have begun with the same lines.
+-- Two texts that begin with the same lines.
 use Rattle.std.specs.Prelude.{◌≡◌, ℕ, List, ◌++◌}
 use Rattle.capn_cmp.specs.LinesApart.{AreLines, joined}
 
--- `text` and `other` begin with the same lines, and `rest` and `left` remain.
+-- `text` and `other` begin with the same lines, after which `rest` remains of `text`, and `left` of `other`.
 pub record BeginAlike (text other rest left : List ℕ) : Type 0 where
   pub lines : List (List ℕ)
   pub each : AreLines lines
