@@ -21,7 +21,7 @@ use Rattle.capn_explain.specs.declared.account.Account.{Account}
 use Rattle.capn_explain.specs.declared.explain.Explain.{Explain}
 
 module _ {A : Type 0} where
-  -- The numbers of `d`, with no particular allocator.
+  -- The numbers of `d`, with `Unit` in place of the allocator.
   abbrev pub path : Vec ℕ A → Vec ℕ (Unit {0})
   path d = record {
     ptr = d.ptr;
@@ -70,7 +70,7 @@ module _ {A : Type 0} where
   same_account a = λ i. head_lines a.head ++ (codes "accepted: paid " ++ (decimal a.paid ++ (codes " visits "
       ++ (decimal a.visits ++ (codes " depth " ++ (decimal a.depth ++ (codes "\n" ++ same_lines a.lines i)))))))
 
-  -- A mismatch of a message stays one with another allocator.
+  -- A mismatch of a message is one with any other allocator too.
   is_mismatch : (message : List (List ℕ)) (limits : Bounds) (d : Mismatch A) → IsMismatch message limits d
       → IsMismatch message limits (mismatch d)
   is_mismatch message limits mismatches.Canonical is = is
@@ -109,7 +109,7 @@ module _ {A : Type 0} where
     first_kept (Ok a) first found mismatched = (first, account_told a found)
     first_kept (Err memory) first found mismatched = (first, mismatched refl)
 
-  -- The lines of an accepted message were appended, or memory was refused.
+  -- The lines of an accepted message were appended, or an allocation was refused.
   pub puts_account : (order : Explain) (at : Position) (message : List (List ℕ)) (a : Account A) (old new : List ℕ)
       (r : Result (Unit {0}) ServeFault) → IsAccount order.form at message order.limits a
       → PutsText (account_text a) old new r → PutsAccount order at message old new r

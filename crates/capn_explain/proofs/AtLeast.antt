@@ -11,7 +11,7 @@ use Rattle.capn_stream.specs.FrameRefusal.{announced_segments, entries, entry_nu
 use Rattle.capn_explain.specs.WhatCame.{IsLeastOfFrame, IsLeastOfGroup, least_length}
 use Rattle.capn_explain.proofs.Zeros.{head-words, same_least}
 
--- No byte of `xs` is greater than that of `ys` at its place, where missing bytes are zeros.
+-- Each byte of `xs` is at most the byte of `ys` at the same place, where missing bytes are zeros.
 abbrev pub ReadsLess : List ℕ → List ℕ → Type 0
 ReadsLess xs ys = (i : ℕ) → slice_index xs i ≤ slice_index ys i
 

@@ -21,7 +21,7 @@ use Rattle.capn_explain.specs.declared.outcome.Outcome.TheVariants as outcomes
 abbrev pub Ending : Type 0
 Ending = Result (Unit {0}) RunFault
 
--- The result of a run, by a name that proofs can use.
+-- The result `r` of a run, under a name that proofs can use.
 abbrev pub ended : Ending → Ending
 ended r = r
 
@@ -44,7 +44,7 @@ closing_wrote text bytes old new before after (Ok u) fine some same ok begun io 
 closing_wrote text bytes old new before after (Err e) fine some same ok begun io only =
     (some, inr (only, subst (HasBegun old new) same begun, io.0 (ap stopped only)))
 
--- Case: memory was refused for the text.
+-- Case: an allocation was refused for the text.
 pub closing_refused : (text : List ℕ) (old new : Option (List ℕ)) (before after : Bool) (r : Ending) (fault : RunFault)
     → IsErrAnd r (λ e. e ≡ fault) → fault ≡ faults.Memory → new ≡ old → after ≡ before → text ≢ []
     → PutsClosing text old new before after r
@@ -56,7 +56,7 @@ fault_some : (limits : Bounds) (at : Position) (r : Refusal) (rest group : List 
     → fault_lines limits at r rest group ≢ []
 fault_some limits at r rest group = λ h. absurd (omega (arith, ap length h))
 
--- The text of a refusal if messages are not explained apart.
+-- If messages are not explained apart, the text of a refusal has no empty line.
 pub told_without : (apart : Bool) (order : Explain) (at : Position) (r : Refusal) (came : Came) → apart ≡ false
     → told_by apart order at r came ≡ told_at order at r came
 told_without false order at r came is = refl
@@ -72,9 +72,9 @@ pub told_some : (apart : Bool) (order : Explain) (at : Position) (r : Refusal) (
 told_some false order at r came = fault_some order.limits at r came.rest came.group
 told_some true order at r came = λ h. absurd (omega (arith, ap length h))
 
--- ---- how a run ends
+-- ---- the end of a run
 
--- The ending of a run that explained no message is not `Io`.
+-- The ending of a run that explained no message during the loop is not `Io`.
 pub rest_not_io : (number : Option ℕ) (first : Option First) → rest_ending number first ≡ Err faults.Io → ⊥
 rest_not_io (Some number) first is = absurd (cc)
 rest_not_io None (Some (Ok text)) is = absurd (cc)
@@ -94,7 +94,7 @@ pub not_true : (failed : Bool) → (failed ≡ true → ⊥) → failed ≡ fals
 not_true false none = refl
 not_true true none = absurd (none refl)
 
--- If a run ended with a refusal, neither its reader nor its writer has failed.
+-- If a run ended with a refusal, neither the reader nor the writer has failed.
 pub refused_fine : (at : Position) (r : Refusal) (reader writer : Bool)
     → ((stopped (faults.Refused at r) ≡ Err faults.Io) ↔ ((reader ≡ true) ⊎ (writer ≡ true)))
     → (reader ≡ true → ⊥) × (writer ≡ false)

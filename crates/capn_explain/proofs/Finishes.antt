@@ -23,7 +23,7 @@ use Rattle.capn_explain.specs.inner.Closing.{PutsClosing, PutsFault}
 use Rattle.capn_explain.proofs.Closings.{Ending, done_fine, io_is_not_memory, refused_fine}
 use Rattle.capn_explain.proofs.Closings.{stopped}
 
--- A prefix of this text of messages was written.
+-- If a prefix of the text of messages was written, some text was written.
 begun_text : {X : Type 0} (f : Fold X) (x : X) (form : Form) (bytes : List ℕ) (c d : Option (List ℕ))
     → HasWritten f x form bytes c d → (text : List ℕ) × Appends c d text
 begun_text f x forms.Stream bytes c d (parts, rest, y, count, are, wrote) = (take count (texts_of parts), wrote)
@@ -32,12 +32,12 @@ begun_text f x forms.Packed bytes c d (stream, begins, parts, rest, y, count, ar
 begun_text f x forms.Bare bytes c d (inl wrote) = ([], wrote)
 begun_text f x forms.Bare bytes c d (inr (text, y, count, writes, wrote)) = (take count text, wrote)
 
--- The part that was read of a message, if nothing was read.
+-- The part that was read of a message, with no bytes.
 nothing : Came
 nothing = record { rest = []; group = [] }
 
--- The part that was read of a refused message is the same by the state after the loop. That is the state after the
--- messages before it, unless the message is refused once it is whole.
+-- If `came` is the part that was read of a refused message for the state `y` after the loop, it is also that part for
+-- the state `z` before the fault.
 tells_left : {X : Type 0} (f : Fold X) (x : X) (form : Form) (input : List ℕ) (fault : RunFault) (came : Came) (z y : X)
     → Leaves f z fault y → TellsInput f x form input fault came y → TellsInput f x form input fault came z
 tells_left f x form input fault came z y (inl same) tells =
@@ -46,7 +46,7 @@ tells_left f x forms.Stream input fault came z y (inr refuses) tells = inl (z, r
 tells_left f x forms.Packed input fault came z y (inr refuses) tells = inl (z, refuses)
 tells_left f x forms.Bare input fault came z y (inr refuses) tells = tt
 
--- If a part of the text was written ahead, so it was after `more` was written too.
+-- `IsAhead` still holds after `more` was written too.
 ahead_more : (P : List ℕ → Option (List ℕ) → Option (List ℕ) → Type 0) (bytes more : List ℕ)
     (c m d : Option (List ℕ)) → IsAhead P bytes c m → Appends m d more → IsAhead P bytes c d
 ahead_more P bytes more c m d (before, piece, mid, first, is, small, written, wrote) after =
@@ -69,12 +69,12 @@ begun_after c m d text last count before wrote = (
       (Appends-trans c m d text (take count last) before wrote),
 )
 
--- The result of a run that is the fault `e`.
+-- The result of a run that ended with the fault `e`.
 abbrev pub answered : {E : Type 0} → E → Result (Unit {0}) E
 answered e = Err e
 
--- The result of a run is a fault of the reader, the writer or the memory if and only if its ending is. The state after
--- a fault gives the same result as the state of the messages before it.
+-- The result of a run is the fault `Io` or `Memory` if and only if the ending of the run is. The state after a fault
+-- gives the same result as the state before the fault.
 pub record IsFaithful {X E : Type 0} (f : Fold X) (answer : Answer X E) : Type 0 where
   pub io_by : (y : X) → answer.by y (stopped faults.Io) ≡ answered (answer.of faults.Io)
   pub memory_by : (y : X) → answer.by y (stopped faults.Memory) ≡ answered (answer.of faults.Memory)
@@ -96,7 +96,8 @@ plain_faithful f = record {
 
 module _ {X E : Type 0} (f : Fold X) (x : X) (finish : Finish X) (answer : Answer X E) (faithful : IsFaithful f answer)
     (form : Form) where
-  -- All texts of the messages of the input were written, `last` is the text that follows them, and `ending` the result.
+  -- All texts of the messages of `input` were written, `last` is the text that follows the messages, and `ending` is
+  -- the result.
   abbrev pub Serves : Option (List ℕ) → Option (List ℕ) → Ending → List ℕ → Result (Unit {0}) E → List ℕ → Type 0
   Serves c m served last ending input =
       (text : List ℕ) × (z : X) × (came : Came) × (AreMessages f x form input text served z
@@ -143,7 +144,7 @@ module _ {X E : Type 0} (f : Fold X) (x : X) (finish : Finish X) (answer : Answe
     for_memory = λ h. over_done_memory a c m y run.exact (faithful.of_memory y (finish.ending y) h);
   }
 
-  -- ---- a refusal ended them
+  -- ---- a refusal ended the messages
 
   over_refused_exact : (a c m : Option (List ℕ)) (at : Position) (r : Refusal) (y : X) (came : Came)
       → IfSome a (MessagesEnd f x form c m (Err (faults.Refused at r)) y)
@@ -174,7 +175,7 @@ module _ {X E : Type 0} (f : Fold X) (x : X) (finish : Finish X) (answer : Answe
     for_memory = λ h. let k = faithful.of_memory y (stopped (faults.Refused at r)) h in absurd (cc);
   }
 
-  -- ---- a fault ended them after which nothing is written
+  -- ---- a fault ended the messages, and no text follows them
 
   stopped_exact : (e : RunFault) (y : X) (came : Came) (a c d : Option (List ℕ)) → fault_text finish.told e came ≡ []
       → IfSome a (MessagesEnd f x form c d (Err e) y) → IfSome a (λ input. TellsEnd f x form input (Err e) came y)
@@ -290,7 +291,7 @@ module _ {X E : Type 0} (f : Fold X) (x : X) (finish : Finish X) (answer : Answe
       memory = λ h. inr (inr (over.for_memory h));
     }
 
-    -- Case: memory was refused for the text that follows.
+    -- Case: an allocation was refused for the text that follows.
     unclosed : (d : Option (List ℕ)) (after : Bool) → d ≡ m → after ≡ before → last ≢ []
         → Answered f x finish answer form a b c d reader after (answered (answer.of faults.Memory))
     unclosed d after same fine some = record {
@@ -398,7 +399,7 @@ module _ {X E : Type 0} (f : Fold X) (x : X) (finish : Finish X) (answer : Answe
     finished_untold d after faults.InputTooLong fault run tells (done, same, fine) = absurd (cc)
 
 module _ {X : Type 0} where
-  -- The messages were served by the limits of the order, from the first state.
+  -- The state `x` and the limit `most` can be replaced by `first` and `words`, which are equal to them.
   pub of_order : (fold : ℕ → Fold X) (form : Form) (words most : ℕ) (first x : X) → most ≡ words → x ≡ first
       → (a b c d : Option (List ℕ)) (reader writer : Bool) (r : Ending) (y : X)
       → ServesMessages (fold most) x form a b c d reader writer r y
@@ -407,7 +408,7 @@ module _ {X : Type 0} where
       subst (λ (z : X). ServesMessages (fold words) z form a b c d reader writer r y) fresh
       (subst (λ (n : ℕ). ServesMessages (fold n) x form a b c d reader writer r y) same ran)
 
-  -- The part that was read of a refused message is that of a run by the limits of the order, from the first state.
+  -- In `TellsEnd`, the state `x` and the limit `most` can be replaced by `first` and `words`, which are equal to them.
   pub told_of_order : (fold : ℕ → Fold X) (form : Form) (words most : ℕ) (first x : X) → most ≡ words → x ≡ first
       → (a : Option (List ℕ)) (r : Ending) (came : Came) (y : X)
       → IfSome a (λ input. TellsEnd (fold most) x form input r came y)

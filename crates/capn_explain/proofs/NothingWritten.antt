@@ -1,4 +1,4 @@
--- Lemmas for `run_explain`: if memory is refused, nothing is written.
+-- Lemmas for `run_explain`: if an allocation is refused, nothing is written.
 use Rattle.std.proofs.Common.{◌≡◌, inl, inr, ℕ, List, [], ◌∷◌, ◌++◌, take, Bool, true, false, Option, None, Some}
 use Rattle.std.proofs.Common.{Ok, Err, refl, ap, sym, subst, ◌∙◌}
 use Rattle.std.proofs.Math.Seq.{take-nil}
@@ -58,7 +58,7 @@ served_none order x forms.Bare bytes c d (inl wrote) = wrote
 served_none order x forms.Bare bytes c d (inr (text, y, count, (words, is, step), wrote)) =
     begun_none c d text count (message_none _ x.service y.service x.at (words ∷ []) text step.0) wrote
 
--- ---- nor does the end
+-- ---- the end writes nothing
 
 rest_none : (number : Option ℕ) (first : Option First) (count : ℕ) → rest_ending number first ≡ Err faults.Memory
     → rest_text number first count ≡ []
@@ -73,7 +73,7 @@ closing_none outcomes.Nothing lines number first count is = rest_none number fir
 closing_none (outcomes.Refused at s) lines number first count is = absurd (cc)
 closing_none outcomes.Accepted lines number first count is = absurd (cc)
 
--- If nothing was written, and then nothing more, nothing was written in all.
+-- If nothing was written before `m`, and nothing after `m`, then nothing was written in all.
 pub nothing_then : (c m d : Option (List ℕ)) → Appends c m [] → d ≡ m → Appends c d []
 nothing_then c m d wrote same = subst (λ (n : Option (List ℕ)). Appends c n []) (sym same) wrote
 
@@ -87,7 +87,7 @@ closed_none run c m d before after wrote (closed, fine) is =
     Appends-trans c m d [] [] wrote
     (subst (Appends m d) (closing_none s.outcome s.lines s.order.number s.first run.at.index is) closed)
 
--- Case: the text was not written, because memory was refused.
+-- Case: the text was not written, because an allocation was refused.
 pub unclosed_none : (text : List ℕ) (c m d : Option (List ℕ)) (before after : Bool) (fault : RunFault) → Appends c m []
     → PutsClosing text m d before after (Err fault) → stopped fault ≡ Err faults.Memory → Appends c d []
 unclosed_none text c m d before after fault wrote (some, inl (memory, same, fine)) is = nothing_then c m d wrote same
@@ -104,7 +104,7 @@ told_none told c m d before after faults.Memory wrote (done, same, fine) is = no
 told_none told c m d before after faults.Io wrote put is = absurd (cc)
 told_none told c m d before after faults.InputTooLong wrote put is = absurd (cc)
 
--- Case: a fault ended the messages, and memory was refused for its lines.
+-- Case: a fault ended the messages, and an allocation was refused for its lines.
 pub untold_none : (told : Position → Refusal → List ℕ) (c m d : Option (List ℕ)) (before after : Bool)
     (ended fault : RunFault) → Appends c m [] → PutsFault told ended m d before after (Err fault)
     → stopped fault ≡ Err faults.Memory → Appends c d []

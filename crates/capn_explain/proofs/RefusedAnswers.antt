@@ -58,7 +58,7 @@ io_is_not_memory : ended run_faults.Io ≡ ended run_faults.Memory → ⊥
 io_is_not_memory is = absurd (cc)
 
 module _ (order : ExplainRefused) where
-  -- No message ends the loop by its refusal, so a fault leaves the state after the messages.
+  -- No refusal of a message ends the loop, so the states before and after a fault give the same result.
   left : (z y : Run RefusedReporting) (e : RunFault) → Leaves (refused_fold order) z e y
       → refused_answer.by z (stopped e) ≡ refused_answer.by y (stopped e)
   left z y e (inl same) = ap (λ (w : Run RefusedReporting). refused_answer.by w (stopped e)) same
@@ -80,7 +80,7 @@ pub ending_not_io : (skipped : Option SkippedSoFar) (first : Option First)
 ending_not_io None first is = rest_not_io None first is
 ending_not_io (Some s) first is = absurd (cc)
 
--- The text that was written for a fault by the order for one message is the text that the definition gives.
+-- The text written for a fault with the options `each` is the text that `refused_finish` gives.
 pub by_order : (order : ExplainRefused) (each : Explain) → each ≡ each_of order → (came : Came) (e : RunFault)
     (old new : Option (List ℕ)) (before after : Bool) (r : Ending)
     → PutsFault (λ at r. told_by true each at r came) e old new before after r

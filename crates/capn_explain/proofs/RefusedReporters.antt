@@ -12,7 +12,7 @@ use Rattle.capn_explain.specs.RefusedReports.{PutsToldApart, RefusedReporting, r
 use Rattle.capn_explain.specs.Reports.{First, IsFirst, IsTold, Puts, PutsText}
 use Rattle.capn_explain.specs.declared.explain.Explain.{Explain}
 
--- The lines were appended with an empty line after them, or memory was refused.
+-- If the text appended is `lines` with an empty line, the message was explained. Or an allocation was refused.
 pub puts_apart : (order : Explain) (at : Position) (message : List (List ℕ)) (stopped : Stopped)
     (lines text old new : List ℕ) (r : Result (Unit {0}) ServeFault) → IsTold order at message stopped lines
     → text ≡ lines ++ codes "\n" → PutsText text old new r → PutsToldApart order at message old new r
@@ -20,11 +20,11 @@ puts_apart order at message stopped lines text old new (Ok u) told is same =
     (text, (stopped, lines, told, is), same)
 puts_apart order at message stopped lines text old new (Err fault) told is put = put
 
--- The state of the service with these fields.
+-- The state of the service with `order`, `skipped` and `first`.
 abbrev pub state : Explain → Option SkippedSoFar → Option First → RefusedReporting
 state order skipped first = record { order = order; skipped = skipped; first = first }
 
--- Case: an accepted message writes nothing.
+-- Case: the message is accepted, and nothing is written.
 pub tells_none : (s t : RefusedReporting) (order : Explain) (skipped kept : Option SkippedSoFar)
     (before first : Option First) → state order skipped before ≡ s → (at : Position) (message : List (List ℕ))
     (old : List ℕ) → IsAccepted message order.limits → IsFirst order.form at message order.limits first

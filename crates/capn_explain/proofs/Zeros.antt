@@ -45,7 +45,7 @@ frame_length-zeros rest n =
     ap (λ (c : ℕ). head_length c + 8 * sum (entries c (drop 4 (rest ++ replicate n 0)))) count
     ∙ ap (λ (ns : List ℕ). head_length (announced_segments rest) + 8 * sum ns) sizes
 
--- The number of an entry, by its four bytes.
+-- The number of an entry, computed from its four bytes.
 pub entry-bytes : (k : ℕ) (bs : List ℕ) → entry_number (drop k bs) ≡ slice_index bs k
     + 256 * (slice_index bs (k + 1) + 256 * (slice_index bs (k + 2) + 256 * slice_index bs (k + 3)))
 unfolding entry_number
@@ -86,7 +86,8 @@ sum-begun begun count bs few all =
 pub head-words : (count : ℕ) → 8 * (count / 2 + 1) ≡ head_length count
 head-words count = grind arith
 
--- The least length of a frame, without the appended zeros.
+-- The least length of a frame is the length that `rest` announces without the appended zeros, or 2^64 - 1 if that is
+-- less.
 pub same_least : (rest : List ℕ) → least_length rest ≡ min (frame_length rest) (2 ^ 64 - 1)
 same_least rest = ap (λ (n : ℕ). min n (2 ^ 64 - 1))
     (frame_length-zeros rest (head_length (announced_segments (rest ++ replicate 4 0))))
@@ -95,7 +96,7 @@ same_least rest = ap (λ (n : ℕ). min n (2 ^ 64 - 1))
 stops : (n m most : ℕ) → min (min n most + m) most ≡ min (n + m) most
 stops n m most = grind arith
 
--- The least length of a frame, by its words and its table.
+-- The least length of a frame, computed from the number of words and the length of the table.
 pub least-words : (rest : List ℕ) (words table : ℕ) → words ≡ announced_words rest
     → table ≡ head_length (announced_segments rest)
     → min (min (words * 8) (2 ^ 64 - 1) + table) (2 ^ 64 - 1) ≡ least_length rest
@@ -103,7 +104,7 @@ least-words rest words table is head =
     let all : frame_length rest ≡ words * 8 + table = omega (arith, is, head) in
     stops (words * 8) table (2 ^ 64 - 1) ∙ ap (λ (n : ℕ). min n (2 ^ 64 - 1)) (sym all) ∙ sym (same_least rest)
 
--- The first eight sizes.
+-- The first eight entries, one by one.
 pub eight : (bs : List ℕ) → entries 8 bs ≡ entry_number bs ∷ entry_number (drop 4 bs) ∷ entry_number (drop 8 bs)
     ∷ entry_number (drop 12 bs) ∷ entry_number (drop 16 bs) ∷ entry_number (drop 20 bs) ∷ entry_number (drop 24 bs)
     ∷ entry_number (drop 28 bs) ∷ []

@@ -1,4 +1,4 @@
--- The account of an accepted message. (Own.)
+-- The account of an accepted message. (Our own.)
 use Rattle.std.specs.Prelude.{◌≡◌, ℕ, List, [], ◌∷◌, ◌++◌, None, Some, codes, refl}
 use Rattle.std.specs.Fmt.{decimal, digits}
 use Rattle.capn_walk.specs.Limits.{Bounds}
@@ -14,12 +14,12 @@ use Rattle.capn_mismatch.specs.declared.answer.Mismatch.TheVariants as mismatche
 use Rattle.capn_mismatch.specs.declared.canonical_lines.CanonicalLines.{CanonicalLines}
 use Rattle.capn_explain.specs.declared.account.Account.{Account}
 
--- The position of a message, and its segments.
+-- The position `at` of `message`, and the segments of `message`.
 abbrev pub head_of : Position → List (List ℕ) → MessageHead
 head_of at message = record { index = at.index; offset = at.offset; segments = Some (segments_of message) }
 
 module _ {A : Type 0} where
-  -- The account of a message with the figures `m` and these lines about its canonical form.
+  -- The account of `message` at `at`, with the figures `m` and the `lines` about its canonical form.
   abbrev pub account_by : Position → List (List ℕ) → MeasuredBare → CanonicalLines A → Account A
   account_by at message m lines = record {
     head = head_of at message;
@@ -29,8 +29,8 @@ module _ {A : Type 0} where
     lines = lines;
   }
 
-  -- `account` is the account of `message`, which is accepted: its price, visits and depth, and whether it is canonical
-  -- or why not.
+  -- `account` is the account of `message`, which is accepted within `limits`: the price, visits and depth of the
+  -- message, and whether it is canonical or why not.
   abbrev pub IsAccount : Form → Position → List (List ℕ) → Bounds → Account A → Type 0
   IsAccount form at message limits account =
       (m : MeasuredBare) × IsMeasure message limits m
@@ -43,12 +43,12 @@ module _ {A : Type 0} where
       head_lines a.head ++ (codes "accepted: paid " ++ (decimal a.paid ++ (codes " visits " ++ (decimal a.visits
       ++ (codes " depth " ++ (decimal a.depth ++ (codes "\n" ++ canonical_lines a.lines)))))))
 
--- `text` has the lines of the account of `message`. It does not depend on the allocator of the paths.
+-- `text` has the lines of the account of `message`, which do not depend on the allocator of the paths.
 abbrev pub IsAccountText : Form → Position → List (List ℕ) → Bounds → List ℕ → Type 0
 IsAccountText form at message limits text =
     (account : Account (Unit {0})) × IsAccount form at message limits account × (text ≡ account_text account)
 
--- ---- lines
+-- Examples of the lines of an account.
 
 second : account_text {A = Unit {0}} (record {
   head = head_of (record { index = 1; offset = 24 }) ((0 ∷ []) ∷ []);

@@ -1,5 +1,5 @@
--- A whole run that explains one message: its closing text, and the rest by `Finish`, which defines every run that
--- explains. (Own.)
+-- A whole run that explains one message. Its closing text and its result are defined here, and the rest by `Finish`,
+-- for every run that explains. (Our own.)
 use Rattle.std.specs.Prelude.{◌≡◌, ℕ, List, [], ◌++◌, Bool, Option, Some, None, Result, Ok, Err, codes, refl}
 use Rattle.std.specs.Fmt.{digits}
 use Rattle.std.specs.Io.KnownBytes.{Appends}
@@ -33,53 +33,55 @@ first_run order = record {
   at = start;
 }
 
--- The line of a count.
+-- The line that shows a number of messages.
 abbrev pub count_line : CountText → List ℕ
 count_line count = count_text count ++ codes "\n"
 
--- The text of a run that read `count` messages and explained none. If the order has a number, it is the count of
--- messages. Otherwise it is the lines of the only message, nothing if memory was refused for them, or the count of
--- messages, none of which is refused.
+-- The text of a run that read `count` messages and explained no message during the loop. If the order has a number, the
+-- text shows the number of messages. Otherwise the text is the lines of the only message, or nothing if an allocation
+-- was refused for these lines. If there is no only message, the text says that none of `count` messages is refused.
 abbrev pub rest_text : Option ℕ → Option First → ℕ → List ℕ
 rest_text (Some number) first count = count_line (counts.Fewer count)
 rest_text None (Some (Ok text)) count = text
 rest_text None (Some (Err memory)) count = []
 rest_text None None count = count_line (counts.NoneRefused count)
 
--- The closing text: the lines of the message that was explained, if there is one.
+-- The closing text, which is the lines of the message explained during the loop, or `rest_text` if there is no such
+-- message.
 abbrev pub closing_by : Outcome → List ℕ → Option ℕ → Option First → ℕ → List ℕ
 closing_by outcomes.Nothing lines number first count = rest_text number first count
 closing_by (outcomes.Refused at stopped) lines number first count = lines
 closing_by outcomes.Accepted lines number first count = lines
 
--- The closing text by the state after the last message.
+-- The closing text for the state `run` after the last message.
 abbrev pub closing : Run Reporting → List ℕ
 closing run =
     closing_by run.service.outcome run.service.lines run.service.order.number run.service.first run.at.index
 
--- The ending of a run that explained no message: `Memory` if that was refused for the lines of the only message, else
--- `Ok`.
+-- The ending of a run that explained no message during the loop. The ending is `Memory` if an allocation was refused
+-- for the lines of the only message, and `Ok` otherwise.
 abbrev pub rest_ending : Option ℕ → Option First → Result (Unit {0}) RunFault
 rest_ending (Some number) first = Ok tt
 rest_ending None (Some (Ok text)) = Ok tt
 rest_ending None (Some (Err memory)) = Err faults.Memory
 rest_ending None None = Ok tt
 
--- The ending of a run whose loop ended without a fault: `Refused` if the explained message is refused, else `Ok`.
+-- The ending of a run whose loop ended without a fault, which is `Refused` if the explained message is refused. If no
+-- message was explained during the loop, `rest_ending` gives the ending.
 abbrev pub ending_by : Outcome → Option ℕ → Option First → Result (Unit {0}) RunFault
 ending_by outcomes.Nothing number first = rest_ending number first
 ending_by (outcomes.Refused at stopped) number first = Err (faults.Refused at (refusals.Walk stopped))
 ending_by outcomes.Accepted number first = Ok tt
 
--- The ending by the state after the last message.
+-- The ending for the state `run` after the last message.
 abbrev pub ending : Run Reporting → Result (Unit {0}) RunFault
 ending run = ending_by run.service.outcome run.service.order.number run.service.first
 
--- The text of a message that is refused before its walk, by the part that was read of it.
+-- The text of a message that is refused before its walk, where `came` was read of the message.
 abbrev pub told_at : Explain → Position → Refusal → Came → List ℕ
 told_at order at refusal came = fault_lines order.limits at refusal came.rest came.group
 
--- The end of a run after its messages: the closing text, the ending, and the lines of a refusal.
+-- The end of a run, with the closing text, the ending, and the lines of a refusal.
 abbrev pub explain_finish : Explain → Finish (Run Reporting)
 explain_finish order = record {
   closing = λ y. closing y;
@@ -87,15 +89,16 @@ explain_finish order = record {
   told = λ at r came. told_at order at r came;
 }
 
--- The effect of a run: the reader goes from `a` to `b`, the writer from `c` to `d`, and `r` is the result. If memory
--- was refused, nothing was written.
+-- A run with the options `order` takes the reader from `a` to `b` and the writer from `c` to `d`, and returns `r`.
+-- `reader_failed` and `writer_failed` say whether the reader and the writer failed. If `r` is `Memory`, nothing was
+-- written.
 pub record Explained (order : Explain) (a b c d : Option (List ℕ)) (reader_failed writer_failed : Bool)
     (r : Result (Unit {0}) RunFault) : Type 0 where
   pub run : Finished (explain_fold order) (first_run order) (explain_finish order) order.form a b c d reader_failed
       writer_failed r
   pub nothing : r ≡ Err faults.Memory → Appends c d []
 
--- ---- the lines of counts
+-- Examples of the lines with numbers of messages.
 
 none_refused : rest_text None None 3 ≡ codes "3 messages, none refused\n"
 unfolding digits

@@ -1,4 +1,4 @@
--- The text of a fault that ends a run which explains every refused message, and its exit status. (Own.)
+-- The text of a fault that ends a run which explains every refused message, and its exit status. (Our own.)
 use Rattle.std.specs.Prelude.{ℕ, ◌≡◌, List, ◌++◌, codes, refl}
 use Rattle.std.specs.Fmt.{digits}
 use Rattle.capn_stream.specs.declared.fault.FrameFault.TheVariants as frame_faults
@@ -22,7 +22,8 @@ report_text (faults.Skipped skipped) = text_of_skipped skipped
 report_text (faults.RefusedAfterSkipped skipped at refusal) =
     text_after_skipped skipped (run_faults.Refused at refusal)
 
--- The exit status: 1 if messages were refused by their walk, else that of the fault of the loop.
+-- The exit status, which is 1 if messages were refused by their walk, and the status for the fault of the loop
+-- otherwise.
 abbrev pub status_of : ReportFault → ℕ
 status_of (faults.Ended fault) = served.status_of fault
 status_of (faults.Skipped skipped) = 1

@@ -1,4 +1,4 @@
--- The text of each message in a run that explains every refused one. (Own.)
+-- The text of each message in a run that explains every refused one. (Our own.)
 use Rattle.std.specs.Prelude.{◌≡◌, ◌⊎◌, ℕ, List, [], ◌++◌, codes, Option, Some, None, Result, Ok, Err}
 use Rattle.capn_walk.specs.Accepted.{IsAccepted}
 use Rattle.capn_walk.specs.declared.walk_answer.Stopped.{Stopped}
@@ -12,18 +12,18 @@ use Rattle.capn_explain.specs.Reports.{First, IsFirst, IsTold}
 use Rattle.capn_explain.specs.declared.explain.Explain.{Explain}
 use Rattle.capn_explain.specs.declared.explain_refused.ExplainRefused.{ExplainRefused}
 
--- The order to explain the first refused message, by which each refused message is explained.
+-- The options with which each refused message is explained, which are those to explain the first refused message.
 abbrev pub each_of : ExplainRefused → Explain
 each_of order = record { form = order.form; limits = order.limits; number = None }
 
--- The state of the service: the order for one message, the count of those explained, and the account of the first
--- message until a second one is served.
+-- The state of the service: the options for one message, the count of the messages explained, and the account of the
+-- first message until a second message is served.
 pub record RefusedReporting : Type 0 where
   pub order : Explain
   pub skipped : Option SkippedSoFar
   pub first : Option First
 
--- The state before the first message.
+-- The state of the service before the first message.
 abbrev pub first_state : ExplainRefused → RefusedReporting
 first_state order = record { order = each_of order; skipped = None; first = None }
 
@@ -32,27 +32,29 @@ abbrev pub IsToldApart : Explain → Position → List (List ℕ) → List ℕ �
 IsToldApart order at message text =
     (stopped : Stopped) × (lines : List ℕ) × IsTold order at message stopped lines × (text ≡ lines ++ codes "\n")
 
--- A refused message is explained in `text` and counted, and the account of the first message is dropped.
+-- `message` is refused, explained in `text`, and counted. The account of the first message is dropped.
 abbrev pub TellsOne : RefusedReporting → Position → List (List ℕ) → List ℕ → RefusedReporting → Type 0
 TellsOne s at message text t = IsToldApart s.order at message text
     × (t ≡ record { order = s.order; skipped = Some (one_more s.skipped at); first = None })
 
--- An accepted message writes nothing. Its account is kept if it is the first message, and dropped if it is a later one.
+-- `message` is accepted, and nothing is written. The account of the message is kept if it is the first message, and no
+-- account is kept if it is a later one.
 abbrev pub TellsNone : RefusedReporting → Position → List (List ℕ) → List ℕ → RefusedReporting → Type 0
 TellsNone s at message text t =
     (first : Option First) × IsAccepted message s.order.limits
     × IsFirst s.order.form at message s.order.limits first × (text ≡ [])
     × (t ≡ record { order = s.order; skipped = s.skipped; first = first })
 
--- The message takes the state `s` to `t`: it is refused or accepted.
+-- `message` takes the state `s` to `t` and writes `text`: the message is refused or accepted.
 abbrev pub serves : RefusedReporting → Position → List ℕ → List (List ℕ) → List ℕ → RefusedReporting → Type 0
 serves s at frame message text t = TellsOne s at message text t ⊎ TellsNone s at message text t
 
--- No message ends the loop by its refusal.
+-- No refusal of a message ends the loop.
 abbrev pub refuses : RefusedReporting → Position → List ℕ → List (List ℕ) → Refusal → Type 0
 refuses s at frame message r = ⊥
 
--- The lines that explain `message` and an empty line were appended to `old`. If memory was refused, nothing was.
+-- `new` is `old` with the lines that explain `message` and an empty line appended. Or an allocation was refused, and
+-- `new` is `old`.
 abbrev pub PutsToldApart : Explain → Position → List (List ℕ) → List ℕ → List ℕ → Result (Unit {0}) ServeFault
     → Type 0
 PutsToldApart order at message old new (Ok u) =

@@ -1,5 +1,5 @@
--- A whole run that explains every refused message: its closing text, its result, and the rest by `Finish`, which
--- defines every run that explains. (Own.)
+-- A whole run that explains every refused message. Its closing text and its result are defined here, and the rest by
+-- `Finish`, for every run that explains. (Our own.)
 use Rattle.std.specs.Prelude.{◌≡◌, ℕ, List, [], ◌++◌, Bool, Option, Some, None, Result, Ok, Err, codes, refl}
 use Rattle.std.specs.Fmt.{digits}
 use Rattle.capn_canon.specs.declared.refusal.Refusal.{Refusal}
@@ -28,17 +28,17 @@ refused_fold order = fold_of serves refuses order.limits.message_words
 abbrev pub first_run : ExplainRefused → Run RefusedReporting
 first_run order = record { service = first_state order; at = start }
 
--- The closing text: that of `explain` if no message was refused, else nothing.
+-- The closing text, which is that of `explain` if no message was refused, and empty otherwise.
 abbrev pub closing_by : Option SkippedSoFar → Option First → ℕ → List ℕ
 closing_by None first count = rest_text None first count
 closing_by (Some skipped) first count = []
 
--- The ending of a run after all messages: that of `explain` if no message was refused, else `Ok`.
+-- The ending of a run after all messages, which is that of `explain` if no message was refused, and `Ok` otherwise.
 abbrev pub ending_by : Option SkippedSoFar → Option First → Result (Unit {0}) RunFault
 ending_by None first = rest_ending None first
 ending_by (Some skipped) first = Ok tt
 
--- The closing text, and then the ending, by the state after the last message.
+-- The closing text and the ending for the state `run` after the last message.
 abbrev pub closing : Run RefusedReporting → List ℕ
 closing run = closing_by run.service.skipped run.service.first run.at.index
 
@@ -49,7 +49,7 @@ ending run = ending_by run.service.skipped run.service.first
 abbrev pub told_apart : ExplainRefused → Position → Refusal → Came → List ℕ
 told_apart order at refusal came = told_at (each_of order) at refusal came ++ codes "\n"
 
--- The end of a run after its messages: the closing text, the ending, and the lines of a refusal.
+-- The end of a run, with the closing text, the ending, and the lines of a refusal.
 abbrev pub refused_finish : ExplainRefused → Finish (Run RefusedReporting)
 refused_finish order = record {
   closing = λ y. closing y;
@@ -57,8 +57,8 @@ refused_finish order = record {
   told = λ at r came. told_apart order at r came;
 }
 
--- The fault of a run whose loop `fault` ended after `messages` messages. `skipped` counts those that were refused by
--- their walk.
+-- The fault of a run whose loop `fault` ended after `messages` messages. `skipped` counts the messages that were
+-- refused by their walk.
 abbrev pub fault_after : Option SkippedSoFar → ℕ → RunFault → ReportFault
 fault_after None messages fault = faults.Ended fault
 fault_after (Some skipped) messages run_faults.Memory = faults.Ended run_faults.Memory
@@ -67,25 +67,26 @@ fault_after (Some skipped) messages run_faults.InputTooLong = faults.Ended run_f
 fault_after (Some skipped) messages (run_faults.Refused at r) =
     faults.RefusedAfterSkipped (skipped_of skipped messages) at r
 
--- The result of a run over `messages` messages by its ending. `skipped` counts those that were refused by their walk.
--- The result is `Ok` only if there are none.
+-- The result of a run over `messages` messages that ended with the last argument. `skipped` counts the messages that
+-- were refused by their walk. The result is `Ok` only if there are no such messages.
 abbrev pub answer_by : Option SkippedSoFar → ℕ → Result (Unit {0}) RunFault → Result (Unit {0}) ReportFault
 answer_by None messages (Ok u) = Ok tt
 answer_by (Some skipped) messages (Ok u) = Err (faults.Skipped (skipped_of skipped messages))
 answer_by skipped messages (Err fault) = Err (fault_after skipped messages fault)
 
--- The result of a run by the state after its messages.
+-- The result of a run from the state after its messages.
 abbrev pub refused_answer : Answer (Run RefusedReporting) ReportFault
 refused_answer = record { of = λ e. faults.Ended e; by = λ y r. answer_by y.service.skipped y.at.index r }
 
--- The effect of a run: the reader goes from `a` to `b`, the writer from `c` to `d`, and `r` is the result.
+-- A run with the options `order` takes the reader from `a` to `b` and the writer from `c` to `d`, and returns `r`.
+-- `reader_failed` and `writer_failed` say whether the reader and the writer failed.
 abbrev pub ExplainedRefused : ExplainRefused → Option (List ℕ) → Option (List ℕ) → Option (List ℕ) → Option (List ℕ)
     → Bool → Bool → Result (Unit {0}) ReportFault → Type 0
 ExplainedRefused order a b c d reader_failed writer_failed r =
     Answered (refused_fold order) (first_run order) (refused_finish order) refused_answer order.form a b c d
     reader_failed writer_failed r
 
--- ---- the end without a refused message, and after one
+-- Examples of the end of a run without a refused message, and with one.
 
 none_refused : closing_by None None 3 ≡ codes "3 messages, none refused\n"
 unfolding digits

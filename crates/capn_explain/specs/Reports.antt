@@ -1,4 +1,4 @@
--- The text that is kept for the explained message, and the account of the first one. (Own.)
+-- The text that is kept for the explained message, and the account of the first message. (Our own.)
 use Rattle.std.specs.Prelude.{◌≡◌, ◌⊎◌, ℕ, ◌+◌, ◌<◌, nat_lt, List, [], ◌++◌, Bool, true, false}
 use Rattle.std.specs.Prelude.{Option, Some, None, Result, Ok, Err, refl}
 use Rattle.capn_words.specs.declared.memory.Memory.{Memory}
@@ -21,19 +21,19 @@ use Rattle.capn_explain.specs.declared.outcome.Outcome.TheVariants as outcomes
 
 -- ---- the state
 
--- The lines of the first message, or the fact that memory was refused for them.
+-- The lines of the first message, or the fact that an allocation was refused for these lines.
 abbrev pub First : Type 0
 First = Result (List ℕ) Memory
 
--- The state of a reporter: its order, the message that has been explained, the lines that explain it, and the account
--- of the first message until a second one is served.
+-- The state of a reporter: its options, the message that has been explained, the lines that explain that message, and
+-- the account of the first message until a second message is served.
 pub record Reporting : Type 0 where
   pub order : Explain
   pub outcome : Outcome
   pub lines : List ℕ
   pub first : Option First
 
--- The state before the first message.
+-- The state of a reporter before the first message.
 abbrev pub first_reporting : Explain → Reporting
 first_reporting order = record { order = order; outcome = outcomes.Nothing; lines = []; first = None }
 
@@ -50,14 +50,14 @@ abbrev pub is_before : Position → Option ℕ → Bool
 is_before at (Some number) = nat_lt (at.index + 1) number
 is_before at None = false
 
--- `message` is refused, and `text` has the lines that explain it.
+-- The walk refuses `message` at `stopped`, and `text` has the lines that explain the message.
 abbrev pub IsTold : Explain → Position → List (List ℕ) → Stopped → List ℕ → Type 0
 IsTold order at message stopped text =
     IsRefusalTold message order.limits at.index at.offset (table_words order.form message) stopped text
 
--- The account of an accepted message that is kept if it is the first: its lines, or the fact that memory was refused
--- for them. The latter is possible only for a message that differs from its canonical bytes. For a later message
--- nothing is kept.
+-- The last argument is the account of `message`, which is accepted, if it is the first message: its lines, or the fact
+-- that an allocation was refused for these lines. Such an allocation is possible only for a message that differs from
+-- its canonical bytes. For a later message there is no account.
 abbrev pub IsFirst : Form → Position → List (List ℕ) → Bounds → Option First → Type 0
 IsFirst form at message limits (Some (Ok text)) = (at.index ≡ 0) × IsAccountText form at message limits text
 IsFirst form at message limits (Some (Err memory)) = (at.index ≡ 0) × HasMismatch message limits
@@ -65,7 +65,7 @@ IsFirst form at message limits None = 0 < at.index
 
 -- ---- from one state to the next
 
--- The state `s` after a message has been explained by `lines`.
+-- The state `s` after a message has been explained with the `outcome` and the `lines`.
 abbrev pub with_outcome : Reporting → Outcome → List ℕ → Reporting
 with_outcome s outcome lines = record { order = s.order; outcome = outcome; lines = lines; first = s.first }
 
@@ -73,14 +73,15 @@ with_outcome s outcome lines = record { order = s.order; outcome = outcome; line
 abbrev pub with_first : Reporting → Option First → Reporting
 with_first s first = record { order = s.order; outcome = s.outcome; lines = s.lines; first = first }
 
--- A refused message is explained. Nothing is written yet, and the lines that explain it are kept.
+-- `message` is refused and explained. Nothing is written yet, and the lines that explain the message are kept.
 abbrev pub TellsRefused : Reporting → Position → List (List ℕ) → List ℕ → Reporting → Type 0
 TellsRefused s at message text t =
     (stopped : Stopped) × (lines : List ℕ) × IsTold s.order at message stopped lines × (text ≡ [])
     × (t ≡ with_outcome s (outcomes.Refused at stopped) lines)
 
--- An accepted message writes nothing. If the order has a number, the message is explained, and its lines are kept.
--- Otherwise its account is kept if it is the first message, and nothing is kept if it is a later one.
+-- `message` is accepted, and nothing is written. If the order has a number, the message is explained, and its lines are
+-- kept. Otherwise the account of the message is kept if it is the first message, and no account is kept if it is a
+-- later one.
 abbrev pub TellsAcceptedBy : Option ℕ → Reporting → Position → List (List ℕ) → List ℕ → Reporting → Type 0
 TellsAcceptedBy (Some number) s at message text t =
     (lines : List ℕ) × IsAccountText s.order.form at message s.order.limits lines × (text ≡ [])
@@ -89,20 +90,21 @@ TellsAcceptedBy None s at message text t =
     (first : Option First) × IsAccepted message s.order.limits
     × IsFirst s.order.form at message s.order.limits first × (text ≡ []) × (t ≡ with_first s first)
 
--- An accepted message is served as `TellsAcceptedBy` says for the number of the order.
+-- `message` is accepted, and explained if the order of `s` has a number. See `TellsAcceptedBy`.
 abbrev pub TellsAccepted : Reporting → Position → List (List ℕ) → List ℕ → Reporting → Type 0
 TellsAccepted s at message text t = TellsAcceptedBy s.order.number s at message text t
 
--- A message before the one to explain changes nothing. Any other is refused or accepted.
+-- If the first argument is `true`, the message to explain is a later one, and `message` changes nothing. Otherwise
+-- `message` is refused or accepted.
 abbrev pub ServesBy : Bool → Reporting → Position → List (List ℕ) → List ℕ → Reporting → Type 0
 ServesBy true s at message text t = (text ≡ []) × (t ≡ s)
 ServesBy false s at message text t = TellsRefused s at message text t ⊎ TellsAccepted s at message text t
 
--- The message takes the state `s` to `t`, and nothing is written.
+-- `message` takes the state `s` to `t`, and nothing is written.
 abbrev pub serves : Reporting → Position → List ℕ → List (List ℕ) → List ℕ → Reporting → Type 0
 serves s at frame message text t = ServesBy (is_before at s.order.number) s at message text t
 
--- No message ends the loop by its refusal: a refused message is explained.
+-- No refusal of a message ends the loop, because a refused message is explained.
 abbrev pub refuses : Reporting → Position → List ℕ → List (List ℕ) → Refusal → Type 0
 refuses s at frame message r = ⊥
 
@@ -112,35 +114,36 @@ is_explained outcomes.Nothing = false
 is_explained (outcomes.Refused at stopped) = true
 is_explained outcomes.Accepted = true
 
--- No more messages are served after one has been explained.
+-- Tests whether a message has been explained, so that no further message is served.
 abbrev pub done : Reporting → Position → Bool
 done s at = is_explained s.outcome
 
--- ---- the answer of a call
+-- ---- the results of calls
 
--- Nothing is written, and `t` is the state that follows. Or memory was refused.
+-- A step that writes nothing leads to the state `t`, as `tells` allows. Or an allocation was refused.
 abbrev pub Keeps : {S : Type 0} → (List ℕ → S → Type 0) → Result (Unit {0}) ServeFault → S → Type 0
 Keeps tells (Ok u) t = tells [] t
 Keeps tells (Err fault) t = fault ≡ faults.Memory
 
--- `text` was appended to `old`. If memory was refused, nothing was.
+-- `new` is `old` with `text` appended. Or an allocation was refused, and `new` is `old`.
 abbrev pub PutsText : List ℕ → List ℕ → List ℕ → Result (Unit {0}) ServeFault → Type 0
 PutsText text old new (Ok u) = new ≡ old ++ text
 PutsText text old new (Err fault) = (fault ≡ faults.Memory) × (new ≡ old)
 
--- The lines of an accepted message were appended to `old`. If memory was refused, nothing was.
+-- `new` is `old` with the lines of `message`, which is accepted, appended. Or an allocation was refused, and `new` is
+-- `old`.
 abbrev pub PutsAccount : Explain → Position → List (List ℕ) → List ℕ → List ℕ → Result (Unit {0}) ServeFault → Type 0
 PutsAccount order at message old new (Ok u) =
     (text : List ℕ) × IsAccountText order.form at message order.limits text × (new ≡ old ++ text)
 PutsAccount order at message old new (Err fault) = (fault ≡ faults.Memory) × (new ≡ old)
 
--- A text that `tells` allows was appended to `old`, and `t` is the state that follows. If memory was refused, nothing
--- was appended.
+-- `new` is `old` with a text appended that `tells` allows, and `t` is the state that follows. Or an allocation was
+-- refused, and `new` is `old`.
 abbrev pub Puts : {S : Type 0} → (List ℕ → S → Type 0) → List ℕ → List ℕ → Result (Unit {0}) ServeFault → S → Type 0
 Puts tells old new (Ok u) t = (text : List ℕ) × tells text t × (new ≡ old ++ text)
 Puts tells old new (Err fault) t = (fault ≡ faults.Memory) × (new ≡ old)
 
--- ---- numbers
+-- Examples of message numbers.
 
 second_before_third : is_before (record { index = 1; offset = 24 }) (Some 3) ≡ true
 second_before_third = refl

@@ -49,7 +49,7 @@ impl<A: Allocator> fmt::Display for Account<A> {
     }
 }
 
-/// Returns the account of `message` at `at`, from the figures in `measured` and the `lines` about its canonical form.
+/// Returns the account of `message` at `at`, with the figures in `measured` and the `lines` about the canonical form.
 fn account_by<S: Space, A: Allocator>(
     at: Position,
     message: &S,
@@ -73,8 +73,8 @@ fn account_by<S: Space, A: Allocator>(
 
 /// Returns the account of `message`, which is accepted within `limits` with the figures in `surveyed`.
 ///
-/// `Memory` is returned only for a message of one segment that is not canonical, if a growth on `alloc` was refused. It
-/// takes the memory that [`lines_of_measured`] takes.
+/// `Memory` is returned only if an allocation on `alloc` was refused, and only for a message of one segment that is not
+/// canonical. The call takes the memory that [`lines_of_measured`] takes.
 pub(crate) fn account_of<S: Space, A: Allocator + Copy>(
     alloc: A,
     form: Form,

@@ -1,4 +1,4 @@
-//! The text that `explain` writes after the loop over the messages, and the result of its run.
+//! The text that `explain` writes after the loop over the messages, and the result of the run.
 
 ghost use Rattle.std.specs.Prelude.{◌≡◌, ◌++◌, codes, false, IfOk, IfErr, Some, string_bytes};
 ghost use Rattle.capn_words.specs.Watched.{inner_of, has_failed};
@@ -20,7 +20,7 @@ use capn_words::{Memory, Watched};
 use std::alloc::Allocator;
 use std::io::Write;
 
-/// Returns the result of a run that read all of its input and explained no message.
+/// Returns the result of a run that read all of the input and explained no message during the loop.
 pub(crate) fn rest_ending<A: Allocator>(
     number: Option<u64>,
     first: &Option<Result<Account<A>, Memory>>,
@@ -61,7 +61,7 @@ fn count_line<A: Allocator>(alloc: A, count: CountText) -> Result<String<A>, Run
     }
 }
 
-/// Returns the lines of `account`, which is that of the only message.
+/// Returns the lines of `account`, the account of the only message.
 fn only_lines<B: Allocator, A: Allocator>(
     alloc: A,
     account: &Account<B>,
@@ -75,7 +75,8 @@ fn only_lines<B: Allocator, A: Allocator>(
     }
 }
 
-/// Writes the text of a run that read `count` messages and explained none.
+/// Returns the text of a run that read `count` messages and explained no message during the loop, or `None` if the text
+/// is empty.
 pub(crate) fn rest_lines<B: Allocator, A: Allocator>(
     alloc: A,
     number: Option<u64>,
@@ -109,7 +110,7 @@ fn write_kept<W: Write>(lines: &[u8], writer: &mut Watched<W>) -> Result<(), Run
     write_all(writer, lines)
 }
 
-/// Writes the text of a run that read `count` messages and explained none.
+/// Writes the text of a run that read `count` messages and explained no message during the loop.
 fn write_rest<W: Write, B: Allocator, A: Allocator>(
     alloc: A,
     number: Option<u64>,
@@ -159,7 +160,7 @@ fn with_empty_line<A: Allocator>(mut lines: String<A>) -> Result<String<A>, RunF
 }
 
 /// Returns the lines of the `refusal` that ended the loop over the messages at the position `at`. `begun` has the part
-/// that was read of the message. An empty line follows if messages are explained `apart`.
+/// of the refused message that was read. If `apart` is true, an empty line follows.
 fn refusal_lines<B: Allocator + Copy, A: Allocator>(
     alloc: A,
     order: &Explain,
@@ -181,7 +182,8 @@ fn refusal_lines<B: Allocator + Copy, A: Allocator>(
     Ok(lines)
 }
 
-/// Writes the lines of the `refusal` that ended the loop over the messages.
+/// Writes the lines of the `refusal` that ended the loop over the messages at the position `at`. If `apart` is true, an
+/// empty line follows.
 fn write_refusal<W: Write, B: Allocator + Copy, A: Allocator + Copy>(
     alloc: A,
     order: &Explain,
@@ -199,8 +201,8 @@ fn write_refusal<W: Write, B: Allocator + Copy, A: Allocator + Copy>(
     write_all(writer, lines.as_bytes())
 }
 
-/// Writes the lines of the refusal in `fault`, which ended the loop over the messages, and an empty line if messages
-/// are explained `apart`. Nothing is written for another fault.
+/// Writes the lines of the refusal in `fault`, which ended the loop over the messages. If `apart` is true, an empty
+/// line follows. For any other fault nothing is written.
 pub(crate) fn write_fault<W: Write, B: Allocator + Copy, A: Allocator + Copy>(
     alloc: A,
     order: &Explain,

@@ -5,11 +5,11 @@ use capn_canon::{Form, Limits};
 /// The options of a run that explains one message of an input.
 #[derive(Clone, Copy, Debug, PartialEq, Eq)]
 pub struct Explain {
-    /// The form in which the input holds the messages.
+    /// The encoding of the input.
     pub form: Form,
     /// The limits of each message.
     pub limits: Limits,
-    /// The number of the message to explain, counted from 1. If it is `None`, the first refused message is explained,
-    /// or the only message if it is accepted.
+    /// The number of the message to explain, counted from 1. `None` selects the first refused message, or the only
+    /// message if it is accepted.
     pub number: Option<u64>,
 }

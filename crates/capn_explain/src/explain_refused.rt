@@ -5,7 +5,7 @@ use capn_canon::{Form, Limits};
 /// The options of a run that explains every refused message of an input.
 #[derive(Clone, Copy, Debug, PartialEq, Eq)]
 pub struct ExplainRefused {
-    /// The form in which the input holds the messages.
+    /// The encoding of the input.
     pub form: Form,
     /// The limits of each message.
     pub limits: Limits,

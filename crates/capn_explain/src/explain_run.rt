@@ -1,4 +1,4 @@
-//! `run_explain`: a whole run that explains one message of an input.
+//! The call `run_explain`, which does a whole run that explains one message of an input.
 
 ghost use Rattle.std.specs.Prelude.{◌≡◌, false, IfSome};
 ghost use Rattle.capn_words.specs.Watched.{inner_of, has_failed};
@@ -21,8 +21,8 @@ fn first_run<A: Allocator + Copy>(alloc: A, order: Explain) -> Run<Reporter<A>>
     Run::new(Reporter::new(alloc, order))
 }
 
-/// Serves the messages of the input, in the form that `order` names. If one is refused before its walk, `begun` keeps
-/// the part of it that was read.
+/// Serves the messages of the input, in the form that `order` names. If a message is refused before its walk, `begun`
+/// keeps the part of that message that was read.
 fn serve_messages<R: Read, W: Write, A: Allocator + Copy>(
     alloc: A,
     order: &Explain,
@@ -45,21 +45,23 @@ fn serve_messages<R: Read, W: Write, A: Allocator + Copy>(
     serve_form_with(alloc, order.form, most, run, begun, reader, writer)
 }
 
-/// Explains one message of the input of `reader`, by `order`: the first refused one, or the one with a given number.
-/// Writes the lines to `writer`.
+/// Explains one message of the input of `reader`, which is the first refused one, or the one with the number in
+/// `order`. Writes the lines to `writer`.
 ///
 /// Without a number, the first message is explained whose frame, packing, length or walk is refused, and nothing is
-/// read after the chunk that has it. If none is refused, the only message is explained. If there is not exactly one, a
-/// line says how many there are. With a number, the message with that number is explained, refused or accepted. The
-/// messages before it are not walked. If the input is refused before that message, that refusal is explained instead.
-/// If there are fewer messages, a line says how many there are.
+/// read after the chunk that has this message. If no message is refused, the only message is explained. If the input
+/// has no message or several, a line shows the number of messages. With a number, the message with that number is
+/// explained, refused or accepted. The messages before that one are not walked. If the input is refused before the
+/// message with that number, this refusal is explained instead. If there are fewer messages, a line shows the number of
+/// messages.
 ///
-/// Input is read as [`serve_form`] reads it. The run ends with `Ok`, or with `Refused` if the explained message is
-/// refused, whose lines have been written by then. It ends with `InputTooLong`, with `Io` if and only if the reader or
-/// the writer failed, or with `Memory` if a growth on `alloc` was refused. If memory was refused for the account of the
-/// first message, the run ends with `Memory` only if there is no second message. After such an ending no explanation
-/// has been written, unless the writer failed within it, because the lines are kept and written at the end. A run holds
-/// what its loop holds, the canonical bytes of the explained message, the paths of its account, and the lines.
+/// Input is read as [`serve_form`] reads it. The run ends with `Refused` if the explained message is refused, after its
+/// lines have been written, and with `Ok` otherwise. The run ends with `InputTooLong`, with `Io` if and only if the
+/// reader or the writer failed, or with `Memory` if an allocation on `alloc` was refused. If an allocation was refused
+/// for the account of the first message, the run ends with `Memory` only if there is no second message. After
+/// `InputTooLong` or `Memory` no explanation has been written, and after `Io` at most a part of it, because the lines
+/// are kept and written at the end. A run holds in memory what the loop over the messages holds, the canonical bytes of
+/// the explained message, the paths of its account, and the lines.
 pub fn run_explain<R: Read, W: Write, A: Allocator + Copy>(
     alloc: A,
     order: Explain,

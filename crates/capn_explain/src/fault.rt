@@ -12,13 +12,13 @@ use std::io::Write;
 /// The reason why a run that explains every refused message does not end with `Ok`.
 #[derive(Clone, Copy, Debug, PartialEq, Eq)]
 pub enum ReportFault {
-    /// The loop over the messages ended with this fault. It is a refusal only if no message was refused by its walk
-    /// before.
+    /// The loop over the messages ended with this fault. The fault is a refusal only if no message was refused by its
+    /// walk before.
     Ended(RunFault),
-    /// All of the input was served. Some messages were refused by their walk and explained, as the count says.
+    /// All of the input was served. The count says how many messages were refused by their walk and explained.
     Skipped(Skipped),
-    /// The frame or the packed bytes at this position are refused. Messages before it were refused by their walk and
-    /// explained, as the first field counts.
+    /// The frame or the packed bytes at this position are refused. The first field counts the messages before that were
+    /// refused by their walk and explained.
     RefusedAfterSkipped(Skipped, Position, Refusal),
 }
 

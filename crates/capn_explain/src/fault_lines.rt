@@ -13,9 +13,9 @@ use capn_walk::Limits;
 use capn_words::{BareFault, MOST_SEGMENTS};
 use std::alloc::Allocator;
 
-/// Returns the figures for a refused frame, of which `rest` was read. If a count in its table is too great, they are
-/// that count and the limit. If the frame is cut, they are the number of bytes read and the least number that it can
-/// have.
+/// Returns the figures for a refused frame, of which `rest` was read. If the number of segments or words in the table
+/// is too great, the figures are that number and the limit. If the frame is cut, the figures are the number of bytes
+/// read and the least number of bytes that the whole frame can have.
 fn frame_key(fault: FrameFault, most_words: u32, rest: &[u8]) -> FrameKey
     ensures { result ≡ spec.frame_key fault most_words rest.now }
 {
@@ -29,7 +29,7 @@ fn frame_key(fault: FrameFault, most_words: u32, rest: &[u8]) -> FrameKey
     }
 }
 
-/// Returns the figures for a cut group, from `came`, the part of it that was read. There are none for another fault.
+/// Returns the figures for a cut group, of which `came` was read. For any other fault there are no figures.
 fn packed_key(fault: UnpackFault, came: &[u8]) -> FrameKey
     ensures { result ≡ spec.packed_key fault came.now }
 {
@@ -64,7 +64,8 @@ fn key_of(refusal: &Refusal, most_words: u32, rest: &[u8], came: &[u8]) -> Frame
     }
 }
 
-/// Returns the segments of a message whose frame is refused, if `rest` has all their sizes and they are not too many.
+/// Returns the segments of a message whose frame is refused, if `rest` has the sizes of all segments and there are not
+/// too many segments.
 fn frame_segments(fault: FrameFault, rest: &[u8]) -> Option<SegmentsText>
     ensures { result ≡ spec.frame_segments fault rest.now }
 {
@@ -74,7 +75,8 @@ fn frame_segments(fault: FrameFault, rest: &[u8]) -> Option<SegmentsText>
     }
 }
 
-/// Returns the segments of a message in a frame, if `rest` has all their sizes and they are not too many.
+/// Returns the segments of a message that `refusal` refuses for its frame or its packing, if `rest` has the sizes of
+/// all segments and there are not too many segments.
 fn segments_at(refusal: &Refusal, rest: &[u8]) -> Option<SegmentsText>
     ensures { result ≡ spec.segments_at refusal.now rest.now }
 {

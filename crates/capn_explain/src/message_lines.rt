@@ -44,7 +44,7 @@ pub(crate) fn told_of<S: Space, A: Allocator + Copy>(
     }
 }
 
-/// Appends `bytes` to `text`, or nothing if memory is refused.
+/// Appends `bytes` to `text`, or nothing if an allocation is refused.
 pub(crate) fn put_bytes<A: Allocator>(text: &mut Vec<u8, A>, bytes: &[u8]) -> Result<(), ServeFault>
     ensures { PutsText bytes.now text.old.items text.new.items result }
 {
@@ -67,7 +67,7 @@ fn lines_of<B: Allocator, A: Allocator>(
     }
 }
 
-/// Appends the lines of `account` to `text`, or nothing if memory is refused.
+/// Appends the lines of `account` to `text`, or nothing if an allocation is refused.
 fn put_account<B: Allocator, A: Allocator + Copy>(
     alloc: A,
     account: &Account<B>,
@@ -79,8 +79,8 @@ fn put_account<B: Allocator, A: Allocator + Copy>(
     put_bytes(text, lines.as_bytes())
 }
 
-/// Appends the lines that explain `message` to `text`, or nothing if memory is refused. The message is accepted with
-/// the figures in `surveyed`.
+/// Appends the lines that explain `message` to `text`, or nothing if an allocation is refused. The message is accepted,
+/// and `surveyed` has its figures.
 pub(crate) fn put_accepted<S: Space, A: Allocator + Copy>(
     alloc: A,
     order: &Explain,

@@ -1,4 +1,4 @@
-//! The outcome of a run so far.
+//! The type `Outcome`, which says what message a run has explained so far.
 
 use capn_serve::Position;
 use capn_walk::Stopped;
@@ -8,7 +8,8 @@ use capn_walk::Stopped;
 pub enum Outcome {
     /// No message has been explained.
     Nothing,
-    /// The message at this position is refused, and its walk stopped at this place for this reason.
+    /// The message at this position is refused, and has been explained. The second field has the reason and the place
+    /// at which its walk stopped.
     Refused(Position, Stopped),
     /// An accepted message has been explained.
     Accepted,

@@ -1,4 +1,4 @@
-//! The text that `explain` of every refused message writes after the loop over the messages, and the result of its run.
+//! The text that `explain --keep-going` writes after the loop over the messages, and the result of the run.
 
 ghost use Rattle.std.specs.Prelude.{◌≡◌, false};
 ghost use Rattle.capn_words.specs.Watched.{inner_of, has_failed};
@@ -24,7 +24,7 @@ pub(crate) fn ending_of<A: Allocator>(run: &Run<RefusedReporter<A>>) -> Result<(
     }
 }
 
-/// Returns the text that follows the last message, or `None` if there is none.
+/// Returns the text that follows the last message, or `None` if no text follows.
 fn closing_lines<B: Allocator, A: Allocator>(
     alloc: A,
     run: &Run<RefusedReporter<B>>,
@@ -54,8 +54,8 @@ pub(crate) fn write_closing<W: Write, B: Allocator, A: Allocator + Copy>(
     }
 }
 
-/// Returns the fault of a run whose loop ended with `fault` after `messages` messages. `skipped` counts those that were
-/// refused by their walk.
+/// Returns the fault of a run whose loop ended with `fault` after `messages` messages. `skipped` counts the messages
+/// that were refused by their walk.
 fn fault_after(skipped: Option<SkippedSoFar>, messages: u64, fault: RunFault) -> ReportFault
     ensures { result ≡ spec.fault_after skipped messages fault }
 {

@@ -20,9 +20,10 @@ use std::marker::Model;
 
 /// The service that explains every refused message.
 ///
-/// The service walks each message. For a refused one it writes the lines that explain it, and an empty line. A refused
-/// message does not end the run. The service keeps the number of messages that it has explained. Until the second
-/// message is served, it also keeps the account of the first, or the fact that memory was refused for that account.
+/// The service walks each message. If the walk refuses the message, the service writes the lines that explain the
+/// message, and an empty line. A refused message does not end the run. The service keeps the number of messages that it
+/// has explained. Until the second message is served, the service also keeps the account of the first message, or the
+/// fact that an allocation was refused for that account.
 #[derive(Drop)]
 pub struct RefusedReporter<A: Allocator = Global> {
     alloc: A,
@@ -40,7 +41,7 @@ impl<A: Allocator> Model for RefusedReporter<A> {
     ghost view = { λ s. record { order = s.order; skipped = s.skipped; first = lines_first s.first } };
 }
 
-/// Returns an order to explain the first refused message, with the form and the limits of `order`.
+/// Returns the options to explain the first refused message, with the form and the limits of `order`.
 pub(crate) fn each_of(order: ExplainRefused) -> Explain
     ensures { result ≡ spec.each_of order }
 {
@@ -51,8 +52,8 @@ pub(crate) fn each_of(order: ExplainRefused) -> Explain
     }
 }
 
-/// Appends the lines that explain `message`, whose walk ended with `stopped`, and an empty line to `text`. If memory is
-/// refused, nothing is appended.
+/// Appends the lines that explain `message`, whose walk ended with `stopped`, and an empty line to `text`. If an
+/// allocation is refused, nothing is appended.
 fn put_apart<S: Space, A: Allocator + Copy>(
     alloc: A,
     order: &Explain,
@@ -71,7 +72,7 @@ fn put_apart<S: Space, A: Allocator + Copy>(
 }
 
 impl<B: Allocator> RefusedReporter<B> {
-    /// Returns a reporter that has explained no message. It takes no memory.
+    /// Returns a reporter that has explained no message. The call takes no memory.
     pub(crate) fn new(alloc: B, order: ExplainRefused) -> RefusedReporter<B>
         ensures { result ≡ spec.first_state order }
     {
@@ -90,7 +91,7 @@ impl<B: Allocator> RefusedReporter<B> {
         self.skipped
     }
 
-    /// Returns the account of the only message so far, if it is accepted.
+    /// Returns the account of the first message, if that message is accepted and no other has been served.
     pub(crate) fn first(&self) -> &Option<Result<Account<B>, Memory>>
         ensures { lines_first result.now ≡ self.now.first }
     {
@@ -107,7 +108,7 @@ impl<B: Allocator + Copy> RefusedReporter<B> {
         self.first = first;
     }
 
-    /// Walks `message`. If it is refused, appends its explanation to `text` and counts it.
+    /// Walks `message`. If the walk refuses the message, appends its explanation to `text` and counts it.
     fn report<S: Space, A: Allocator + Copy>(
         &mut self,
         alloc: A,

@@ -1,4 +1,4 @@
-//! `run_explain_refused`: a whole run that explains every refused message of an input.
+//! The call `run_explain_refused`, which does a whole run that explains every refused message of an input.
 
 ghost use Rattle.std.specs.Prelude.{◌≡◌, false, IfSome};
 ghost use Rattle.capn_words.specs.Watched.{inner_of, has_failed};
@@ -23,8 +23,8 @@ fn first_run<A: Allocator>(alloc: A, order: ExplainRefused) -> Run<RefusedReport
     Run::new(RefusedReporter::new(alloc, order))
 }
 
-/// Serves the messages of the input, in the form that `order` names. If one is refused before its walk, `begun` keeps
-/// the part of it that was read.
+/// Serves the messages of the input, in the form that `order` names. If a message is refused before its walk, `begun`
+/// keeps the part of that message that was read.
 fn serve_messages<R: Read, W: Write, A: Allocator + Copy>(
     alloc: A,
     order: &ExplainRefused,
@@ -47,21 +47,22 @@ fn serve_messages<R: Read, W: Write, A: Allocator + Copy>(
     serve_form_with(alloc, order.form, most, run, begun, reader, writer)
 }
 
-/// Explains every refused message of the input of `reader`, by `order`. Writes the lines to `writer`, with an empty
-/// line after those of each message.
+/// Explains every refused message of the input of `reader`, within the limits of `order`. Writes the lines to `writer`,
+/// with an empty line after the lines of each message.
 ///
-/// A message that its walk refuses is explained as [`run_explain`](crate::run_explain) explains the first one. Its
-/// lines are written before more is read, and then the next message is served. A message whose frame, packing or length
-/// is refused ends the run, and is explained last. If no message is refused, the text is that of `run_explain`: the
-/// lines of the only message, or the line that says how many there are, and no empty line.
+/// A message that its walk refuses is explained with the lines that [`run_explain`](crate::run_explain) writes for the
+/// first refused message. The lines are written before more input is read, and then the next message is served. A
+/// message whose frame, packing or length is refused ends the run, and is explained last. If no message is refused, the
+/// text is that of `run_explain`: the lines of the only message, or a line that shows the number of messages, and no
+/// empty line.
 ///
-/// Input is read as [`serve_form_with`] reads it. The run ends with `Ok`, with `Skipped` after all of its input if
-/// messages were refused by their walk, or with the first fault. A refused frame, group or bare input ends it with
-/// `Ended`, which has the position, or with `RefusedAfterSkipped` if messages were refused by their walk before. The
-/// other faults are `InputTooLong`, `Io` if and only if the reader or the writer failed, and `Memory` if a growth on
-/// `alloc` was refused. If memory was refused for the account of the first message, the run ends with `Memory` only if
-/// there is no second message. A run holds what its loop holds, the canonical bytes of the first message, the paths of
-/// one account, and its lines.
+/// Input is read as [`serve_form_with`] reads it. The run ends with `Ok`, with `Skipped` if all of the input was read
+/// and messages were refused by their walk, or with the first fault. For a refused frame, group or bare input, the
+/// fault is `Ended` with the refusal and its position, or `RefusedAfterSkipped` if messages were refused by their walk
+/// before. The other faults are `InputTooLong`, `Io` if and only if the reader or the writer failed, and `Memory` if an
+/// allocation on `alloc` was refused. If an allocation was refused for the account of the first message, the run ends
+/// with `Memory` only if there is no second message. A run holds in memory what the loop over the messages holds, the
+/// canonical bytes of the first message, the paths of one account, and the lines of that account.
 pub fn run_explain_refused<R: Read, W: Write, A: Allocator + Copy>(
     alloc: A,
     order: ExplainRefused,

@@ -1,4 +1,4 @@
-//! `Reporter`: finds the message to explain, and keeps the lines that explain it.
+//! The service `Reporter`, which finds the message to explain, and keeps the lines that explain it.
 
 ghost use Rattle.std.specs.Prelude.{◌≡◌, [], false};
 ghost use Rattle.capn_explain.specs.Reports as spec;
@@ -18,11 +18,12 @@ use std::marker::Model;
 
 /// The service that finds the message to explain.
 ///
-/// Without a number the service walks each message. The first refused one is explained, and then the service is done.
-/// With a number the service skips the messages before that one, which are not walked. The message with that number is
-/// explained, refused or accepted, and then the service is done. A refused message does not end the run with a fault.
-/// Nothing is written during the loop: the lines are kept, and written at the end. Until the second message is served,
-/// the service also keeps the account of the first, or the fact that memory was refused for that account.
+/// Without a number the service walks each message. The first refused message is explained, and then the service is
+/// done. With a number the service skips the messages before the one with that number, which are not walked. The
+/// message with that number is explained, refused or accepted, and then the service is done. A refused message does not
+/// end the loop with a fault. During the loop nothing is written, because the lines are kept and written at the end.
+/// Until the second message is served, the service also keeps the account of the first message, or the fact that an
+/// allocation was refused for that account.
 #[derive(Drop)]
 pub struct Reporter<A: Allocator = Global> {
     alloc: A,
@@ -55,7 +56,7 @@ fn is_before(at: Position, number: Option<u64>) -> bool
     }
 }
 
-/// Returns the account of an accepted `message`, if it is the first of the input.
+/// Returns the account of an accepted `message`, if the message is the first of the input.
 pub(crate) fn first_of<S: Space, A: Allocator + Copy>(
     alloc: A,
     order: &Explain,
@@ -73,7 +74,7 @@ pub(crate) fn first_of<S: Space, A: Allocator + Copy>(
 }
 
 impl<B: Allocator + Copy> Reporter<B> {
-    /// Returns a reporter that has explained no message. It takes no memory.
+    /// Returns a reporter that has explained no message. The call takes no memory.
     pub(crate) fn new(alloc: B, order: Explain) -> Reporter<B>
         ensures { result ≡ spec.first_reporting order }
     {
@@ -106,7 +107,8 @@ impl<B: Allocator + Copy> Reporter<B> {
         &self.lines
     }
 
-    /// Returns the account of the only message so far, if it is accepted and the order has no number.
+    /// Returns the account of the first message, if that message is accepted, no other has been served, and the order
+    /// has no number.
     pub(crate) fn first(&self) -> &Option<Result<Account<B>, Memory>>
         ensures { spec.lines_first result.now ≡ self.now.first }
     {
@@ -130,8 +132,8 @@ impl<B: Allocator + Copy> Reporter<B> {
         self.first = first;
     }
 
-    /// Serves an accepted `message`: explains it if the order has a number, or else keeps its account if it is the
-    /// first.
+    /// Serves an accepted `message`. If the order has a number, explains the message. Otherwise, keeps the account of
+    /// the message if it is the first of the input, and keeps no account if it is a later one.
     fn report_accepted<S: Space>(
         &mut self,
         at: Position,
@@ -156,8 +158,8 @@ impl<B: Allocator + Copy> Reporter<B> {
         }
     }
 
-    /// Walks `message`, which is not before the one to explain. Explains it if it is refused or has the number of the
-    /// order.
+    /// Walks `message`, which is not before the message to explain. Explains `message` if its walk refuses it, or if
+    /// the order has a number.
     fn report_known<S: Space, A: Allocator + Copy>(
         &mut self,
         alloc: A,
@@ -177,7 +179,7 @@ impl<B: Allocator + Copy> Reporter<B> {
         }
     }
 
-    /// Serves `message`: skips it if it is before the one to explain, and walks it otherwise.
+    /// Skips `message` if the message to explain is a later one, and walks it otherwise.
     fn report<S: Space, A: Allocator + Copy>(
         &mut self,
         alloc: A,

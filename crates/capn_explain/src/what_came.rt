@@ -1,4 +1,4 @@
-//! The figures of a message whose frame or packing is refused, from the bytes of it that were read.
+//! The figures of a message whose frame or packing is refused, from the bytes that were read of the message.
 
 ghost use Rattle.std.specs.Prelude.{◌≡◌, ◌*◌, ◌^◌, ◌≤◌, drop, slice_index, sum};
 ghost use Rattle.capn_pack.specs.UnpackRefusal.{len_at};
@@ -9,7 +9,7 @@ ghost use Rattle.capn_explain.specs.WhatCame.{IsLeastOfFrame, IsLeastOfGroup};
 use capn_diagnostics::{FrameKey, SegmentsText};
 use capn_words::MOST_SEGMENTS;
 
-/// Returns the byte at `place`, or zero if `bytes` ends before it.
+/// Returns the byte at `place`, or zero if `bytes` ends before `place`.
 fn byte_at(bytes: &[u8], place: usize) -> u8
     ensures { result ≡ slice_index bytes.now place }
 {
@@ -19,7 +19,7 @@ fn byte_at(bytes: &[u8], place: usize) -> u8
     }
 }
 
-/// Returns the little-endian number of 4 bytes at byte `4 * index`. Missing bytes count as zeros.
+/// Returns the little-endian number in the 4 bytes from byte `4 * index` of `bytes`. Missing bytes count as zeros.
 fn entry_at(bytes: &[u8], index: usize) -> u32
     requires { index ≤ 2 ^ 32 }
     ensures { result ≡ entry_number (drop (4 * index) bytes.now) }
@@ -80,7 +80,8 @@ fn least_of(rest: &[u8]) -> u64
     words_of(rest).saturating_mul(8).saturating_add(table)
 }
 
-/// Returns the number of bytes read of a frame, and the least number that it can have.
+/// Returns the figures of a cut frame, of which `rest` was read: the number of bytes read, and the least number of
+/// bytes that the frame can have.
 pub(crate) fn there(rest: &[u8]) -> FrameKey
     ensures { result ≡ spec.there rest.now }
 {
@@ -103,7 +104,8 @@ fn first_of(sizes: &[u8]) -> [u32; 8]
     ]
 }
 
-/// Returns the segments that the table in `rest` announces, if all sizes were read and they are not too many.
+/// Returns the segments that the table in `rest` announces, if `rest` has the sizes of all segments and there are not
+/// too many segments.
 pub(crate) fn segments(rest: &[u8]) -> Option<SegmentsText>
     ensures { result ≡ spec.segments rest.now }
 {
@@ -121,7 +123,8 @@ pub(crate) fn segments(rest: &[u8]) -> Option<SegmentsText>
     })
 }
 
-/// Returns the number of bytes of a group by its tag and its count byte. Missing bytes count as zeros.
+/// Returns the number of bytes of the group that begins with `came`, from its tag and its count byte. Missing bytes
+/// count as zeros.
 fn len_of(came: &[u8]) -> u64
     ensures { result ≡ len_at came.now }
 {
@@ -141,8 +144,8 @@ fn needs_of(came: &[u8]) -> u64
     len_of(came)
 }
 
-/// Returns the figures of the group at byte `at` of the packed input, whose bytes in `came` were read. The figures are
-/// its tag, the least number of bytes that it can have, and the number of bytes read.
+/// Returns the figures of a cut group at byte `at` of the packed input, of which `came` was read: `at`, the tag of the
+/// group, the least number of bytes that the group can have, and the number of bytes read.
 pub(crate) fn group(at: u64, came: &[u8]) -> FrameKey
     ensures { result ≡ spec.group at came.now }
 {
