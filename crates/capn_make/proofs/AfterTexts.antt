@@ -1,4 +1,4 @@
--- Lemmas for the law `following`: no fault after texts that are made is at a line before their end.
+-- Lemmas for the law `following`: no fault after texts that are made is at a line before the end of those texts.
 use Rattle.std.proofs.Common.{◌≡◌, inl, inr, ℕ, ◌+◌, ◌≤◌, List, [], ◌∷◌, ◌++◌, length, Err}
 use Rattle.std.proofs.Common.{refl, sym, ap, subst, ◌∙◌, append_assoc, arith}
 use Rattle.capn_value.specs.Tree.{Tree}
@@ -74,7 +74,7 @@ module _ (apart : TextsAreApart) (shows : FittingIsShowable) where
   pub unended_is_last : UnendedIsLast
   unended_is_last vs ws input rest left h k none = later vs ws input rest left h k (unended_stuck shows left none)
 
-  -- The case of one text at most, and another text.
+  -- The case of form `Bare`: at most one text is made, and another follows.
   of_one : (vs : List Tree) (v : Tree) (input rest left : List ℕ) → length vs ≤ 1 → AreFirst vs input rest
       → AreFirst (v ∷ []) input left → line_after vs ≤ line_after (v ∷ [])
   of_one [] v input rest left few h k = lines_of_more [] (v ∷ [])

@@ -36,7 +36,7 @@ so_ends forms.Packed input made r h = (h.0, h.1, h.2, h.4)
 so_ends forms.Bare input made (Ok u) h = (h.0, h.1)
 so_ends forms.Bare input made (Err fault) h = h
 
--- Unless memory was refused, the bytes that were made are those of the input.
+-- Unless an allocation was refused, the bytes that were made are the bytes that `input` makes.
 pub so_made : (form : Form) (input made : List ℕ) (place : Place) (fault : MakeFault) → (fault ≡ faults.Memory → ⊥)
     → GoesOn form input place made (Err fault) → IsMadeSo form input made (Err fault)
 so_made form input made place fault other (inl memory) = absurd (other memory)
@@ -302,7 +302,7 @@ module _ (one : OneEnding) (form : Form) where
     unfinished_by (faults.Another n) cut m tells final half ends = absurd (half tt)
     unfinished_by faults.NoText cut m tells final half ends = λ n far good. nothing_read form input ends n far
 
-    -- If a wrong line is cut, no text with its end is there.
+    -- If a wrong line is cut, no text with its end is at `place`.
     unended_by : (fault : MakeFault) (cut : Bool) → HasMade form input place made → TellsCut form place cut fault
         → is_lost fault cut ≡ false → (IsWholeFrom place.line place.rest fault → ⊥) → Ends form input (Err fault)
         → IsUnended place.rest
@@ -340,7 +340,7 @@ module _ (one : OneEnding) (form : Form) where
         | inr (inr m, so) ↦ found_by fault cut m tells final
       ]
 
-      -- An input is not refused for good otherwise.
+      -- In all other cases, an input is not refused for good.
       pub unfinished : (IsWholeFrom place.line place.rest fault → ⊥) → is_lost fault cut ≡ false
           → TellsRefusal form input place made None
       unfinished half final = elim h [

@@ -23,7 +23,7 @@ use Rattle.capn_make.proofs.TestedInput.{all_tested, some_left}
 use Rattle.capn_make.proofs.WhateverFollows.{first_on}
 use Rattle.capn_make.proofs.UnderWay.{all_begun}
 
--- If the number of a line passes 64 bits, the input has as many bytes.
+-- If `line` and the length of `rest` together reach 2^64, the input has at least as many bytes.
 many_bytes : (form : Form) (input made rest : List ℕ) (line : ℕ)
     → HasMade form input (record { rest = rest; line = line }) made → 2 ^ 64 ≤ line + length rest
     → length rest < 2 ^ 63 → 2 ^ 64 ≤ length input

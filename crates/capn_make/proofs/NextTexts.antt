@@ -161,7 +161,7 @@ refused_text line rest (texts.Cut n) some none first mis =
     inr (record { some = some; none = none n (inr refl); first = first n (inr refl) })
 refused_text line rest (texts.Misfit m) some none first mis = inr (refl, mis m refl)
 
--- The line that a fault of reading names.
+-- The kind of the fault from reading, if the fault of the run is a wrong line `n`.
 pub named_line : (line : ℕ) (e : TextFault) (n : ℕ) → unread line e ≡ faults.NotText n
     → (is_cut e ≡ true → e ≡ texts.Cut n) × (is_cut e ≡ false → e ≡ texts.Line n)
 named_line line texts.Memory n is = absurd cc
@@ -182,7 +182,7 @@ kept_for A form old new fault n (inl memory) is = let same = sym memory ∙ is i
 kept_for A form old new fault n (inr (inl c, refused)) is = let same = sym c.2 ∙ is in absurd cc
 kept_for A form old new fault n (inr (inr same, refused)) is = same
 
--- The finding on what follows the only text, as one on its place.
+-- A finding on the bytes after the only text is a finding on their place.
 pub end_tells : (place : Place) (cut : Bool) (r : Result (Unit {0}) MakeFault) → (place.line ≡ 1 → ⊥)
     → IfErr r (λ e. TellsEnd place cut e) → IfErr r (λ e. TellsCut forms.Bare place cut e)
 end_tells place cut (Ok u) later h = tt

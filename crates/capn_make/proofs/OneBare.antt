@@ -10,7 +10,7 @@ use Rattle.capn_make.specs.declared.fault.MakeFault.TheVariants as faults
 use Rattle.capn_make.proofs.OneReading.{nothing_stuck, next_same, shown, next_of, refused_stuck}
 use Rattle.capn_make.proofs.OneRefusal.{nothing_refused, nothing_follows, one_fault}
 
--- The only text is followed by one thing.
+-- The bytes after the only text are refused for one reason.
 one_follows : (line : ℕ) (rest : List ℕ) (f g : MakeFault) → Follows line rest f → Follows line rest g → f ≡ g
 one_follows line rest faults.Memory g h k = absurd h
 one_follows line rest faults.Io g h k = absurd h

@@ -79,7 +79,7 @@ module _ (apart : TextsAreApart) (shows : FittingIsShowable) where
       → stream_text (v ∷ vs) ++ rest ≡ show_text v ++ (end_line ++ (stream_text vs ++ rest))
   next_of v vs rest = append_assoc (show_text v) (end_line ++ stream_text vs) rest
 
-  -- The texts at the front are those of one list of values.
+  -- The texts at the front of an input are the texts of one list of values.
   pub same_firsts : (vs ws : List Tree) (x y : List ℕ) → AllByRecursion IsMakeable vs
       → AllByRecursion IsMakeable ws → IsStuck x → IsStuck y → stream_text vs ++ x ≡ stream_text ws ++ y
       → (vs ≡ ws) × (x ≡ y)

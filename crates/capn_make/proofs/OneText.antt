@@ -34,7 +34,7 @@ one_at [] line is later few = absurd (later is)
 one_at (v ∷ []) line is later few = (v, refl)
 one_at (v ∷ w ∷ vs) line is later few = absurd (omega arith)
 
--- The bytes after the only text are never refused because memory was.
+-- The bytes after the only text are never refused with `Memory`.
 pub ends_for_a_reason : (place : Place) (r : Result (Unit {0}) MakeFault) → EndsOne place r → r ≡ Err faults.Memory → ⊥
 ends_for_a_reason place (Ok u) h e = absurd cc
 ends_for_a_reason place (Err faults.Memory) h e = h

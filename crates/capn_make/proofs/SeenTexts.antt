@@ -60,7 +60,7 @@ no_digits : (b : Bool) (x : List ℕ) → x ≡ [] → cond b x x ≡ []
 no_digits true x e = e
 no_digits false x e = e
 
--- The lines of digits before a later line are forgotten.
+-- If lines of digits before a later line are forgotten, `HasSeen` holds for that line.
 pub forgotten_on : (q r : Unquoting) (line at : ℕ) (bytes input : List ℕ) → line ≤ at → HasSeen q line bytes input
     → Forgets at q r → HasSeen r at bytes input
 forgotten_on q r line at bytes input further h f =

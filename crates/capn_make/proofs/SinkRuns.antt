@@ -19,7 +19,7 @@ none_of : (xs : List ℕ) → length xs ≡ 0 → xs ≡ []
 none_of [] e = refl
 none_of (x ∷ xs) e = absurd (omega arith)
 
--- Neither the reader nor the writer has failed.
+-- Neither the reader nor the writer has failed, so it is false that one of them has.
 nobody : (read wrote : Bool) → read ≡ false → wrote ≡ false → (read ≡ true) ⊎ (wrote ≡ true) → ⊥
 nobody read wrote fine kept (inl r) = absurd cc
 nobody read wrote fine kept (inr w) = absurd cc

@@ -95,8 +95,8 @@ some_after xs ys some none =
 module _ (stays : RefusalStays) (form : Form) (tested : ℕ) (input made rest : List ℕ) (line : ℕ)
     (m : HasMade form input (record { rest = rest; line = line }) made) (h : HasTested form tested input rest)
     (short : length rest ≤ 4 * tested) where
-  -- The bytes that are left are at most four times those that were tested. So the bytes that were read, with those of
-  -- one more call, are in time.
+  -- If the bytes that are left are at most four times as many as those that were tested, the bytes that were read, with
+  -- those of one more call, are in time.
   pub in_time : (more : List ℕ) → length more ≤ 65536 → AreInTime form (input ++ more)
   in_time more small n =
       let cut = ap (λ t. t ++ more) h.are ∙ append_assoc h.front h.more more in

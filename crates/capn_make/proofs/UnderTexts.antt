@@ -54,7 +54,7 @@ unended_before rest front quiet none v after shows low e =
 
 -- ---- a fault at another line
 
--- A fault without a line stays the same.
+-- If a fault with its line replaced is `Io`, the fault is `Io`.
 io_back : (own : ℕ → ℕ) (f : MakeFault) → at_own own f ≡ faults.Io → f ≡ faults.Io
 io_back own faults.Memory e = absurd cc
 io_back own faults.Io e = refl
@@ -180,7 +180,7 @@ module _ (form : Form) (bytes : List ℕ) (c d : Option (List ℕ)) (made rest :
       → GivesTexts form (bytes ++ piece) more c d (Err faults.Memory)
   unheld piece some more = (inl refl, begun_past piece more, λ e. some_after bytes piece some)
 
-  -- Memory was refused for the unfinished line at the end.
+  -- An allocation was refused for the unfinished line at the end.
   pub unheld_last : q.front ≢ [] → GivesTexts form bytes [] c d (Err faults.Memory)
   unheld_last some = (inl refl, begun_at [], λ e. some_seen q line bytes u.input u.seen some)
 

@@ -1,4 +1,5 @@
--- The result of a run on an input of texts, and the cases in which the input is refused whatever bytes follow. (Own.)
+-- The result of a run on an input of texts, and the cases in which the input is refused whatever bytes follow. (Our
+-- own.)
 use Rattle.std.specs.Prelude.{◌≤◌, ℕ, ⊤, List, [], ◌∷◌, ◌++◌, Result, Ok, Err}
 use Rattle.capn_value.specs.Tree.{Tree}
 use Rattle.capn_text.specs.Streams.{ended_lines}
@@ -8,11 +9,13 @@ use Rattle.capn_make.specs.MadeInput.{AreFirst, EndsAfter, IsNotOne}
 use Rattle.capn_make.specs.declared.fault.MakeFault.{MakeFault}
 use Rattle.capn_make.specs.declared.fault.MakeFault.TheVariants as faults
 
--- A run that makes each text of `input` has the result `ending`: it ends well, or at the first text that is refused.
+-- A run that makes messages of each text of `input` has the result `ending`. The run ends well, or at the first text
+-- that is refused.
 abbrev pub EndsEach : List ℕ → Result (Unit {0}) MakeFault → Type 0
 EndsEach input ending = (vs : List Tree) × (rest : List ℕ) × AreFirst vs input rest × EndsAfter vs rest ending
 
--- A run that takes one text has this result: `input` is one text that can be made, or it is refused.
+-- A run that takes only one text has the given result. Either `input` is one text that can be made, or `input` is
+-- refused.
 abbrev pub EndsOnly : List ℕ → Result (Unit {0}) MakeFault → Type 0
 EndsOnly input (Ok u) = (v : Tree) × AreFirst (v ∷ []) input []
 EndsOnly input (Err fault) = IsNotOne input fault
@@ -34,11 +37,11 @@ IsWhole input (faults.Capability n index) = ⊤
 IsWhole input (faults.Another n) = ⊤
 IsWhole input faults.NoText = ⊥
 
--- `input` is refused by a part that is complete, and so whatever bytes follow.
+-- `input` is refused because of a part that is complete, and therefore whatever bytes follow.
 abbrev pub IsRefusedForGood : Form → List ℕ → Type 0
 IsRefusedForGood form input = (fault : MakeFault) × Ends form input (Err fault) × IsWhole input fault
 
--- `input` has one fault whatever bytes follow.
+-- `input` has the same fault whatever bytes follow.
 abbrev pub IsLostForGood : Form → List ℕ → Type 0
 IsLostForGood form input = (fault : MakeFault) × ((more : List ℕ) → Ends form (input ++ more) (Err fault))
 

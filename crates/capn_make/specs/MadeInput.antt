@@ -1,4 +1,4 @@
--- The messages that are made of an input of texts, each with its line `end`, and the result of the run. (Own.)
+-- The messages that are made of an input of texts, each with its line `end`, and the result of the run. (Our own.)
 use Rattle.std.specs.Prelude.{◌≡◌, ◌≢◌, ◌⊎◌, ℕ, ◌+◌, ◌≤◌, List, [], ◌∷◌, ◌++◌, Some, Result, Ok, Err}
 use Rattle.std.specs.List.{AllByRecursion}
 use Rattle.capn_value.specs.Tree.{Tree}
@@ -30,7 +30,7 @@ line_after vs = 1 + ended_lines (stream_text vs)
 abbrev pub IsStuck : List ℕ → Type 0
 IsStuck rest = (v : Tree) (more : List ℕ) → IsMakeable v → rest ≡ show_text v ++ (end_line ++ more) → ⊥
 
--- `rest` does not begin with the text and end of any value of at most 256 levels, even of one that does not fit.
+-- `rest` does not begin with the text and end of any value of at most 256 levels, even of a value that does not fit.
 abbrev pub IsUnended : List ℕ → Type 0
 IsUnended rest = (v : Tree) (more : List ℕ) → IsShowable v → height v ≤ most_height
     → rest ≢ show_text v ++ (end_line ++ more)
@@ -43,9 +43,9 @@ pub record IsWrong (line : ℕ) (rest : List ℕ) (n : ℕ) : Type 0 where
       → rest ≢ show_text v ++ (end_line ++ more)
   pub first : (k : ℕ) × (n + 1 ≡ line + k) × IsFirstWrong ended_text k rest
 
--- The text at the front of `rest`, which begins at `line`, is refused. Either a line is wrong, or the text goes too
--- deep whatever follows, or its value is of at most 256 levels and has a misfit, or its value fits and has a
--- capability.
+-- The text at the front of `rest`, which begins at `line`, is refused with the given fault. Either a line is wrong, or
+-- the text goes too deep whatever follows, or its value is of at most 256 levels and has a misfit, or its value fits
+-- and has a capability.
 abbrev pub IsTextRefused : ℕ → List ℕ → MakeFault → Type 0
 IsTextRefused line rest faults.Memory = ⊥
 IsTextRefused line rest faults.Io = ⊥
@@ -60,7 +60,7 @@ IsTextRefused line rest (faults.Capability n index) = (n ≡ line)
 IsTextRefused line rest (faults.Another n) = ⊥
 IsTextRefused line rest faults.NoText = ⊥
 
--- After the texts of `vs` nothing is left, or the next text is refused.
+-- After the texts of `vs` nothing is left in `rest`, or the next text is refused.
 abbrev pub EndsAfter : List Tree → List ℕ → Result (Unit {0}) MakeFault → Type 0
 EndsAfter vs rest (Ok u) = rest ≡ []
 EndsAfter vs rest (Err fault) = IsTextRefused (line_after vs) rest fault
@@ -70,8 +70,8 @@ abbrev pub MakesEach : Form → List ℕ → List ℕ → Result (Unit {0}) Make
 MakesEach form input text ending = (vs : List Tree) × (rest : List ℕ) × AreFirst vs input rest × AreMade form vs text
     × EndsAfter vs rest ending
 
--- The only text that the form takes is followed by a line that begins another text, or by one that does not. `rest`,
--- which begins at `line`, follows the text.
+-- Bytes `rest`, which begin at `line`, follow the only text that the form takes, and are refused. The fault depends on
+-- whether their first line begins another text.
 abbrev pub Follows : ℕ → List ℕ → MakeFault → Type 0
 Follows line rest faults.Memory = ⊥
 Follows line rest faults.Io = ⊥
@@ -82,12 +82,12 @@ Follows line rest (faults.Capability n index) = ⊥
 Follows line rest (faults.Another n) = (n ≡ line) × (v : Tree) × BeginsAs rest v
 Follows line rest faults.NoText = ⊥
 
--- `input` is not exactly one text: it is empty, its first text is refused, or something follows that.
+-- `input` is not exactly one text. It is empty, its first text is refused, or something follows the first text.
 abbrev pub IsNotOne : List ℕ → MakeFault → Type 0
 IsNotOne input fault = ((input ≡ []) × (fault ≡ faults.NoText)) ⊎ (IsTextRefused 1 input fault
     ⊎ ((v : Tree) × (rest : List ℕ) × AreFirst (v ∷ []) input rest × Follows (line_after (v ∷ [])) rest fault))
 
--- `text` is made of an input of exactly one text, and nothing of any other.
+-- `text` is made of `input` if `input` is exactly one text. Otherwise nothing is made, and `input` is refused.
 abbrev pub MakesOne : List ℕ → List ℕ → Result (Unit {0}) MakeFault → Type 0
 MakesOne input text (Ok u) = (v : Tree) × AreFirst (v ∷ []) input [] × (text ≡ canon v)
 MakesOne input text (Err fault) = (text ≡ []) × IsNotOne input fault

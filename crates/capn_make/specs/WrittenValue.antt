@@ -20,8 +20,8 @@ pub record IsMakeable (v : Tree) : Type 0 where
 abbrev pub framed : List ℕ → List ℕ
 framed bytes = replicate 4 0 ++ (to_le_bytes w32 (length bytes / 8) ++ bytes)
 
--- `piece` is what a form writes for the canonical `bytes`: their frame, the packer's text of that frame, or the bytes
--- alone.
+-- `piece` is what a form writes for the canonical `bytes`: their frame, the packer's text of that frame, or only the
+-- bytes.
 abbrev pub IsInForm : Form → List ℕ → List ℕ → Type 0
 IsInForm forms.Stream bytes piece = piece ≡ framed bytes
 IsInForm forms.Packed bytes piece = Chosen piece (framed bytes)

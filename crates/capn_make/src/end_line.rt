@@ -1,4 +1,4 @@
-//! The test whether an unfinished text is to be read again, by the lines `end` in it.
+//! The test whether an unfinished text has to be read again, by the lines `end` in the bytes that were added.
 
 ghost use Rattle.std.specs.Prelude.{◌≡◌, ◌≤◌, ◌*◌, ◌-◌, ◌⊎◌, length, drop, true, false};
 ghost use Rattle.capn_text.specs.Streams.{end_line};
@@ -25,7 +25,7 @@ fn begins_with_end(bytes: &[u8]) -> bool
     true
 }
 
-/// Returns `true` if `bytes` have the line `end` at any place, even within a line.
+/// Returns `true` if `bytes` contain the line `end` at any place, even within a line.
 fn holds_end(bytes: &[u8]) -> bool
     ensures { result ≡ spec.holds_end bytes.now }
 {
@@ -39,8 +39,9 @@ fn holds_end(bytes: &[u8]) -> bool
     false
 }
 
-/// Returns `true` if `rest`, the unread part of an input, is to be read again. It is if a text may have ended since it
-/// had `before` bytes, or if it has at least four times as many bytes as at the last reading, when it had `tested`.
+/// Returns `true` if `rest`, the unread part of an input, has to be read again. That is so if a text may have ended in
+/// the bytes after the first `before`, or if `rest` has at least four times `tested` bytes. `tested` is the length of
+/// `rest` at the last reading.
 pub(crate) fn is_due(rest: &[u8], before: usize, tested: usize) -> bool
     requires { before ≤ length rest.now }
     ensures due { result ≡ true

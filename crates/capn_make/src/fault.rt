@@ -1,4 +1,4 @@
-//! The faults with which a run of `make` ends, their texts, and their exit status.
+//! The faults with which a run of `make` ends, the texts of the faults, and the exit status of the run.
 
 ghost use Rattle.std.specs.Prelude.{◌≡◌};
 ghost use Rattle.capn_value.specs.Display.{misfit_name};
@@ -17,29 +17,29 @@ use std::io::Write;
 /// input.
 #[derive(Clone, Copy, Debug, PartialEq, Eq)]
 pub enum MakeFault {
-    /// A growth of memory was refused.
+    /// An allocation was refused.
     Memory,
     /// The reader or the writer failed.
     Io,
     /// The input has 2^64 bytes or more.
     InputTooLong,
-    /// The first wrong line, with which no text and its end can continue. If a line is missing, it is the one after the
-    /// last.
+    /// The number of the first wrong line, with which no text and its end can continue. If a line is missing, the
+    /// number is that of the line after the last.
     NotText(u64),
     /// The value of the text that begins at this line fits into no message.
     Misfit(u64, Misfit),
-    /// The value of the text that begins at this line has a capability. The second number is the index of the first one
-    /// in preorder.
+    /// The value of the text that begins at this line has a capability. The second number is the index of the first
+    /// capability in preorder.
     Capability(u64, u32),
-    /// The form takes one text only, and a second one begins at this line.
+    /// The form takes only one text, and a second text begins at this line.
     Another(u64),
-    /// The form takes one text, and the input is empty.
+    /// The form takes exactly one text, and the input is empty.
     NoText,
 }
 
 impl MakeFault {
-    /// Returns the exit status of a run that ends with this fault. It is 1 if the input is refused, and 3 if memory,
-    /// the reader or the writer failed or the input is too long.
+    /// Returns the exit status of a run that ends with this fault. The status is 1 if the input is refused. It is 3 if
+    /// an allocation was refused, the reader or the writer failed, or the input is too long.
     pub fn status(self) -> u8
         ensures { result ≡ status_of self }
     {

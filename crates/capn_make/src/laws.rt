@@ -1,4 +1,4 @@
-//! The laws of what is made of texts, as the clauses of functions that do nothing.
+//! The laws of the messages that are made of texts, as the clauses of functions that do nothing.
 
 ghost use Rattle.capn_make.specs.Laws.{ShownAreMade, ShownAreMadeOnly, OneShownIsMade, OneShownIsMadeOnly};
 ghost use Rattle.capn_make.specs.Laws.{FramedAreFrames, OneMaking, OneBareMaking, OneTextInFrames};
@@ -21,7 +21,8 @@ pub fn showing()
     refusals();
 }
 
-/// States that an input has one result: what is made of it, and whether it ends well or with which fault.
+/// States that an input has one result: the messages that are made of the input, and the fault with which the run ends,
+/// if there is one.
 pub fn making()
     ensures one { OneMaking }
     ensures bare { OneBareMaking }
@@ -31,8 +32,8 @@ pub fn making()
     refusals();
 }
 
-/// States that an input is refused whatever bytes follow, if it is refused by a part that is complete. Such a part is a
-/// whole text, or a wrong line with its newline.
+/// States that an input is refused whatever bytes follow, if the part that causes the refusal is complete. A whole text
+/// is complete, and so is a wrong line with its newline.
 pub fn refusing()
     ensures stays { FaultStays }
     ensures goes_on { RefusalStays }
@@ -44,8 +45,8 @@ pub fn refusing()
     whole_lines();
 }
 
-/// States that the whole texts at the front of some bytes have one list of values, and that the list of more bytes
-/// begins with it.
+/// States that the whole texts at the front of some bytes have one list of values. If more bytes follow, the list of
+/// the longer bytes begins with that list.
 pub fn deciding()
     ensures one { OneDeciding }
     ensures stay { DecidedStay }
@@ -63,7 +64,7 @@ pub fn stuck()
     whole_lines();
 }
 
-/// States that a fault after texts that are made names no line before their end.
+/// States that a fault after texts that are made names no line before the end of those texts.
 pub fn following()
     ensures after { RefusedAfter }
     ensures last { UnendedIsLast }
@@ -73,7 +74,7 @@ pub fn following()
 }
 
 /// States that the bytes written for a value in [`crate::Form::Stream`] are a frame of one segment, as [`capn_canon`]
-/// reads it.
+/// reads frames.
 pub fn framing()
     ensures { FramedAreFrames }
 {

@@ -1,8 +1,8 @@
 //! Messages made from texts: the inverse of what `show` writes for a stream of messages.
 //!
-//! [`make`] reads texts of values, each followed by its line `end`, and writes the canonical bytes of each value. By
-//! the form, these are written as a frame of one segment, as the packed text of that frame, or as they are. A text that
-//! is refused ends the run with a [`MakeFault`], which names the line.
+//! [`make`] reads texts of values by `capn_text`, each followed by its line `end`, and writes the canonical bytes of
+//! each value. Depending on the form, the bytes are written as a frame of one segment, as the packed text of that
+//! frame, or as they are. A text that is refused ends the run with a [`MakeFault`], which names the line.
 #![tactic(auto)]
 
 mod end_line;

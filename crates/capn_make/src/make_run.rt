@@ -14,29 +14,30 @@ use std::alloc::Allocator;
 use std::io::{Read, Write};
 
 /// Reads texts of values from `reader` to the end of the input, each with its line `end`, and writes the canonical
-/// bytes of each value to `writer`. In [`Form::Stream`] they are written as a frame of one segment, in [`Form::Packed`]
-/// as the packed text of that frame, and in [`Form::Bare`] as they are, of exactly one text. This is the inverse of
-/// [`capn_value::show`].
+/// bytes of each value to `writer`. In [`Form::Stream`] the bytes are written as a frame of one segment, and in
+/// [`Form::Packed`] as the packed text of that frame. In [`Form::Bare`], which takes exactly one text, they are written
+/// as they are. The call is the inverse of [`capn_value::show`].
 ///
 /// A run ends well, or with the first fault. A text is refused with `NotText`, `Misfit` or `Capability`, in this order,
 /// and the messages of the texts before it have been written. In form `Bare` nothing is written after a refusal. Bytes
-/// after the first text are refused there with `Another`, or with `NotText` if their first line begins no value. An
-/// input without a text is refused there with `NoText`, and ends well in the other forms. The fault is `Io` if and only
-/// if the reader or the writer failed. It is `Memory` if a growth on `alloc` was refused, which happens only after some
-/// bytes were read. It is `InputTooLong` for an input of 2^64 bytes or more that is not refused before, which takes
-/// centuries.
+/// after the first text are then refused with `Another`, or with `NotText` if their first line begins no value. An
+/// input without a text is refused with `NoText` in form `Bare`, and ends well in the other forms. The fault is `Io` if
+/// and only if the reader or the writer failed. The fault is `Memory` if an allocation on `alloc` was refused, which
+/// happens only after some bytes were read. The fault is `InputTooLong` for an input of 2^64 bytes or more that is not
+/// refused before, which takes centuries.
 ///
 /// A call of the reader returns at most 65,536 bytes. The messages of the texts that are whole by then are written
-/// before the next call. So if the reader fails, the messages of all texts that it gave with their ends were written.
-/// Form `Bare` alone writes at the end of the input. The memory holds the unfinished text, its value and the bytes
-/// written for it once it is whole, and the messages of one chunk. What a text announces is never allocated.
+/// before the next call. So if the reader fails, the messages of all texts that it returned with their ends were
+/// written. Only form `Bare` writes at the end of the input. The memory holds the unfinished text, its value and the
+/// bytes written for that value once the text is whole, and the messages of one chunk. What a text announces is never
+/// allocated.
 ///
-/// An input that is refused whatever follows is not read to its end. A whole text that is refused, as for a misfit, is
-/// refused in the chunk that has its end. A text that goes too deep, or a wrong line with its newline, may be found
-/// later. If the first n bytes are enough to refuse the input, at most 4 n + 65,536 bytes are read. A wrong line
-/// without its newline is refused, too, once no bytes can mend it. Then at most 4 (n + 2,048) + 65,536 bytes are read,
-/// since only a line with the digits of a list has more than 2,048. To find such lines, an unfinished text is read
-/// again each time that it has grown to four times its length.
+/// An input that is refused whatever follows is not read to its end. A whole text that is refused, for example for a
+/// misfit, is refused in the chunk that has its end. A text that goes too deep, or a wrong line with its newline, may
+/// be found later. If the first n bytes are enough to refuse the input, at most 4 n + 65,536 bytes are read. A wrong
+/// line without its newline is also refused, once no bytes can mend it. Then at most 4 (n + 2,048) + 65,536 bytes are
+/// read, since only a line with the digits of a list has more than 2,048. To find such lines, an unfinished text is
+/// read again each time that it has grown to four times its length.
 pub fn make<R: Read, W: Write, A: Allocator + Copy>(
     alloc: A,
     form: Form,
@@ -48,9 +49,9 @@ pub fn make<R: Read, W: Write, A: Allocator + Copy>(
     ensures made { Made form (R.remaining (inner_of reader.old)) (R.remaining (inner_of reader.new))
         (W.contents (inner_of writer.old)) (W.contents (inner_of writer.new)) (has_failed reader.new)
         (has_failed writer.new) result }
-    // However the run ended, it read little more than was needed to know that the input is refused.
+    // However the run ended, `make` read little more than was needed to know that the input is refused.
     ensures stops { StopsInTime form (R.remaining (inner_of reader.old)) (R.remaining (inner_of reader.new)) }
-    // Memory is needed only if some bytes were read.
+    // `Memory` is returned only if some bytes were read.
     ensures memory { IsErrOf result MakeFault.Memory
         → TakesBytes (R.remaining (inner_of reader.old)) (R.remaining (inner_of reader.new)) }
 {

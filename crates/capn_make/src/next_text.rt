@@ -1,4 +1,4 @@
-//! The step of a run that makes the next text of an input.
+//! Reads the next text of an input by `capn_text`, and makes its message.
 
 ghost use Rattle.std.specs.Prelude.{◌≡◌, ◌≢◌, [], None, Some, IfErr, IsErrOf};
 ghost use Rattle.capn_make.specs.inner.RunParts as spec;
@@ -23,7 +23,7 @@ pub(crate) fn unread(line: u64, fault: TextFault) -> MakeFault
     }
 }
 
-/// Returns `true` if `fault` is that of an unfinished text, which more bytes may complete.
+/// Returns `true` if `fault` is the fault of an unfinished text, which more bytes may complete.
 fn is_cut(fault: TextFault) -> bool
     ensures { result ≡ spec.is_cut fault }
 {
@@ -49,8 +49,8 @@ fn made<A: Allocator + Copy>(
     }
 }
 
-/// Returns the bytes that are written for the value of the next text, or `None` at the end of the input. If a line is
-/// wrong, `cut` is set to whether more bytes may mend it.
+/// Reads the next text and returns the bytes of its message in this `form`, or `None` at the end of the input. If a
+/// line is wrong, sets `cut` if more bytes may mend the line, and clears `cut` otherwise.
 pub(crate) fn next_piece<A: Allocator + Copy>(
     alloc: A,
     form: Form,

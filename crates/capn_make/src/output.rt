@@ -8,7 +8,7 @@ use crate::fault::MakeFault;
 use capn_words::Watched;
 use std::io::Write;
 
-/// Writes all of `text`. If the writer fails, which is `Io`, it has taken a first part of it.
+/// Writes all of `text`. If the writer fails, the fault is `Io`, and the writer has taken a first part of `text`.
 pub(crate) fn write_all<W: Write>(writer: &mut Watched<W>, text: &[u8]) -> Result<(), MakeFault>
     requires { has_failed writer.old ≡ false }
     ensures ok { OnOk result (Appends (W.contents (inner_of writer.old)) (W.contents (inner_of writer.new)) text.now) }

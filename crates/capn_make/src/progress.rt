@@ -31,11 +31,11 @@ pub(crate) struct Progress<A: Allocator> {
     pub(crate) rest: Vec<u8, A>,
     /// The line of the input at which `rest` begins.
     pub(crate) line: u64,
-    /// The length of `rest` when its texts were last read.
+    /// The length that `rest` had when its texts were last read.
     pub(crate) tested: usize,
 }
 
-/// Removes the first `count` of `bytes`.
+/// Removes the first `count` elements of `bytes`.
 fn drop_front<A: Allocator>(bytes: &mut Vec<u8, A>, count: usize)
     requires { count ≤ length bytes.old.items }
     ensures { bytes.new.items ≡ drop count bytes.old.items }
@@ -54,7 +54,7 @@ fn has_room(line: u64, rest: &[u8]) -> bool
 }
 
 /// Returns `true` if the part of the input that causes `fault` is complete in `rest`, which begins at `line`. A wrong
-/// line is complete if its newline is there.
+/// line is complete if it has its newline.
 fn is_whole(rest: &[u8], line: u64, fault: MakeFault) -> bool
     ensures whole { result ≡ true → IsWholeFrom line rest.now fault }
     ensures cut { result ≡ false → IsWholeFrom line rest.now fault → ⊥ }
@@ -66,8 +66,8 @@ fn is_whole(rest: &[u8], line: u64, fault: MakeFault) -> bool
     }
 }
 
-/// Returns `true` if `fault` is a wrong line that no more bytes can mend, which is so if it is not `cut`. The line need
-/// not have its newline yet.
+/// Returns `true` if `fault` is a wrong line and `cut` is not set, so that no more bytes can mend the line. The line
+/// need not have its newline yet.
 fn is_lost(fault: MakeFault, cut: bool) -> bool
     ensures { result ≡ spec.is_lost fault cut }
 {
@@ -99,8 +99,9 @@ impl<A: Allocator + Copy> Progress<A> {
         }
     }
 
-    /// Makes the texts that are complete, and keeps the bytes after them. Returns the result that the run has if no
-    /// bytes follow. If a line is wrong, `cut` is set to whether more bytes may mend it.
+    /// Makes messages of the texts that are complete, and keeps the bytes after those texts. Returns the result that
+    /// the run has if no bytes follow. If a line is wrong, sets `cut` if more bytes may mend the line, and clears `cut`
+    /// otherwise.
     fn go_on(&mut self, cut: &mut bool) -> Result<(), MakeFault>
         requires { HasRoom self.old.line self.old.rest.items }
         ensures made { (input : List ℕ) (written : List ℕ)
@@ -124,8 +125,8 @@ impl<A: Allocator + Copy> Progress<A> {
         ending
     }
 
-    /// Makes the texts that are complete, and keeps the bytes after them. Returns the fault of the input if it is
-    /// refused whatever bytes follow.
+    /// Makes messages of the texts that are complete, and keeps the bytes after those texts. Returns the fault of the
+    /// input if the input is refused whatever bytes follow.
     fn find_refusal(&mut self) -> Result<Option<MakeFault>, AllocError>
         requires { HasRoom self.old.line self.old.rest.items }
         ensures found { IfOk result (λ told. (input : List ℕ) (written : List ℕ)
@@ -171,9 +172,10 @@ impl<A: Allocator + Copy> Progress<A> {
         Ok(())
     }
 
-    /// Reads `rest` again after bytes were added behind its first `before`, if a text may have ended or `rest` has four
-    /// times as many bytes as at the last time. Makes the complete texts and writes their messages, or keeps them in
-    /// form `Bare`. Returns the fault of an input that is refused whatever bytes follow.
+    /// Reads `rest` again after bytes were added behind its first `before` bytes. This is left out unless a text may
+    /// have ended or `rest` has four times as many bytes as at the last reading. Makes messages of the complete texts
+    /// and writes the messages, or keeps them in form `Bare`. Returns the fault of an input that is refused whatever
+    /// bytes follow.
     pub(crate) fn look<W: Write>(
         &mut self,
         before: usize,
@@ -205,7 +207,7 @@ impl<A: Allocator + Copy> Progress<A> {
         Ok(())
     }
 
-    /// Makes the texts of an input that has ended, and writes the messages that are not written yet.
+    /// Makes messages of the texts of an input that has ended, and writes the messages that are not written yet.
     pub(crate) fn end<W: Write>(&mut self, writer: &mut Watched<W>) -> Result<(), MakeFault>
         requires { has_failed writer.old ≡ false }
         ensures { (input : List ℕ) (c : Option (List ℕ)) (before : ℕ)

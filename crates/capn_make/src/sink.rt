@@ -1,8 +1,8 @@
 //! The trait of sinks, which take an input in chunks, and the loop of this crate that reads for them.
 //!
-//! This file names nothing else of the crate, so that it can stand below everything that reads an input. By its ghost
-//! members a sink says what is true after the bytes that it took ([`Sink::takes`]) and at the end of an input
-//! ([`Sink::gives`]). [`run`] promises for every run what follows from them.
+//! This file names nothing else of the crate, so that it can stand below everything that reads an input. Its ghost
+//! members state what is true after the bytes that a sink took ([`Sink::takes`]) and at the end of an input
+//! ([`Sink::gives`]). [`run`] promises for every run the facts that follow from them.
 
 ghost use Rattle.std.specs.Prelude.{◌≡◌, ◌≢◌, ◌≤◌, ◌<◌, ◌+◌, ◌^◌, ◌++◌, ℕ, false, List, [], length};
 ghost use Rattle.std.specs.Prelude.{Option, Result, Err, MatchOption};
@@ -12,25 +12,26 @@ ghost use Rattle.capn_make.specs.inner.SinkRun.{Feeds, Holds, ReadsPiece, Runs, 
 use capn_words::Watched;
 use std::io::{Read, Write};
 
-/// The most bytes that one call of a reader may return.
+/// The greatest number of bytes that one call of a reader may return.
 const CHUNK: usize = 65_536;
 
-/// A machine that takes an input in chunks, and writes what it makes of them.
+/// A machine that takes an input in chunks, and writes its output to a writer.
 pub(crate) trait Sink {
     /// The reason why a run ends early.
     type Fault;
 
-    /// The part of a sink that does not change during a run, such as the form of the output.
+    /// The type of the part of a sink that does not change during a run, such as the form of the output.
     type Task;
 
     /// The task of the sink.
     ghost task: { Self → Self.Task };
 
-    /// The sink took these bytes, and meanwhile the writer went from the first content to the second.
+    /// The statement that the sink took the given bytes, while the content of the writer went from the first given one
+    /// to the second.
     ghost takes: { Self → List ℕ → Option (List ℕ) → Option (List ℕ) → Type 0 };
 
-    /// A run by this task read the first bytes of an input, and the second bytes were left. Meanwhile the writer went
-    /// from the first content to the second, and the run had this result.
+    /// The statement on a run with the given task: the run read the first bytes, and the second bytes were left in the
+    /// input. The content of the writer went from the first given one to the second, and the run had the given result.
     ghost gives: { Self.Task → List ℕ → List ℕ → Option (List ℕ) → Option (List ℕ) → Result (Unit {0}) Self.Fault
         → Type 0 };
 
@@ -68,8 +69,8 @@ pub(crate) trait Sink {
             result };
 }
 
-/// Reads once into `buffer`. Returns the number of bytes, which is 0 only at the end of the input, or `None` if the
-/// reader failed.
+/// Calls the reader once to read into `buffer`. Returns the number of bytes, which is 0 only at the end of the input,
+/// or `None` if the reader failed.
 fn read_piece<R: Read>(reader: &mut Watched<R>, buffer: &mut [u8]) -> Option<usize>
     requires fine { has_failed reader.old ≡ false }
     requires some { 0 < length buffer.old }
@@ -83,16 +84,16 @@ fn read_piece<R: Read>(reader: &mut Watched<R>, buffer: &mut [u8]) -> Option<usi
     }
 }
 
-/// Returns the sum of `taken` and `count`, the number of bytes that were read. Returns `None` if it is 2^64 or more,
-/// which takes centuries.
+/// Returns the sum of `taken` and `count`, the number of bytes that were read. Returns `None` if the sum is 2^64 or
+/// more, which takes centuries.
 fn counted(taken: u64, count: usize) -> Option<u64>
     ensures { MatchOption result (2 ^ 64 ≤ taken + count) (λ sum. (sum ≡ taken + count) × (sum < 2 ^ 64)) }
 {
     taken.checked_add(count as u64)
 }
 
-/// Reads an input in chunks of at most 65,536 bytes, and has `sink` take each before it reads again. It stops when the
-/// sink refuses the input, or when the input ends. Takes no memory.
+/// Reads an input in chunks of at most 65,536 bytes, and has `sink` take each chunk before the next is read. Stops when
+/// `sink` refuses the input, or when the input ends. Takes no memory.
 pub(crate) fn run<S: Sink, R: Read, W: Write>(
     sink: &mut S,
     reader: &mut Watched<R>,

@@ -15,15 +15,15 @@ use capn_words::Watched;
 use std::alloc::Allocator;
 use std::io::Write;
 
-/// A sink for texts with lists of bytes between quotes. It converts each whole line to its plain form, which the sink
-/// for texts takes.
+/// A sink for texts with lists of bytes between quotes. The sink converts each whole line to its plain form, and gives
+/// that to a sink for texts.
 #[derive(Drop)]
 pub(crate) struct QuotedTexts<A: Allocator + Copy> {
     unquoter: Unquoter<A>,
     texts: Progress<A>,
 }
 
-/// Converts the line that `fault` names, one of the plain form, to the line of the input.
+/// Returns `fault` with the line that it names, a line of the plain form, replaced by the line of the input.
 fn at_own<A: Allocator + Copy>(unquoter: &Unquoter<A>, fault: MakeFault) -> MakeFault
     ensures { result ≡ texts.at_own (own_at unquoter.now) fault }
 {

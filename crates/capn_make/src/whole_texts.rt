@@ -1,4 +1,4 @@
-//! The making of the texts that are complete in the rest of an input.
+//! Makes messages of the complete texts in the rest of an input.
 
 ghost use Rattle.std.specs.Prelude.{◌≡◌, ◌≢◌, ℕ, List, [], ◌++◌, IfErr, IsErrOf};
 ghost use Rattle.capn_canon.specs.declared.form.Form.TheVariants as forms;
@@ -10,7 +10,7 @@ use capn_canon::Form;
 use capn_text::Texts;
 use std::alloc::Allocator;
 
-/// Makes each text, up to the end of the input or to the first text that is refused.
+/// Makes the message of each text, up to the end of the input or to the first text that is refused.
 fn make_each<A: Allocator + Copy>(
     alloc: A,
     form: Form,
@@ -31,7 +31,8 @@ fn make_each<A: Allocator + Copy>(
     Ok(())
 }
 
-/// Refuses the bytes that follow the only text, if there are any, by their first line. Nothing after that line is read.
+/// Refuses the bytes that follow the only text, if there are any. The fault depends on their first line, and nothing
+/// after that line is read.
 fn end_of_one(texts: &Texts, cut: &mut bool) -> Result<(), MakeFault>
     ensures end { EndsOne texts.now result }
     ensures cut { IfErr result (λ e. TellsEnd texts.now cut.new e) }
@@ -47,7 +48,7 @@ fn end_of_one(texts: &Texts, cut: &mut bool) -> Result<(), MakeFault>
     }
 }
 
-/// Makes the first text of an input, and refuses any bytes that follow it.
+/// Makes the message of the first text of an input, and refuses any bytes that follow the text.
 fn make_first<A: Allocator + Copy>(
     alloc: A,
     texts: &mut Texts,
@@ -68,7 +69,8 @@ fn make_first<A: Allocator + Copy>(
     end_of_one(texts, cut)
 }
 
-/// Makes the only text of an input, unless it was made before, and refuses any bytes that follow it.
+/// Makes the message of the only text of an input, unless it was made before, and refuses any bytes that follow the
+/// text.
 fn make_one<A: Allocator + Copy>(
     alloc: A,
     texts: &mut Texts,
@@ -88,7 +90,8 @@ fn make_one<A: Allocator + Copy>(
     end_of_one(texts, cut)
 }
 
-/// Makes the next texts, as many as the `form` takes. Returns the result that the run has if no bytes follow.
+/// Makes the messages of the next texts, of only one in form `Bare`. Returns the result that the run has if no bytes
+/// follow.
 pub(crate) fn make_texts<A: Allocator + Copy>(
     alloc: A,
     form: Form,

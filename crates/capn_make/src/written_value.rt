@@ -14,7 +14,7 @@ use capn_pack::{PackFault, pack};
 use capn_value::Tree;
 use std::alloc::{AllocError, Allocator};
 
-/// Returns the frame of one segment with `bytes`, which are whole words.
+/// Returns the frame of one segment whose content is `bytes`, which are whole words.
 fn framed<A: Allocator>(alloc: A, bytes: &[u8]) -> Result<Vec<u8, A>, AllocError>
     requires { length bytes.now < 2 ^ 35 }
     ensures { IfOk result (λ text. text.items ≡ spec.framed bytes.now) }
@@ -27,7 +27,7 @@ fn framed<A: Allocator>(alloc: A, bytes: &[u8]) -> Result<Vec<u8, A>, AllocError
     Ok(text)
 }
 
-/// Returns the packed text of the frame of one segment with `bytes`.
+/// Returns the packed text of the frame of one segment whose content is `bytes`.
 fn packed<A: Allocator + Copy>(alloc: A, bytes: &[u8]) -> Result<Vec<u8, A>, AllocError>
     requires short { length bytes.now < 2 ^ 35 }
     requires whole { length bytes.now % 8 ≡ 0 }
@@ -41,7 +41,7 @@ fn packed<A: Allocator + Copy>(alloc: A, bytes: &[u8]) -> Result<Vec<u8, A>, All
     }
 }
 
-/// Returns the canonical bytes of `tree`, which are whole words, and no more than a message may have.
+/// Returns the canonical bytes of `tree`. They are whole words, and no more than a message may have.
 fn canonical<A: Allocator + Copy, B: Allocator>(
     alloc: A,
     tree: &Tree<B>,
@@ -52,7 +52,7 @@ fn canonical<A: Allocator + Copy, B: Allocator>(
     ensures free { OnOk result (first_cap tree.now ≡ None) }
     ensures refused { IfErr result (λ fault. IsLayoutFault tree.now fault) }
 {
-    // A tree fits and is in range, so its canonical bytes are those of a message.
+    // A tree fits and is in range, so its canonical bytes are the bytes of a message.
     canonicity();
     let _value = tree.value();
     layout(alloc, tree)

@@ -21,7 +21,7 @@ use Rattle.capn_make.specs.Endings.{IsRefusedForGood, IsLostForGood}
 use Rattle.capn_make.specs.declared.fault.MakeFault.{MakeFault}
 use Rattle.capn_make.specs.declared.fault.MakeFault.TheVariants as faults
 
--- `made` is made of the first texts of `input`, in form `Bare` of at most one, and `place` is behind them.
+-- `made` is made of the first texts of `input`, and `place` is behind those texts. In form `Bare` there is at most one.
 pub record HasMade (form : Form) (input : List ℕ) (place : Place) (made : List ℕ) : Type 0 where
   pub values : List Tree
   pub first : AreFirst values input place.rest
@@ -29,53 +29,53 @@ pub record HasMade (form : Form) (input : List ℕ) (place : Place) (made : List
   pub line : place.line ≡ line_after values
   pub few : form ≡ forms.Bare → length values ≤ 1
 
--- `made` is made of `input` with this result, if no bytes follow. In form `Bare` what was made is written only if the
--- result is good.
+-- `made` is made of `input` with the given result, if no bytes follow. In form `Bare` nothing is said of `made` after a
+-- fault.
 abbrev pub IsMadeSo : Form → List ℕ → List ℕ → Result (Unit {0}) MakeFault → Type 0
 IsMadeSo forms.Stream input made r = MakesEach forms.Stream input made r
 IsMadeSo forms.Packed input made r = MakesEach forms.Packed input made r
 IsMadeSo forms.Bare input made (Ok u) = MakesOne input made (Ok u)
 IsMadeSo forms.Bare input made (Err fault) = IsNotOne input fault
 
--- A fault is that of a text with a capability.
+-- The fault is that of a text with a capability.
 abbrev pub HasCapability : MakeFault → Type 0
 HasCapability fault = (n : ℕ) × (index : ℕ) × (fault ≡ faults.Capability n index)
 
--- A step made texts of `input` up to `place` or to the end, or memory was refused. After a capability, which is refused
--- whatever follows, nothing is known of `place`.
+-- A step made texts of `input` up to `place` or to the end, or an allocation was refused. After a capability, which is
+-- refused whatever follows, nothing is known of `place`.
 abbrev pub GoesOn : Form → List ℕ → Place → List ℕ → Result (Unit {0}) MakeFault → Type 0
 GoesOn form input place made (Ok u) = HasMade form input place made × IsMadeSo form input made (Ok u)
     × (place.rest ≡ [])
 GoesOn form input place made (Err fault) = (fault ≡ faults.Memory)
     ⊎ ((HasCapability fault ⊎ HasMade form input place made) × IsMadeSo form input made (Err fault))
 
--- Line `n` at `place` is wrong whatever bytes follow: no text continues with it, or it follows the only text that the
--- form takes and begins none.
+-- Line `n` at `place` is wrong whatever bytes follow. Either no text continues with line `n`, or the line follows the
+-- only text that the form takes and begins no text.
 abbrev pub IsLostAt : Form → Place → ℕ → Type 0
 IsLostAt form place n =
     ((form ≡ forms.Bare → place.line ≡ 1) × ((more : List ℕ) → IsWrong place.line (place.rest ++ more) n))
     ⊎ ((form ≡ forms.Bare) × (place.line ≡ 1 → ⊥)
     × ((more : List ℕ) → Follows place.line (place.rest ++ more) (faults.NotText n)))
 
--- All bytes at `place`, except for a few at the end, can be continued. After the only text that the form takes, only a
--- few bytes are left.
+-- All bytes at `place`, except for a few at the end, can be continued to a text. After the only text that the form
+-- takes, only a few bytes are left.
 abbrev pub IsOpenAt : Form → Place → Type 0
 IsOpenAt form place = ((form ≡ forms.Bare → place.line ≡ 1) × MayGoOn place.rest)
     ⊎ ((form ≡ forms.Bare) × (place.line ≡ 1 → ⊥) × (length place.rest ≤ few))
 
--- If the fault is a wrong line, `cut` says whether more bytes may mend it. If they may, no text with its end is at
--- `place`.
+-- If the fault is a wrong line, `cut` says whether more bytes may mend the line. If `cut` is set, no text with its end
+-- is at `place`.
 abbrev pub TellsCut : Form → Place → Bool → MakeFault → Type 0
 TellsCut form place cut fault = (n : ℕ) → fault ≡ faults.NotText n
     → (cut ≡ true → IsOpenAt form place × IsUnended place.rest) × (cut ≡ false → IsLostAt form place n)
 
--- If the fault is a wrong line of the next text, `cut` says whether more bytes may mend it.
+-- If the fault is a wrong line of the next text, `cut` says whether more bytes may mend the line.
 abbrev pub TellsNext : Place → Bool → MakeFault → Type 0
 TellsNext place cut fault = (n : ℕ) → fault ≡ faults.NotText n
     → (cut ≡ true → MayGoOn place.rest × IsUnended place.rest)
     × (cut ≡ false → (more : List ℕ) → IsWrong place.line (place.rest ++ more) n)
 
--- If the fault is a wrong line after the only text, `cut` says whether more bytes may mend it.
+-- If the fault is a wrong line after the only text, `cut` says whether more bytes may mend the line.
 abbrev pub TellsEnd : Place → Bool → MakeFault → Type 0
 TellsEnd place cut fault = (n : ℕ) → fault ≡ faults.NotText n
     → (cut ≡ true → (length place.rest ≤ few) × IsUnended place.rest)
@@ -92,7 +92,7 @@ IsWholeFrom line rest (faults.Capability n index) = ⊤
 IsWholeFrom line rest (faults.Another n) = ⊤
 IsWholeFrom line rest faults.NoText = ⊥
 
--- True if the fault is a wrong line that no more bytes can mend.
+-- True if the fault is a wrong line and `cut` is not set, so that no more bytes can mend the line.
 abbrev pub is_lost : MakeFault → Bool → Bool
 is_lost faults.Memory cut = false
 is_lost faults.Io cut = false
@@ -103,19 +103,20 @@ is_lost (faults.Capability n index) cut = false
 is_lost (faults.Another n) cut = false
 is_lost faults.NoText cut = false
 
--- `input` is not refused by a part that is complete. Nor do its first `n` bytes have one fault whatever follows, unless
--- `few` bytes or less come after them.
+-- `input` has no complete part that refuses it. No first `n` bytes with at least `few` bytes of `input` after them have
+-- one fault whatever follows.
 abbrev pub IsNotYet : Form → List ℕ → Type 0
 IsNotYet form input = (IsRefusedForGood form input → ⊥)
     × ((n : ℕ) → n + few ≤ length input → IsLostForGood form (take n input) → ⊥)
 
--- If a fault is given, `input` has it whatever bytes follow, and `made` is made of it. If none is given, texts were
--- made up to `place`, no text with its end is there, and `input` is not refused for good.
+-- If a fault is given, `input` has that fault whatever bytes follow, and `made` is made of `input`. If no fault is
+-- given, texts were made up to `place`, no text with its end is at `place`, and `input` is not refused for good.
 abbrev pub TellsRefusal : Form → List ℕ → Place → List ℕ → Option MakeFault → Type 0
 TellsRefusal form input place made (Some fault) = (more : List ℕ) → IsMadeSo form (input ++ more) made (Err fault)
 TellsRefusal form input place made None = HasMade form input place made × IsNotYet form input × IsUnended place.rest
 
--- The first `tested` bytes of `rest` were tested, with all bytes before `rest`. They do not refuse the input for good.
+-- The first `tested` bytes of `rest`, and all bytes of `input` before `rest`, were tested. They do not refuse `input`
+-- for good.
 pub record HasTested (form : Form) (tested : ℕ) (input rest : List ℕ) : Type 0 where
   pub front : List ℕ
   pub more : List ℕ
@@ -142,14 +143,14 @@ holds_end (c ∷ cs) = cond (begins_with end_line (c ∷ cs)) true (holds_end cs
 abbrev pub HasRoom : ℕ → List ℕ → Type 0
 HasRoom line rest = line + length rest < 2 ^ 64
 
--- In frames, everything that was made was written, and `made` is empty. In form `Bare` nothing was, and `written` is
--- empty.
+-- In frames, all messages that were made were written, and `made` is empty. In form `Bare` no message was written, and
+-- `written` is empty.
 abbrev pub IsKept : Form → List ℕ → List ℕ → Type 0
 IsKept forms.Stream written made = made ≡ []
 IsKept forms.Packed written made = made ≡ []
 IsKept forms.Bare written made = written ≡ []
 
--- The messages that were made were written, and in form `Bare` they were kept, or the writer failed at them.
+-- The messages that were made were written, or kept in form `Bare`. Or the writer failed while they were written.
 abbrev pub WritesMade : Form → Option (List ℕ) → Option (List ℕ) → Bool → List ℕ → List ℕ
     → Result (Unit {0}) MakeFault → Type 0
 WritesMade form c d failed old new (Ok u) = (failed ≡ false)
@@ -157,8 +158,9 @@ WritesMade form c d failed old new (Ok u) = (failed ≡ false)
 WritesMade form c d failed old new (Err fault) = (failed ≡ true) × (fault ≡ faults.Io) × (form ≡ forms.Bare → ⊥)
     × HasBegun c d old
 
--- The texts of `input` were made up to `rest`, which begins at `line`, and no text with its end is there. Of `rest` the
--- first `tested` bytes were tested. What was made was written, except in form `Bare`.
+-- The texts of `input` were made up to `rest`, which begins at `line`, and no text with its end is at the front of
+-- `rest`. The first `tested` bytes of `rest` were tested. The messages that were made were written, except in form
+-- `Bare`.
 pub record IsUnderWay (form : Form) (input : List ℕ) (c d : Option (List ℕ)) (made rest : List ℕ) (line tested : ℕ)
     : Type 0 where
   pub written : List ℕ
@@ -185,27 +187,27 @@ pub record HasCome (form : Form) (input : List ℕ) (c d : Option (List ℕ)) (m
   pub unended : HoldsNoEnd (drop (before - 3) rest) → IsUnended rest
   pub begun : (more : List ℕ) → HasBegunText form (input ++ more) c d
 
--- `bytes` were read and `more` follow. Their messages were written, or a first part of them, and the run had their
--- result. Memory was refused only if some bytes were read.
+-- `bytes` were read and `more` follow. The messages of both together, or a first part of the messages, were written,
+-- and the run had their result. An allocation was refused only if some bytes were read.
 abbrev pub GivesMade : Form → List ℕ → List ℕ → Option (List ℕ) → Option (List ℕ) → Result (Unit {0}) MakeFault → Type 0
 GivesMade form bytes more c d r = EndsAs form c d r (bytes ++ more) × HasBegunText form (bytes ++ more) c d
     × (r ≡ Err faults.Memory → bytes ≢ [])
 
--- True if the fault of a text is that of an unfinished one.
+-- True if the fault of a text is the fault of an unfinished text.
 abbrev pub is_cut : TextFault → Bool
 is_cut texts.Memory = false
 is_cut (texts.Line n) = false
 is_cut (texts.Cut n) = true
 is_cut (texts.Misfit m) = false
 
--- The fault of a run whose next text begins at `line` and is not read.
+-- The fault of a run, from the fault of its next text, which begins at `line`.
 abbrev pub unread : ℕ → TextFault → MakeFault
 unread line texts.Memory = faults.Memory
 unread line (texts.Line n) = faults.NotText n
 unread line (texts.Cut n) = faults.NotText n
 unread line (texts.Misfit m) = faults.Misfit line m
 
--- The bytes that are written for the value `v`, whose text begins at `line`, or the fault that there is instead.
+-- The result is the bytes that are written for the value `v`, whose text begins at `line`, or a fault instead.
 abbrev pub MakesValue : {A : Type 0} → Form → ℕ → Tree → Result (Vec ℕ A) MakeFault → Type 0
 MakesValue form line v (Ok piece) = IsWrittenValue form v piece.items × (first_cap v ≡ None)
 MakesValue form line v (Err fault) = (fault ≡ faults.Memory)
@@ -215,8 +217,8 @@ MakesValue form line v (Err fault) = (fault ≡ faults.Memory)
 abbrev pub IsAfter : Place → Place → Type 0
 IsAfter old new = (front : List ℕ) × (old.rest ≡ front ++ new.rest)
 
--- The next text was made, and `new` is behind it, or nothing is left. Or the text is refused, and the place is the same
--- unless it has a capability, or memory was refused.
+-- The next text was made, and `new` is behind it, or nothing is left. Or the text is refused, and `new` is `old` unless
+-- the text has a capability. Or an allocation was refused.
 abbrev pub MakesNext : {A : Type 0} → Form → Place → Place → Result (Option (Vec ℕ A)) MakeFault → Type 0
 MakesNext form old new (Ok None) = (old.rest ≡ []) × (new ≡ old)
 MakesNext form old new (Ok (Some piece)) = (v : Tree) × IsMakeable v
@@ -225,7 +227,7 @@ MakesNext form old new (Ok (Some piece)) = (v : Tree) × IsMakeable v
 MakesNext form old new (Err fault) = (fault ≡ faults.Memory)
     ⊎ ((HasCapability fault ⊎ (new ≡ old)) × IsTextRefused old.line old.rest fault)
 
--- Nothing follows the only text, or what follows it is refused.
+-- Nothing follows the only text, or the bytes that follow the text are refused.
 abbrev pub EndsOne : Place → Result (Unit {0}) MakeFault → Type 0
 EndsOne place (Ok u) = place.rest ≡ []
 EndsOne place (Err fault) = Follows place.line place.rest fault

@@ -1,4 +1,4 @@
--- The run of a sink over an input that it takes in chunks. (Own.)
+-- The run of a sink over an input that the sink takes in chunks. (Our own.)
 use Rattle.std.specs.Prelude.{◌≡◌, ◌⊎◌, ◌↔◌, ◌≤◌, ℕ, List, [], ◌++◌, length, take, Bool, true, false}
 use Rattle.std.specs.Prelude.{Option, Some, None, Result, Ok, Err}
 use Rattle.std.specs.Io.KnownBytes.{Appends, Consumes, IsAtEnd}
@@ -16,7 +16,7 @@ Giving F = List ℕ → List ℕ → Option (List ℕ) → Option (List ℕ) →
 abbrev pub Holds : {S T : Type 0} → (S → T) → (S → Taking) → T → S → Taking
 Holds task Takes t s bytes c d = (task s ≡ t) × Takes s bytes c d
 
--- The sink took `bytes`, the last chunk included, or the run has this result whatever bytes follow.
+-- The sink took `bytes`, the last chunk included, or the run has the given fault whatever bytes follow.
 abbrev pub Feeds : {F : Type 0} → Taking → Giving F → List ℕ → Option (List ℕ) → Option (List ℕ)
     → Result (Unit {0}) F → Type 0
 Feeds Takes Gives bytes c d (Ok u) = Takes bytes c d
@@ -26,13 +26,14 @@ Feeds Takes Gives bytes c d (Err fault) = (more : List ℕ) → Gives bytes more
 abbrev pub Writes : {F : Type 0} → F → Option (List ℕ) → Option (List ℕ) → Bool → Result (Unit {0}) F → Type 0
 Writes io c d failed r = ((text : List ℕ) × Appends c d text) × ((r ≡ Err io) ↔ (failed ≡ true))
 
--- The reader gave `count` bytes at the front of the buffer, and 0 only at its end, or it failed and gave none.
+-- The reader returned `count` bytes at the front of the buffer, with 0 only at the end of the input. Or the reader
+-- failed and returned no bytes.
 abbrev pub ReadsPiece : Option (List ℕ) → Option (List ℕ) → Bool → List ℕ → Option ℕ → Type 0
 ReadsPiece a b failed buffer None = (failed ≡ true) × Consumes a b []
 ReadsPiece a b failed buffer (Some count) = (failed ≡ false) × (count ≤ 65536)
     × (length (take count buffer) ≡ count) × Consumes a b (take count buffer) × (count ≡ 0 → IsAtEnd b)
 
--- All but the last chunk of `bytes`, which has at most 65,536, were taken before that was read.
+-- The last chunk of `bytes` has at most 65,536 bytes. All bytes before that chunk were taken before the chunk was read.
 abbrev pub IsTakenAhead : {S : Type 0} → (S → Taking) → Taking
 IsTakenAhead {S = S} Takes bytes c d = (before : List ℕ) × (piece : List ℕ) × (s : S) × (mid : Option (List ℕ))
     × (more : List ℕ) × (bytes ≡ before ++ piece) × (length piece ≤ 65536) × Takes s before c mid × Appends mid d more
@@ -44,11 +45,11 @@ pub record Runs {S F : Type 0} (Takes : S → Taking) (Gives : Giving F) (io : F
   -- The bytes that were read.
   pub bytes : List ℕ
   pub read : Consumes a b bytes
-  -- Unless the reader failed, the statement on the result holds: of an input that has ended, or whatever bytes follow.
+  -- Unless the reader failed, `Gives` holds of the result, either for an input that has ended or whatever bytes follow.
   pub ended : (reader_failed ≡ true) ⊎ ((IsAtEnd b × Gives bytes [] c d r) ⊎ ((more : List ℕ) → Gives bytes more c d r))
   -- The result is the fault `io` if and only if the reader or the writer has failed.
   pub broken : (r ≡ Err io) ↔ ((reader_failed ≡ true) ⊎ (writer_failed ≡ true))
-  -- If the reader failed, all bytes that it gave were taken.
+  -- If the reader failed, all bytes that were read were taken.
   pub heard : reader_failed ≡ true → Takes last bytes c d
   -- However the run ended, it has read at most one chunk after the bytes that were taken.
   pub ahead : IsTakenAhead Takes bytes c d

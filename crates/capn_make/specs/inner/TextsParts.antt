@@ -30,13 +30,13 @@ pub record IsUnderTexts (form : Form) (bytes : List ℕ) (c d : Option (List ℕ
   pub seen : HasSeen q line bytes input
   pub way : IsUnderWay form input c d made rest line tested
 
--- A result whose fault is at another line, which `own` gives for its line.
+-- The result with the line `n` of a fault replaced by `own n`.
 abbrev pub ending_at : (ℕ → ℕ) → Result (Unit {0}) MakeFault → Result (Unit {0}) MakeFault
 ending_at own (Ok u) = Ok u
 ending_at own (Err fault) = Err (at_own own fault)
 
--- `bytes` were read and `more` follow. The messages of their plain form were written, or a first part of them, and the
--- run had their result. Memory was refused only if some bytes were read.
+-- `bytes` were read and `more` follow. The messages of their plain form, or a first part of the messages, were written,
+-- and the run had their result. An allocation was refused only if some bytes were read.
 abbrev pub GivesTexts : Form → List ℕ → List ℕ → Option (List ℕ) → Option (List ℕ) → Result (Unit {0}) MakeFault
     → Type 0
 GivesTexts form bytes more c d r = EndsTexts form c d r bytes (bytes ++ more)
