@@ -67,7 +67,7 @@ module _ (buf new tail : List ℕ) (held within end : ℕ) (fits : held ≤ leng
       → Splits (take held buf ++ take within new) after [] words at
   chunk_split after words at = subst (λ (l : List ℕ). Splits l after [] words at) chunk_is
 
-  -- The bytes that are left of both are moved to the front.
+  -- The bytes after the whole groups, of the bytes that were left and the chunk, are moved to the front.
   pub chunk_left : (moved words : List ℕ) (at : ℕ) → moved ≡ paste whole 0 (drop at whole) (end - at)
       → Splits (take end whole) (drop at (take end whole)) [] words at
       → Splits (take held buf ++ take within new) (take (end - at) moved) [] words at

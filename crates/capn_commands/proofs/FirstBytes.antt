@@ -1,4 +1,4 @@
--- Lemmas that the first bytes of an input, one more than the longest frame has, give the result of all bytes. (For
+-- Lemmas that the first bytes of an input, at most one byte more than the longest frame, determine the result. (For
 -- `one_message.rt` and `whole_input.rt`.)
 use Rattle.std.proofs.Common.{◌≡◌, ◌⊎◌, inl, inr, ℕ, ◌+◌, ◌*◌, ◌<◌, ◌≤◌, List, length, take, drop}
 use Rattle.std.proofs.Common.{subst, arith, length-take, take-append-drop, Result, Ok, Err, Vec}
@@ -28,7 +28,7 @@ use Rattle.capn_commands.specs.declared.fault.ToolFault.TheVariants as faults
 padding_le : (count : ℕ) → padding count ≤ 4
 padding_le count = grind (arith, nat_tests)
 
--- The greatest length of a frame.
+-- A frame has at most 8 * (`most` + `most_table_words`) bytes.
 framed_length : (bs : List ℕ) (most : ℕ) (message : List (List ℕ)) → IsFramed bs most message
     → length bs ≤ 8 * (most + most_table_words)
 framed_length bs most message f =
@@ -45,12 +45,12 @@ cut_length bs most (inr (inr contents)) =
     omega (arith, padding_le (frames.announced_segments bs), contents.0.0.1, contents.1, contents.2)
 
 module _ (n most : ℕ) (bytes : List ℕ) (enough : 8 * (most + most_table_words) < n) where
-  -- If the first bytes are a frame, they are all bytes.
+  -- If the first `n` bytes are a frame, there are no further bytes.
   pub framed_first : (message : List (List ℕ)) → IsFramed (take n bytes) most message → take n bytes ≡ bytes
   framed_first message f =
       take_all n bytes (omega (arith, enough, length-take n bytes, framed_length (take n bytes) most message f))
 
-  -- If the first bytes are refused as no frame, all bytes are, for the same reason.
+  -- If the first `n` bytes are refused as no frame, all bytes are refused for the same reason.
   refused_first : (e : FrameFault) → (e ≡ frame_faults.Memory → ⊥) → n < length bytes
       → frames.IsFrameRefused (take n bytes) most e → frames.IsFrameRefused bytes most e
   refused_first frame_faults.Memory other more h = tt
@@ -116,7 +116,7 @@ module _ (n : ℕ) (limits : Bounds) (bytes : List ℕ) (enough : 8 * (limits.me
   gives_first (Err fault) (inl m) = inl m
   gives_first (Err fault) (inr (r, is, other, h)) = inr (r, is, other, refusal_first r h)
 
--- The canonical bytes of a packed text are those of the words that it packs.
+-- The canonical bytes of a packed text are those of the words that the text packs.
 module _ (limits : Bounds) (bytes words : List ℕ) (packs : Packs bytes words)
     (room : length words ≤ 8 * (limits.message_words + most_table_words)) where
   refusal_packed : (r : Refusal) → IsRefused forms.Stream words limits r → IsRefused forms.Packed bytes limits r

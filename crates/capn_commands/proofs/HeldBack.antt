@@ -1,4 +1,4 @@
--- Lemmas on the words that are held back. (For `before_dense`, `settle` and `unpacked_part`.)
+-- Lemmas on the words that are not packed yet. (For `before_dense`, `settle` and `unpacked_part`.)
 use Rattle.std.proofs.Common.{◌≡◌, ℕ, zero, suc, ◌+◌, ◌-◌, ◌*◌, ◌≤◌, List, [], ◌++◌, length, take, drop, replicate}
 use Rattle.std.proofs.Common.{refl, ap}
 use Rattle.std.proofs.Common.{sym, subst, ◌∙◌, arith, append-nil, append_assoc, drop-drop, length-drop, length-take}
@@ -20,7 +20,7 @@ open_zeros more bs is = record {
   are = refl;
 }
 
--- a dense word before dense words
+-- A dense word followed by dense words gives dense words.
 dense_first : (word more : List ℕ) (count : ℕ) → IsDense word → AllDense count more
     → AllDense (suc count) (word ++ more)
 dense_first word more count first dense =
@@ -42,7 +42,7 @@ open_raw word more count bs first dense is = record {
   are = dense_first word more count first dense;
 }
 
--- dense words after dense words
+-- Dense words followed by dense words are dense words.
 dense_append : (n m : ℕ) (a b : List ℕ) → AllDense n a → AllDense m b → AllDense (n + m) (a ++ b)
 dense_append zero m a b none more =
     let same : m ≡ 0 + m = omega arith in
@@ -66,11 +66,12 @@ open_more a b n o more = record {
 
 -- ---- the cut before dense words
 
--- No words follow the last one.
+-- If the cut is at the end of the words, no dense words follow.
 pub dense_end : (words : List ℕ) (cut : ℕ) → cut ≡ length words → (n : ℕ) × AllDense n (drop cut words)
 dense_end words cut all = (0, drop_all cut words (omega (arith, all)))
 
--- One more dense word stands before dense words.
+-- If the words after a cut and the word before the cut are dense, the words after the cut are still dense if the cut is
+-- moved one word back.
 pub dense_before : (words : List ℕ) (cut : ℕ) → 8 ≤ cut → cut ≤ length words
     → zero_count (slice_range words (cut - 8) cut) ≤ 1 → (n : ℕ) × AllDense n (drop cut words)
     → (n : ℕ) × AllDense n (drop (cut - 8) words)

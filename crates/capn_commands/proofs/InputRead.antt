@@ -20,7 +20,7 @@ is_not_below a b h = grind (arith, nat_tests)
 below : (a b : ℕ) → nat_lt a b ≡ true → a < b
 below a b e = grind (arith, nat_tests)
 
--- A read found the end, and all bytes were taken.
+-- Case: a read found the end of the input, and all bytes were taken.
 pub read_end : (a b c : Option (List ℕ)) (xs buf : List ℕ) (n : ℕ) → n ≡ 0 → Consumes a b xs
     → Consumes b c (take n buf)
     × (n ≡ 0 → 0 < length buf → IsAtEnd c) → 0 < length buf → length xs ≤ most
@@ -36,7 +36,7 @@ read_end a b c xs buf n zero first second some short =
       ended = λ e. end;
     }
 
--- A read returned bytes past the greatest number, and only those before it were taken.
+-- Case: a read returned bytes past the greatest number, and only the bytes before that number were taken.
 pub read_past : (a b c : Option (List ℕ)) (xs buf : List ℕ) (n k : ℕ) → Consumes a b xs → Consumes b c (take n buf)
     → n ≤ length buf → length xs + k ≡ most → k < n → length xs + n ≤ most + 1
     → Kept a c (xs ++ take k buf) true (xs ++ take n buf)
@@ -55,7 +55,7 @@ read_past a b c xs buf n k first second within full past bound =
       ended = λ e. absurd (cc);
     }
 
--- The bytes that were taken are those that a run takes of all that the reader had, if that is known.
+-- If all bytes that the reader had are known, a run takes exactly the kept bytes of them.
 pub kept_all : (old new : Option (List ℕ)) (kept bytes : List ℕ) (is_longer : Bool)
     → Kept old new kept is_longer bytes
     → IfSome old (λ all. (taken_of all ≡ kept) × (has_more all ≡ is_longer))
@@ -79,7 +79,8 @@ cut_front buf m k w within least = elim (cases_lt m k) [
       take_all m (take k buf) (omega (arith, short, length-take-le k buf within)) ∙ ap (λ (i : ℕ). take i buf) e)
 ]
 
--- The bytes that a run takes of those that were read, after one more read.
+-- The bytes that a run takes of those that were read, after one more read, are the bytes before that read and the first
+-- `w` new ones.
 pub taken_front : (bs buf : List ℕ) (n w k : ℕ) → length bs ≡ n → n ≤ most → w ≡ min k (most - n)
     → k ≤ length buf → taken_of (bs ++ take k buf) ≡ bs ++ take w buf
 taken_front bs buf n w k count short least within =

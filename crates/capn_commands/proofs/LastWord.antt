@@ -1,4 +1,4 @@
--- Lemmas on the last group of a packer's text, by its last word. (For `settled_part` and `zeros_part`.)
+-- Lemmas on the last group of a packer's text, derived from the last word. (For `settled_part` and `zeros_part`.)
 use Rattle.std.proofs.Common.{◌≡◌, ◌≢◌, ◌⊎◌, inl, inr, ℕ, zero, suc, ◌+◌, ◌-◌, ◌*◌, ◌/◌, ◌^◌, ◌<◌, ◌≤◌, List, [], ◌∷◌}
 use Rattle.std.proofs.Common.{◌++◌}
 use Rattle.std.proofs.Common.{length, take, drop, replicate, get_or, eqb, false, refl, ap, sym, subst, ◌∙◌, arith}
@@ -41,7 +41,7 @@ full_tag (suc n) (suc x ∷ xs) size full =
     let some = some_first x xs in
     some.1 ∙ full_tag n xs (omega (arith, size)) (omega (arith, full, some.0))
 
--- Zero bytes alone have the tag 0.
+-- If all bytes are zero, their tag is 0.
 zero_tag : (xs : List ℕ) → zero_count xs ≡ length xs → tag_of xs ≡ 0
 zero_tag [] all = refl
 zero_tag (zero ∷ xs) all = omega (arith, zero_tag xs (omega (arith, all)))
@@ -150,8 +150,8 @@ module _ (t bs : List ℕ) (count : ℕ) (c : Chosen t bs) (size : length bs ≡
 
 -- ---- which group is the last
 
--- The number of zero bytes in the last word of a group: eight for a run of zero words, at most one for a run of raw
--- words, and fewer than eight for any other group.
+-- `nulls` is the number of zero bytes in the last word of a group: eight for a run of zero words, at most one for a run
+-- of raw words, and fewer than eight for any other group.
 abbrev pub EndsBy : Group → ℕ → Type 0
 EndsBy (Zeros more) nulls = nulls ≡ 8
 EndsBy (Named tag word) nulls = nulls < 8
@@ -186,7 +186,7 @@ zeros_by (Zeros more) nulls kind all = (more, refl)
 zeros_by (Named tag word) nulls kind all = absurd (omega (arith, kind, all))
 zeros_by (Raw word count more) nulls kind all = absurd (omega (arith, kind, all))
 
--- A group with the tag 0 or 255 has open words.
+-- For a group with the tag 0 or 255, `AreOpen` holds for its words.
 pub open_group : (g : Group) (behind : List ℕ) → IsGroup g → IsChoice g behind
     → (get_or (group_text g) 0 0 ≡ 0) ⊎ (get_or (group_text g) 0 0 ≡ 255) → AreOpen (group_bytes g)
 open_group (Zeros more) behind is choice tag = open_zeros more (group_bytes (Zeros more)) refl
@@ -196,7 +196,7 @@ open_group (Raw word count more) behind is choice tag =
     let none : zero_count word ≡ 0 = full_tag 8 word is.0 (omega (arith, choice.0)) in
     open_raw word more count (group_bytes (Raw word count more)) (is.0, omega (arith, none)) choice.1 refl
 
--- A last group with the tag 0 or 255, at the byte where it begins, has open words.
+-- If the tag where the last group begins is 0 or 255, `AreOpen` holds for the words of that group.
 pub open_last : (t bs : List ℕ) (count taken known tag : ℕ) (l : Last t bs count taken known)
     → get_or t taken 0 ≡ tag → (tag ≡ 0) ⊎ (tag ≡ 255) → AreOpen (group_bytes l.last)
 open_last t bs count taken known tag l is kind =
@@ -209,7 +209,8 @@ open_last t bs count taken known tag l is kind =
 
 -- ---- what is settled
 
--- The last group of a text whose last word is zero: its number of zero words, and the settled part of the text.
+-- The last group of a text whose last word is zero has `more` + 1 zero words. If `more` is below 255, the text before
+-- that group is settled.
 pub record ZerosEnd (t bs : List ℕ) : Type 0 where
   pub more : ℕ
   pub byte : get_or t (length t - 1) 0 ≡ more

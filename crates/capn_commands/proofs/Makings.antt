@@ -1,5 +1,5 @@
--- Lemmas on the output that is made of an input, from what was read of it. (For `make_framed`, `make_text`,
--- `make_trimmed` and `make_verdict`.)
+-- Lemmas on the output for an input, derived from what was read. (For `make_framed`, `make_text`, `make_trimmed` and
+-- `make_verdict`.)
 use Rattle.std.proofs.Common.{◌≡◌, ◌⊎◌, inl, inr, ℕ, ◌+◌, ◌*◌, ◌^◌, List, Bool, Option, Result, Ok}
 use Rattle.std.proofs.Common.{Err, IsErr, IsErrAnd}
 use Rattle.std.proofs.Common.{Vec, ap, sym, subst, ◌∙◌, arith, take_all}
@@ -33,15 +33,15 @@ use Rattle.capn_commands.specs.declared.fault.ToolFault.TheVariants as faults
 use Rattle.capn_commands.proofs.FirstBytes.{fails_unpacked, gives_first, gives_packed}
 use Rattle.capn_commands.proofs.Given.{takes_so}
 
--- Nothing is made of the bytes, or memory was refused.
+-- `fault` is `Memory`, or the reason why `whole` has no output for `bytes`.
 abbrev Fails : Whole → List ℕ → ToolFault → Type 0
 Fails whole bytes fault = (fault ≡ faults.Memory) ⊎ MakesNothing whole bytes fault
 
--- An input was not read to its end, or was read to its end and `P` holds of its bytes.
+-- An input was not read to its end, or was read to its end and `P` holds for its bytes.
 abbrev TakesNone : (List ℕ → Type 0) → Option (List ℕ) → Option (List ℕ) → Bool → ToolFault → Type 0
 TakesNone P a b f fault = IsUntaken a b f fault ⊎ ((bytes : List ℕ) × HasGivenAll a b f bytes × P bytes)
 
--- The bytes are refused as no segment.
+-- `fault` refuses `bytes`, which are not one segment.
 abbrev FailsBare : List ℕ → ToolFault → Type 0
 FailsBare bytes fault = (e : BareFault) × (fault ≡ faults.Refused (refusals.Bare e)) × ReadsBare bytes (Err e)
 
@@ -52,14 +52,14 @@ untaken a b f fault (bytes, inl (given, inl (is, some))) = (bytes, inl (given, i
 untaken a b f fault (bytes, inl (given, inr (is, long))) = (bytes, inl (given, inr (ap unplaced is, long)))
 untaken a b f fault (bytes, inr (read, bound, broken, is)) = (bytes, inr (read, bound, broken, ap unplaced is))
 
--- Case: an input was not read to its end, which is the only fault of the call.
+-- Case: an input was not read to its end, and the call has no other fault.
 pub unread : (a b : Option (List ℕ)) (f : Bool) (fault : RunFault) (whole : Whole)
     → served.IsUntaken a b f fault ⊎ ((bytes : List ℕ) × HasGivenAll a b f bytes × ⊥)
     → TakesNone (λ bytes. Fails whole bytes (unplaced fault)) a b f (unplaced fault)
 unread a b f fault whole (inl h) = inl (untaken a b f fault h)
 unread a b f fault whole (inr (bytes, all, none)) = absurd none
 
--- Case: an input was not read to its end, or is no segment.
+-- Case: an input was not read to its end, or is not one segment.
 pub unread_bare : (a b : Option (List ℕ)) (f : Bool) (fault : RunFault) (at : Position)
     → served.IsUntaken a b f fault ⊎ ((bytes : List ℕ) × HasGivenAll a b f bytes × IsUnbare at bytes fault)
     → TakesNone (λ bytes. FailsBare bytes (unplaced fault)) a b f (unplaced fault)
@@ -72,7 +72,7 @@ module _ (a b : Option (List ℕ)) (f : Bool) (fault : ToolFault) where
   none_else P Q change (inl untaken) = inl untaken
   none_else P Q change (inr (bytes, all, p)) = inr (bytes, all, change bytes p)
 
-  -- Bytes that are no segment have no canonical bytes.
+  -- Bytes that are not one segment have no canonical bytes.
   pub unmade_canonical : (limits : Bounds) → TakesNone (λ bytes. FailsBare bytes fault) a b f fault
       → TakesNone (λ bytes. Fails (wholes.Canonical forms.Bare limits) bytes fault) a b f fault
   unmade_canonical limits h =

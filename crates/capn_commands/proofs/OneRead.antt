@@ -1,5 +1,5 @@
--- Lemmas on the frame of the one message of an input, as it was read, and how the message was served. (For
--- `read_frame`, `serve_frame` and `serve_message`.)
+-- Lemmas on the frame of the one message of an input: what was read, and how the message was served. (For `read_frame`,
+-- `serve_frame` and `serve_message`.)
 use Rattle.std.proofs.Common.{◌≡◌, ◌⊎◌, ◌||◌, inl, inr, ℕ, ◌+◌, ◌*◌, ◌≤◌, List, [], ◌++◌, length, take, Bool, true}
 use Rattle.std.proofs.Common.{false, Option, Result, Ok, Err, Vec, ap, sym, subst, ◌∙◌, arith, length-take}
 use Rattle.std.proofs.Math.Seq.{take-append-add, take-append_seam, take-length, take-nil, take_all}
@@ -72,7 +72,7 @@ unheld A a b f most form fault (inr (bytes, all, none)) = absurd none
 -- ---- its message
 
 module _ (frame : List ℕ) (most : ℕ) where
-  -- a frame that takes all bytes is that of a message
+  -- A frame that takes all bytes is the frame of a message.
   pub framed_whole : (m : List (List ℕ)) (taken : ℕ) → StandsFirst frame most m taken → length frame ≤ taken
       → IsFramed frame most m
   framed_whole m taken h long =
@@ -104,7 +104,7 @@ take_less m n l = elim (cases_lt n m) [
   | inr more ↦ (m, take-take m n l more)
 ]
 
--- The part of a text that was written, if the rest is kept, is a prefix of the text.
+-- If the rest of a text is kept, the part that was written is a prefix of the text.
 written_front : (w kept text : List ℕ) → w ++ kept ≡ text → w ≡ take (length w) text
 written_front w kept text is = sym (take-append_seam w kept) ∙ ap (λ (l : List ℕ). take (length w) l) is
 
@@ -123,7 +123,7 @@ module _ {S : Type 0} (serves : S → Position → List ℕ → List (List ℕ) 
   joined : (w text : List ℕ) → w ++ kept ≡ none ++ text → w ++ kept ≡ text
   joined w text is = is ∙ ap (λ (l : List ℕ). l ++ text) empty
 
-  -- Case: the message was served, and the rest of its text was written.
+  -- Case: the message was served, and the rest of the text was written.
   pub message_served : (d : Option (List ℕ)) (piece : List ℕ) (failed : Bool) → Does (Ok tt) → piece ≡ kept
       → Appends m d piece → failed ≡ (fine || false) → Serves d failed (Ok tt)
   message_served d piece failed ((text, is, (w, wrote, e), good), short) same more still = (
@@ -136,7 +136,7 @@ module _ {S : Type 0} (serves : S → Position → List ℕ → List (List ℕ) 
     still ∙ ap (λ (x : Bool). x || false) good,
   )
 
-  -- Case: the message was served, and the writer failed within the rest of its text.
+  -- Case: the message was served, and the writer failed within the rest of the text.
   pub message_broken : (d : Option (List ℕ)) (piece : List ℕ) (failed : Bool) → Does (Ok tt) → piece ≡ kept
       → HasBegun m d piece → failed ≡ (fine || true) → Serves d failed (Err faults.Io)
   message_broken d piece failed ((text, is, (w, wrote, e), good), short) same (count, begun) broke =
@@ -152,7 +152,7 @@ module _ {S : Type 0} (serves : S → Position → List ℕ → List (List ℕ) 
         broke ∙ ap (λ (x : Bool). x || true) good,
       )
 
-  -- Nothing was added, so nothing was written.
+  -- If nothing was added, nothing was written.
   unwritten : Adds (outgoing c none) (outgoing m kept) [] → Appends c m []
   unwritten (w, wrote, e) =
       subst (Appends c m) (written_front w kept [] (joined w [] e) ∙ take-nil (length w)) wrote

@@ -1,4 +1,4 @@
--- Lemmas on a run over the one message that an input is, from what was read and how the message was served. (For
+-- Lemmas on a run over the one message of an input, derived from what was read and how the message was served. (For
 -- `serve_frame` and `serve_one`.)
 use Rattle.std.proofs.Common.{◌≡◌, ◌⊎◌, ◌↔◌, inl, inr, ℕ, ◌+◌, ◌*◌, ◌<◌, ◌≤◌, ◌^◌, List, [], length, take, Bool, true}
 use Rattle.std.proofs.Common.{false, Option, None, Some, IfSome, Result, Ok, Err, Vec, refl, ap, sym, subst, ◌∙◌, arith}
@@ -160,7 +160,7 @@ module _ (makes : List ℕ → List ℕ → Type 0) (fails : List ℕ → ToolFa
     heard_all : (d : Option (List ℕ)) → r ≡ true → Appends c d []
     heard_all d failed = absurd (let no : true ≡ false = sym failed ∙ all.given.fine in cc)
 
-    -- Case: nothing is made of the input.
+    -- Case: there is no output for the input.
     pub runs_none : (d : Option (List ℕ)) (fault : ToolFault) → w ≡ false → Appends c d []
         → (fault ≡ faults.Io → ⊥) → (fault ≡ faults.Memory) ⊎ fails bytes fault
         → RunsWhole makes fails a b c d r w (Err fault)
@@ -318,7 +318,7 @@ module _ {S : Type 0} (serves : S → Position → List ℕ → List (List ℕ) 
         (q, refl, inr (frame, message, record { packs = packs; room = room }, framed, why))
 
   module _ {A : Type 0} (a b c : Option (List ℕ)) (r w : Bool) where
-    -- Case: the frame was held, and its message was served.
+    -- Case: the frame was read, and its message was served.
     pub one_served : (form : StreamForm) (d : Option (List ℕ)) (kept : Vec ℕ A) (frame : List ℕ) (e : Ending)
         → TakesAll {T = Vec ℕ A} (HoldsFrame form most) a b r (Ok kept) → frame ≡ kept.items
         → ServesWhole (IsWritten frame) (IsUnwritten frame) c d w e
@@ -338,7 +338,7 @@ module _ {S : Type 0} (serves : S → Position → List ℕ → List (List ℕ) 
         (λ (q : Refusal). RefusesOne serves refuses s most streams.Packed bytes (faults.Refused q)) c d w e
         (packed_writes bytes frame P R) (packed_refuses bytes frame P R) served)
 
-  -- Case: no frame was held.
+  -- Case: no frame was read.
   pub one_unread : (A : Type 0) (a b c : Option (List ℕ)) (r w : Bool) (form : StreamForm) (fault : ToolFault)
       → w ≡ false → TakesAll {T = Vec ℕ A} (HoldsFrame form most) a b r (Err fault)
       → RunsWhole (WritesOne serves refuses s most form) (RefusesOne serves refuses s most form) a b c c r w (Err fault)

@@ -210,7 +210,7 @@ one_due_whole whole bytes false t u (Err f) (Err g) h k =
 -- ---- a stream
 
 module _ (piece : MessageText) (limits : Bounds) (last : Option ToolFault) where
-  -- The ending of a run after its parts.
+  -- `ending` is the end of a run, where `rest` is left after the parts.
   abbrev Behind : List ℕ → Result (Unit {0}) ToolFault → Type 0
   Behind rest ending = EndsUnframed limits rest last ending ⊎ EndsRefused piece limits rest ending
 
@@ -228,7 +228,7 @@ module _ (piece : MessageText) (limits : Bounds) (last : Option ToolFault) where
       ought in
       a ∙ ap (λ (x : ToolFault). Err x) fault ∙ sym b
 
-  -- Bytes that begin with the frame of a part have its message first.
+  -- Bytes that begin with the frame of a part have the message of that part first.
   part_first : (part : Part) (more : List ℕ) → IsPart piece limits part
       → StandsFirst (part.frame ++ more) limits.message_words part.message (length part.frame)
   part_first part more h =
@@ -303,7 +303,8 @@ one_due (plans.Packed piece limits) bytes is_longer t u r s h k =
     second in
     one_due_each piece limits (behind_packed is_longer k.group k.at) k.words t u r s third k.due
 
--- A run that ended as it must wrote `t` and ended with `s`, if these are the text and the ending of the input.
+-- If `t` and `s` are the text and the ending of `input`, a run of `command` over `input` wrote `t` and ended with `s`,
+-- unless memory was refused or the reader or the writer failed.
 ends_by : (command : Command) (old new : Option (List ℕ)) (r : Result (Unit {0}) ToolFault) (input t : List ℕ)
     (s : Result (Unit {0}) ToolFault) → EndsAs command old new r input → IsText command input t s → EndsBy t s old new r
 ends_by command old new r input t s (inl m) k = inl m

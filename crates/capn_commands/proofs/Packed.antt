@@ -22,7 +22,7 @@ stopped fault = Err fault
 abbrev wrote : Unit {0} → Ending
 wrote u = Ok u
 
--- Nothing is settled, and all bytes are held.
+-- With the empty text, all bytes are the rest.
 pub settles_none : (bytes : List ℕ) → Settles bytes [] bytes
 settles_none bytes = record { settled = λ more t c. c }
 
@@ -44,7 +44,7 @@ module _ (bytes text rest more : List ℕ) (s : Settles bytes text rest) where
   front_more next (inl (after, n)) = inl (after, settles_more next after n)
   front_more next (inr c) = inr (s.settled more next c)
 
-  -- A prefix of the text that follows the settled part was written.
+  -- If the settled part of a text was written, and then a prefix of the rest, a prefix of the whole text was written.
   pub written_more : (c d e : Option (List ℕ)) → Appends c d text → HasWritten packing (rest ++ more) d e
       → HasWritten packing (bytes ++ more) c e
   written_more c d e done (v, count, front, part) = (
@@ -59,7 +59,7 @@ module _ (bytes text rest more : List ℕ) (s : Settles bytes text rest) where
   packs_stop c d e failed fault done stop =
       record { kind = stop.kind; io = stop.io; written = written_more c d e done stop.written }
 
--- A run that stops within the first bytes of a buffer.
+-- Case: a run stops within the first bytes of a buffer.
 pub front_stop : (rest buf tail : List ℕ) (w : ℕ) (c d : Option (List ℕ)) (failed : Bool) (fault : FlowFault)
     → w ≤ length buf → Stops packing (rest ++ take w (buf ++ tail)) c d failed fault
     → Stops packing (rest ++ take w buf) c d failed fault
@@ -104,7 +104,7 @@ module _ (bytes text held : List ℕ) (s : Settles bytes text held) (count : ℕ
 
 -- ---- the whole stream
 
--- `held` is left of `bytes`, and `text` is their settled text, which was written.
+-- `text` is settled by `bytes`, and `held` are the bytes that are not packed yet.
 abbrev pub Holds : List ℕ → List ℕ → List ℕ → Type 0
 Holds held bytes text = Settles bytes text held × (length held < most_held) × MayGoOn held
 

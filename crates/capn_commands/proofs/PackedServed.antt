@@ -1,4 +1,4 @@
--- Lemmas that a run of the service over a packed stream is a run of its plan. (For `run_each_packed`.)
+-- Lemmas that a run of the service over a packed stream is a run of the plan for that stream. (For `run_each_packed`.)
 use Rattle.std.proofs.Common.{◌≡◌, ◌⊎◌, inl, inr, ℕ, ◌+◌, ◌*◌, ◌-◌, ◌^◌, ◌≤◌, List, [], ◌∷◌, ◌++◌, length}
 use Rattle.std.proofs.Common.{Bool, true, false, Option, Some, None, IfSome, Ok, Err, refl, ap, sym, subst, arith}
 use Rattle.std.proofs.Common.{length-append, length-take}
@@ -31,7 +31,7 @@ use Rattle.capn_commands.proofs.Served.{Ending, IsOf, behind_of, due, ending_of,
 
 -- ---- a packed input unpacks to no more than a run takes
 
--- a group has at most 1,024 times the bytes of its text
+-- The words of a group have at most 1,024 times as many bytes as the text of the group.
 spread : (g : Group) → IsGroup g → length (group_bytes g) ≤ 1024 * length (group_text g)
 spread (Zeros more) h = omega (arith, h, length-replicate {A = ℕ} (8 * (1 + more)) 0)
 spread (Named tag word) (some, small, size, named) = omega (arith, size)
@@ -48,7 +48,7 @@ all_spread (g ∷ gs) (here, each) = omega (
   length-append (group_text g) (texts gs),
 )
 
--- The greatest number of bytes that are taken of what an input unpacks to.
+-- The greatest number of unpacked bytes that are taken.
 abbrev most_unpacked : ℕ
 most_unpacked = 2 ^ 64 - 1
 
@@ -184,8 +184,8 @@ module _ (piece : MessageText) (limits : Bounds) (x : Run MessageTexts) (of : Is
     memory = λ e. h.memory (memory_from r e);
   }
 
-  -- If the greatest number of words is that of the limits, a run of the service over a packed stream is a run of its
-  -- plan.
+  -- If `most` is the greatest number of words in the limits, a run of the service over a packed stream is a run of the
+  -- plan for that stream.
   pub packed_served : (most : ℕ) → most ≡ limits.message_words → (a b c d : Option (List ℕ))
       (reader_failed writer_failed : Bool) (r : Ending) (y : Run MessageTexts)
       → served.RunsPacked (fold_of serves refuses most) x most_input most_unpacked a b c d reader_failed

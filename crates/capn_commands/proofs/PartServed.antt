@@ -1,5 +1,4 @@
--- Lemmas that a message with a part shown is a message that a service served. (For `message_texts.rt` and
--- `part_texts.rt`.)
+-- Lemmas that a service serves a message whose part is shown. (For `message_texts.rt` and `part_texts.rt`.)
 use Rattle.std.proofs.Common.{◌≡◌, inl, inr, ℕ, List, [], ◌++◌, false, Option, Result}
 use Rattle.std.proofs.Common.{Ok, Err, refl, sym, subst, ◌∙◌, append-nil, take, Bool, true, IsErrAnd}
 use Rattle.std.specs.Prelude.{if◌then◌else◌}
@@ -30,7 +29,7 @@ stopped fault = Err fault
 
 -- ---- the end of a text
 
--- Case: the end is kept, and then the text was written if it was long.
+-- Case: the end is kept, and then the kept text was written if the kept text was long.
 pub end_added : (line : List ℕ) (p q r : Outgoing) (end : Ending) → q.taken ≡ p.taken → q.failed ≡ p.failed
     → q.kept ≡ p.kept ++ line → p.failed ≡ false
     → served.Flushes (served.outgoing q.taken q.kept) (served.outgoing r.taken r.kept) r.failed end

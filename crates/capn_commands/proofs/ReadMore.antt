@@ -19,7 +19,7 @@ pub still_fine : (old new : Bool) → old ≡ false → new ≡ (old || false) �
 still_fine false new fine is = is
 still_fine true new fine is = absurd (cc)
 
--- The bytes that were kept are those that a run takes of all that the reader had, if that is known.
+-- If all bytes that the reader had are known, a run takes exactly the kept bytes of them.
 pub kept_all : (old new : Option (List ℕ)) (kept bytes : List ℕ) (is_longer : Bool) → Kept old new kept is_longer bytes
     → IfSome old (λ all. (taken_of all ≡ kept) × (has_more all ≡ is_longer))
 kept_all None new kept bytes is_longer h = tt

@@ -23,7 +23,7 @@ writer_only : (r w : Bool) → r ≡ false → (r ≡ true) ⊎ (w ≡ true) →
 writer_only r w fine (inl h) = absurd (not_read r fine h)
 writer_only r w fine (inr h) = h
 
--- One more chunk was read, and `P` still holds.
+-- One more chunk was read, and more output was written. `Q` holds for all bytes that were read and for all output.
 pub heard_more : (P Q : List ℕ → List ℕ → Type 0) (a b b2 c d e : Option (List ℕ)) (taken w k : ℕ) (buf words : List ℕ)
     → w ≡ k → (h : Consumed P a b c d taken) → Consumes b b2 (take k buf) → k ≤ length buf → Appends d e words
     → Q (h.bytes ++ take k buf) (h.text ++ words) → Consumed Q a b2 c e (taken + w)
@@ -80,7 +80,8 @@ module _ (f : Flow) where
 
   module _ (P : List ℕ → List ℕ → Type 0) (settles : (bytes text : List ℕ) → P bytes text → f.settles bytes text)
       (begins : (bytes text : List ℕ) → P bytes text → f.begins bytes text) where
-    -- The settled output of the bytes before the last chunk was written, and then more, before the next read.
+    -- Before the last chunk was read, the settled output of the bytes before that chunk was written. More output
+    -- follows.
     ahead : (a b c d e : Option (List ℕ)) (taken k : ℕ) (buf more : List ℕ) → (h : Consumed P a b c d taken)
         → k ≤ length buf → k ≤ 65536 → Appends d e more → IsAhead f (h.bytes ++ take k buf) c e
     ahead a b c d e taken k buf more h within small wrote = (
@@ -96,7 +97,7 @@ module _ (f : Flow) where
       wrote,
     )
 
-    -- No chunk was read after the bytes whose settled output was written.
+    -- The settled output of all bytes was written, and the last chunk is taken as empty.
     ahead_all : (a b c d e : Option (List ℕ)) (taken : ℕ) (more : List ℕ) → (h : Consumed P a b c d taken)
         → Appends d e more → IsAhead f h.bytes c e
     ahead_all a b c d e taken more h wrote = (

@@ -1,4 +1,4 @@
--- Lemmas that a run ends as it must for all that its reader had. (For `perform`, `run` and `run_bare_piece`.)
+-- Lemmas that a run ends as its plan requires for all that the reader had. (For `perform`, `run` and `run_bare_piece`.)
 use Rattle.std.proofs.Common.{◌≡◌, ◌⊎◌, inl, inr, ℕ, ◌+◌, ◌≤◌, ◌^◌, List, [], Bool, Option, None, Some, IfSome, Result}
 use Rattle.std.proofs.Common.{Err, refl, ap, sym, subst}
 use Rattle.std.proofs.KnownBytes.{Appends-nil}
@@ -11,7 +11,7 @@ use Rattle.capn_commands.specs.declared.fault.ToolFault.{ToolFault}
 use Rattle.capn_commands.specs.declared.fault.ToolFault.TheVariants as faults
 use Rattle.capn_commands.proofs.ReadMore.{kept_all}
 
--- The empty text is a possible first part of any output.
+-- The empty text is an output that may have been started for any bytes.
 front_none : (plan : Plan) (bytes : List ℕ) (is_longer : Bool) → IsFront plan bytes is_longer []
 front_none (plans.Whole whole) bytes is_longer = inl refl
 front_none (plans.Each piece limits) bytes is_longer = ([], bytes, record { each = tt; is = refl }, refl)
@@ -24,7 +24,7 @@ front_none (plans.Packed piece limits) bytes is_longer = (
   refl,
 )
 
--- Nothing was written, which is a prefix of any output.
+-- If nothing was written, a prefix of any output was written.
 pub begins_none : (plan : Plan) (old new writer : Option (List ℕ)) → HasRead old new (λ n. n ≤ 2 ^ 32 + 1)
     → PlanBegins plan old new writer writer
 begins_none plan old new writer (bytes, read, bound) = (
@@ -36,7 +36,7 @@ begins_none plan old new writer (bytes, read, bound) = (
   },
 )
 
--- The output that was written for the bytes that were kept was written for those that were read.
+-- The output that was written for the kept bytes was written for the bytes that were read.
 pub begins_kept : (plan : Plan) (old new writer written : Option (List ℕ)) (kept : List ℕ) (is_longer : Bool)
     → (bytes : List ℕ) × Kept old new kept is_longer bytes
     → HasWritten plan kept is_longer writer written → PlanBegins plan old new writer written
@@ -51,7 +51,7 @@ begins_kept plan old new writer written kept is_longer (bytes, k) h = (
   },
 )
 
--- A run that ended as it must for the bytes that were kept ended as it must for all that the reader had.
+-- A run that ended as its plan requires for the kept bytes ended as its plan requires for all that the reader had.
 pub ends_kept : (plan : Plan) (old new writer written : Option (List ℕ)) (kept : List ℕ) (is_longer : Bool)
     (r : Result (Unit {0}) ToolFault) → (bytes : List ℕ) × Kept old new kept is_longer bytes
     → HasEnded plan kept is_longer writer written r → IfSome old (PlanEndsAs plan writer written r)
@@ -68,7 +68,7 @@ ends_unread plan None writer written fault h = tt
 ends_unread plan (Some all) writer written fault (inl m) = inl (ap (λ (f : ToolFault). Err f) m)
 ends_unread plan (Some all) writer written fault (inr e) = inr (inl (ap (λ (f : ToolFault). Err f) e))
 
--- A run of a plan is a run of the command with that plan.
+-- If two plans are equal, a run that ended as one plan requires ended as the other plan requires.
 pub ends_planned : (plan other : Plan) (known old new : Option (List ℕ)) (r : Result (Unit {0}) ToolFault)
     → plan ≡ other → IfSome known (PlanEndsAs plan old new r) → IfSome known (PlanEndsAs other old new r)
 ends_planned plan other known old new r e h = subst (λ (p : Plan). IfSome known (PlanEndsAs p old new r)) e h

@@ -22,7 +22,7 @@ use Rattle.capn_commands.proofs.HeldBack.{open_more, open_none}
 
 -- ---- whole words
 
--- The whole words of bytes that follow whole words.
+-- The whole words of some words followed by bytes are those words followed by the whole words of the bytes.
 pub whole_after : (front bytes : List ℕ) (n : ℕ) → length front ≡ 8 * n
     → whole_of (front ++ bytes) ≡ front ++ whole_of bytes
 whole_after front bytes n size =
@@ -39,7 +39,7 @@ choice_longer (Named tag word) a b long c = c
 choice_longer (Raw word count more) a b long c =
     (c.0, c.1, λ less dense. c.2 less (subst IsDense (take-append-le 8 a b long) dense))
 
--- A group that no later word changes, because it is full.
+-- The group is full, so that no later word changes it.
 abbrev pub IsFull : Group → Type 0
 IsFull (Zeros more) = more ≡ 255
 IsFull (Named tag word) = ⊤
@@ -50,7 +50,7 @@ choice_full (Zeros more) a b full c = λ less e. absurd (omega (arith, full, les
 choice_full (Named tag word) a b full c = c
 choice_full (Raw word count more) a b full c = (c.0, c.1, λ less dense. absurd (omega (arith, full, less)))
 
--- A list of groups may be followed by other groups, if these begin with the same words.
+-- A list of groups that may be followed by `us` may also be followed by groups that begin with the same words.
 row_join : (gs us vs : List Group) (more : List ℕ) → IsChosenRow (gs ++ us) → contents vs ≡ contents us ++ more
     → 8 ≤ length (contents us) → IsChosenRow vs → IsChosenRow (gs ++ vs)
 row_join [] us vs more row same long next = next
@@ -76,7 +76,7 @@ words_some (Zeros more) = omega arith
 words_some (Named tag word) = omega arith
 words_some (Raw word count more) = omega arith
 
--- A list of groups with a settled last group may be followed by any groups.
+-- A list of groups whose last group is full may be followed by any groups.
 row_full : (gs : List Group) (h : Group) (vs : List Group) → IsFull h → IsChosenRow (gs ++ h ∷ []) → IsChosenRow vs
     → IsChosenRow (gs ++ h ∷ vs)
 row_full gs h vs full row next =
@@ -97,7 +97,7 @@ pub each_front : (gs us : List Group) → IsChosenRow (gs ++ us) → AllByRecurs
 each_front [] us row = tt
 each_front (g ∷ gs) us row = (row.0, each_front gs us row.2)
 
--- A list of groups settles its text, if any groups that follow it are chosen as those of the rest are.
+-- A list of groups settles its text, if the groups that the packer chooses for any following bytes may follow the list.
 settles_row : (gs : List Group) (rest : List ℕ) → AllByRecursion IsGroup gs
     → ((next : List ℕ) (vs : List Group) → contents vs ≡ whole_of (rest ++ next) → IsChosenRow vs
     → IsChosenRow (gs ++ vs)) → Settles (contents gs ++ rest) (texts gs) rest
@@ -114,7 +114,7 @@ settles_row gs rest each law = record {
   };
 }
 
--- All groups but the last one are settled.
+-- The text of all groups but the last one is settled.
 settles_front : (gs : List Group) (h : Group) (more : List ℕ) → AllByRecursion IsGroup gs → IsChosenRow (gs ++ h ∷ [])
     → Settles (contents gs ++ (group_bytes h ++ more)) (texts gs) (group_bytes h ++ more)
 settles_front gs h more each row =
@@ -128,7 +128,7 @@ settles_front gs h more each row =
     ∙ whole_after (group_bytes h) (more ++ next) (group_words h) size
     ∙ ap (λ (l : List ℕ). l ++ whole_of (more ++ next)) (sym (append-nil (group_bytes h)))) long rows)
 
--- All groups are settled, if the last one is.
+-- If the last group is full, the text of all groups is settled.
 settles_all : (gs : List Group) (h : Group) (more : List ℕ) → IsFull h → IsChosenRow (gs ++ h ∷ [])
     → Settles (contents (gs ++ h ∷ []) ++ more) (texts (gs ++ h ∷ [])) more
 settles_all gs h more full row =
@@ -137,7 +137,7 @@ settles_all gs h more full row =
 
 -- ---- the last group of a text
 
--- The groups that were unpacked are all but the last one.
+-- The groups that were unpacked are all groups but the last one.
 pub record Last (text_of words_of : List ℕ) (count taken known : ℕ) : Type 0 where
   pub groups : List Group
   pub last : Group
@@ -207,7 +207,7 @@ no_bytes : (bs : List ℕ) → length bs ≡ 0 → bs ≡ []
 no_bytes [] none = refl
 no_bytes (b ∷ bs) none = absurd (omega (arith, none))
 
--- Nothing is settled of less than a word.
+-- Of bytes that are less than a word, no text is settled.
 pub settled_none : (t bs : List ℕ) → Chosen t bs → length bs < 8 → IsSettled t bs 0 0
 settled_none t bs c less = record {
   inside = omega arith;
@@ -228,7 +228,7 @@ module _ (t bs : List ℕ) (count taken known : ℕ) (l : Last t bs count taken 
       ∙ ap (λ (k : ℕ). drop k (contents l.groups ++ group_bytes l.last)) (sym front_size)
       ∙ drop-append_seam (contents l.groups) (group_bytes l.last)
 
-  -- Case: the last group may go on.
+  -- Case: the last group is a run that may continue.
   pub settled_front : length bs ≡ 8 * count → count - known < 256 → AreOpen (group_bytes l.last)
       → IsSettled t bs taken (8 * known)
   settled_front size less is_open = record {
@@ -244,7 +244,7 @@ module _ (t bs : List ℕ) (count taken known : ℕ) (l : Last t bs count taken 
     open_words = subst AreOpen (sym rest_of) is_open;
   }
 
-  -- The last group is settled, by its tag and its number of words.
+  -- By its tag and its number of words, the last group is full.
   full_last : (h : Group) → IsGroup h
       → (group_words h < 256 → (0 < get_or (group_text h) 0 0) × (get_or (group_text h) 0 0 < 255))
       → IsFull h
@@ -285,7 +285,7 @@ module _ (t bs : List ℕ) (count taken known : ℕ) (l : Last t bs count taken 
         open_words = open_none (drop (length bs) bs) (drop_all (length bs) bs (omega arith));
       }
 
--- All of a text is settled, by the byte at which its last group begins.
+-- All of a text is settled, if the tag where the last group begins shows that the group is full.
 pub settled_tag : (t bs : List ℕ) (count taken known tag : ℕ) → Last t bs count taken known → Chosen t bs
     → get_or t taken 0 ≡ tag → (count - known < 256 → (0 < tag) × (tag < 255)) → IsSettled t bs (length t) (length bs)
 settled_tag t bs count taken known tag l c is closed =
@@ -294,7 +294,7 @@ settled_tag t bs count taken known tag l c is closed =
     settled_whole t bs count taken known l c
     (λ less. subst (λ (x : ℕ). (0 < x) × (x < 255)) (sym same) (closed less))
 
--- The last group of a text, if all groups before it were unpacked.
+-- If all groups of a text but one were unpacked, that one is the last group.
 pub last_of : (t bs : List ℕ) (taken known : ℕ) (old new : List ℕ) (next : Next) → Chosen t bs → 8 ≤ length bs
     → UnpacksSome t (length bs / 8 - 1) old new taken known next → Last t bs (length bs / 8) taken known
 last_of t bs taken known old new next c some u =
@@ -303,14 +303,15 @@ last_of t bs taken known old new next c some u =
 
 -- ---- what is held
 
--- After the cut there are dense words, and less than a word.
+-- The bytes after the cut are the words after the cut, followed by less than a word.
 dense_behind : (held : List ℕ) (cut whole : ℕ) → cut ≤ whole → whole ≤ length held
     → drop cut held ≡ drop cut (take whole held) ++ drop whole held
 dense_behind held cut whole before inside =
     ap (drop cut) (sym (take-append-drop whole held))
     ∙ drop-append-le cut (take whole held) (drop whole held) (omega (arith, before, length-take-le whole held inside))
 
--- The first bytes were packed and those after them are few. The settled part of their text settles all bytes.
+-- The bytes before the cut were packed, and few bytes follow the cut. The settled part of their text is settled by all
+-- bytes.
 pub settled_held : (held t first_of rest_of : List ℕ) (cut whole first at n : ℕ)
     → IsSettled t (take cut held) first at → length held < length (take cut held) + 2048 → first_of ≡ take first t
     → rest_of ≡ drop at held → cut ≤ whole → whole ≤ length held → length held < whole + 8

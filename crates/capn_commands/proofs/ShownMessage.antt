@@ -1,5 +1,5 @@
--- Lemmas that a message with a text written while it is made is a message that a service served. (For `add_line`,
--- `add_shown` and `serve`.)
+-- Lemmas that a service serves a message whose text is written while the text is made. (For `add_line`, `add_shown` and
+-- `serve`.)
 use Rattle.std.proofs.Common.{◌≡◌, ◌≢◌, ◌⊎◌, inl, inr, ℕ, List, [], ◌∷◌, ◌++◌, false, codes, Option, Result}
 use Rattle.std.proofs.Common.{Ok, Err, refl, sym, subst, ◌∙◌, append-nil, take}
 use Rattle.std.specs.Io.KnownBytes.{Appends}
@@ -30,7 +30,7 @@ stopped fault = Err fault
 
 -- ---- one line
 
--- Case: the line is kept, and then the text was written if it was long.
+-- Case: the line is kept, and then the kept text was written if the kept text was long.
 pub line_added : (line : List ℕ) (p q r : Outgoing) (end : Ending) → q.taken ≡ p.taken → q.failed ≡ p.failed
     → q.kept ≡ p.kept ++ line → p.failed ≡ false
     → served.Flushes (served.outgoing q.taken q.kept) (served.outgoing r.taken r.kept) r.failed end

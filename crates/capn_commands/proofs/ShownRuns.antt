@@ -1,4 +1,4 @@
--- Lemmas that the messages of a run that shows parts were served. (For `run_show`.)
+-- Lemmas that a run that shows parts serves the messages of its input. (For `run_show`.)
 use Rattle.std.proofs.Common.{◌≡◌, ℕ, List, Bool, Option, Result, subst}
 use Rattle.capn_serve.specs.Fold.{fold_of}
 use Rattle.capn_serve.specs.FormRun.{ServesMessages}

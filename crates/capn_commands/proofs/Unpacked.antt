@@ -29,17 +29,17 @@ stopped fault = Err fault
 
 -- ---- groups that come first in some bytes
 
--- No group was unpacked yet.
+-- Case: no group was unpacked yet.
 pub row_none : (bytes : List ℕ) → TakesRow bytes 0 [] []
 row_none bytes = record { groups = []; each = tt; within = omega arith; text = refl; content = refl }
 
--- The groups that one call unpacks.
+-- The groups that one call unpacks come first in the bytes.
 row_some : (bytes words : List ℕ) (max taken count : ℕ) (next : Next)
     → UnpacksSome bytes max [] words taken count next → TakesRow bytes taken [] words
 row_some bytes words max taken count next u =
     record { groups = u.groups; each = u.each; within = u.inside; text = u.text; content = u.content }
 
--- Groups, and those that follow them.
+-- If some groups come first in the bytes, and other groups come next, both lists of groups together come first.
 row_then : (bytes words more : List ℕ) (at taken : ℕ) → TakesRow bytes at [] words
     → TakesRow (drop at bytes) taken [] more → TakesRow bytes (at + taken) [] (words ++ more)
 row_then bytes words more at taken s t = record {
@@ -59,7 +59,7 @@ row_more bytes words more at max taken count next s u =
 
 -- ---- the bytes that follow
 
--- No whole group follows, unless there was no room for it.
+-- If a call did not stop at a group with too many words, no whole group follows.
 none_next : (next : Next) (room : ℕ) (rest : List ℕ) → StandsNext next room rest → (next ≡ nexts.TooLong → ⊥)
     → NoGroupFirst rest × (length rest < most_group)
 none_next nexts.End room rest is other =
@@ -71,7 +71,7 @@ not_long : (next : Next) → (next ≡ nexts.End) ⊎ (next ≡ nexts.Cut) → n
 not_long next (inl a) e = let bad : nexts.End ≡ nexts.TooLong = sym a ∙ e in cc
 not_long next (inr a) e = let bad : nexts.Cut ≡ nexts.TooLong = sym a ∙ e in cc
 
--- All whole groups were unpacked.
+-- Case: all whole groups were unpacked.
 pub row_last : (bytes words more : List ℕ) (at max taken count : ℕ) (next : Next) → TakesRow bytes at [] words
     → UnpacksSome (drop at bytes) max [] more taken count next → (next ≡ nexts.End) ⊎ (next ≡ nexts.Cut)
     → Splits bytes (drop (at + taken) bytes) [] (words ++ more) (at + taken)
@@ -84,7 +84,7 @@ row_last bytes words more at max taken count next s u is =
       omega (arith, none.1, length-drop (at + taken) bytes),
     )
 
--- a group has at most 256 words
+-- A group has at most 256 words.
 few_words : (rest : List ℕ) → ((k : ℕ) → get_or rest k 0 < 2 ^ 8) → words_at rest ≤ 256
 few_words rest fits = grind (arith, nat_tests, fits 1, fits 9)
 
@@ -92,7 +92,7 @@ no_words : (gs : List Group) → [] ≡ texts gs → word_count gs ≡ 0
 no_words [] e = refl
 no_words (g ∷ gs) e = absurd (omega (arith, text_some g, ap length e, length-append (group_text g) (texts gs)))
 
--- With room for a group, a call that reports no room for the next group has unpacked at least one.
+-- If there is room for any group, a call that stops before a group that is too long has unpacked at least one group.
 grows : (bytes words : List ℕ) (max taken count : ℕ) → ((k : ℕ) → get_or bytes k 0 < 2 ^ 8) → 256 ≤ max
     → UnpacksSome bytes max [] words taken count nexts.TooLong → 0 < taken
 grows bytes words max zero count fits room u =
@@ -178,7 +178,7 @@ row_stop bytes words at c d e failed fault s =
 
 -- ---- the whole stream
 
--- Unpacking has taken `bytes` from the first byte on. The words of all whole groups are `text`, and `rest` is left.
+-- The words of all whole groups of `bytes`, which were read from the first byte on, are `text`, and `rest` is left.
 abbrev pub FromStart : List ℕ → List ℕ → List ℕ → Type 0
 FromStart rest bytes text = (len : ℕ) × Splits bytes rest [] text len
 
@@ -193,7 +193,7 @@ start_begins rest bytes text told =
     let s = told.1 in
     record { groups = s.groups; rest = rest; each = s.each; text = s.text; content = s.content }
 
--- A split that appends its words to words that were there before.
+-- A split that unpacks to `words` also appends `words` to words that were there before.
 shifted : (stream rest words old : List ℕ) (len : ℕ) → Splits stream rest [] words len
     → Splits stream rest old (old ++ words) len
 shifted stream rest words old len s = record {
@@ -222,19 +222,19 @@ module _ (rest bytes text piece : List ℕ) (told : FromStart rest bytes text) w
       stops_then (bytes ++ piece) (rest ++ piece) text c d e failed fault
       (λ next. begins_then bytes rest piece text next told.0 told.1)
 
--- The offset of the bytes that are left.
+-- The offset of the bytes that are left, and their number, add up to the number of bytes read.
 pub start_at : (rest bytes text : List ℕ) (told : FromStart rest bytes text) → told.0 + length rest ≡ length bytes
 start_at rest bytes text told =
     let s = told.1 in
     omega (arith, s.size, ap length s.text, length-append (texts s.groups) rest)
 
--- The ending of unpacking is never Io, which is reported only if the reader or the writer failed.
+-- The ending of unpacking is never Io, which is returned only if the reader or the writer failed.
 not_io : (is_longer : Bool) (rest : List ℕ) (offset : ℕ) → ending_of is_longer rest offset ≡ Err faults.Io → ⊥
 not_io true rest offset e = cc
 not_io false [] offset e = cc
 not_io false (b ∷ rest) offset e = cc
 
--- The ending of unpacking is never Memory, which is reported only if bytes were read.
+-- The ending of unpacking is never Memory, which is returned only if an allocation was refused.
 not_memory : (is_longer : Bool) (rest : List ℕ) (offset : ℕ) → ending_of is_longer rest offset ≡ Err faults.Memory → ⊥
 not_memory true rest offset e = cc
 not_memory false [] offset e = cc

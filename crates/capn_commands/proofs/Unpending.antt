@@ -29,7 +29,8 @@ begins_pending most = record {
   begun = inl refl;
 }
 
--- The number of words that a tag announces, by the byte after a tag of zeros or of raw words.
+-- The number of words that a group has with the tag `tag`. `zeros` and `raw` are the bytes with the length of a run of
+-- zero words and of raw words.
 abbrev announced : ℕ → ℕ → ℕ → ℕ
 announced tag zeros raw = if tag == 0 then 1 + zeros else (if tag == 255 then 1 + raw else 1)
 
@@ -39,7 +40,7 @@ same_words true f a b c d p q = ap (λ (n : ℕ). 1 + n) (p refl)
 same_words false true a b c d p q = ap (λ (n : ℕ). 1 + n) (q refl refl)
 same_words false false a b c d p q = refl
 
--- A head of a group stays the same if more bytes follow, and so does the number of words that it announces.
+-- If more bytes follow, the head of a group and the number of words that this head announces stay the same.
 head_stays : (rest more : List ℕ) → 0 < length rest → HasHead rest
     → HasHead (rest ++ more) × (words_at (rest ++ more) ≡ words_at rest)
 head_stays rest more some head =
@@ -53,7 +54,7 @@ head_stays rest more some head =
           (λ z f. at 9 (omega (arith, rw (z, f) at head))),
     )
 
--- A group that has more words than there is room for stays so if more bytes follow.
+-- A group that has more words than `room` has more words than `room` if more bytes follow.
 long_stays : (room : ℕ) (rest more : List ℕ) → IsTooLong room rest → IsTooLong room (rest ++ more)
 long_stays room rest more long =
     let stays = head_stays rest more long.0 long.1 in
@@ -74,7 +75,8 @@ refused_stays most seen more at s = record {
 
 module _ (most : ℕ) (seen words held piece : List ℕ) (at left : ℕ) (h : Holds most seen words held at left)
     (new : List ℕ) (taken count : ℕ) where
-  -- The bytes that follow the groups which a chunk completes.
+  -- The bytes read so far are the text of the whole groups, followed by the bytes after the groups that the chunk
+  -- completes.
   split : (groups : List Group) → take taken (held ++ piece) ≡ texts groups
       → seen ++ piece ≡ texts (h.groups ++ groups) ++ drop taken (held ++ piece)
   split groups e =
@@ -85,7 +87,7 @@ module _ (most : ℕ) (seen words held piece : List ℕ) (at left : ℕ) (h : Ho
       ∙ sym (append_assoc (texts h.groups) (texts groups) (drop taken (held ++ piece)))
       ∙ ap (λ (xs : List ℕ). xs ++ drop taken (held ++ piece)) (sym (flat_map-append group_text h.groups groups))
 
-  -- Case: the chunk ends after these groups, or within the next one.
+  -- Case: the chunk ends after the groups that it completes, or within the next group.
   pub goes_on : (next : Next) (rest : List ℕ) (to room : ℕ)
       → UnpacksSome (held ++ piece) left words new taken count next
       → rest ≡ drop taken (held ++ piece) → to ≡ at + taken → room + count ≡ left
@@ -112,7 +114,7 @@ module _ (most : ℕ) (seen words held piece : List ℕ) (at left : ℕ) (h : Ho
     begun = begun;
   }
 
-  -- Case: the next group has more words than are left.
+  -- Case: the next group has more than `left` words.
   pub stops_long : (to : ℕ) → UnpacksSome (held ++ piece) left words new taken count nexts.TooLong → to ≡ at + taken
       → Stands IsTooLong (seen ++ piece) most to
   stops_long to u further = record {
@@ -166,7 +168,7 @@ cut_pending most seen words held at left h some = record {
   fault = elim h.begun [ inl none ↦ absurd (omega (arith, some, ap length none)) | inr cut ↦ cut ];
 }
 
--- The offset is within the bytes that were read.
+-- The offset of the unfinished group is within the bytes that were read.
 pub offset_within : (most : ℕ) (seen words held : List ℕ) (at left : ℕ) (long : Bool)
     → IsPending most seen words held at left long → at ≤ length seen
 offset_within most seen words held at left false h =
@@ -174,13 +176,13 @@ offset_within most seen words held at left false h =
 offset_within most seen words held at left true s =
     omega (arith, s.offset, ap length s.text, length-append (texts s.groups) s.rest)
 
--- Case: a chunk is read after a group that is too long.
+-- Case: a chunk is read after a group that has too many words.
 pub stays_long : (most : ℕ) (seen words held more : List ℕ) (at left : ℕ) (long : Bool) → long ≡ true
     → IsPending most seen words held at left long → IsPending most (seen ++ more) words held at left long
 stays_long most seen words held more at left false e p = absurd (let bad : false ≡ true = e in cc)
 stays_long most seen words held more at left true e p = refused_stays most seen more at p
 
--- The results at the end of the input.
+-- Case: the input has ended, and a group has too many words.
 pub ends_long : (A : Type 0) (most : ℕ) (seen words held : List ℕ) (at left : ℕ) (long : Bool) → long ≡ true
     → IsPending most seen words held at left long
     → Gives {A = A} (wholes.Unpacked most) seen (Err (faults.Refused (refusals.Packed (unpack_faults.TooLong at))))
@@ -201,7 +203,7 @@ pub ends_whole : {A : Type 0} (most : ℕ) (seen held : List ℕ) (words : Vec �
 ends_whole most seen held words at left true e none p = absurd (let bad : true ≡ false = e in cc)
 ends_whole most seen held words at left false e none p = all_unpacked most seen words.items held at left p none
 
--- Case: a chunk was taken, and it ends after a group or within one.
+-- Case: a chunk was taken that ends after a group or within a group.
 pub taken_piece : (most : ℕ) (seen words held piece : List ℕ) (at left : ℕ) (long : Bool) (new : List ℕ)
     (taken count : ℕ) (next is : Next) (rest : List ℕ) (to room : ℕ) → long ≡ false
     → UnpacksSome (held ++ piece) left words new taken count next → next ≡ is
@@ -230,7 +232,7 @@ taken_piece most seen words held piece at left false new taken count next is res
           (subst (λ (n : ℕ). IsCut n (drop taken (held ++ piece))) same_room s.0)))
     ]
 
--- Case: a chunk was taken, and it ends after a group.
+-- Case: a chunk was taken that ends after a group.
 pub taken_end : (most : ℕ) (seen words held piece : List ℕ) (at left : ℕ) (long : Bool) (new : List ℕ)
     (taken count : ℕ) (next : Next) (to room : ℕ) → long ≡ false
     → UnpacksSome (held ++ piece) left words new taken count next → next ≡ nexts.End
@@ -242,7 +244,7 @@ taken_end most seen words held piece at left long new taken count next to room o
     taken_piece most seen words held piece at left long new taken count next nexts.End [] to room off u e (inl refl)
     (sym s) further less p
 
--- Case: a chunk was taken, and a group in it has more words than are left.
+-- Case: a chunk was taken, and one of its groups has too many words.
 pub taken_long : (most : ℕ) (seen words held piece : List ℕ) (at left : ℕ) (long : Bool) (new : List ℕ)
     (taken count : ℕ) (next : Next) (rest : List ℕ) (to room : ℕ) → long ≡ false
     → UnpacksSome (held ++ piece) left words new taken count next → next ≡ nexts.TooLong → to ≡ at + taken
@@ -253,7 +255,7 @@ taken_long most seen words held piece at left false new taken count next rest to
     stops_long most seen words held piece at left p new taken count to
     (subst (λ (n : Next). UnpacksSome (held ++ piece) left words new taken count n) e u) further
 
--- The bytes of an unfinished group are fewer than those of the longest group.
+-- The bytes of an unfinished group are fewer than the bytes of the longest group.
 pub cut_short : (next : Next) (room : ℕ) (rest : List ℕ) → next ≡ nexts.Cut → StandsNext next room rest
     → length rest < most_group
 cut_short next room rest e s =

@@ -1,4 +1,4 @@
--- Lemmas on the line of a bare message's price. (For `put_verdict`.)
+-- Lemmas on the verdict line of a bare message. (For `put_verdict`.)
 use Rattle.std.proofs.Common.{◌≡◌, inl, inr, ℕ, List, [], ◌∷◌, ◌++◌, codes, true, false, Result, Ok, Err, ap, sym, ◌∙◌}
 use Rattle.std.proofs.Common.{◌⊎◌, IsErrAnd, refl}
 use Rattle.capn_walk.specs.Limits.{Bounds}

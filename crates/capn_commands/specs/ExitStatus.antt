@@ -4,7 +4,7 @@ use Rattle.capn_serve.specs.Ending.{status_of_ending}
 use Rattle.capn_commands.specs.declared.fault.ToolFault.{ToolFault}
 use Rattle.capn_commands.specs.declared.fault.ToolFault.TheVariants as faults
 
--- The exit status after a fault: 1 if the input is refused, 3 if the run could not be carried out. (Own.)
+-- The exit status after a fault: 1 if the input is refused, 3 if the run could not be carried out. (Our own.)
 abbrev pub exit_of : ToolFault → ℕ
 exit_of faults.Memory = 3
 exit_of faults.Io = 3
@@ -12,6 +12,6 @@ exit_of faults.InputTooLong = 3
 exit_of (faults.NotWhole n) = 1
 exit_of (faults.Refused refusal) = 1
 
--- The exit status after a run: 0 if it is done. (Own.)
+-- The exit status after a run: 0 after `Ok`, and the status of the fault after an `Err`. (Our own.)
 abbrev pub status_of : Result (Unit {0}) ToolFault → ℕ
 status_of = status_of_ending exit_of

@@ -1,4 +1,4 @@
--- The texts that say why a run stopped. (Own.)
+-- The texts that say why a run stopped. (Our own.)
 use Rattle.std.specs.Prelude.{ℕ, List, ◌++◌, codes, Bool, Option, Result}
 use Rattle.std.specs.Fmt.{decimal}
 use Rattle.capn_serve.specs.Ending.{WritesEnding, fault_text_line, out_of_memory}
@@ -18,6 +18,6 @@ fault_text (faults.Refused refusal) = refusal_text refusal
 abbrev pub fault_line : ToolFault → List ℕ
 fault_line fault = fault_text_line (fault_text fault)
 
--- The end of a run was reported: nothing was written if it is done, or else the line of its fault.
+-- The end of a run was reported: nothing was written after `Ok`, and the error line of the fault after an `Err`.
 abbrev pub ReportsEnding : Result (Unit {0}) ToolFault → Option (List ℕ) → Option (List ℕ) → Bool → Type 0
 ReportsEnding = WritesEnding fault_text

@@ -1,11 +1,11 @@
--- The text of a fault, as it is displayed, and the status with which a program ends. (Own.)
+-- The text of a fault of packing or unpacking, and the status with which the program ends. (Our own.)
 use Rattle.std.specs.Prelude.{ℕ, List, ◌++◌, codes}
 use Rattle.std.specs.Fmt.{decimal}
 use Rattle.capn_serve.specs.Ending.{out_of_memory}
 use Rattle.capn_commands.specs.declared.flow_fault.FlowFault.{FlowFault}
 use Rattle.capn_commands.specs.declared.flow_fault.FlowFault.TheVariants as faults
 
--- the reason why a stream isn't packed or unpacked to its end
+-- The text of the reason why a stream isn't packed or unpacked to its end.
 abbrev pub fault_text : FlowFault → List ℕ
 fault_text faults.Memory = out_of_memory
 fault_text faults.Io = codes "input or output failed"
@@ -13,7 +13,8 @@ fault_text faults.InputTooLong = codes "input too long"
 fault_text (faults.Cut at) = codes "packed: Cut at " ++ decimal at
 fault_text (faults.NotWhole n) = codes "NotWhole(" ++ decimal n ++ codes ")"
 
--- The exit status of a fault: 1 if the input is refused, 3 if it was not read to its end.
+-- The exit status of a fault: 1 if the input is refused, and 3 if memory, the reader or the writer failed or the input
+-- is too long.
 abbrev pub status_of : FlowFault → ℕ
 status_of faults.Memory = 3
 status_of faults.Io = 3

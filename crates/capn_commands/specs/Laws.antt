@@ -1,4 +1,4 @@
--- Laws of the definitions alone. (Own.)
+-- Laws of the definitions, without any function. (Our own.)
 use Rattle.std.specs.Prelude.{◌≡◌, ℕ, List, Bool}
 use Rattle.capn_commands.specs.Flow.{Ending, Flow}
 use Rattle.capn_commands.specs.PackRun.{packing}

@@ -1,4 +1,4 @@
--- The marks of a message in an input, and its line `end` with marks. (Own.)
+-- The marks of a message in an input, and the line `end` with marks. (Our own.)
 use Rattle.std.specs.Prelude.{◌≡◌, ℕ, ◌+◌, ◌*◌, List, [], ◌∷◌, ◌++◌, codes, Bool, true, false, if◌then◌else◌}
 use Rattle.std.specs.Prelude.{refl}
 use Rattle.std.specs.Fmt.{decimal, digits}
@@ -8,7 +8,7 @@ use Rattle.capn_serve.specs.Table.{table_words}
 use Rattle.capn_serve.specs.declared.position.Position.{Position}
 use Rattle.capn_commands.specs.declared.part_texts.PartTexts.{PartTexts}
 
--- the marks of a message at a position
+-- The marks of `message` at the position `at`, with the options of `s`.
 abbrev pub marks_of : PartTexts → Position → List (List ℕ) → Marks
 marks_of s at message = record {
   offsets = s.offsets;
@@ -18,12 +18,13 @@ marks_of s at message = record {
   table = table_words s.form message;
 }
 
--- The offset of the byte after a message of `words` words, with the table that `marks` has.
+-- The offset of the byte after a message of `words` words, which begins at `marks.offset` with a segment table of
+-- `marks.table` words.
 abbrev pub byte_after : Marks → ℕ → ℕ
 byte_after marks words = marks.offset + 8 * (marks.table + words)
 
--- The line `end` with marks, for a message of `words` words. Its offset is that of the byte after the message, and its
--- path is empty.
+-- The line `end` with marks, for a message of `words` words. The offset of that line is the offset of the byte after
+-- the message, and the path of that line is empty.
 abbrev pub marked_end : Marks → ℕ → List ℕ
 marked_end marks words =
     (if marks.offsets then decimal (byte_after marks words) ++ 9 ∷ [] else [])

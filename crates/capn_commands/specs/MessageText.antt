@@ -1,4 +1,4 @@
--- The text that is written for one message, and the reason why none is. (Own.)
+-- The text that is written for one message, and the reason why no text is written. (Our own.)
 use Rattle.std.specs.Prelude.{◌≡◌, ◌≢◌, ◌⊎◌, ℕ, List, [], ◌∷◌, ◌++◌, codes, None, Result, Ok, Err}
 use Rattle.std.specs.Fmt.{decimal}
 use Rattle.sha2.specs.Sha256.{sha256}
@@ -22,20 +22,20 @@ use Rattle.capn_commands.specs.declared.plan.MessageText.TheVariants as kinds
 use Rattle.capn_commands.specs.declared.fault.ToolFault.{ToolFault}
 use Rattle.capn_commands.specs.declared.fault.ToolFault.TheVariants as faults
 
--- The text of a price and a number of visits, followed by `behind`.
+-- The text with `price` and the number `visits`, followed by `behind`.
 abbrev pub priced : ℕ → ℕ → List ℕ → List ℕ
 priced price visits behind = codes "ok paid " ++ decimal price ++ codes " visits " ++ decimal visits ++ behind
 
--- the line of a price and a number of visits
+-- The line with `price` and the number `visits`.
 abbrev pub price_line : ℕ → ℕ → List ℕ
 price_line price visits = priced price visits (10 ∷ [])
 
--- the line of a digest: 64 lower-case hexadecimal digits
+-- The line with the digest of `text`, which is 64 lower-case hexadecimal digits.
 abbrev pub digest_line : List ℕ → List ℕ
 digest_line text = encode_lower (sha256 text) ++ 10 ∷ []
 
--- `text` is written for a message that is accepted within the limits: the text of its value and a line `end`, the line
--- of its price, or the line of the digest of its canonical bytes.
+-- `text` is written for a message that is accepted within the limits: the text of the message's value and a line `end`,
+-- the line with the price and the number of visits, or the line with the digest of the message's canonical bytes.
 abbrev pub IsMessageText : MessageText → List (List ℕ) → Bounds → List ℕ → Type 0
 IsMessageText kinds.Text message limits text =
     (v : Tree) × IsValueOf message limits v × (text ≡ show_text v ++ (codes "end" ++ 10 ∷ []))
@@ -51,26 +51,27 @@ IsStopped message limits fault =
     (s : Stopped) × (fault ≡ faults.Refused (refusals.Walk s))
     × walks.IsWalkRefused message limits s.fault s.place s.paid s.visits
 
--- `fault` is the reason why a run stops if its walk has stopped with `s`. It is `Memory` if and only if the walk ran
--- out of memory.
+-- `fault` is the fault of a run whose walk has stopped with `s`. `fault` is `Memory` if the fault of `s` is `Memory`,
+-- and otherwise the refusal of the walk.
 abbrev pub IsStopOf : Stopped → ToolFault → Type 0
 IsStopOf s fault =
     ((s.fault ≡ walk_faults.Memory) × (fault ≡ faults.Memory))
     ⊎ ((s.fault ≢ walk_faults.Memory) × (fault ≡ faults.Refused (refusals.Walk s)))
 
--- `fault` is the reason why a message has no text: its walk is refused, or for the digest its value has a capability.
+-- `fault` is the reason why a message has no text. The walk of the message is refused, or for the digest the message
+-- has no canonical bytes.
 abbrev pub IsNoMessageText : MessageText → List (List ℕ) → Bounds → ToolFault → Type 0
 IsNoMessageText kinds.Text message limits fault = IsStopped message limits fault
 IsNoMessageText kinds.Price message limits fault = IsStopped message limits fault
 IsNoMessageText kinds.Digest message limits fault =
     (r : Refusal) × (fault ≡ faults.Refused r) × (r ≢ refusals.Memory) × IsRefusedMessage message limits r
 
--- the bytes of the words are the canonical bytes of the value, which has no capability
+-- `words` are the canonical bytes of the value `v`, which has no capability.
 abbrev pub AreCanonical : Tree → List ℕ → Type 0
 AreCanonical v words = (first_cap v ≡ None) × (canon v ≡ bytes words)
 
--- `text` is written for the one bare message with these `words`. It is that of any message, but the line of its price
--- also says whether the words are canonical.
+-- `text` is written for the bare message with these `words`. The price line of a bare message also says whether `words`
+-- are canonical. The other texts are those of any message.
 abbrev pub IsBareMessageText : MessageText → List ℕ → Bounds → List ℕ → Type 0
 IsBareMessageText kinds.Text words limits text = IsMessageText kinds.Text (words ∷ []) limits text
 IsBareMessageText kinds.Price words limits text =
@@ -83,8 +84,8 @@ IsBareMessageText kinds.Price words limits text =
     (codes " not-canonical" ++ 10 ∷ []))))
 IsBareMessageText kinds.Digest words limits text = IsMessageText kinds.Digest (words ∷ []) limits text
 
--- A call appended the text of the message. Or it reported why there is none or that memory ran out, and left the text
--- as it was.
+-- A call appended the text of the message. Or the call returned `Memory` or the reason why the message has no text, and
+-- appended nothing.
 abbrev pub PutsMessageText : MessageText → List (List ℕ) → Bounds → List ℕ → List ℕ → Result (Unit {0}) ToolFault
     → Type 0
 PutsMessageText piece message limits old new (Ok u) = (text : List ℕ) × IsMessageText piece message limits text
@@ -92,15 +93,15 @@ PutsMessageText piece message limits old new (Ok u) = (text : List ℕ) × IsMes
 PutsMessageText piece message limits old new (Err fault) =
     ((fault ≡ faults.Memory) ⊎ IsNoMessageText piece message limits fault) × (new ≡ old)
 
--- A call appended the text of the one bare message. Or it reported why there is none or that memory ran out, and left
--- the text as it was.
+-- A call appended the text of the bare message with these `words`. Or the call returned `Memory` or the reason why the
+-- message has no text, and appended nothing.
 abbrev pub PutsBareMessageText : MessageText → List ℕ → Bounds → List ℕ → List ℕ → Result (Unit {0}) ToolFault → Type 0
 PutsBareMessageText piece words limits old new (Ok u) = (text : List ℕ) × IsBareMessageText piece words limits text
     × (new ≡ old ++ text)
 PutsBareMessageText piece words limits old new (Err fault) =
     ((fault ≡ faults.Memory) ⊎ IsNoMessageText piece (words ∷ []) limits fault) × (new ≡ old)
 
--- `line` was appended to a text, or nothing if memory ran out.
+-- `line` was appended to a text, or nothing if an allocation was refused.
 abbrev pub PutsLine : List ℕ → List ℕ → List ℕ → Result (Unit {0}) ToolFault → Type 0
 PutsLine line old new (Ok u) = new ≡ old ++ line
 PutsLine line old new (Err fault) = (fault ≡ faults.Memory) × (new ≡ old)

@@ -1,4 +1,5 @@
--- An input that is one message in a frame: what a service writes for it, and why it writes nothing. (Own.)
+-- An input that is one message in a frame: what a service writes for the message, and why nothing is written. (Our
+-- own.)
 use Rattle.std.specs.Prelude.{◌≡◌, ◌⊎◌, ℕ, List}
 use Rattle.capn_canon.specs.Reads.{IsFramed, Unpacks}
 use Rattle.capn_canon.specs.Refusal.{IsMisread}
@@ -11,25 +12,25 @@ use Rattle.capn_commands.specs.Plan.{form_of}
 use Rattle.capn_commands.specs.declared.fault.ToolFault.{ToolFault}
 use Rattle.capn_commands.specs.declared.fault.ToolFault.TheVariants as faults
 
--- `frame` is the frame of an input with at most `most` words: its bytes, or what they unpack to.
+-- `frame` is the frame of an input: the bytes of a stream, or at most `most` words that a packed input unpacks to.
 abbrev pub IsFrameOf : StreamForm → ℕ → List ℕ → List ℕ → Type 0
 IsFrameOf forms.Stream most bytes frame = bytes ≡ frame
 IsFrameOf forms.Packed most bytes frame = Unpacks bytes most frame
 
--- The first message of an input writes `text`, with its frame, in the state `s` of a service.
+-- The first message of an input, whose bytes are `frame`, writes `text` in the state `s` of a service.
 abbrev pub Writes : {S : Type 0} → (S → Position → List ℕ → List (List ℕ) → List ℕ → S → Type 0) → S → List ℕ
     → List (List ℕ) → List ℕ → Type 0
 Writes {S = S} serves s frame message text = (t : S) × serves s start frame message text t
 
 module _ {S : Type 0} (serves : S → Position → List ℕ → List (List ℕ) → List ℕ → S → Type 0)
     (refuses : S → Position → List ℕ → List (List ℕ) → Refusal → Type 0) (s : S) (most : ℕ) where
-  -- `bytes` are exactly one message, and it writes `text` in the state `s` of the service.
+  -- `bytes` are exactly one message, and that message writes `text` in the state `s` of the service.
   abbrev pub WritesOne : StreamForm → List ℕ → List ℕ → Type 0
   WritesOne form bytes text = (frame : List ℕ) × (message : List (List ℕ)) × IsFrameOf form most bytes frame
       × IsFramed frame most message × Writes serves s frame message text
 
-  -- `bytes` are no message, or more than one, and are refused as `canonical` refuses them; or the service refuses the
-  -- message.
+  -- `bytes` are not exactly one message, and `fault` is the one that `canonical` gives for `bytes`. Or the service
+  -- refuses the one message with `fault`.
   abbrev pub RefusesOne : StreamForm → List ℕ → ToolFault → Type 0
   RefusesOne form bytes fault = (r : Refusal) × (fault ≡ faults.Refused r)
       × (IsMisread (form_of form) bytes most r

@@ -1,4 +1,4 @@
--- The plan of each command: how it reads its input, and what it makes of it. (Own.)
+-- The plan of each command: how the command reads its input, and what output it makes. (Our own.)
 use Rattle.capn_walk.specs.Limits.{Bounds}
 use Rattle.capn_canon.specs.declared.form.Form.{Form}
 use Rattle.capn_canon.specs.declared.form.Form.TheVariants as forms
@@ -12,19 +12,20 @@ use Rattle.capn_commands.specs.declared.plan.Whole.TheVariants as wholes
 use Rattle.capn_commands.specs.declared.plan.Plan.{Plan}
 use Rattle.capn_commands.specs.declared.plan.Plan.TheVariants as plans
 
--- The plan to write a text for each message: the one bare message that the input is, or the messages of a stream,
--- packed or not.
+-- The plan to write a text for each message of an input: of a bare input, which is one message, or of a stream, packed
+-- or not.
 abbrev pub pieces_of : MessageText → Form → Bounds → Plan
 pieces_of piece forms.Bare limits = plans.Whole (wholes.Bare piece limits)
 pieces_of piece forms.Stream limits = plans.Each piece limits
 pieces_of piece forms.Packed limits = plans.Packed piece limits
 
--- The form of an input with the encoding of a stream.
+-- The form of an input with the given encoding of a stream.
 abbrev pub form_of : StreamForm → Form
 form_of streams.Stream = forms.Stream
 form_of streams.Packed = forms.Packed
 
--- The plan to write a text for the one message that the input is. If the form is bare, it is the plan for each message.
+-- The plan to write a text for the one message that the input is. For the form bare this plan equals the plan for each
+-- message.
 abbrev pub one_piece_of : MessageText → Form → Bounds → Plan
 one_piece_of piece forms.Bare limits = plans.Whole (wholes.Bare piece limits)
 one_piece_of piece forms.Stream limits = plans.Whole (wholes.One piece streams.Stream limits)

@@ -1,4 +1,4 @@
--- The effect of a run that shows messages or parts of them, in a style or with marks. (Own.)
+-- The effect of a run that shows messages or parts of them, in a style or with marks. (Our own.)
 use Rattle.std.specs.Prelude.{ℕ, List, Bool, Option, Result}
 use Rattle.capn_serve.specs.Fold.{Fold, fold_of}
 use Rattle.capn_serve.specs.FormRun.{ServesMessages}
@@ -12,8 +12,8 @@ use Rattle.capn_commands.specs.declared.part_texts.PartTexts.{PartTexts}
 abbrev pub part_fold : ℕ → Fold (Run PartTexts)
 part_fold most = fold_of serves refuses most
 
--- The messages were served from the first on. The effect is on a reader (from `a` to `b`) and a writer (from `c` to
--- `d`).
+-- The messages of an input were served from the first one on, with an effect on a reader (from `a` to `b`) and a writer
+-- (from `c` to `d`).
 abbrev pub Shown : PartTexts → Option (List ℕ) → Option (List ℕ) → Option (List ℕ) → Option (List ℕ) → Bool → Bool
     → Result (Unit {0}) RunFault → Type 0
 Shown texts a b c d reader_failed writer_failed r = (last : Run PartTexts)

@@ -1,5 +1,5 @@
 -- A stream of messages: the whole messages at its start, each with its text, and what is left. (Page: serialization
--- over a stream; the order of the faults is own.)
+-- over a stream; the order of the faults is our own.)
 use Rattle.std.specs.Prelude.{◌≡◌, ◌≢◌, ◌⊎◌, ℕ, ◌≤◌, List, [], ◌∷◌, ◌++◌, Bool, true, false, Option, Some, None, Result}
 use Rattle.std.specs.Prelude.{Ok, Err}
 use Rattle.std.specs.List.{flat_map, AllByRecursion}
@@ -39,22 +39,23 @@ frames_of parts = flat_map frame_of parts
 abbrev pub texts_of : List Part → List ℕ
 texts_of parts = flat_map text_of parts
 
--- The frame of `part` is that of its message, which has no more words than allowed, and its text is that of the
--- message.
+-- The frame of `part` is that of its message, the message has at most `limits.message_words` words, and the text of
+-- `part` is written for the message.
 pub record IsPart (piece : MessageText) (limits : Bounds) (part : Part) : Type 0 where
   pub frame : Frames part.frame part.message
   pub room : total part.message ≤ limits.message_words
   pub text : IsMessageText piece part.message limits part.text
 
--- `bytes` are the frames of `parts`, each of a message that has a text, followed by `rest`.
+-- `bytes` are the frames of `parts`, followed by `rest`. Each part is a message with its text.
 pub record AreParts (piece : MessageText) (limits : Bounds) (bytes : List ℕ) (parts : List Part)
     (rest : List ℕ) : Type 0
   where
     pub each : AllByRecursion (IsPart piece limits) parts
     pub is : bytes ≡ frames_of parts ++ rest
 
--- The end of a run if no whole frame follows, by the reason. A count that is too great is reported first. Then comes
--- the fault that keeps more bytes from being read, if there is one, and then a frame that is cut.
+-- The end of a run if no whole frame follows, for the given reason. A count that is too great is refused in any case.
+-- Otherwise a fault that keeps further bytes from being read ends the run. Without such a fault a frame that is cut is
+-- refused, and the run is done if no byte follows.
 abbrev pub end_of : FrameFault → Option ToolFault → Result (Unit {0}) ToolFault
 end_of frame_faults.Empty (Some fault) = Err fault
 end_of frame_faults.Empty None = Ok tt
@@ -65,13 +66,14 @@ end_of (frame_faults.TooManySegments n) behind = Err (faults.Refused (refusals.F
 end_of (frame_faults.TooManyWords n) behind = Err (faults.Refused (refusals.Frame (frame_faults.TooManyWords n)))
 end_of frame_faults.Failed behind = Err (faults.Refused (refusals.Frame frame_faults.Failed))
 
--- The reason why no more bytes of a stream follow, if it is a fault: the stream is longer than is taken.
+-- The reason why no more bytes of a stream follow: `InputTooLong` if the stream has more bytes than are taken, and
+-- otherwise none.
 abbrev pub behind_stream : Bool → Option ToolFault
 behind_stream true = Some faults.InputTooLong
 behind_stream false = None
 
--- The reason why no more words of a packed stream follow, if it is a fault: the stream is longer than is taken, or a
--- group is cut.
+-- The reason why no more words of a packed stream follow: `InputTooLong` if the stream has more bytes than are taken,
+-- the refusal of a group that is cut, or none.
 abbrev pub behind_packed : Bool → List ℕ → ℕ → Option ToolFault
 behind_packed true rest at = Some faults.InputTooLong
 behind_packed false [] at = None
@@ -83,14 +85,14 @@ EndsUnframed limits rest behind ending =
     (e : FrameFault) × (e ≢ frame_faults.Memory) × frames.IsFrameRefused rest limits.message_words e
     × (ending ≡ end_of e behind)
 
--- `rest` begins with a message that has no text, and the run ends with the reason.
+-- `rest` begins with a message that has no text, and the run ends with the reason why the message has none.
 abbrev pub EndsRefused : MessageText → Bounds → List ℕ → Result (Unit {0}) ToolFault → Type 0
 EndsRefused piece limits rest ending =
     (message : List (List ℕ)) × (taken : ℕ) × (fault : ToolFault) × StandsFirst rest limits.message_words message taken
     × IsNoMessageText piece message limits fault × (ending ≡ Err fault)
 
--- The text and the ending of a stream that begins with `bytes`: the texts of its messages, up to the first that has
--- none.
+-- `text` and `ending` are those of a stream that begins with `bytes`. `text` joins the texts of the messages before the
+-- first one that has no text.
 pub record IsDueEach (piece : MessageText) (limits : Bounds) (bytes : List ℕ) (behind : Option ToolFault)
     (text : List ℕ)
     (ending : Result (Unit {0}) ToolFault) : Type 0 where
@@ -100,7 +102,7 @@ pub record IsDueEach (piece : MessageText) (limits : Bounds) (bytes : List ℕ) 
   pub joined : text ≡ texts_of parts
   pub ends : EndsUnframed limits rest behind ending ⊎ EndsRefused piece limits rest ending
 
--- The text and the ending of a packed stream that begins with `bytes`: those of the words of its whole groups.
+-- `text` and `ending` are those of the words that the whole groups of the packed `bytes` unpack to.
 pub record IsDuePacked (piece : MessageText) (limits : Bounds) (bytes : List ℕ) (is_longer : Bool) (text : List ℕ)
     (ending : Result (Unit {0}) ToolFault) : Type 0 where
   pub words : List ℕ

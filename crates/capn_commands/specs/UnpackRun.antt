@@ -1,4 +1,4 @@
--- Unpacking a stream: the words of its whole groups, and a group that is cut. (Page: packing; the rest is own.)
+-- Unpacking a stream: the words of its whole groups, and a group that is cut. (Page: packing; the rest is our own.)
 use Rattle.std.specs.Prelude.{◌≡◌, ℕ, ◌+◌, ◌<◌, List, [], ◌∷◌, length, drop, replicate, refl, Bool, true, false, Option}
 use Rattle.std.specs.Prelude.{Result, Ok, Err}
 use Rattle.std.specs.Io.KnownBytes.{Appends}
@@ -12,14 +12,15 @@ use Rattle.capn_commands.specs.declared.flow_fault.FlowFault.{FlowFault}
 use Rattle.capn_commands.specs.declared.flow_fault.FlowFault.TheVariants as faults
 use Rattle.capn_commands.specs.Flow.{Ending, Flow, Stops}
 
--- The end of unpacking: `InputTooLong` if there are more bytes than are taken, `Cut` within a group, or done after
--- whole groups.
+-- The end of unpacking: `InputTooLong` if there are more bytes than are taken, `Cut` if a group has begun, and
+-- otherwise done.
 abbrev pub ending_of : Bool → List ℕ → ℕ → Ending
 ending_of true group offset = Err faults.InputTooLong
 ending_of false [] offset = Ok tt
 ending_of false (b ∷ group) offset = Err (faults.Cut offset)
 
--- `bytes` are whole groups, which unpack to `words`, and perhaps an unfinished group. `ending` is the end of unpacking.
+-- `bytes` are whole groups, which unpack to `words`, followed by an unfinished group or nothing. `ending` is the end of
+-- unpacking.
 pub record IsUnpacked (bytes : List ℕ) (is_longer : Bool) (words : List ℕ) (ending : Ending) : Type 0 where
   pub group : List ℕ
   pub offset : ℕ
@@ -30,11 +31,11 @@ pub record IsUnpacked (bytes : List ℕ) (is_longer : Bool) (words : List ℕ) (
 abbrev pub UnpacksTo : List ℕ → List ℕ → Type 0
 UnpacksTo bytes words = (group : List ℕ) × (offset : ℕ) × Splits bytes group [] words offset
 
--- Unpacking as a flow: the words of all whole groups are written before more bytes are read, and at the end.
+-- Unpacking as a flow. The words of all whole groups are written before more bytes are read, and at the end.
 abbrev pub unpacking : Flow
 unpacking = record { gives = IsUnpacked; settles = UnpacksTo; begins = λ bytes words. packing.Begins bytes [] words }
 
--- A group of one word and a group of two zero words, with their words, and then a group that is cut, with its offset.
+-- The example is a group of one word and a group of two zero words, and then a group that is cut.
 abbrev two_groups : List Group
 two_groups = Named 81 (8 ∷ 0 ∷ 0 ∷ 0 ∷ 3 ∷ 0 ∷ 2 ∷ 0 ∷ []) ∷ Zeros 1 ∷ []
 
@@ -52,19 +53,19 @@ nothing_behind_them = refl
 
 -- ---- the progress of unpacking
 
--- the most words that are held at once
+-- The greatest number of words that are held at once.
 abbrev pub most_words : ℕ
 most_words = 16384
 
--- The words of the first whole groups in `bytes` were written, as many as are held at once, and `p.next` says what
--- follows; or the run stopped within `bytes`.
+-- The words of the first whole groups of `bytes` were written, at most `most_words` words, and `p.next` says what
+-- follows these groups. Or the run stopped within `bytes`.
 abbrev pub WritesSome : List ℕ → Option (List ℕ) → Option (List ℕ) → Bool → Result Progress FlowFault → Type 0
 WritesSome bytes c d failed (Ok p) =
     (words : List ℕ) × UnpacksSome bytes most_words [] words p.bytes p.words p.next × Appends c d words
     × (failed ≡ false)
 WritesSome bytes c d failed (Err fault) = Stops unpacking bytes c d failed fault
 
--- The words of all whole groups at the start of `bytes` were written, which are the first `at` bytes; or the run
+-- The words of all whole groups at the start of `bytes`, which are the first `at` bytes, were written. Or the run
 -- stopped within `bytes`.
 abbrev pub WritesGroups : List ℕ → Option (List ℕ) → Option (List ℕ) → Bool → Result ℕ FlowFault → Type 0
 WritesGroups bytes c d failed (Ok at) =

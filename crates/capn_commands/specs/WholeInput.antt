@@ -1,4 +1,4 @@
--- The output that is made of an input that is taken whole, and the reason why none is. (Own.)
+-- The output of a command that takes its input whole, and the reason why there is none. (Our own.)
 use Rattle.std.specs.Prelude.{◌≡◌, ◌≢◌, ◌⊎◌, ℕ, ◌*◌, ◌%◌, ◌≤◌, List, [], ◌∷◌, length, Result, Ok, Err, Vec}
 use Rattle.capn_words.specs.Message.{IsBare, ReadsBare}
 use Rattle.capn_words.specs.declared.bare.BareFault.{BareFault}
@@ -23,21 +23,22 @@ use Rattle.capn_commands.specs.declared.plan.Whole.TheVariants as wholes
 use Rattle.capn_commands.specs.declared.fault.ToolFault.{ToolFault}
 use Rattle.capn_commands.specs.declared.fault.ToolFault.TheVariants as faults
 
--- `fault` is the fault of a run if its input is refused with `r`. It is `Memory` if and only if memory was refused.
+-- `fault` is the fault of a run whose input is refused with `r`: `Memory` if `r` is `Memory`, and otherwise the refusal
+-- `r`.
 abbrev pub IsFaultOf : Refusal → ToolFault → Type 0
 IsFaultOf r fault =
     ((r ≡ refusals.Memory) × (fault ≡ faults.Memory)) ⊎ ((r ≢ refusals.Memory) × (fault ≡ faults.Refused r))
 
--- `r` is the reason why bytes have no text as one message in a form. That is the reason why they have no canonical
--- bytes, but a capability refuses neither a text nor a price.
+-- `r` is the reason why `bytes` have no output as one message in `form`. For a digest `r` is the reason why they have
+-- no canonical bytes. For a text or a price a capability is no such reason.
 abbrev pub IsOneRefused : MessageText → Form → List ℕ → Bounds → Refusal → Type 0
 IsOneRefused kinds.Text form bytes limits r = IsUnacceptedIn form bytes limits r
 IsOneRefused kinds.Price form bytes limits r = IsUnacceptedIn form bytes limits r
 IsOneRefused kinds.Digest form bytes limits r = IsRefused form bytes limits r
 
--- `text` is made of `bytes`: their packed text; the words that they unpack to, at most `most`; the canonical bytes of
--- the message that they are in a form; the text of the bare message that they are; or that of the one message that they
--- are in a frame.
+-- `text` is the output of `whole` for `bytes`: the packed text of `bytes`; the words that `bytes` unpack to, at most
+-- `most`; the canonical bytes of the one message in `form`; the text of the bare message; or the text of the one
+-- message in a frame.
 abbrev pub Makes : Whole → List ℕ → List ℕ → Type 0
 Makes wholes.Packed bytes text = Chosen text bytes
 Makes (wholes.Unpacked most) bytes text = Packs bytes text × (length text ≤ 8 * most)
@@ -47,9 +48,9 @@ Makes (wholes.Bare piece limits) bytes text = (words : List ℕ) × IsBare bytes
 Makes (wholes.One piece form limits) bytes text = (message : List (List ℕ))
     × Reads (form_of form) bytes limits.message_words message × IsMessageText piece message limits text
 
--- `fault` is the reason why nothing is made of `bytes`. They are no whole words; or they unpack to no words, or to too
--- many; or they have no canonical bytes in the form; or they are no bare message, or one without a text; or they are
--- not one message in a frame, or one without a text.
+-- `fault` is the reason why `whole` has no output for `bytes`: `bytes` are no whole words; or `bytes` do not unpack to
+-- at most `most` words; or `bytes` have no canonical bytes in `form`; or `bytes` are no bare message with a text; or
+-- `bytes` are not exactly one message in a frame with a text.
 abbrev pub MakesNothing : Whole → List ℕ → ToolFault → Type 0
 MakesNothing wholes.Packed bytes fault = (length bytes % 8 ≢ 0) × (fault ≡ faults.NotWhole (length bytes))
 MakesNothing (wholes.Unpacked most) bytes fault =
@@ -64,7 +65,7 @@ MakesNothing (wholes.One piece form limits) bytes fault =
     (r : Refusal) × (fault ≡ faults.Refused r) × (r ≢ refusals.Memory)
     × IsOneRefused piece (form_of form) bytes limits r
 
--- A call returned what is made of `bytes`, or the reason why nothing is, unless memory ran out.
+-- A call returned the output of `whole` for `bytes`, or the reason why there is none, or `Memory`.
 abbrev pub Gives : {A : Type 0} → Whole → List ℕ → Result (Vec ℕ A) ToolFault → Type 0
 Gives whole bytes (Ok text) = Makes whole bytes text.items
 Gives whole bytes (Err fault) = (fault ≡ faults.Memory) ⊎ MakesNothing whole bytes fault

@@ -9,11 +9,11 @@ use capn_walk::Limits;
 pub enum Command {
     /// Writes the text of each message, and a line `end` after each.
     Show(Form, Limits),
-    /// Writes for each message a line with the price of its walk and its number of visits.
+    /// Writes for each message a line with the price of its walk and the number of visits.
     Check(Form, Limits),
     /// Writes the packed text of the input, which has to be whole words.
     Pack,
-    /// Writes the words that the input unpacks to, at most this number.
+    /// Writes the words that the input unpacks to. The number is the greatest number of words that are accepted.
     Unpack(u32),
     /// Writes the canonical bytes of the one message that the whole input is.
     Canonical(Form, Limits),

@@ -25,7 +25,7 @@ use capn_words::Watched;
 use std::alloc::Allocator;
 use std::io::{Read, Write};
 
-/// Writes `made`, the output for an input, if it is not a fault.
+/// Writes the output in `made`, or returns the fault in `made`.
 fn write_made<W: Write, A: Allocator>(
     made: Result<Vec<u8, A>, ToolFault>,
     writer: &mut Watched<W>,
@@ -96,22 +96,22 @@ fn perform<R: Read, W: Write, A: Allocator + Copy>(
     }
 }
 
-/// Carries out `command`: reads the input to its end, and writes the output for it.
+/// Carries out `command`: reads the input to its end, and writes the output of the command.
 ///
-/// `pack`, `unpack`, `canonical`, [`Command::One`] and the form bare read the input whole, and write nothing if it is
-/// refused. `show`, `check` and `hash` of a stream, packed or not, take it message by message. Before each read, the
+/// `pack`, `unpack`, `canonical`, [`Command::One`] and the form bare read the input whole, and write nothing if the
+/// input is refused. `show`, `check` and `hash` take a stream, packed or not, message by message. Before each read, the
 /// text of all messages that are complete by then has been written, mostly by one call. If a message is refused, the
-/// text of those before it has been written.
+/// text of the messages before it has been written.
 ///
-/// `Memory` is returned if a growth was refused, and `Io` if and only if the reader or the writer has failed.
+/// `Memory` is returned if an allocation was refused, and `Io` if and only if the reader or the writer has failed.
 /// `InputTooLong` is returned for a byte past 2^32. Other refusals are those of the command. After `Memory` and `Io` a
 /// prefix of the output was written, or nothing. At most 2^32 + 1 bytes are read, and at most 65,536 by one call. Over
-/// a stream the memory does not grow with the input. It is 128 KiB, the texts of what one call read, at most 1 MiB for
-/// unpacked words, and what the longest message takes.
+/// a stream the memory does not grow with the input: a run takes 128 KiB, the texts of what one call read, at most 1
+/// MiB for unpacked words, and what the longest message takes.
 ///
-/// If the input is read whole, `canonical` and [`Command::One`] hold its first 8 * (message words + 2,049) bytes and
-/// one more, or as many words of a packed input. `unpack` holds its output. What follows is read and dropped. The form
-/// bare holds at most 2^28 + 1 words, and `pack` all of its input.
+/// If the input is read whole, `canonical` and [`Command::One`] hold the first 8 * (message words + 2,049) + 1 bytes of
+/// a stream, or the first (message words + 2,049) words that a packed input unpacks to. `unpack` holds its output.
+/// Input after that is read and dropped. The form bare holds at most 2^28 + 1 words, and `pack` holds all of the input.
 pub fn run<R: Read, W: Write, A: Allocator + Copy>(
     alloc: A,
     command: Command,
@@ -120,8 +120,8 @@ pub fn run<R: Read, W: Write, A: Allocator + Copy>(
 ) -> Result<(), ToolFault>
     requires reader_fine { has_failed reader.old ≡ false }
     requires writer_fine { has_failed writer.old ≡ false }
-    // If the bytes of the input are known, their text was written and `result` is their ending, unless `result` is
-    // `Memory` or `Io`.
+    // If the bytes of the input are known, the text for these bytes was written and `result` is the ending for these
+    // bytes, unless `result` is `Memory` or `Io`.
     ensures exact { IfSome (R.remaining (inner_of reader.old))
         (EndsAs command (W.contents (inner_of writer.old)) (W.contents (inner_of writer.new)) result) }
     // If `text` and `due` are the text and the ending of the input, `text` was written and `result` is `due`, unless
@@ -131,11 +131,11 @@ pub fn run<R: Read, W: Write, A: Allocator + Copy>(
         EndsBy text due (W.contents (inner_of writer.old)) (W.contents (inner_of writer.new)) result) }
     // `result` is `Io` if and only if the reader or the writer has failed.
     ensures io { IsErrOf result ToolFault.Io ↔ ((has_failed reader.new ≡ true) ⊎ (has_failed writer.new ≡ true)) }
-    // Whatever `result` is, a prefix of the text of the bytes that were read was written, or nothing.
+    // Whatever `result` is, a prefix of the text for the bytes that were read was written, or nothing.
     ensures begun { Begins command (R.remaining (inner_of reader.old)) (R.remaining (inner_of reader.new))
         (W.contents (inner_of writer.old)) (W.contents (inner_of writer.new)) }
-    // If the reader failed and the input is taken message by message, all output for the bytes that it gave was
-    // written. If it failed and the input is taken whole, nothing was written.
+    // If the reader failed and the input is taken message by message, all output for the bytes that were read before
+    // was written. If the reader failed and the input is taken whole, nothing was written.
     ensures heard { has_failed reader.new ≡ true
         → KeepsUp command (R.remaining (inner_of reader.old)) (R.remaining (inner_of reader.new))
         (W.contents (inner_of writer.old)) (W.contents (inner_of writer.new)) }

@@ -48,7 +48,7 @@ pub fn status(outcome: &Result<(), ToolFault>) -> u8
     capn_serve::status(outcome)
 }
 
-/// A wrapper that shows the text of a fault. A `ToolFault` itself shows the name of its variant.
+/// A wrapper that shows the text of a fault. A `ToolFault` without this wrapper shows only the name of its variant.
 #[derive(Drop)]
 struct Text(ToolFault);
 
@@ -68,7 +68,7 @@ impl fmt::Display for Text {
     }
 }
 
-/// Returns the text of `fault`, as the program prints it after `capn: `. `Memory` is returned if there is no memory for
+/// Returns the text of `fault`, which the program prints after `capn: `. `Memory` is returned if there is no memory for
 /// the text.
 pub fn fault_text<A: Allocator>(alloc: A, fault: &ToolFault) -> Result<String<A>, Memory>
     ensures { IfOk result (λ text. string_bytes text ≡ spec.fault_text fault.now) }
@@ -77,7 +77,7 @@ pub fn fault_text<A: Allocator>(alloc: A, fault: &ToolFault) -> Result<String<A>
     Ok(format!(in alloc; "{text}")?)
 }
 
-/// Returns the exit status of a run with this `outcome`. If it is an `Err`, a line that says why is written to
+/// Returns the exit status of a run with this `outcome`. If `outcome` is an `Err`, an error line is written to
 /// `errors`. If `errors` fails, a prefix of the line was written. The allocator is not used.
 pub fn end<E: Write, A: Allocator + Copy>(
     _alloc: A,

@@ -10,17 +10,17 @@ use std::alloc::AllocError;
 use std::io;
 use thiserror::Error;
 
-/// The reason why a run stops. `{}` shows the name of the variant alone. [`fault_text`](crate::fault_text) returns the
+/// The reason why a run stops. `{}` shows only the name of the variant. [`fault_text`](crate::fault_text) returns the
 /// text for the user.
 #[derive(Clone, Copy, Debug, PartialEq, Eq, Error)]
 pub enum ToolFault {
-    /// Memory was refused.
+    /// An allocation was refused.
     #[error("Memory")]
     Memory,
     /// The reader or the writer failed.
     #[error("Io")]
     Io,
-    /// The input has more than the 2^32 bytes that one run takes.
+    /// The input has more than 2^32 bytes.
     #[error("InputTooLong")]
     InputTooLong,
     /// The input has this number of bytes, which is not whole words.

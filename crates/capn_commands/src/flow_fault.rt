@@ -13,7 +13,7 @@ use std::io::Write;
 /// The reason why a stream isn't packed or unpacked to its end.
 #[derive(Clone, Copy, Debug, PartialEq, Eq)]
 pub enum FlowFault {
-    /// A growth was refused.
+    /// An allocation was refused.
     Memory,
     /// The reader or the writer failed.
     Io,

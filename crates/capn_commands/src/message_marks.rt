@@ -14,7 +14,7 @@ use capn_words::{Space, Watched};
 use std::alloc::Allocator;
 use std::io::Write;
 
-/// Returns the marks of `message`, which is at the position `at`, as `texts` asks for them.
+/// Returns the marks that `texts` asks for, for `message` at the position `at`.
 pub(crate) fn marks_of<S: Space>(texts: &PartTexts, at: Position, message: &S) -> Marks
     ensures { result ≡ spec.marks_of texts.now at (S.message message.now) }
 {
@@ -34,14 +34,14 @@ fn byte_after(marks: Marks, words: u32) -> u128
     u128::from(marks.offset) + 8 * (u128::from(marks.table) + u128::from(words))
 }
 
-/// Returns the line `end`, after an empty path if `ways` is set.
+/// Returns the line `end`, which begins with an empty path and a tab if `ways` is set.
 fn path_end(ways: bool) -> &'static [u8]
     ensures { result.now ≡ (if ways then 9 ∷ [] else []) ++ (codes "end" ++ 10 ∷ []) }
 {
     if ways { b"\tend\n" } else { b"end\n" }
 }
 
-/// Adds the line `end`, after the offset `byte` in digits and an empty path.
+/// Adds the line `end`, which begins with the offset `byte` in digits and an empty path.
 fn add_end_with_path<W: Write, A: Allocator>(
     byte: u64,
     text: &mut Vec<u8, A>,
@@ -56,7 +56,7 @@ fn add_end_with_path<W: Write, A: Allocator>(
     add_end(&block[start..], text, writer)
 }
 
-/// Adds the line `end`, after the offset `byte` in digits.
+/// Adds the line `end`, which begins with the offset `byte` in digits.
 fn add_end_at<W: Write, A: Allocator>(
     byte: u64,
     text: &mut Vec<u8, A>,
@@ -71,7 +71,7 @@ fn add_end_at<W: Write, A: Allocator>(
     add_end(&block[start..], text, writer)
 }
 
-/// Adds the line `end`, after the offset `byte`, which is at least 2^64, and an empty path if `ways` is set.
+/// Adds the line `end`, which begins with the offset `byte`, at least 2^64, and with an empty path if `ways` is set.
 #[cold]
 fn add_wide_end<W: Write, A: Allocator>(
     alloc: A,
@@ -91,7 +91,7 @@ fn add_wide_end<W: Write, A: Allocator>(
     }
 }
 
-/// Adds the line `end` with `marks`, for a message of `words` words.
+/// Adds the line `end` after a message of `words` words, with the offset and the path that `marks` asks for.
 pub(crate) fn add_marked_end<W: Write, A: Allocator>(
     alloc: A,
     marks: Marks,

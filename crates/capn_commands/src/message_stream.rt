@@ -51,7 +51,7 @@ pub fn run_each_packed<R: Read, W: Write, A: Allocator + Copy>(
 {
     let mut run = first_run(piece, limits);
     let most = limits.message_words();
-    // All that 2^32 packed bytes unpack to is taken.
+    // All words that 2^32 packed bytes unpack to are taken.
     run_packed(
         alloc,
         most,

@@ -1,4 +1,5 @@
-//! The lines of one message: price, verdict or digest.
+//! The lines of one message: the price line, the verdict line and the digest line. The price line has the price and the
+//! number of visits. The verdict line, for a bare message, also says whether the bytes are canonical.
 
 ghost use Rattle.std.specs.Prelude.{◌≡◌, ◌≤◌, ◌∷◌, ◌++◌, [], length};
 ghost use Rattle.sha2.specs.Sha256.{sha256};
@@ -14,7 +15,8 @@ use capn_words::{Bare, Space};
 use sha2::{Digest, Sha256};
 use std::alloc::Allocator;
 
-/// Appends the line of a price and a number of visits, which ends with `end`. Nothing is appended if memory is refused.
+/// Appends the line with the price `paid` and the number `visits`, which ends with `end`. Nothing is appended if an
+/// allocation is refused.
 #[inline(always)]
 fn put_priced<A: Allocator>(
     text: &mut Vec<u8, A>,
@@ -31,7 +33,7 @@ fn put_priced<A: Allocator>(
     }
 }
 
-/// Appends the line of a price and a number of visits. Nothing is appended if memory is refused.
+/// Appends the line with the price `paid` and the number `visits`. Nothing is appended if an allocation is refused.
 #[inline(always)]
 fn put_price_line<A: Allocator>(
     text: &mut Vec<u8, A>,
@@ -50,7 +52,8 @@ fn put_price_line<A: Allocator>(
     put_priced(text, paid, visits, b"\n")
 }
 
-/// Appends the line of a message's price, in words, and of its number of visits. After a fault the text is as it was.
+/// Appends the line with the price of the message `space`, in words, and with its number of visits. After a fault
+/// `text` is unchanged.
 #[inline(always)]
 pub fn put_price<S: Space, A: Allocator + Copy>(
     alloc: A,
@@ -64,8 +67,8 @@ pub fn put_price<S: Space, A: Allocator + Copy>(
     put_price_line(text, surveyed.paid, surveyed.visits)
 }
 
-/// Appends the line of a bare message: its price, its number of visits, and whether its bytes are canonical. It takes
-/// memory only for the line. After a fault the text is as it was.
+/// Appends the verdict line of a bare message: the price, the number of visits, and whether the bytes are canonical.
+/// Memory is allocated only for the line. After a fault `text` is unchanged.
 pub fn put_verdict<A: Allocator + Copy>(
     alloc: A,
     space: &Bare<'_>,
@@ -81,7 +84,7 @@ pub fn put_verdict<A: Allocator + Copy>(
     put_priced(text, checked.paid, checked.visits, b" not-canonical\n")
 }
 
-/// Returns the 64 hexadecimal digits of the SHA-256 of `bytes`, and the end of a line.
+/// Returns the 64 hexadecimal digits of the SHA-256 of `bytes`, and a newline.
 fn digest_line(bytes: &[u8]) -> [u8; 65]
     ensures { result ≡ encode_lower (sha256 bytes.now) ++ 10 ∷ [] }
 {
@@ -91,7 +94,7 @@ fn digest_line(bytes: &[u8]) -> [u8; 65]
     line
 }
 
-/// Appends the line of the digest of `bytes`. Nothing is appended if memory is refused.
+/// Appends the line with the digest of `bytes`. Nothing is appended if an allocation is refused.
 fn put_digest_line<A: Allocator>(bytes: &[u8], text: &mut Vec<u8, A>) -> Result<(), ToolFault>
     ensures { PutsLine (encode_lower (sha256 bytes.now) ++ 10 ∷ []) text.old.items text.new.items result }
 {
@@ -102,8 +105,8 @@ fn put_digest_line<A: Allocator>(bytes: &[u8], text: &mut Vec<u8, A>) -> Result<
     }
 }
 
-/// Appends the line of the digest of a message's canonical bytes. If the message is canonical, one pass finds that out,
-/// its own bytes are hashed where they lie, and no copy is made. After a fault the text is as it was.
+/// Appends the line with the digest of a message's canonical bytes. If the message is canonical, one pass finds that
+/// out, and the bytes of the message are hashed without a copy. After a fault `text` is unchanged.
 pub fn put_digest<S: Space, A: Allocator + Copy>(
     alloc: A,
     space: &S,

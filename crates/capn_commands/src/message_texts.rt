@@ -20,7 +20,7 @@ use capn_words::{Space, Watched};
 use std::alloc::Allocator;
 use std::io::Write;
 
-/// The service that writes a text of each message, within limits. It keeps nothing of earlier messages.
+/// The service that writes a text of each message, and keeps nothing of earlier messages.
 #[derive(Clone, Copy)]
 pub struct MessageTexts {
     /// The text that is written of a message.
@@ -36,7 +36,8 @@ pub(crate) fn first_run(piece: MessageText, limits: Limits) -> Run<MessageTexts>
     Run::new(MessageTexts { piece, limits })
 }
 
-/// Appends `line` to `text`, or nothing if memory is refused, and writes `text` once it is long.
+/// Appends `line` to `text`, or nothing if an allocation is refused. Writes `text` if `text` then has at least 65,536
+/// bytes.
 fn add_line<W: Write, A: Allocator>(
     line: &[u8],
     text: &mut Vec<u8, A>,
@@ -97,7 +98,8 @@ fn served(put: Result<(), ToolFault>) -> Result<(), ServeFault>
     }
 }
 
-/// Maps `put`, the outcome of a message's text, to the outcome of its service, and writes `text` once it is long.
+/// Maps `put`, the outcome of a message's text, to the outcome of its service. Writes `text` if `text` has at least
+/// 65,536 bytes.
 #[inline(always)]
 fn end_piece<W: Write, A: Allocator>(
     put: Result<(), ToolFault>,

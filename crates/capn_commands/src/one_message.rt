@@ -23,7 +23,7 @@ use capn_words::{Space, Watched};
 use std::alloc::Allocator;
 use std::io::{Read, Write};
 
-/// Serves `message`, whose bytes are `frame`, and writes all of its text.
+/// Serves `message`, whose bytes are `frame`, and writes all of the output.
 fn serve_message<M: Space, S: Service + Drop, W: Write, A: Allocator + Copy>(
     alloc: A,
     service: S,
@@ -49,7 +49,7 @@ fn serve_message<M: Space, S: Service + Drop, W: Write, A: Allocator + Copy>(
     }
 }
 
-/// Serves the message in `frame`, and writes all of its text. Bytes after the message are refused.
+/// Serves the message in `frame`, and writes all of the output. Bytes after the message are refused.
 fn serve_frame<S: Service + Drop, W: Write, A: Allocator + Copy>(
     alloc: A,
     service: S,
@@ -74,14 +74,14 @@ fn serve_frame<S: Service + Drop, W: Write, A: Allocator + Copy>(
     }
 }
 
-/// Serves the one message that an input is, and writes all of its text. The input is its frame, packed or not, and the
-/// message has at most `most` words.
+/// Serves the one message of an input, and writes all of the output. The input is the frame of the message, packed or
+/// not. A message of more than `most` words is refused.
 ///
-/// All of the input is read first. If it is no message, or more than one, it is refused as
-/// [`canonicalise`](capn_canon::canonicalise) refuses its bytes. Otherwise the service may refuse the message. In both
-/// cases nothing is written. `InputTooLong` is returned for a byte past 2^32, `Io` if and only if the reader or the
-/// writer failed, and `Memory` if a growth was refused. For a stream the run holds at most the longest frame and one
-/// byte. For a packed input it holds at most the words of the longest frame.
+/// All of the input is read first. An input that is not exactly one message is refused with the refusal that
+/// [`canonicalise`](capn_canon::canonicalise) gives for the same bytes. Otherwise the service may refuse the message.
+/// In both cases nothing is written. `InputTooLong` is returned for a byte past 2^32, `Io` if and only if the reader or
+/// the writer failed, and `Memory` if an allocation was refused. For a stream the run holds at most the longest frame
+/// and one byte. For a packed input the run holds at most the words of the longest frame.
 pub fn serve_one<S: Service + Drop, R: Read, W: Write, A: Allocator + Copy>(
     alloc: A,
     service: S,

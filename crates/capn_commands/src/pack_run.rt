@@ -24,24 +24,24 @@ use capn_words::Watched;
 use std::alloc::{AllocError, Allocator};
 use std::io::{Read, Write};
 
-/// The most bytes that one call of a reader may return.
+/// The greatest number of bytes that one call of a reader may return.
 const CHUNK: u64 = 65_536;
 
-/// The most words of a group.
+/// The greatest number of words of a group.
 const RUN: u32 = 256;
 
-/// The number of bytes of 255 words, the longest run that may go on with a further word.
+/// The number of bytes of 255 words, which is the longest run that may continue with a further word.
 const OPEN: usize = 2040;
 
-/// The part of a packed text that is settled: no later word changes it. `text` is its number of bytes, and `words` the
-/// number of bytes of the words that it packs.
+/// The part of a packed text that is settled, which means that no later word changes it. `text` is the number of bytes
+/// of that part, and `words` is the number of bytes of the words that the part packs.
 #[derive(Clone, Copy)]
 struct Settled {
     text: usize,
     words: usize,
 }
 
-/// Returns `true` if a group with this `tag` and number of `words` is a run that may go on.
+/// Tests whether a group with this `tag` and number of `words` is a run that may continue with a further word.
 fn may_go_on(tag: u8, words: u32) -> bool
     ensures open { result ≡ true → words < 256 }
     ensures tag { result ≡ true → (tag ≡ 0) ⊎ (tag ≡ 255) }
@@ -63,8 +63,9 @@ fn zeros_of(bytes: &[u8]) -> usize
     zeros
 }
 
-/// Returns the end of the part of `words` that can be packed now. It is the start of the last run of dense words, which
-/// may go on in the next bytes. If that run is as long as a run may be, it is the end of `words`.
+/// Returns the end of the part of `words` that can be packed now. A word is dense if at most one of its bytes is zero.
+/// The dense words at the end are left out, because a run of dense words may continue in the next bytes. If more than
+/// 255 words at the end are dense, or if all words are dense, the length of `words` is returned.
 fn before_dense(words: &[u8]) -> usize
     requires { length words.now % 8 ≡ 0 }
     ensures whole { result % 8 ≡ 0 }
@@ -85,8 +86,8 @@ fn before_dense(words: &[u8]) -> usize
     words.len()
 }
 
-/// Returns the settled part of the `text` of `words`, if the last word is zero. Then the last group is a run of zero
-/// words, and its last byte is their number less one.
+/// Returns the settled part of `text`, the packed text of `words`, if the last word is zero. Then the last group is a
+/// run of zero words, and the last byte of `text` is the number of these words less one.
 fn zeros_part(words: &[u8], text: &[u8]) -> Settled
     requires some { 8 ≤ length words.now }
     requires chosen { Chosen text.now words.now }
@@ -106,7 +107,8 @@ fn zeros_part(words: &[u8], text: &[u8]) -> Settled
     }
 }
 
-/// Returns the settled part of the `text` of `words`. The groups before the last are unpacked, to find where it begins.
+/// Returns the settled part of `text`, the packed text of `words`. The groups before the last group are unpacked, to
+/// find where the last group begins.
 fn unpacked_part<A: Allocator + Copy>(
     alloc: A,
     words: &[u8],
@@ -132,9 +134,9 @@ fn unpacked_part<A: Allocator + Copy>(
     })
 }
 
-/// Returns the settled part of the `text` of `words`: all of it, or all but its last group, if that is a run that may
-/// go on. Mostly the last word decides: a dense one may be in a run of raw words, a zero one is in a run, and any other
-/// is a group of its own.
+/// Returns the settled part of `text`, the packed text of `words`: all of `text`, or all but the last group if that
+/// group is a run that may continue. The last word mostly decides. A dense word may be in a run of raw words, a zero
+/// word is in a run of zero words, and any other word is a group of its own.
 fn settled_part<A: Allocator + Copy>(
     alloc: A,
     words: &[u8],
@@ -160,15 +162,15 @@ fn settled_part<A: Allocator + Copy>(
     })
 }
 
-/// The settled text of some bytes, and the bytes after the words that it packs.
+/// The settled text of some bytes, and the bytes after the words that the settled text packs.
 #[derive(Drop)]
 struct Settlement<A: Allocator + Copy> {
     text: Vec<u8, A>,
     rest: Vec<u8, A>,
 }
 
-/// Packs the whole words of `held`, as far as their text is settled. Dense words at the end are held back with the rest
-/// if they may be in a run that goes on. So the groups before that run need not be unpacked to find its start.
+/// Packs the whole words of `held`, as far as their text is settled. Dense words at the end stay in the rest if a run
+/// of dense words may continue. So the groups before that run need not be unpacked to find where the run starts.
 fn settle<A: Allocator + Copy>(alloc: A, held: &[u8]) -> Result<Settlement<A>, AllocError>
     requires short { length held.now ≤ 131072 }
     ensures settled { IfOk result (λ s. Settles held.now s.text.items s.rest.items) }
@@ -188,7 +190,7 @@ fn settle<A: Allocator + Copy>(alloc: A, held: &[u8]) -> Result<Settlement<A>, A
     Ok(Settlement { text, rest })
 }
 
-/// Appends `bytes` to `held`, writes the settled part of the text of `held`, and leaves the rest in `held`.
+/// Appends `bytes` to `held`, writes the settled part of the packed text of `held`, and leaves the rest in `held`.
 fn pack_chunk<W: Write, A: Allocator + Copy>(
     alloc: A,
     held: &mut Vec<u8, A>,
@@ -208,8 +210,8 @@ fn pack_chunk<W: Write, A: Allocator + Copy>(
     Ok(())
 }
 
-/// Returns the end of a run of `count` bytes, all of which were packed: `InputTooLong` if the stream `is_longer`, else
-/// `NotWhole` if they are no whole words, else done.
+/// Returns the outcome of a run that took `count` bytes: `InputTooLong` if `is_longer` is set, else `NotWhole` if
+/// `count` is no multiple of eight, else `Ok`.
 fn end_after(count: u64, is_longer: bool) -> Result<(), FlowFault>
     ensures { result ≡ ending_of is_longer count }
 {
@@ -222,8 +224,9 @@ fn end_after(count: u64, is_longer: bool) -> Result<(), FlowFault>
     Ok(())
 }
 
-/// Writes the text of the whole words of `held`, the last ones, to `writer`. Returns the end of the run, which took
-/// `count` bytes in all. It is an error if the stream `is_longer`.
+/// Writes the packed text of the whole words of `held`, which are the last of the stream, to `writer`. Returns the
+/// outcome of the run, which took `count` bytes in all. If `is_longer` is set, the stream has more bytes, and the
+/// outcome is an error.
 fn pack_last<W: Write, A: Allocator + Copy>(
     alloc: A,
     held: &[u8],
@@ -246,19 +249,19 @@ fn pack_last<W: Write, A: Allocator + Copy>(
 }
 
 /// Packs a stream: writes the text that [`pack`](capn_pack::pack) returns for the whole words of `reader` to `writer`.
-/// It reads chunks of at most 65,536 bytes. Before each read, the settled part of the text has been written. (Page:
-/// packing; the rest is own.)
+/// Chunks of at most 65,536 bytes are read. Before each read, the settled part of the text has been written. (Page:
+/// packing; the rest is our own.)
 ///
-/// Text is settled if no later word can change it. That is all text but the last group, if that group is a run of zero
-/// words or of raw words that may go on, and else all text. With up to 255 dense words at the end, fewer than 4,096
-/// bytes are held back.
+/// Text is settled if no later word can change it. If the last group is a run of zero words or of raw words that may
+/// continue, the text before that group is settled. Otherwise all text is settled. Up to 255 dense words at the end are
+/// not packed before the next read either. In all, fewer than 4,096 bytes of input are not packed before a read.
 ///
 /// At most 2^64 - 1 bytes of the stream are taken. One more byte may be read, to find out whether the stream is longer.
-/// The run ends as done, or with the first fault: `Io` if and only if the reader or the writer failed; `Memory` if a
-/// growth was refused, which takes at least one byte of input; `InputTooLong` if there are more bytes; `NotWhole`, with
-/// their number, if that is no multiple of eight. Before `InputTooLong` and `NotWhole` the text of all whole words was
-/// written. Before `Memory` and `Io` a prefix of it was written. The run holds a chunk, its text and its words, each at
-/// most twice: less than 2 MiB.
+/// The run ends as done, or with the first fault: `Io` if and only if the reader or the writer failed; `Memory` if an
+/// allocation was refused, which takes at least one byte of input; `InputTooLong` if there are more bytes; `NotWhole`,
+/// with the number of bytes, if that number is no multiple of eight. Before `InputTooLong` and `NotWhole` the text of
+/// all whole words was written. Before `Memory` and `Io` a prefix of that text was written. The run holds a chunk with
+/// its text and its words, each at most twice: less than 2 MiB.
 pub fn pack_stream<R: Read, W: Write, A: Allocator + Copy>(
     alloc: A,
     reader: &mut Watched<R>,

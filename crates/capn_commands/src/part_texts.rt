@@ -21,8 +21,8 @@ use capn_words::{Space, Watched, total_words};
 use std::alloc::Allocator;
 use std::io::Write;
 
-/// The service that writes, for each message of a stream, the text of the value at a path and a line that ends it.
-/// Messages have to be within limits.
+/// The service that writes, for each message of a stream, the text of the value at a path and the end of that text. A
+/// message that exceeds the limits is refused.
 #[derive(Drop)]
 pub struct PartTexts<'w> {
     /// The numbers of the path.
@@ -33,13 +33,14 @@ pub struct PartTexts<'w> {
     pub limits: Limits,
     /// The style of the text.
     pub style: Style,
-    /// True if each line begins with the offset of the byte that it is about. JSON has no offsets.
+    /// True if each line begins with the offset of the byte that the line describes. JSON has no offsets.
     pub offsets: bool,
-    /// True if each line begins, after any offset, with the path to the slot that it is about. JSON has no paths.
+    /// True if each line begins, after any offset, with the path to the slot that the line describes. JSON has no
+    /// paths.
     pub ways: bool,
 }
 
-/// Maps the fault of a message that is refused, or whose text breaks off, to a `ServeFault`.
+/// Maps the fault of a message that is refused, or whose text is not complete, to a `ServeFault`.
 fn fault_of(fault: ShowFault) -> ServeFault
     ensures { IsFaultOf fault result }
 {
@@ -50,7 +51,8 @@ fn fault_of(fault: ShowFault) -> ServeFault
     }
 }
 
-/// Appends `end` to `text`, or nothing if memory is refused, and writes `text` once it is long.
+/// Appends `end` to `text`, or nothing if an allocation is refused. Writes `text` if `text` then has at least
+/// 65,536 bytes.
 pub(crate) fn add_end<W: Write, A: Allocator>(
     end: &[u8],
     text: &mut Vec<u8, A>,
@@ -87,7 +89,7 @@ fn add_part<S: Space, W: Write, A: Allocator + Copy>(
     }
 }
 
-/// Adds the text of the value at `path` from a message's root, with `marks`, and its line `end`.
+/// Adds the text of the value at `path` from a message's root, with `marks`, and then the line `end`.
 fn add_marked<S: Space, W: Write, A: Allocator + Copy>(
     alloc: A,
     message: &S,
@@ -115,8 +117,8 @@ fn has_marks(texts: &PartTexts) -> bool
     texts.offsets || texts.ways
 }
 
-/// Adds the text of the value at a path from a message's root, and its end. The text has marks if `texts` asks for any,
-/// and otherwise its style.
+/// Adds the text of the value at `texts.path` from the message's root, and the end of that text. The text has marks if
+/// `texts` asks for offsets or paths, and otherwise the style `texts.style`.
 fn add_text<S: Space, W: Write, A: Allocator + Copy>(
     alloc: A,
     texts: &PartTexts,

@@ -1,4 +1,4 @@
-//! Reads a packed input to its end, and unpacks it while it is read.
+//! Reads a packed input to its end, and unpacks the input while it is read.
 
 ghost use Rattle.std.specs.Prelude.{◌≡◌, ℕ, ◌+◌, ◌-◌, ◌<◌, ◌≤◌, ◌^◌, ◌++◌, List, length, take, drop, false, OnOk};
 ghost use Rattle.capn_words.specs.Watched.{inner_of, has_failed};
@@ -22,14 +22,14 @@ const ROOM: usize = 2050 + CHUNK as usize;
 /// The state of a packed input that is unpacked while it is read.
 #[derive(Drop)]
 pub(crate) struct Pending {
-    /// A buffer whose first `len` bytes are held: an unfinished group.
+    /// A buffer whose first `len` bytes are those of an unfinished group.
     pub text: [u8; ROOM],
     pub len: usize,
-    /// The offset in the input at which that group begins.
+    /// The offset in the input at which the unfinished group begins.
     pub at: u64,
     /// The number of words that may still be unpacked.
     pub left: u32,
-    /// True if the unfinished group has more than `left` words. Nothing is held after that.
+    /// True if a group has more than `left` words. Input after such a group is dropped.
     pub is_long: bool,
 }
 
@@ -51,8 +51,8 @@ fn keep(text: &mut [u8], from: usize, to: usize)
     text.copy_within(from..to, 0);
 }
 
-/// Takes the next chunk `piece`, and appends the words of all groups that are complete and within the maximum to
-/// `words`.
+/// Takes the next chunk `piece`, and appends the words of all complete groups to `words`. Stops at a group with more
+/// than `pending.left` words.
 fn take_chunk<A: Allocator>(
     pending: &mut Pending,
     piece: &[u8],
@@ -90,7 +90,7 @@ fn take_chunk<A: Allocator>(
     Ok(())
 }
 
-/// Returns `words` at the end of a packed input, or the fault of a group that is cut or too long.
+/// Returns `words` at the end of a packed input, or the fault of a group that is cut or has too many words.
 fn end_pending<A: Allocator>(pending: &Pending, words: Vec<u8, A>) -> Result<Vec<u8, A>, ToolFault>
     ensures { (most : ℕ) (seen : List ℕ)
         → IsPending most seen words.items (take pending.now.len pending.now.text) pending.now.at
@@ -107,10 +107,11 @@ fn end_pending<A: Allocator>(pending: &Pending, words: Vec<u8, A>) -> Result<Vec
     Ok(words)
 }
 
-/// Reads a packed input to its end, and returns the words that it unpacks to, at most `most`.
+/// Reads a packed input to its end, and returns the words that the input unpacks to. More than `most` words are
+/// refused.
 ///
-/// Only the words and an unfinished group are held. After a group with too many words, further input is dropped as it
-/// is read.
+/// Only the words and an unfinished group are held. After a group with too many words, further input is read and
+/// dropped.
 pub fn read_words<R: Read, A: Allocator>(
     alloc: A,
     reader: &mut Watched<R>,

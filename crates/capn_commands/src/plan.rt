@@ -11,20 +11,20 @@ use capn_walk::Limits;
 /// The kind of text that is written for a message.
 #[derive(Clone, Copy, Debug, PartialEq, Eq)]
 pub enum MessageText {
-    /// The text of its value, and a line `end`.
+    /// The text of the message's value, and a line `end`.
     Text,
-    /// The line with the price of its walk and its number of visits.
+    /// The line with the price and the number of visits of the message's walk.
     Price,
-    /// The line with the digest of its canonical bytes.
+    /// The line with the digest of the message's canonical bytes.
     Digest,
 }
 
-/// The output that is made of an input that is read whole.
+/// The output that is made from an input that is read whole.
 #[derive(Clone, Copy)]
 pub enum Whole {
     /// The packed text of the input's words.
     Packed,
-    /// The words that the input unpacks to, at most this number.
+    /// The words that the input unpacks to. The number is the greatest number of words that are accepted.
     Unpacked(u32),
     /// The canonical bytes of the one message that the input is.
     Canonical(Form, Limits),

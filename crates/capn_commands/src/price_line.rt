@@ -1,4 +1,4 @@
-//! The line of a price, written from its end to its start.
+//! The line with a price and a number of visits, written from its end to its start.
 
 ghost use Rattle.std.specs.Prelude.{◌≡◌, ◌+◌, ◌<◌, ◌≤◌, [], ◌++◌, length, OnOk, OnErr};
 ghost use Rattle.std.specs.Fmt.{decimal};
@@ -8,10 +8,10 @@ ghost use Rattle.capn_commands.specs.inner.PriceRoom.{most_line};
 use std::alloc::{AllocError, Allocator};
 use std::marker::Model;
 
-/// The most bytes of a line.
+/// The greatest number of bytes of a line.
 const ROOM: usize = 72;
 
-/// A line that is written from its end to its start, like the digits of a number. It takes no memory.
+/// A line that is written from its end to its start, like the digits of a number. No memory is allocated for a line.
 #[derive(Drop)]
 pub struct PriceLine {
     bytes: [u8; ROOM],
@@ -30,8 +30,8 @@ impl Model for PriceLine {
 }
 
 impl PriceLine {
-    /// Appends the line of a price and a number of visits, which ends with `end`, to `text`. Nothing is appended if
-    /// memory is refused.
+    /// Appends the line with the price `paid` and the number `visits`, which ends with `end`, to `text`. Nothing is
+    /// appended if an allocation is refused.
     #[inline(always)]
     pub fn append<A: Allocator>(
         text: &mut Vec<u8, A>,
@@ -63,7 +63,7 @@ impl PriceLine {
         &self.bytes[self.start..]
     }
 
-    /// Writes `part` before the line.
+    /// Puts `part` before the bytes of the line.
     #[inline(always)]
     fn put(&mut self, part: &[u8])
         requires { length part.now + length self.old ≤ most_line }
@@ -74,7 +74,7 @@ impl PriceLine {
         self.start = start;
     }
 
-    /// Writes the digits of `n` before the line.
+    /// Puts the decimal digits of `n` before the bytes of the line.
     #[inline(always)]
     fn put_number(&mut self, n: u32)
         requires { 20 + length self.old ≤ most_line }
@@ -85,8 +85,8 @@ impl PriceLine {
     }
 }
 
-/// Returns the line of a price and a number of visits of one digit each, as a small message has them. Its length is
-/// constant, so no length is computed.
+/// Returns the line with the price `paid` and the number `visits`, each of one digit, as a small message has them. The
+/// line has a constant length, so no length is computed.
 #[inline(always)]
 pub fn short_line(paid: u32, visits: u32) -> [u8; 19]
     requires paid { paid < 10 }

@@ -10,14 +10,14 @@ use capn_words::Watched;
 use std::alloc::Allocator;
 use std::io::{Read, Write};
 
-/// Writes, for each message of an input, the text of the value at a path from its root, in a style or with marks. With
-/// an empty path that is the whole message.
+/// Writes, for each message of an input, the text of the value at a path from the root, in a style or with marks. An
+/// empty path shows the whole message.
 ///
-/// The line `end` follows each text, but not after JSON. If nothing is at the path, the text is the line `none`, or in
-/// JSON an empty line. The text of a message is written as soon as the message is complete. The run ends as done, or
-/// with the first fault: a frame, a group or a message that is refused; `InputTooLong`; `Io` if and only if the reader
-/// or the writer failed; `Memory` if a growth was refused. A message is refused if and only if its survey is, whatever
-/// is at the path.
+/// The line `end` follows each text, except in JSON. If nothing is at the path, the text is the line `none`, or in JSON
+/// an empty line. The text of a message is written as soon as the message is complete. The run ends as done, or with
+/// the first fault: a frame, a group or a message that is refused; `InputTooLong`; `Io` if and only if the reader or
+/// the writer failed; `Memory` if an allocation was refused. A message is refused if and only if its survey is refused,
+/// whatever is at the path.
 pub fn run_show<R: Read, W: Write, A: Allocator + Copy>(
     alloc: A,
     texts: &PartTexts,

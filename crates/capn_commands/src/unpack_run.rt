@@ -12,17 +12,17 @@ use capn_words::Watched;
 use std::alloc::Allocator;
 use std::io::{Read, Write};
 
-/// The most bytes that one call of a reader may return.
+/// The greatest number of bytes that one call of a reader may return.
 const CHUNK: usize = 65_536;
 
-/// The most bytes of an unfinished group.
+/// The greatest number of bytes of an unfinished group.
 const UNFINISHED: usize = 2049;
 
-/// The most words that are held at once. A group has fewer.
+/// The greatest number of words that are held at once. A group has fewer words.
 const WORDS: u32 = 16_384;
 
-/// Writes the words of the whole groups at the start of `bytes`, as many as are held at once. `words` is a buffer, and
-/// is overwritten.
+/// Writes the words of the first whole groups of `bytes`, at most 16,384 words. `words` is a buffer, which is
+/// overwritten.
 fn write_some<W: Write, A: Allocator + Copy>(
     bytes: &[u8],
     words: &mut Vec<u8, A>,
@@ -39,7 +39,7 @@ fn write_some<W: Write, A: Allocator + Copy>(
 }
 
 /// Writes the words of all whole groups at the start of `bytes`, and returns the number of bytes of those groups.
-/// `words` is a buffer, and is overwritten.
+/// `words` is a buffer, which is overwritten.
 fn write_groups<W: Write, A: Allocator + Copy>(
     bytes: &[u8],
     words: &mut Vec<u8, A>,
@@ -60,8 +60,8 @@ fn write_groups<W: Write, A: Allocator + Copy>(
     }
 }
 
-/// Returns the outcome of a run at the end of the input. `rest`, which begins at `offset`, holds the bytes after the
-/// last whole group.
+/// Returns the outcome of a run at the end of the input. `rest` has the bytes after the last whole group. The offset of
+/// `rest` in the input is `offset`.
 fn end_of_unpacking(rest: &[u8], offset: u64) -> Result<(), FlowFault>
     ensures { result ≡ ending_of false rest.now offset }
 {
@@ -72,15 +72,15 @@ fn end_of_unpacking(rest: &[u8], offset: u64) -> Result<(), FlowFault>
 }
 
 /// Unpacks a stream in chunks of at most 65,536 bytes of `reader`. Before each read, the words of all whole groups have
-/// been written to `writer`. (Page: packing; the rest is own.)
+/// been written to `writer`. (Page: packing; the rest is our own.)
 ///
 /// At most 2^64 - 1 bytes of the stream are taken. One more byte may be read, to find out whether the stream is longer.
 /// The number of words has no maximum. The run ends as done, or with the first fault: `Io` if and only if the reader or
-/// the writer failed; `Memory` if a growth was refused, which takes at least one byte of input; `InputTooLong` if there
-/// are more bytes; `Cut`, with the offset of its tag, if the input ends within a group. Before `InputTooLong` and `Cut`
-/// the words of all whole groups were written. Before `Memory` and `Io` a prefix of them was written. The run holds a
-/// chunk, an unfinished group of at most 2,049 bytes, and up to 16,384 words, which it writes at once. Its room grows
-/// by doubling, to less than 512 KiB for any input.
+/// the writer failed; `Memory` if an allocation was refused, which takes at least one byte of input; `InputTooLong` if
+/// there are more bytes; `Cut`, with the offset of the tag of a group, if the input ends within that group. Before
+/// `InputTooLong` and `Cut` the words of all whole groups were written. Before `Memory` and `Io` a prefix of these
+/// words was written. The run holds a chunk, an unfinished group of at most 2,049 bytes, and up to 16,384 words, which
+/// are written at once. The room for the words grows by doubling, to less than 512 KiB for any input.
 pub fn unpack_stream<R: Read, W: Write, A: Allocator + Copy>(
     alloc: A,
     reader: &mut Watched<R>,

@@ -40,7 +40,8 @@ fn packed<A: Allocator + Copy>(alloc: A, bytes: &[u8]) -> Result<Vec<u8, A>, Too
     }
 }
 
-/// Returns the line of a bare message's price, which says whether its bytes are canonical.
+/// Returns the verdict line of the bare message `bytes`: the price, the number of visits, and whether the bytes are
+/// canonical.
 fn verdict<A: Allocator + Copy>(
     alloc: A,
     bytes: &[u8],
@@ -58,9 +59,9 @@ fn verdict<A: Allocator + Copy>(
     }
 }
 
-/// Reads all of an input that should be one frame, and returns the bytes that the command may need. Of a stream these
-/// are at most the longest frame of a message of `most` words and one byte more. Of a packed input they are at most the
-/// words that it unpacks to.
+/// Reads all of an input that should be one frame, and returns the bytes that the command may need. For a stream these
+/// are at most the longest frame of a message of `most` words and one byte more. For a packed input these are the words
+/// that the input unpacks to, and more words than the longest frame has are refused.
 pub(crate) fn read_frame<R: Read, A: Allocator>(
     alloc: A,
     reader: &mut Watched<R>,
@@ -98,7 +99,7 @@ fn make_framed<R: Read, A: Allocator + Copy>(
     Ok(canonical.bytes)
 }
 
-/// Reads an input, which is held whole, and returns the packed text of its words.
+/// Reads an input, all of which is held, and returns the packed text of the words of the input.
 pub fn make_text<R: Read, A: Allocator + Copy>(
     alloc: A,
     reader: &mut Watched<R>,
@@ -126,7 +127,7 @@ fn make_trimmed<R: Read, A: Allocator + Copy>(
     Ok(canonical.bytes)
 }
 
-/// Reads a bare input, and returns the line of the price of the one message that it is.
+/// Reads a bare input, and returns the verdict line of the one message that it is.
 pub fn make_verdict<R: Read, A: Allocator + Copy>(
     alloc: A,
     reader: &mut Watched<R>,

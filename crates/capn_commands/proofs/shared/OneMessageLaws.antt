@@ -1,4 +1,4 @@
--- Lemmas that the text and the ending of an input that is one message are unique, if its service does one thing with a
+-- Lemmas that the text and the ending of an input that is one message are unique, if the service does one thing with a
 -- message. (For capn_tool.)
 use Rattle.std.proofs.Common.{◌≡◌, inl, inr, ℕ, List, Bool, true, false, Result, Ok, Err, refl, ap, sym, subst, ◌∙◌}
 use Rattle.capn_pack.proofs.shared.GroupLaws.{one_reading}
@@ -20,7 +20,8 @@ use Rattle.capn_commands.specs.declared.fault.ToolFault.{ToolFault}
 use Rattle.capn_commands.specs.declared.fault.ToolFault.TheVariants as faults
 use Rattle.capn_commands.proofs.OnePiece.{misread_known, reads_of}
 
--- In the state `s` a service does one thing with the first message of an input.
+-- In the state `s` the service writes one text for the first message of an input, or refuses it for one reason, and not
+-- both.
 pub record DoesOneThing {S : Type 0} (serves : S → Position → List ℕ → List (List ℕ) → List ℕ → S → Type 0)
     (refuses : S → Position → List ℕ → List (List ℕ) → Refusal → Type 0) (s : S) : Type 0 where
   pub texts : (frame : List ℕ) (m : List (List ℕ)) (t u : List ℕ) (x y : S) → serves s start frame m t x

@@ -1,4 +1,4 @@
--- Lemmas that the text which is shown of an input is unique. (For capn_tool.)
+-- Lemmas that the text shown for an input is unique. (For capn_tool.)
 use Rattle.std.proofs.Common.{◌≡◌, ◌⊎◌, inl, inr, ℕ, Bool, List, [], ◌∷◌, ◌++◌, Option, Ok, Err, refl, ap, sym}
 use Rattle.std.proofs.Common.{subst, ◌∙◌}
 use Rattle.std.specs.Prelude.{◌||◌, if◌then◌else◌}
@@ -72,7 +72,7 @@ pub record IsLike (p q : PartTexts) : Type 0 where
   pub offsets : p.offsets ≡ q.offsets
   pub ways : p.ways ≡ q.ways
 
--- A service with the options of `p`, and the place where its path lies in memory.
+-- The service `p` with the given options, and with its path at the same place in memory.
 abbrev alike : PartTexts → Form → Bounds → Style → Bool → Bool → PartTexts
 alike p form limits style offsets ways = record p {
   form = form;
@@ -82,11 +82,11 @@ alike p form limits style offsets ways = record p {
   ways = ways;
 }
 
--- The text of a value, and what ends it.
+-- The text of a value, followed by the end of that text.
 abbrev text_of : PartTexts → Position → List (List ℕ) → Tree → List ℕ
 text_of s at m v = part_of s at m v ++ part_end s at m
 
--- The text of a value and what ends it, by the numbers of the path.
+-- The text of the value at the path `numbers`, followed by the end of that text.
 abbrev text_at : List ℕ → PartTexts → Position → List (List ℕ) → Tree → List ℕ
 text_at numbers s at m v =
     (if s.offsets || s.ways then marked_at m (marks_of s at m) numbers v else styled s.style numbers v)

@@ -26,11 +26,12 @@ message_texts piece limits = record { piece = piece; limits = limits }
 abbrev pub serves : MessageTexts → Position → List ℕ → List (List ℕ) → List ℕ → MessageTexts → Type 0
 serves s at frame message text t = IsMessageText s.piece message s.limits text × (t ≡ s)
 
--- A message has no text, and `r` is the reason.
+-- The message has no text, and `r` is the reason.
 abbrev pub refuses : MessageTexts → Position → List ℕ → List (List ℕ) → Refusal → Type 0
 refuses s at frame message r = IsNoMessageText s.piece message s.limits (faults.Refused r)
 
--- The result of serving a message whose text was not appended. A refusal stays, and any other fault becomes `Memory`.
+-- The fault of a service for a message whose text was not appended. A refusal stays the same, and any other fault
+-- becomes `Memory`.
 abbrev pub served_fault : ToolFault → ServeFault
 served_fault (faults.Refused r) = serve_faults.Refused r
 served_fault faults.Memory = serve_faults.Memory
@@ -42,19 +43,20 @@ served_fault (faults.NotWhole n) = serve_faults.Memory
 abbrev pub first_run : MessageText → Bounds → Run MessageTexts
 first_run piece limits = record { service = message_texts piece limits; at = start }
 
--- `line` was added, and less than 65,536 bytes are kept; or the output broke off within it.
+-- `line` was added, and less than 65,536 bytes are kept. Or memory was refused or the writer failed within `line`.
 abbrev pub AddsLine : List ℕ → Outgoing → Outgoing → Result (Unit {0}) ServeFault → Type 0
 AddsLine line old new (Ok u) = Adds old new line × (length new.kept < 65536)
 AddsLine line old new (Err serve_faults.Memory) = BreaksOff old new broken.Memory line
 AddsLine line old new (Err serve_faults.Io) = BreaksOff old new broken.Io line
 AddsLine line old new (Err (serve_faults.Refused r)) = ⊥
 
--- the text of a value, and the line `end`
+-- The text of the value `v`, and the line `end`.
 abbrev pub ended_text : Tree → List ℕ
 ended_text v = show_text v ++ (codes "end" ++ 10 ∷ [])
 
--- The text of a message's value and the line `end` were added, and less than 65,536 bytes are kept; or the output broke
--- off within them; or the message or memory was refused, and nothing was added.
+-- The text of a message's value and the line `end` were added, and less than 65,536 bytes are kept. Or memory was
+-- refused or the writer failed within the text and the line. Or the message or memory was refused, and nothing was
+-- added.
 abbrev pub AddsShown : List (List ℕ) → Bounds → Outgoing → Outgoing → Result (Unit {0}) ServeFault → Type 0
 AddsShown message limits old new (Ok u) =
     (v : Tree) × IsValueOf message limits v × Adds old new (ended_text v) × (length new.kept < 65536)

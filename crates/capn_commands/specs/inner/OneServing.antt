@@ -1,4 +1,4 @@
--- The frame of the one message of an input, and the effect of serving it.
+-- The frame of the one message of an input, and the effect of serving that message.
 use Rattle.std.specs.Prelude.{◌≡◌, ◌⊎◌, ℕ, ◌+◌, ◌*◌, List, [], take, Bool, true, false, Option, Result, Ok, Err, Vec}
 use Rattle.std.specs.Io.KnownBytes.{Appends}
 use Rattle.capn_stream.specs.Frames.{most_table_words}
@@ -12,15 +12,16 @@ use Rattle.capn_commands.specs.declared.plan.Whole.TheVariants as wholes
 use Rattle.capn_commands.specs.declared.fault.ToolFault.{ToolFault}
 use Rattle.capn_commands.specs.declared.fault.ToolFault.TheVariants as faults
 
--- The bytes that are held of an input. Of a stream these are its first bytes, at most one more than the longest frame
--- has. Of a packed input they are what it unpacks to.
+-- The result is the bytes of an input that are held. For a stream they are the first bytes, at most one byte more than
+-- the longest frame. For a packed input they are the words that the input unpacks to. A refusal of the packed input is
+-- returned.
 abbrev pub HoldsFrame : {A : Type 0} → StreamForm → ℕ → List ℕ → Result (Vec ℕ A) ToolFault → Type 0
 HoldsFrame forms.Stream most bytes (Ok held) = take (8 * (most + most_table_words) + 1) bytes ≡ held.items
 HoldsFrame forms.Stream most bytes (Err fault) = ⊥
 HoldsFrame forms.Packed most bytes held = Gives (wholes.Unpacked (most + most_table_words)) bytes held
 
--- A text that `writes` allows was written; or the message is refused, and nothing was written; or memory was refused
--- before a text or within it; or the writer failed within it.
+-- A text that `writes` allows was written, or the message is refused and nothing was written. Or memory was refused
+-- before or within such a text, or the writer failed within such a text.
 abbrev pub ServesWhole : (List ℕ → Type 0) → (Refusal → Type 0) → Option (List ℕ) → Option (List ℕ) → Bool
     → Result (Unit {0}) ToolFault → Type 0
 ServesWhole writes refuses old new failed (Ok u) =
@@ -40,7 +41,7 @@ abbrev pub WritesFrame : (List ℕ → List (List ℕ) → List ℕ → Type 0) 
 WritesFrame writes most frame text =
     (message : List (List ℕ)) × IsFramed frame most message × writes frame message text
 
--- `frame` is no frame, or more than one, or its message is refused with `r`.
+-- `frame` is not exactly one frame, or the message of `frame` is refused. `r` is the refusal.
 abbrev pub RefusesFrame : (List ℕ → List (List ℕ) → Refusal → Type 0) → ℕ → List ℕ → Refusal → Type 0
 RefusesFrame refuses most frame r = IsMisframed frame most r
     ⊎ ((message : List (List ℕ)) × IsFramed frame most message × refuses frame message r)

@@ -8,12 +8,12 @@ use Rattle.capn_commands.specs.Text.{taken_of, has_more}
 use Rattle.capn_commands.specs.declared.fault.ToolFault.{ToolFault}
 use Rattle.capn_commands.specs.declared.fault.ToolFault.TheVariants as faults
 
--- A reader gave some bytes, and `P` holds of their number.
+-- A reader returned some bytes, and `P` holds for the number of these bytes.
 abbrev pub HasRead : Option (List ℕ) → Option (List ℕ) → (ℕ → Type 0) → Type 0
 HasRead old new P = (bytes : List ℕ) × Consumes old new bytes × P (length bytes)
 
--- A reader gave `bytes`, which are all that it had, or one more than 2^32. `kept` are those that a run takes, and
--- `is_longer` says whether there are more.
+-- A reader returned `bytes`, which are all that it had, or one byte more than 2^32. `kept` are the bytes that a run
+-- takes, and `is_longer` says whether there are more.
 pub record Kept (old new : Option (List ℕ)) (kept : List ℕ) (is_longer : Bool) (bytes : List ℕ) : Type 0 where
   pub read : Consumes old new bytes
   pub bounded : length bytes ≤ most_input + 1
@@ -29,7 +29,7 @@ IsUntaken old new failed fault = (bytes : List ℕ)
     ⊎ ((fault ≡ faults.InputTooLong) × (most_input < length bytes))))
     ⊎ (Consumes old new bytes × (length bytes ≤ most_input + 1) × (failed ≡ true) × (fault ≡ faults.Io)))
 
--- An input was read to its end and `P` holds of its bytes and the result; or it was not read to its end.
+-- An input was read to its end, and `P` holds for its bytes and the result, or the input was not read to its end.
 abbrev pub TakesAll : {T : Type 0} → (List ℕ → Result T ToolFault → Type 0) → Option (List ℕ) → Option (List ℕ) → Bool
     → Result T ToolFault → Type 0
 TakesAll P old new failed (Ok x) = (bytes : List ℕ) × HasGivenAll old new failed bytes × P bytes (Ok x)

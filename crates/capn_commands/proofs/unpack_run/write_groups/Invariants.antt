@@ -4,7 +4,7 @@ use Rattle.capn_pack.specs.inner.Steps.{TakesRow}
 use Rattle.capn_words.specs.Watched.{inner_of, has_failed}
 use Rattle.capn_commands.proofs.unpack_run.write_groups.Given as goal
 
--- The words of the groups up to `at` are written.
+-- The words of the groups in the first `at` bytes were written.
 abbrev pub invariant-parts : goal.invariant-parts
 invariant-parts g l = record {
   fine : has_failed l.writer ≡ false;
