@@ -1,14 +1,14 @@
--- Lemmas for `command`, `meaning` and the subcommands: things that a name and options mean, sorted by name.
+-- Lemmas for `command`, `meaning` and the subcommands: the meanings of a name with options, sorted by name.
 use Rattle.std.proofs.Common.{◌≡◌, ◌⊎◌, inl, inr, List, [], ◌∷◌, Bool, true, false, cond, bytes_eq, refl, sym, ◌∙◌}
 use Rattle.std.proofs.lemmas.Slice.Eq.{bytes_eq-Decides}
 use Rattle.clap.specs.Words.{Row, Text}
 
--- The things that one name means: when options mean a thing, and that they mean only one.
+-- A kind of meaning. `Is` says when options mean a thing of this kind, and `one` that they mean at most one.
 pub record Kind {O : Type 0} (Same : O → O → Type 0) : Type 1 where
   pub Is : List Row → O → Type 0
   pub one : (rows : List Row) (o p : O) → Is rows o → Is rows p → Same o p
 
--- The name and the options mean `o`, by the kind of that name.
+-- The name and the options mean `o`, by the first of the kinds that has this name.
 abbrev pub Named : {O : Type 0} {Same : O → O → Type 0} → List (Text × Kind Same) → Text → List Row → O → Type 0
 Named [] name rows o = ⊥
 Named (kind ∷ kinds) name rows o = cond (bytes_eq name kind.0) (kind.1.Is rows o) (Named kinds name rows o)

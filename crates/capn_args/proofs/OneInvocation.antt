@@ -42,7 +42,7 @@ use Rattle.capn_args.specs.declared.invocation.Invocation.TheVariants as invocat
 
 -- ---- two invocations of one kind
 
--- A name with two tasks has one of them by `--digest`.
+-- Tasks with the same subcommand and the same flags are equal.
 task_one : (rows : List Row) (s t : Task) → task_name s ≡ task_name t → TaskIs rows s → TaskIs rows t → s ≡ t
 task_one rows tasks.List tasks.List e is also = refl
 task_one rows tasks.Digests tasks.Digests e is also = refl
@@ -100,7 +100,7 @@ cmp_one rows u v (f, l) (g, m) =
     let limits : u.limits ≡ v.limits = limits_one rows u.limits v.limits l m in
     λ i. invocations.Cmp (record { form = form i; limits = limits i })
 
--- Default limits are the same if the limits on the words of a message are.
+-- Default limits are equal if the limits on the words of a message are.
 words_one : (rows : List Row) (l k : Bounds) → NumberIs rows (codes "message-words") l.message_words
     → NumberIs rows (codes "message-words") k.message_words → l ≡ usual_with l.message_words
     → k ≡ usual_with k.message_words
@@ -127,7 +127,7 @@ only_one rows p q (f, w, usual, list) (g, v, usually, other) = (
   ap (λ (o : Option Text). unwrap_or o (codes "")) (sym list.0 ∙ other.0),
 )
 
--- The flags decide the style.
+-- The flags determine the style.
 pub style_one : (rows : List Row) (s t : Style) → StyleIs rows s → StyleIs rows t → s ≡ t
 style_one rows s t (text, json, a, b, is) (other, too, c, d, also) =
     sym is
@@ -135,7 +135,7 @@ style_one rows s t (text, json, a, b, is) (other, too, c, d, also) =
     ∙ ap (λ (x : Bool). style_for other x) (flag_one rows (codes "json") json too b d)
     ∙ also
 
--- The value of `--at` decides the path.
+-- The value of `--at` determines the path.
 path_one : (rows : List Row) (f g : Bool) (v w : Option (Bor Text)) → PathIs rows f v → PathIs rows g w → IsSamePath v w
 path_one rows f g None None is also = tt
 path_one rows f g None (Some w) is also = let bad : None ≡ Some w.now = sym is.0 ∙ also.0 in absurd cc
@@ -155,7 +155,7 @@ show_one rows s t (f, l, style, (offsets, ways, fit), path, one) (g, m, other, (
   flag_one rows (codes "one") s.one t.one one single,
 )
 
--- The value of `--number` decides the message number.
+-- The value of `--number` determines the message number.
 number_given : (rows : List Row) (a b : Option ℕ) → IsNumbered rows a → IsNumbered rows b → a ≡ b
 number_given rows None None is also = refl
 number_given rows None (Some m) is (text, there, reads) = let bad : None ≡ Some text = sym is ∙ there in absurd cc
@@ -178,7 +178,7 @@ refused_one rows x y (f, l, none) (g, m, also) =
     let limits : x.limits ≡ y.limits = limits_one rows x.limits y.limits l m in
     λ i. record { form = form i; limits = limits i }
 
--- `--keep-going` decides whether one message or every refused one is explained.
+-- The options of `explain` determine the explanation.
 pub explanation_one : (rows : List Row) (x y : Explanation) → ExplanationIs rows x → ExplanationIs rows y
     → invocations.Explain x ≡ invocations.Explain y
 explanation_one rows (explanations.One x) (explanations.One y) is also =
@@ -192,7 +192,7 @@ explanation_one rows (explanations.Refused x) (explanations.Refused y) is also =
 
 -- ---- the invocations of each name
 
--- Invocations are the same if those that they are equal to are.
+-- If `o` equals `x`, `p` equals `y`, and `x` and `y` are the same invocation, so are `o` and `p`.
 pub same_as : {o p x y : Invocation} → o ≡ x → p ≡ y → AreSame x y → AreSame o p
 same_as {o} {p} {x} {y} is also same =
     subst (λ (a : Invocation). AreSame a p) (sym is) (subst (λ (b : Invocation). AreSame x b) (sym also) same)
@@ -220,7 +220,7 @@ archives name = record {
       same_as is.4 also.4 (archive_one rows is.0 also.0 (is.3 ∙ sym also.3) is.1 is.2 also.1 also.2);
 }
 
--- `o` is a command of a kind, and no flag of another invocation is given.
+-- `o` is the invocation of a command that satisfies `Is`, and the options satisfy `IsBare`.
 abbrev MessageIs : (List Row → Command → Type 0) → (List Row → Type 0) → List Row → Invocation → Type 0
 MessageIs Is IsBare rows o = (c : Command) × Is rows c × IsBare rows × (o ≡ invocations.Message c)
 
@@ -256,13 +256,13 @@ plain_shows = messages (writes pieces.Text) IsPlain
 abbrev shows : Kind AreSame
 shows = orders (λ (s : Show). invocations.Show s) show_one
 
--- Options without `--at`, another style and marks do not mean a `show` of a part.
+-- The options of a plain `show` do not satisfy `PathIs`.
 no_show : (rows : List Row) (plain : Bool) (path : Option (Bor Text)) → first_of (codes "at") rows ≡ None
     → plain ≡ true → PathIs rows plain path → ⊥
 no_show rows plain None none is other = let bad : true ≡ false = sym is ∙ other.1 in absurd cc
 no_show rows plain (Some path) none is other = let bad : None ≡ Some path.now = sym none ∙ other.0 in absurd cc
 
--- The style and the marks are those of a plain `show`.
+-- With the style and marks of a plain `show`, `is_plain` is true.
 plainly : (rows : List Row) (s : Show) → StyleIs rows styles.Lines → MarksAre rows styles.Lines false false
     → ShowIs rows s → is_plain s.style s.offsets s.ways ≡ true
 plainly rows s lines (bare, still, fit) (f, l, style, (offsets, ways, fits), path, one) =
@@ -377,7 +377,7 @@ pub means_one_invocation : MeansOneInvocation
 means_one_invocation None o p m n = absurd m
 means_one_invocation (Some s) o p m n = named_one kinds s.0 s.1 o p (by_name s.0 s.1 o m) (by_name s.0 s.1 p n)
 
--- An invocation that is the same as that of a command is equal to it.
+-- An invocation that is the same as that of `command` is equal to it.
 pub same_command : (o : Invocation) (command : Command) → AreSame o (invocations.Message command)
     → o ≡ invocations.Message command
 same_command (invocations.Show show) command is = is

@@ -56,11 +56,11 @@ text_one true true e = refl
 text_one false false e = refl
 text_one a b e = absurd (differ (ap text_in e) refl)
 
--- A flag is given or not.
+-- A flag has at most one value.
 pub flag_one : (rows : List Row) (option : Text) (a b : Bool) → FlagIs rows option a → FlagIs rows option b → a ≡ b
 flag_one rows option a b x y = text_one a b (sym x ∙ y)
 
--- A flag is not both.
+-- A flag is not both given and not given.
 pub not_both : (rows : List Row) (option : Text) → FlagIs rows option false → FlagIs rows option true → ⊥
 not_both rows option x y = let bad : false ≡ true = flag_one rows option false true x y in absurd (cc)
 

@@ -1,4 +1,4 @@
--- The command line: each subcommand with its options, their ranges and their defaults. (Own.)
+-- The command line, with the options of each subcommand, their ranges and their defaults. (Our own.)
 use Rattle.std.specs.Prelude.{ℕ, ◌≡◌, ◌-◌, ◌^◌, ℤ, pos, List, [], ◌∷◌, Some, codes, cond, true, false}
 use Rattle.std.specs.List.{list_any}
 use Rattle.std.specs.Str.{bytes_eq}
@@ -46,7 +46,7 @@ asked_rule name = record (new_rule name) { long = Some name; value_names = 1 }
 abbrev pub flag_rule : Text → Rule
 flag_rule name = record (new_rule name) { long = Some name; action = Some actions.SetTrue }
 
--- The greatest number of a message.
+-- The greatest message number.
 abbrev pub most_number : ℕ
 most_number = 2 ^ 64 - 1
 
@@ -54,7 +54,7 @@ most_number = 2 ^ 64 - 1
 abbrev pub place_rule : Text → Text → Rule
 place_rule name usual = record (usual_rule name usual) { parser = Some (parsers.Unsigned 1 most_number) }
 
--- `command` has the line `line`, and hands no option down to its subcommands.
+-- `command` has the parser `line`, and hands no option down to its subcommands.
 abbrev pub HasLine : Command → App → Type 0
 HasLine command line = (app_of command ≡ line) × ((out-Command command).has_globals ≡ false)
 
@@ -113,27 +113,27 @@ commands = codes "show" ∷ codes "check" ∷ codes "explain" ∷ codes "list" �
     ∷ codes "hash" ∷ codes "uniq" ∷ codes "filter" ∷ codes "cmp" ∷ codes "pick" ∷ codes "pack" ∷ codes "unpack"
     ∷ codes "make" ∷ []
 
--- `line` with those of the given options that the command `name` takes.
+-- The parser `line`, with the options added that the command `name` takes.
 abbrev pub with_options : Text → App → List (Rule × List Text) → App
 with_options name line [] = line
 with_options name line (option ∷ rest) =
     with_options name (cond (list_any (λ command. bytes_eq command name) option.1) (with_rule line option.0) line) rest
 
--- The line of the command `name`.
+-- The parser of the command `name`.
 abbrev pub line_of : Text → App
 line_of name = with_options name (new_app name) options
 
--- The program, which needs a subcommand and has a version.
+-- The parser of the program without its subcommands, one of which must be given. The program has a version.
 abbrev pub top_line : App
 top_line =
     let a = new_app (codes "capn") in
     record a { top = record a.top { subcommand_required = true; has_version = true } }
 
--- The program `top` with further commands.
+-- The parser `top`, with the parsers of the commands in the list added as subcommands.
 abbrev pub with_commands : App → List Text → App
 with_commands top [] = top
 with_commands top (name ∷ rest) = with_commands (with_subcommand top (line_of name).top) rest
 
--- The whole command line.
+-- The parser of the whole command line.
 abbrev pub program_line : App
 program_line = with_commands top_line commands

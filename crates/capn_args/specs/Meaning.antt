@@ -1,4 +1,5 @@
--- The meaning of a command line: the invocation that a subcommand and the values of its options order. (Own.)
+-- The meaning of a command line, which is the invocation that a subcommand and the values of its options stand for.
+-- (Our own.)
 use Rattle.std.specs.Prelude.{ℕ, ◌≡◌, ◌&&◌, ◌||◌, not, List, Bool, true, false, Option, Some, None, codes, ⊤, IsSome}
 use Rattle.std.specs.Borrow.{Bor}
 use Rattle.clap.specs.Words.{Row, Text, first_of}
@@ -78,7 +79,8 @@ task_name tasks.Digests = codes "list"
 task_name tasks.Limits = codes "limits"
 task_name tasks.Canonical = codes "canonical"
 
--- The flags are those of the task: `list` with or without `--digest`, and `canonical` with `--framed`.
+-- The flags belong to the task: `--digest` is given for `Digests` and not for `List`, and `--framed` is given for
+-- `Canonical`.
 abbrev pub TaskIs : List Row → Task → Type 0
 TaskIs rows tasks.List = FlagIs rows (codes "digest") false
 TaskIs rows tasks.Digests = FlagIs rows (codes "digest") true
@@ -98,7 +100,7 @@ OnlyIs rows only = FormIs rows (form_of only.form)
     × (only.limits ≡ usual_with only.limits.message_words)
     × ListIs rows only.list.now
 
--- `--number` is given with this message number as its value, or it is not given.
+-- The message number is the value of `--number`, or `None` if `--number` is not given.
 abbrev pub IsNumbered : List Row → Option ℕ → Type 0
 IsNumbered rows None = first_of (codes "number") rows ≡ None
 IsNumbered rows (Some n) = (text : Text) × (first_of (codes "number") rows ≡ Some text) × (number_of text ≡ Some n)
@@ -107,13 +109,14 @@ IsNumbered rows (Some n) = (text : Text) × (first_of (codes "number") rows ≡ 
 abbrev pub ExplainIs : List Row → Explain → Type 0
 ExplainIs rows explain = FormIs rows explain.form × LimitsAre rows explain.limits × IsNumbered rows explain.number
 
--- The options of `explain` have the values in `refused`, by which every refused message is explained. `--number` is not
--- given.
+-- The options of `explain` have the values in `refused`, and `--number` is not given. Every refused message is
+-- explained.
 abbrev pub RefusedIs : List Row → ExplainRefused → Type 0
 RefusedIs rows refused =
     FormIs rows refused.form × LimitsAre rows refused.limits × (first_of (codes "number") rows ≡ None)
 
--- With `--keep-going` every refused message is explained, and without it one message.
+-- The options of `explain` have the values in the explanation. With `--keep-going` every refused message is explained,
+-- and without it one message.
 abbrev pub ExplanationIs : List Row → Explanation → Type 0
 ExplanationIs rows (explanations.One explain) = ExplainIs rows explain × FlagIs rows (codes "keep-going") false
 ExplanationIs rows (explanations.Refused refused) = RefusedIs rows refused × FlagIs rows (codes "keep-going") true
@@ -127,7 +130,7 @@ abbrev pub flow_name : Flow → Text
 flow_name flows.Pack = codes "pack"
 flow_name flows.Unpack = codes "unpack"
 
--- `--streaming` is given, and for `unpack` `--message-words` is not.
+-- `--streaming` is given. For `unpack`, `--message-words` is not given.
 abbrev pub FlowIs : List Row → Flow → Type 0
 FlowIs rows flows.Pack = FlagIs rows (codes "streaming") true
 FlowIs rows flows.Unpack = FlagIs rows (codes "streaming") true × IsUsual rows (codes "message-words")
@@ -144,29 +147,30 @@ abbrev pub StyleIs : List Row → Style → Type 0
 StyleIs rows style = (text : Bool) × (json : Bool) × FlagIs rows (codes "text") text
     × FlagIs rows (codes "json") json × (style_for text json ≡ style)
 
--- `offsets` and `ways` are the flags of these names. With JSON neither is given.
+-- `offsets` and `ways` say whether the flags of these names are given. In a style without lines, neither is given.
 abbrev pub MarksAre : List Row → Style → Bool → Bool → Type 0
 MarksAre rows style offsets ways = FlagIs rows (codes "offsets") offsets × FlagIs rows (codes "ways") ways
     × (has_lines style || not (offsets || ways) ≡ true)
 
--- The style is that of a plain `show`: lines without marks.
+-- True if `style`, `offsets` and `ways` are those of a plain `show`, which writes lines without quotes or marks.
 abbrev pub is_plain : Style → Bool → Bool → Bool
 is_plain style offsets ways = has_lines style && (not (is_quoted style) && not (offsets || ways))
 
--- `--at` is given, and its value is a path. Or it is not given, and the text is not that of a plain `show`.
+-- The last argument is the value of `--at`, which is a path. Or `--at` is not given, and `plain` is false, so that the
+-- text is not that of a plain `show`.
 abbrev pub PathIs : List Row → Bool → Option (Bor Text) → Type 0
 PathIs rows plain None = (first_of (codes "at") rows ≡ None) × (plain ≡ false)
 PathIs rows plain (Some path) = (first_of (codes "at") rows ≡ Some path.now) × IsSome (path_of path.now)
 
--- The options of `show` have the values in `show`: at least one of `--at`, `--text`, `--json`, `--offsets` and `--ways`
--- is given.
+-- The options of `show` have the values in `show`, and at least one of `--at`, `--text`, `--json`, `--offsets` and
+-- `--ways` is given.
 abbrev pub ShowIs : List Row → Show → Type 0
 ShowIs rows show = FormIs rows show.form × LimitsAre rows show.limits × StyleIs rows show.style
     × MarksAre rows show.style show.offsets show.ways
     × PathIs rows (is_plain show.style show.offsets show.ways) show.path
     × FlagIs rows (codes "one") show.one
 
--- The name of the subcommand that writes this text for a message.
+-- The name of the subcommand that writes the given kind of text for a message.
 abbrev pub text_name : MessageText → Text
 text_name pieces.Text = codes "show"
 text_name pieces.Price = codes "check"
@@ -182,11 +186,12 @@ command_name (commands.Canonical form limits) = codes "canonical"
 command_name (commands.Hash form limits) = codes "hash"
 command_name (commands.One piece form limits) = text_name piece
 
--- The options of an input have these values: form, limits, and whether it must be exactly one message.
+-- The options of an input have the values `form`, `limits` and `one`, which says whether the input must be exactly one
+-- message.
 abbrev pub InputIs : List Row → Form → Bounds → Bool → Type 0
 InputIs rows form limits one = FormIs rows form × LimitsAre rows limits × FlagIs rows (codes "one") one
 
--- The options that a command shares with others have the values in the command.
+-- The options that a command shares with other commands have the values in the command.
 abbrev pub CommandIs : List Row → Command → Type 0
 CommandIs rows (commands.Show form limits) = InputIs rows form limits false
 CommandIs rows (commands.Check form limits) = InputIs rows form limits false
@@ -196,13 +201,15 @@ CommandIs rows (commands.Canonical form limits) = FormIs rows form × LimitsAre 
 CommandIs rows (commands.Hash form limits) = InputIs rows form limits false
 CommandIs rows (commands.One piece form limits) = InputIs rows form limits true
 
--- The subcommand is that of `command`, and the options that it shares with others have its values.
+-- The subcommand is that of `command`, and the options that it shares with other subcommands have the values in
+-- `command`.
 abbrev pub Means : Option (Text × List Row) → Command → Type 0
 Means None command = ⊥
 Means (Some s) command = (s.0 ≡ command_name command) × CommandIs s.1 command
 
--- `canonical`, `pack` and `unpack` are commands over one input if none of their flags is given. `show` is one if `--at`
--- is not given, nor any flag but `--one`. No other command over messages has such an option.
+-- No option is given that makes another invocation of the command. For `canonical`, `pack` and `unpack`, no flag of
+-- another invocation is given. For `show`, neither `--at` nor any flag but `--one` is given. The other commands over
+-- messages have no such option.
 abbrev pub HasNoFlag : List Row → Command → Type 0
 HasNoFlag rows (commands.Show form limits) = (first_of (codes "at") rows ≡ None) × StyleIs rows styles.Lines
     × MarksAre rows styles.Lines false false
@@ -250,18 +257,18 @@ abbrev pub MeansInvocation : Option (Text × List Row) → Invocation → Type 0
 MeansInvocation None invocation = ⊥
 MeansInvocation (Some s) invocation = (s.0 ≡ name_of invocation) × HasOptions s.1 invocation
 
--- A subcommand with its values means at most one command.
+-- A subcommand with the values of its options means at most one command.
 abbrev pub MeansOne : Type 0
 MeansOne = (said : Option (Text × List Row)) (c d : Command) → Means said c → Means said d → c ≡ d
 
--- Both have no path, or both have paths with equal texts, wherever these are in memory.
+-- Both arguments are no path, or both are paths with equal texts, which may lie in different places in memory.
 abbrev pub IsSamePath : Option (Bor Text) → Option (Bor Text) → Type 0
 IsSamePath None None = ⊤
 IsSamePath None (Some path) = ⊥
 IsSamePath (Some path) None = ⊥
 IsSamePath (Some path) (Some other) = path.now ≡ other.now
 
--- Two invocations are the same. The paths of two `show` and the lists of two `pick --only` need only have equal texts.
+-- Two invocations are the same. Paths of `show` and lists of `pick --only` are compared by their texts.
 abbrev pub AreSame : Invocation → Invocation → Type 0
 AreSame (invocations.Show s) (invocations.Show t) =
     (s.form ≡ t.form) × (s.limits ≡ t.limits) × (s.style ≡ t.style) × (s.offsets ≡ t.offsets) × (s.ways ≡ t.ways)
@@ -270,7 +277,7 @@ AreSame (invocations.Only s) (invocations.Only t) =
     (s.form ≡ t.form) × (s.limits ≡ t.limits) × (s.list.now ≡ t.list.now)
 AreSame o p = o ≡ p
 
--- A subcommand with its values means at most one invocation.
+-- A subcommand with the values of its options means at most one invocation.
 abbrev pub MeansOneInvocation : Type 0
 MeansOneInvocation =
     (said : Option (Text × List Row)) (o p : Invocation) → MeansInvocation said o → MeansInvocation said p → AreSame o p

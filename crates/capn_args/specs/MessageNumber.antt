@@ -1,9 +1,10 @@
--- The text of `--number`: the number of a message. (Own.)
+-- The text of `--number`, which is the number of a message. (Our own.)
 use Rattle.std.specs.Prelude.{◌≡◌, ℕ, ◌==◌, [], ◌∷◌, Option, Some, None, codes, cond, option_and_then, refl}
 use Rattle.clap.specs.Words.{Text}
 use Rattle.capn_args.specs.Path.{with_digit}
 
--- The number of a text whose digits have begun with `begun`. It does not begin with a zero, and stays below 2^64.
+-- The number `begun`, or none yet, with the digits of a text appended. The number must not begin with a zero, and stays
+-- below 2^64.
 abbrev pub number_from : Option ℕ → Text → Option ℕ
 number_from begun [] = begun
 number_from begun (c ∷ rest) =

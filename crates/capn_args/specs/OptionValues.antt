@@ -1,4 +1,4 @@
--- The values of options, given or default. (Own.)
+-- The values of options, given or default. (Our own.)
 use Rattle.std.specs.Prelude.{ℕ, ◌≡◌, ◌+◌, ◌≤◌, List, Bool, true, false, Option, Some, codes, find, option_and_then}
 use Rattle.std.specs.Str.{bytes_eq}
 use Rattle.std.specs.Str.Parse.{IsNumeral, digits_value, without_leading_plus}
@@ -32,13 +32,13 @@ tariff_name tariffs.Plain = codes "plain"
 abbrev pub TariffIs : List Row → Tariff → Type 0
 TariffIs rows tariff = first_of (codes "tariff") rows ≡ Some (tariff_name tariff)
 
--- The value of `option`, given or default, is `n` in decimal digits.
+-- The value of `option`, given or default, is `n` in decimal digits, possibly after a plus sign.
 abbrev pub NumberIs : List Row → Text → ℕ → Type 0
 NumberIs rows option n = (text : Text) × (one_of option rows ≡ Some text)
     × IsNumeral 10 (without_leading_plus text) × (n ≡ digits_value 10 (without_leading_plus text))
 
--- `--message-words`, `--budget` and `--depth` have the numbers of `limits`, each in its range, and `--tariff` names
--- their tariff.
+-- `--message-words`, `--budget` and `--depth` have the numbers in `limits`, each in its range, and `--tariff` names the
+-- tariff of `limits`.
 abbrev pub LimitsAre : List Row → Bounds → Type 0
 LimitsAre rows limits =
     NumberIs rows (codes "message-words") limits.message_words
@@ -47,7 +47,8 @@ LimitsAre rows limits =
     × TariffIs rows limits.tariff
     × AreLimits limits.message_words limits.budget limits.depth
 
--- `most` is the value of `--message-words`, which is in its range, and the words of the longest segment table.
+-- `most` is the value of `--message-words`, which is in its range, plus the number of words of the longest segment
+-- table.
 abbrev pub UnpackedIs : List Row → ℕ → Type 0
 UnpackedIs rows most = (n : ℕ) × NumberIs rows (codes "message-words") n × (n ≤ most_message_words)
     × (most ≡ n + most_table_words)
@@ -56,7 +57,7 @@ UnpackedIs rows most = (n : ℕ) × NumberIs rows (codes "message-words") n × (
 abbrev pub NumberIn : List Row → Text → ℕ → ℕ → ℕ → Type 0
 NumberIn rows option least most n = NumberIs rows option n × (least ≤ n) × (n ≤ most)
 
--- The text that stands for a flag: of one that is given, and of one that is not.
+-- The text that stands for a flag, which is `true` if the flag is given, and `false` if it is not.
 abbrev pub flag_text : Bool → Text
 flag_text true = codes "true"
 flag_text false = codes "false"

@@ -1,4 +1,4 @@
--- The text of a path, which is the numbers that lead from the root of a message to a slot below it. (Own.)
+-- The text of a path, which is the numbers that lead from the root of a message to a slot below it. (Our own.)
 use Rattle.std.specs.Prelude.{◌≡◌, ℕ, ◌+◌, ◌-◌, ◌*◌, ◌^◌, ◌==◌, ◌&&◌, nat_le, nat_lt, List, [], ◌∷◌, Option, Some, None}
 use Rattle.std.specs.Prelude.{codes, cond, option_and_then, option_map, unwrap_or, refl}
 use Rattle.std.specs.Borrow.{Bor}
@@ -9,19 +9,19 @@ abbrev pub with_digit : Option ℕ → ℕ → Option ℕ
 with_digit begun c = cond (nat_le 48 c && nat_le c 57)
     (cond (nat_lt (unwrap_or begun 0 * 10 + (c - 48)) (2 ^ 64)) (Some (unwrap_or begun 0 * 10 + (c - 48))) None) None
 
--- The numbers of a text whose first number has begun with `begun`. A dot ends a number, and so does the end of the
--- text.
+-- The numbers of a text whose first digits are appended to the number `begun`, or begin a number if there is none yet.
+-- A dot ends a number, and so does the end of the text.
 abbrev pub path_from : Option ℕ → Text → Option (List ℕ)
 path_from begun [] = option_map (λ n. n ∷ []) begun
 path_from begun (c ∷ rest) = cond (c == 46)
     (option_and_then (λ n. option_map (λ path. n ∷ path) (path_from None rest)) begun)
     (option_and_then (λ n. path_from (Some n) rest) (with_digit begun c))
 
--- The numbers of a text, which are below 2^64 and parted by single dots.
+-- The numbers of a text, which are below 2^64 and separated by single dots.
 abbrev pub path_of : Text → Option (List ℕ)
 path_of text = path_from None text
 
--- The numbers of the given path, if its text is one, and no numbers if there is no path.
+-- The numbers of a path, or no numbers if there is no path. The result is `None` if the text is not a path.
 abbrev pub numbers_of : Option (Bor Text) → Option (List ℕ)
 numbers_of None = Some []
 numbers_of (Some text) = path_of text.now

@@ -1,4 +1,4 @@
--- The text of `--only`: message numbers, and ranges of them. (Own.)
+-- The text of `--only`: message numbers, and ranges of them. (Our own.)
 use Rattle.std.specs.Prelude.{◌≡◌, ℕ, ◌==◌, ◌&&◌, nat_le, nat_lt, List, [], ◌∷◌, Option, Some, None, codes, cond}
 use Rattle.std.specs.Prelude.{option_and_then, option_map, unwrap_or, refl}
 use Rattle.clap.specs.Words.{Text}
@@ -14,7 +14,8 @@ fresh last = record { last = last; first = None; digits = None }
 abbrev pub range_from : ℕ → ℕ → ℕ → Option Range
 range_from last from to = cond (nat_lt last from && nat_le from to) (Some (record { from = from; to = to })) None
 
--- The range that ends with the digits that were read: from the number before its hyphen, or of one number.
+-- The range that ends with the number read last, and begins with the number before the hyphen. Without a hyphen, the
+-- range is one number.
 abbrev pub range_of : Begun → Option Range
 range_of b = option_and_then (λ to. range_from b.last (unwrap_or b.first to) to) b.digits
 
@@ -23,25 +24,24 @@ abbrev pub with_hyphen : ℕ → Option ℕ → Option ℕ → Option Begun
 with_hyphen last None digits = option_map (λ n. record { last = last; first = Some n; digits = None }) digits
 with_hyphen last (Some n) digits = None
 
--- The state after a digit, with which the number becomes `n`. A number must not begin with a zero, and stays below
--- 2^64.
+-- The state after a digit that makes `n` of the number. The number must not begin with a zero.
 abbrev pub with_number : ℕ → Option ℕ → ℕ → Option Begun
 with_number last first n = cond (n == 0) None (Some (record { last = last; first = first; digits = Some n }))
 
--- The state after the character `c` of a range.
+-- The state after `b` and the character `c` of a range.
 abbrev pub longer : Begun → ℕ → Option Begun
 longer b c =
     cond (c == 45) (with_hyphen b.last b.first b.digits)
     (option_and_then (λ n. with_number b.last b.first n) (with_digit b.digits c))
 
--- The ranges of a text whose first range has begun with `b`. A comma ends a range, and so does the end of the text.
+-- The ranges of a text that continues a range in the state `b`. A comma ends a range, and so does the end of the text.
 abbrev pub ranges_from : Begun → Text → Option (List Range)
 ranges_from b [] = option_map (λ r. r ∷ []) (range_of b)
 ranges_from b (c ∷ rest) =
     cond (c == 44) (option_and_then (λ r. option_map (λ rs. r ∷ rs) (ranges_from (fresh r.to) rest)) (range_of b))
     (option_and_then (λ next. ranges_from next rest) (longer b c))
 
--- The ranges of a text: numbers and ranges, from 1 to 2^64 - 1, in ascending order, parted by single commas.
+-- The ranges of a text of numbers and ranges from 1 to 2^64 - 1, in ascending order, separated by single commas.
 abbrev pub ranges_in : Text → Option (List Range)
 ranges_in text = ranges_from (fresh 0) text
 

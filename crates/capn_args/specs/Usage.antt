@@ -1,4 +1,4 @@
--- The reasons why the words of a command line mean no invocation. (Own.)
+-- The reasons why the words of a command line mean no invocation. (Our own.)
 use Rattle.std.specs.Prelude.{◌≡◌, ◌⊎◌, ℕ, List, [], ◌++◌, codes, Result, Ok, Err}
 use Rattle.clap.specs.Words.{IsAmong, Text, fault_of, kind_of, subcommand_of}
 use Rattle.clap.specs.declared.error.Error.{Error}
@@ -15,7 +15,7 @@ use Rattle.capn_args.specs.declared.usage.Usage.{Usage}
 abbrev pub error_of : Usage → Error
 error_of usage = usage.error
 
--- The reason is refused memory, which says nothing about the words.
+-- The reason is a refused allocation, which says nothing about the words.
 abbrev pub NeedsMemory : Usage → Type 0
 NeedsMemory usage = kind_of (error_of usage) ≡ kinds.OutOfMemory
 
@@ -27,41 +27,41 @@ WishesHelp usage = kind_of (error_of usage) ≡ kinds.DisplayHelp
 abbrev pub WishesVersion : Usage → Type 0
 WishesVersion usage = kind_of (error_of usage) ≡ kinds.DisplayVersion
 
--- The line of the version.
+-- The line that `--version` writes.
 abbrev pub version_line : List ℕ
 version_line = codes "capn 1.0.0\n"
 
--- The title of every page of help, which names the version, with an empty line.
+-- The title of every page of help, which names the version, and an empty line after the title.
 abbrev pub help_title : List ℕ
 help_title =
     codes "capn 1.0.0: Cap'n Proto messages without a schema, standard input to output\n\n"
 
--- `text` is a page of help: the title, and then the text of the parser.
+-- `text` begins with the title of a help page; what follows it is not specified.
 abbrev pub IsHelp : List ℕ → Type 0
 IsHelp text = (said : List ℕ) × (text ≡ help_title ++ said)
 
--- `kind` is a reason why the words mean no invocation. Memory was refused. Or the kind is one for which the parser's
--- first failing step fails, such as a request for help or for the version. Or no step fails, but the options mean
--- nothing together.
+-- `kind` is a reason why `words` mean no invocation. Either an allocation was refused. Or a step of the parser fails,
+-- and `kind` is among the kinds of the first such step, such as a request for help or for the version. Or no step
+-- fails, but the options together mean nothing.
 abbrev pub IsReason : List Text → ErrorKind → Type 0
 IsReason words kind = (kind ≡ kinds.OutOfMemory) ⊎ (IsAmong kind (fault_of program_line words)
     ⊎ ((fault_of program_line words ≡ []) × (kind ≡ kinds.InvalidValue)
     × ((invocation : Invocation) → MeansInvocation (subcommand_of program_line words) invocation → ⊥)))
 
--- `kind` is a reason why the words name none of the six commands over messages and bytes. It is a reason why they mean
--- no invocation. Or no step of the parser fails, but they mean another invocation.
+-- `kind` is a reason why `words` name none of the six commands over messages and bytes. Either `kind` is a reason why
+-- the words mean no invocation. Or no step of the parser fails, but the words mean another invocation.
 abbrev pub IsNoCommand : List Text → ErrorKind → Type 0
 IsNoCommand words kind = IsReason words kind
     ⊎ ((fault_of program_line words ≡ []) × (kind ≡ kinds.InvalidSubcommand)
     × ((invocation : Invocation) × MeansInvocation (subcommand_of program_line words) invocation)
     × ((command : Command) → MeansInvocation (subcommand_of program_line words) (invocations.Message command) → ⊥))
 
--- A call returned `invocation`, or reported that memory was refused.
+-- A call returned `invocation`, or reported that an allocation was refused.
 abbrev pub GivesInvocation : Invocation → Result Invocation Usage → Type 0
 GivesInvocation invocation (Ok given) = AreSame given invocation
 GivesInvocation invocation (Err usage) = NeedsMemory usage
 
--- A call returned `command`, or reported that memory was refused.
+-- A call returned `command`, or reported that an allocation was refused.
 abbrev pub Names : Command → Result Command Usage → Type 0
 Names command (Ok given) = given ≡ command
 Names command (Err usage) = NeedsMemory usage

@@ -1,4 +1,4 @@
-//! `command_of`: the command over messages or bytes that a command line means, if it means one.
+//! The call `command_of`, which returns the command over messages or bytes that a command line means.
 
 ghost use Rattle.std.specs.Prelude.{◌≡◌, true, map, IfErr, IfOk};
 ghost use Rattle.clap.specs.Words.{kind_of, subcommand_of, takes};
@@ -16,14 +16,14 @@ use capn_commands::Command;
 use std::alloc::Global;
 use std::convert::AsStr;
 
-/// Returns the command over messages or bytes that `words` mean, as [`invocation_of`] reads them. The first word is the
-/// program's name. If [`invocation_of`] returns a `Usage`, that is returned. Any other invocation is refused as an
-/// unknown subcommand.
+/// Returns the command over messages or bytes that `words` mean. The first word is the program's name.
+/// [`invocation_of`] reads the words, and its `Usage` is returned if they mean no invocation. If they mean another
+/// invocation, that is refused as an unknown subcommand.
 pub fn command_of<'a, S: AsStr>(alloc: Global, words: &'a [S]) -> Result<Command, Usage>
-    // If `result` is `Ok`, the words mean that command.
+    // If `result` is `Ok`, the words mean the returned command.
     ensures means { IfOk result (λ command.
         MeansInvocation (subcommand_of program_line (map S.text words.now)) (invocations.Message command)) }
-    // If the parser takes the words and they mean a command, that command is returned, unless memory is refused.
+    // If the parser takes the words and they mean a command, that command is returned, unless an allocation is refused.
     ensures only { takes program_line (map S.text words.now) ≡ true → (command : Command)
         → MeansInvocation (subcommand_of program_line (map S.text words.now)) (invocations.Message command)
         → Names command result }

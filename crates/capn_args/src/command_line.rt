@@ -1,4 +1,4 @@
-//! `invocation_of`: reads the words of the command line, and returns the invocation that they mean.
+//! The call `invocation_of`, which reads the words of a command line and returns the invocation that they mean.
 
 ghost use Rattle.std.specs.Prelude.{◌≡◌, [], true, codes, map};
 ghost use Rattle.std.specs.Prelude.{IfErr, IfOk, IfSome, IsSome, Some};
@@ -29,7 +29,7 @@ use clap::ArgMatches;
 use std::alloc::Global;
 use std::convert::AsStr;
 
-/// Returns the order of a run over an archive with `task` and the options in `matches`, if these mean one.
+/// Returns the order for `task` over an archive that the options in `matches` mean, if they mean one.
 fn archive_of(task: Task, matches: &ArgMatches) -> Option<ArchiveOrder>
     ensures task { IfSome result (λ archive. archive.task ≡ task) }
     ensures options { IfSome result (AreOptions (rows_of (found_of matches.now))) }
@@ -46,8 +46,8 @@ fn archive_of(task: Task, matches: &ArgMatches) -> Option<ArchiveOrder>
     })
 }
 
-/// Returns the invocation of `list` with the options in `matches`, if they mean one. With `--digest` each line has a
-/// digest.
+/// Returns the invocation of `list` that the options in `matches` mean, if they mean one. With `--digest` each line has
+/// a digest.
 fn list_of<'a>(matches: &ArgMatches<'a>) -> Option<Invocation<'a>>
     ensures means { IfSome result (MeansInvocation (Some (codes "list", rows_of (found_of matches.now)))) }
     ensures served { (invocation : Invocation)
@@ -106,8 +106,9 @@ fn make_of(matches: &ArgMatches) -> Option<Make>
     })
 }
 
-/// Returns the invocation of `canonical` that the options in `matches` mean, if they mean one. With `--framed` it is a
-/// run over an archive. Without it, it is the command over one message, and `--keep-going` must not be given.
+/// Returns the invocation of `canonical` that the options in `matches` mean, if they mean one. With `--framed` the
+/// invocation is a run over an archive. Otherwise the invocation is the command over one message, and `--keep-going`
+/// must not be given.
 fn canonical_of<'a>(matches: &ArgMatches<'a>) -> Option<Invocation<'a>>
     ensures means { IfSome result (MeansInvocation (Some (codes "canonical", rows_of (found_of matches.now)))) }
     ensures served { (invocation : Invocation)
@@ -125,8 +126,8 @@ fn canonical_of<'a>(matches: &ArgMatches<'a>) -> Option<Invocation<'a>>
     Some(Invocation::Message(Command::Canonical(form, limits)))
 }
 
-/// Returns the invocation of `pack` that the options in `matches` mean, if they mean one. With `--streaming` it writes
-/// while it reads.
+/// Returns the invocation of `pack` that the options in `matches` mean, if they mean one. With `--streaming` output is
+/// written while the input is read.
 fn pack_of<'a>(matches: &ArgMatches<'a>) -> Option<Invocation<'a>>
     ensures means { IfSome result (MeansInvocation (Some (codes "pack", rows_of (found_of matches.now)))) }
     ensures served { (invocation : Invocation)
@@ -139,8 +140,8 @@ fn pack_of<'a>(matches: &ArgMatches<'a>) -> Option<Invocation<'a>>
     Some(Invocation::Message(Command::Pack))
 }
 
-/// Returns the invocation of `unpack` that the options in `matches` mean, if they mean one. With `--streaming` it
-/// writes while it reads, and `--message-words` must not be given.
+/// Returns the invocation of `unpack` that the options in `matches` mean, if they mean one. With `--streaming` output
+/// is written while the input is read, and `--message-words` must not be given.
 fn unpack_of<'a>(matches: &ArgMatches<'a>) -> Option<Invocation<'a>>
     ensures means { IfSome result (MeansInvocation (Some (codes "unpack", rows_of (found_of matches.now)))) }
     ensures served { (invocation : Invocation)
@@ -218,15 +219,16 @@ fn named_invocation<'a>(name: &str, matches: &ArgMatches<'a>) -> Option<Invocati
 /// program's name. Options that are not given have their default values.
 ///
 /// Every other outcome is returned as a `Usage`, with the text for the user: a request for help or for the version, an
-/// unknown word, option or value, a number out of its range, a form or a tariff that the command does not take, and
-/// refused memory. So are a value of `--at` that is no path, one of `--number` that is no message number, and one of
-/// `--only` that is no list. These options are refused together: `--json` with `--offsets` or `--ways`, `--only` with
-/// `--from` or `--to`, `--keep-going` of `explain` with `--number`, and `--message-words` of `unpack` with
-/// `--streaming`. `--keep-going` of `canonical` is refused without `--framed`.
+/// unknown word, option or value, a number out of its range, a form or a tariff that the command does not take, and a
+/// refused allocation. A `Usage` is also returned for a value of `--at` that is no path, a value of `--number` that is
+/// no message number, and a value of `--only` that is no list. The following options are refused together: `--json`
+/// with `--offsets` or `--ways`, `--only` with `--from` or `--to`, `--keep-going` of `explain` with `--number`, and
+/// `--message-words` of `unpack` with `--streaming`. `--keep-going` of `canonical` is refused without `--framed`.
 pub fn invocation_of<'a, S: AsStr>(alloc: Global, words: &'a [S]) -> Result<Invocation<'a>, Usage>
-    // If `result` is `Ok`, the words mean that invocation.
+    // If `result` is `Ok`, the words mean the returned invocation.
     ensures means { IfOk result (MeansInvocation (subcommand_of program_line (map S.text words.now))) }
-    // If the parser takes the words and they mean an invocation, that invocation is returned, unless memory is refused.
+    // If the parser takes the words and they mean an invocation, that invocation is returned, unless an allocation is
+    // refused.
     ensures only { takes program_line (map S.text words.now) ≡ true → (invocation : Invocation)
         → MeansInvocation (subcommand_of program_line (map S.text words.now)) invocation
         → GivesInvocation invocation result }

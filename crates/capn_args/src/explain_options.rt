@@ -1,4 +1,4 @@
-//! The order that the options of `explain` mean: to explain one message, or every refused one.
+//! The order that the options of `explain` mean, to explain one message or every refused one.
 
 ghost use Rattle.std.specs.Prelude.{Option, ℕ, IfSome, IsSome};
 ghost use Rattle.clap.specs.Words.{found_of, rows_of};
@@ -15,7 +15,7 @@ use capn_explain::{Explain, ExplainRefused};
 use clap::ArgMatches;
 
 /// Returns the value of `--number` as a message number, or `Some(None)` if the option is not given. `None` means that
-/// its value is no message number.
+/// the value of the option is no message number.
 fn numbered(matches: &ArgMatches) -> Option<Option<u64>>
     ensures read { IfSome result (IsNumbered (rows_of (found_of matches.now))) }
     ensures served { (number : Option ℕ) → IsNumbered (rows_of (found_of matches.now)) number → IsSome result }

@@ -19,7 +19,7 @@ pub const VERSION: &str = "1.0.0";
 /// The line that `--version` writes.
 pub const VERSION_LINE: &[u8] = b"capn 1.0.0\n";
 
-/// The title of every page of help, which names the version, with an empty line.
+/// The title of every page of help, which names the version, and an empty line after the title.
 pub const TITLE: &str =
     "capn 1.0.0: Cap'n Proto messages without a schema, standard input to output\n\n";
 

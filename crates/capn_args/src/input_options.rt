@@ -1,4 +1,4 @@
-//! The form, the limits and the tariff that the options of an input name.
+//! The form, the limits and the tariff that the options of a command name.
 
 ghost use Rattle.std.specs.Prelude.{ℕ, ◌<◌, ◌^◌, IfSome, IsSome};
 ghost use Rattle.clap.specs.Words.{found_of, rows_of};
@@ -59,8 +59,8 @@ pub(crate) fn limits_of(matches: &ArgMatches) -> Option<Limits>
     Some(limits.with_tariff(tariff_of(matches)?))
 }
 
-/// Returns the greatest number of words that `unpack` takes: those of a message by `--message-words`, and those of the
-/// longest segment table.
+/// Returns the greatest number of words that `unpack` accepts, which is the value of `--message-words` plus the number
+/// of words of the longest segment table.
 pub(crate) fn unpacked_words_of(matches: &ArgMatches) -> Option<u32>
     ensures are { IfSome result (λ most. UnpackedIs (rows_of (found_of matches.now)) most) }
     ensures served { (most : ℕ) → UnpackedIs (rows_of (found_of matches.now)) most → IsSome result }

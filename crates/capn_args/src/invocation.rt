@@ -1,4 +1,5 @@
-//! The invocations of the program: a command line, read into the run that it orders.
+//! The types of the invocations, one variant for each run. `command_line.rt` makes them; the definitions name them, so
+//! a variant is a promise.
 
 use capn_archive::{ArchiveOrder, FilterOrder, UniqOrder};
 use capn_canon::Form;
@@ -9,7 +10,7 @@ use capn_serve::{Pick, StreamForm};
 use capn_show::Style;
 use capn_walk::Limits;
 
-/// Pack or unpack. Output is written before more input is read.
+/// The choice of `pack` or `unpack` with `--streaming`. Output is written before more input is read.
 #[derive(Clone, Copy, Debug, PartialEq, Eq)]
 pub enum Flow {
     /// Packs the input.
@@ -18,7 +19,7 @@ pub enum Flow {
     Unpack,
 }
 
-/// The invocation of `show`: writes all of each message, or the value at a path from its root, in a style.
+/// The invocation of `show`, which writes each message, or the value at a path from its root, in a style.
 #[derive(Clone, Copy, Debug, PartialEq, Eq)]
 pub struct Show<'a> {
     /// The encoding of the input.
@@ -27,14 +28,14 @@ pub struct Show<'a> {
     pub limits: Limits,
     /// The style of the text.
     pub style: Style,
-    /// True if each line begins with the offset of the byte that it is about.
+    /// True if each line begins with the offset of the byte that the line is about.
     pub offsets: bool,
-    /// True if each line begins with the path to the slot that it is about. The offset, if there is one, comes before
-    /// it.
+    /// True if each line begins with the path to the slot that the line is about. If `offsets` is true too, the offset
+    /// comes before the path.
     pub ways: bool,
     /// True if the input must be exactly one message.
     pub one: bool,
-    /// The path, which is numbers parted by dots. If it is `None`, all of the message is shown.
+    /// The path, which is numbers separated by dots. If there is no path, all of the message is shown.
     pub path: Option<&'a str>,
 }
 
@@ -54,7 +55,7 @@ pub struct Only<'a> {
     pub form: StreamForm,
     /// The limits of a message. Only the limit on its words is used.
     pub limits: Limits,
-    /// The list, which is numbers and ranges in ascending order, parted by commas.
+    /// The list, which is numbers and ranges in ascending order, separated by commas.
     pub list: &'a str,
 }
 

@@ -1,4 +1,4 @@
-//! The text of `--number`: the number of a message.
+//! The value of `--number`, read as the number of a message.
 
 ghost use Rattle.std.specs.Prelude.{◌≡◌};
 ghost use Rattle.capn_args.specs.MessageNumber as spec;

@@ -1,4 +1,4 @@
-//! The message for options that mean no invocation together, chosen for each command.
+//! The message for options that together mean no invocation, chosen for each command.
 
 ghost use Rattle.std.specs.Prelude.{◌≡◌, ◌⊎◌};
 ghost use Rattle.clap.specs.Words.{kind_of};
@@ -17,8 +17,8 @@ use clap::ArgMatches;
 use clap::error::ErrorKind;
 use std::alloc::Global;
 
-/// Returns the message for options of `pick` that mean no invocation: about `--form`, else about the value of `--only`,
-/// else about `--from` and `--to` with `--only`.
+/// Returns the message for options of `pick` that mean no invocation. The message is about `--form`, else about the
+/// value of `--only`, else about `--from` and `--to` with `--only`.
 fn said_of_pick(matches: &ArgMatches) -> &'static str {
     if stream_form_of(matches).is_none() {
         return option_mistakes::NO_FRAMED_FORM;
@@ -35,7 +35,8 @@ fn said_of_pick(matches: &ArgMatches) -> &'static str {
     }
 }
 
-/// Returns the message for options of `cmp` that mean no invocation: about `--form`, else about `--tariff`.
+/// Returns the message for options of `cmp` that mean no invocation. The message is about `--form`, else about
+/// `--tariff`.
 fn said_of_cmp(matches: &ArgMatches) -> &'static str {
     match stream_form_of(matches) {
         Some(_) => option_mistakes::NO_SUCH_TARIFF,
@@ -43,8 +44,8 @@ fn said_of_cmp(matches: &ArgMatches) -> &'static str {
     }
 }
 
-/// Returns the message for options of `show` that mean no invocation, if its form and limits are fine. It is about the
-/// value of `--at`, else about an option that is refused with `--json`.
+/// Returns the message for options of `show` that mean no invocation, if the form and the limits are valid. The message
+/// is about the value of `--at`, else about an option that is refused with `--json`.
 fn said_of_show(matches: &ArgMatches) -> &'static str {
     match text_in(matches, "at") {
         Some(path) => {
@@ -60,8 +61,8 @@ fn said_of_show(matches: &ArgMatches) -> &'static str {
     }
 }
 
-/// Returns the message for options of `explain` that mean no invocation, if its form and limits are fine. It is about
-/// the value of `--number`, else about `--number` with `--keep-going`.
+/// Returns the message for options of `explain` that mean no invocation, if the form and the limits are valid. The
+/// message is about the value of `--number`, else about `--number` with `--keep-going`.
 fn said_of_explain(matches: &ArgMatches) -> &'static str {
     match text_in(matches, "number") {
         Some(text) => match message_number(text) {
@@ -73,8 +74,8 @@ fn said_of_explain(matches: &ArgMatches) -> &'static str {
 }
 
 /// Returns the message for options of the command `name` that mean no invocation. `pick`, `cmp` and `unpack` have
-/// messages of their own. For the others it is about `--form`, else about `--tariff`, else about the other options of
-/// `show`, `explain` or `canonical`.
+/// messages of their own. For the other commands the message is about `--form`, else about `--tariff`, else about the
+/// other options of `show`, `explain` or `canonical`.
 fn said_of(name: &str, matches: &ArgMatches) -> &'static str {
     if name == "pick" {
         return said_of_pick(matches);
@@ -106,7 +107,7 @@ fn mistake_of<'a>(matches: &'a ArgMatches) -> (&'a str, &'static str) {
     }
 }
 
-/// Returns the `Usage` for options that mean no invocation together.
+/// Returns the `Usage` for options that together mean no invocation.
 pub(crate) fn meaningless(alloc: Global, matches: &ArgMatches) -> Usage
     ensures { (kind_of (error_of result) ≡ kinds.OutOfMemory) ⊎ (kind_of (error_of result) ≡ kinds.InvalidValue) }
 {

@@ -1,20 +1,20 @@
-//! `OptionRow`: a row of the table of options, and the kinds of values that an option takes.
+//! The type `OptionRow`, a row of the table of options, and the kinds of values that options take.
 
 use capn_words::MOST_MESSAGE_WORDS;
 
-/// The value that an option takes.
+/// The kind of value that an option takes.
 #[derive(Clone, Copy)]
 pub enum Taken {
     /// No value: the option is given or not.
     Flag,
-    /// A text, named so in the help. If the option is not given, it has no value.
+    /// A text, with its name in the help. An option of this kind has no value if it is not given.
     Asked(&'static str),
-    /// A text, named so in the help, and its default. The parser takes any text, and [`crate::input_options`] reads it,
-    /// because the statement of the command line cannot say that a value is one of a list of names.
+    /// A text, with its name in the help and its default. The parser takes any text, and [`crate::input_options`] reads
+    /// it, because the definition of the command line cannot say that a value is one of a list of names.
     Usual(&'static str, &'static str),
-    /// A number, by its default, the least and the greatest.
+    /// A number, with its default, and the least and the greatest number allowed.
     Number(&'static str, i64, i64),
-    /// A message number, by its default.
+    /// A message number, with its default.
     Place(&'static str),
 }
 
@@ -23,11 +23,11 @@ pub enum Taken {
 pub struct OptionRow {
     /// The name, without the leading `--`.
     pub name: &'static str,
-    /// The value that it takes.
+    /// The kind of value that the option takes.
     pub taken: Taken,
     /// The text in the help.
     pub help: &'static str,
-    /// The commands that take it.
+    /// The commands that take the option.
     pub commands: &'static [&'static str],
 }
 

@@ -24,7 +24,7 @@ pub(crate) fn flag_of(matches: &ArgMatches, id: &str) -> Option<bool>
     Some(given)
 }
 
-/// Returns the text of the option `id`, if it is given.
+/// Returns the value of the option `id` as text, given or default, if there is one.
 pub(crate) fn text_in<'a>(matches: &ArgMatches<'a>, id: &str) -> Option<&'a str>
     ensures given { IfSome result (λ text. first_of id.now (rows_of (found_of matches.now)) ≡ Some text.now) }
     ensures none { IfNone result (first_of id.now (rows_of (found_of matches.now)) ≡ None) }
@@ -52,7 +52,7 @@ pub(crate) fn is_usual(matches: &ArgMatches, id: &str) -> bool
     }
 }
 
-/// Returns the number of the option `id`, given or default.
+/// Returns the number of the option `id`, given or default, if it is below 2^64.
 fn number_of(matches: &ArgMatches, id: &str) -> Option<u64>
     ensures read { IfSome result (λ n. NumberIs (rows_of (found_of matches.now)) id.now n) }
     ensures served { (n : ℕ) → NumberIs (rows_of (found_of matches.now)) id.now n → n < 2 ^ 64 → IsSome result }

@@ -17,7 +17,7 @@ pub(crate) fn with_digit(begun: Option<u64>, c: u8) -> Option<u64>
     tens.checked_add(u64::from(c - b'0'))
 }
 
-/// Tests whether `text` is a path: numbers below 2^64 parted by single dots.
+/// Tests whether `text` is a path, which is numbers below 2^64 separated by single dots.
 pub(crate) fn is_path(text: &str) -> bool
     ensures { result ≡ is_some (spec.path_of text.now) }
 {
@@ -41,7 +41,7 @@ pub(crate) fn is_path(text: &str) -> bool
 }
 
 /// Returns the numbers of `path`, in order, which take 8 bytes each. If `path` is `None`, there are no numbers, and no
-/// memory is taken. If the text is not a path, it returns some numbers. (Own.)
+/// memory is taken. If the text is not a path, any numbers may be returned. (Our own.)
 pub fn numbers_of<A: Allocator>(alloc: A, path: Option<&str>) -> Result<Vec<u64, A>, AllocError>
     ensures found { IfOk result (λ numbers. (are : List ℕ) → spec.numbers_of path.entry ≡ Some are
         → numbers.items ≡ are) }

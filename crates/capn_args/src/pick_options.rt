@@ -61,8 +61,8 @@ fn only_of<'a>(matches: &ArgMatches<'a>) -> Option<Only<'a>>
     })
 }
 
-/// Returns the invocation of `pick` that the options in `matches` mean, if they mean one. With `--only` it picks the
-/// messages of a list, else those from one number to another.
+/// Returns the invocation of `pick` that the options in `matches` mean, if they mean one. With `--only` the invocation
+/// picks the messages of a list, and otherwise the messages from one number to another.
 pub(crate) fn pick_invocation<'a>(matches: &ArgMatches<'a>) -> Option<Invocation<'a>>
     ensures means { IfSome result (MeansInvocation (Some (codes "pick", rows_of (found_of matches.now)))) }
     ensures served { (invocation : Invocation)

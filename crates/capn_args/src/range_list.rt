@@ -44,7 +44,7 @@ fn range_of(begun: Begun) -> Option<Range>
     None
 }
 
-/// Returns `begun` with a hyphen read, if that follows the first number of the range.
+/// Returns the state after `begun` and a hyphen, if the hyphen follows the first number of the range.
 fn with_hyphen(begun: Begun) -> Option<Begun>
     ensures is { result ≡ spec.with_hyphen begun.last begun.first begun.digits }
     ensures same { IfSome result (λ next. next.last ≡ begun.last) }
@@ -62,7 +62,8 @@ fn with_hyphen(begun: Begun) -> Option<Begun>
     }
 }
 
-/// Returns `begun` with the character `c` read, if `c` is a hyphen in its place, or a digit that is not a leading zero.
+/// Returns the state after `begun` and the character `c`, if `c` is a hyphen after the first number of the range, or a
+/// digit that is not a leading zero and keeps the number below 2^64.
 fn longer(begun: Begun, c: u8) -> Option<Begun>
     ensures is { result ≡ spec.longer begun c }
     ensures same { IfSome result (λ next. next.last ≡ begun.last) }
@@ -81,7 +82,8 @@ fn longer(begun: Begun, c: u8) -> Option<Begun>
     })
 }
 
-/// Tests whether `text` is a list: numbers and ranges, from 1 to 2^64 - 1, in ascending order, parted by single commas.
+/// Tests whether `text` is a list, which is numbers and ranges from 1 to 2^64 - 1, in ascending order, separated by
+/// single commas.
 pub(crate) fn is_range_list(text: &str) -> bool
     ensures { result ≡ is_some (spec.ranges_in text.now) }
 {
@@ -105,7 +107,7 @@ pub(crate) fn is_range_list(text: &str) -> bool
 }
 
 /// Returns the ranges of the list `text`, in ascending order. Each takes 16 bytes of memory. If `text` is not a list,
-/// it returns some ascending ranges. (Own.)
+/// any ascending ranges may be returned. (Our own.)
 #[tactic(auto, using(crate::proofs::RangeLists::one_more, crate::proofs::RangeLists::so_far_above))]
 pub fn ranges_in<A: Allocator>(alloc: A, text: &str) -> Result<Vec<Range, A>, AllocError>
     ensures found { IfOk result (λ ranges. (are : List Range) → spec.ranges_in text.now ≡ Some are

@@ -61,7 +61,8 @@ fn is_plain(style: Style, offsets: bool, ways: bool) -> bool
     style.has_lines() && !style.is_quoted() && !(offsets || ways)
 }
 
-/// Returns the invocation of `show` without `--at`: it shows all of each message in `style`, or all of exactly one.
+/// Returns the invocation of `show` without `--at`, which shows all of each message in `style`. If `one` is true, the
+/// input must be exactly one message.
 fn whole_invocation<'a>(
     form: Form,
     limits: Limits,
@@ -93,8 +94,8 @@ fn whole_invocation<'a>(
 }
 
 /// Returns the invocation of `show` that the options in `matches` mean, if they mean one. With `--at`, whose value must
-/// be a path, it shows a part of each message. `--text` and `--json` choose another style. With `--offsets` or
-/// `--ways`, which JSON does not allow, marks stand before the lines. With `--one` the input must be exactly one
+/// be a path, the invocation shows a part of each message. `--text` and `--json` choose another style. With `--offsets`
+/// or `--ways`, which JSON does not allow, marks stand before the lines. With `--one` the input must be exactly one
 /// message.
 pub(crate) fn show_of<'a>(matches: &ArgMatches<'a>) -> Option<Invocation<'a>>
     ensures means { IfSome result (MeansInvocation (Some (codes "show", rows_of (found_of matches.now)))) }

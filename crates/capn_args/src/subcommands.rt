@@ -50,7 +50,7 @@ fn is_taken(name: &str, row: &OptionRow) -> bool
     row.commands.iter().any(|command| *command == name)
 }
 
-/// Adds those options of `rows` that the command `name` takes to `command`.
+/// Adds to `command` those options of `rows` that the command `name` takes.
 fn with_options<'a>(
     alloc: Global,
     name: &str,
@@ -101,7 +101,7 @@ fn top_command<'a>(alloc: Global) -> Command<'a>
         .version(help::VERSION)
 }
 
-/// Returns the parser of the whole command line. An `Err` means that memory was refused.
+/// Returns the parser of the whole command line. An `Err` means that an allocation was refused.
 pub fn program_command<'a>(alloc: Global) -> Result<Command<'a>, AllocError>
     ensures { IfOk result (λ c. app_of c ≡ program_line) }
 {

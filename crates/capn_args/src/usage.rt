@@ -1,4 +1,4 @@
-//! `Usage`: the outcome of a command line that means no invocation.
+//! The type `Usage`, the outcome of a command line that means no invocation.
 
 ghost use Rattle.std.specs.Prelude.{◌≡◌, ◌↔◌, IfOk, IsTrue, string_bytes};
 ghost use Rattle.clap.specs.Words.{kind_of};
@@ -8,8 +8,8 @@ use crate::help::TITLE;
 use clap::error::ErrorKind;
 use std::alloc::{AllocError, Allocator};
 
-/// The reason why a command line means no invocation: a request for help or for the version, a mistake, or refused
-/// memory.
+/// The reason why a command line means no invocation: a request for help or for the version, a mistake, or a refused
+/// allocation.
 #[derive(Drop)]
 pub struct Usage {
     /// The error of the parser of the command line.
@@ -19,8 +19,8 @@ pub struct Usage {
 impl Usage {
     ghost use Rattle.capn_args.specs.Usage.{IsHelp, NeedsMemory, WishesHelp, WishesVersion, error_of};
 
-    /// Returns the exit status: 3 if memory ran out, 0 for a request for help, 2 for any other. For a request for the
-    /// version the program does not use it: it writes the version, and ends with 0.
+    /// Returns the exit status: 3 if an allocation was refused, 0 for a request for help, and 2 for any other reason.
+    /// For a request for the version the program does not use this status, but writes the version and ends with 0.
     pub fn status(&self) -> u8
         ensures { result ≡ usage_status_of (kind_of (error_of self.now)) }
     {
@@ -31,7 +31,7 @@ impl Usage {
         }
     }
 
-    /// Tests whether memory was refused, which says nothing about the words.
+    /// Tests whether an allocation was refused, which says nothing about the words.
     pub fn is_memory(&self) -> bool
         ensures { IsTrue result ↔ NeedsMemory self.now }
     {

@@ -41,7 +41,7 @@ returns-in-Some-named-clause-passes g c =
     subst (λ (a : App). is_simple_and_free a ≡ true → fault_of a (map g.S.AsStr.text c.args.words.now) ≡ [])
     c.in_ok-tool.ensures c.in_ok-matches.ensures.kinds refl
 
--- If the parser's error is refused memory, that is reported.
+-- If the parser reports a refused allocation, the call reports it too.
 told_memory : (invocation : Invocation) (e : Error) (r : Result Invocation Usage) → kind_of e ≡ kinds.OutOfMemory
     → IsErr r × IsErrAnd r (λ usage. error_of usage ≡ e) → GivesInvocation invocation r
 told_memory invocation e (Ok given) memory (is_err, is) = absurd cc
@@ -53,7 +53,7 @@ returns-in_err-matches-clause-only g c taken invocation means =
     → kind_of c.in_err-matches.field-0.0 ≡ kinds.OutOfMemory) c.in_ok-tool.ensures c.in_err-matches.ensures.passes in
     told_memory invocation c.in_err-matches.field-0.0 _ (passes taken) c.from_residual-in_err-matches.ensures
 
--- Case: memory was refused for the parser.
+-- Case: an allocation was refused for the parser.
 no_parser : (invocation : Invocation) (r : Result Invocation Usage) → IsErr r × IsErrAnd r NeedsMemory
     → GivesInvocation invocation r
 no_parser invocation (Ok given) (is_err, is) = absurd cc

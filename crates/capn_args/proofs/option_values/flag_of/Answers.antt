@@ -7,12 +7,12 @@ use Rattle.capn_args.proofs.ReadValues.{read_some, read_there}
 use Rattle.capn_args.specs.OptionValues.{flag_text}
 use Rattle.capn_args.proofs.option_values.flag_of.Goals as goal
 
--- A text that reads as a flag is that flag's.
+-- A text that is read as the flag `given` is the text of that flag.
 text_of : (text : Text) (given : Bool) → MatchBool given (text ≡ true_text) (text ≡ false_text) → text ≡ flag_text given
 text_of text true is = is
 text_of text false is = is
 
--- The text of a flag reads as a flag.
+-- The text of a flag is not refused as a flag.
 not_refused : (E : Type 0) (text : Text) (given : Bool) (e : E) → text ≡ flag_text given
     → ParsesBool {E = E} text (Err e) → ⊥
 not_refused E text true e is parses = parses.0 is
