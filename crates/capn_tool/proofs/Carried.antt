@@ -1,4 +1,5 @@
--- Lemmas on a command that was carried out, from the end of its run and the flush after it. (For `carry_out`.)
+-- Lemmas on a command that was carried out, derived from the end of its run and the flush after the run. (For
+-- `carry_out`.)
 use Rattle.std.proofs.Common.{◌≡◌, ◌⊎◌, ◌↔◌, inl, inr, ℕ, List, [], Bool, true, Option, Some, None, Result}
 use Rattle.std.proofs.Common.{Ok, Err, IfSome, IsErrOf, refl, sym, subst, ◌∙◌}
 use Rattle.std.specs.Io.KnownBytes.{Keeps}
@@ -21,7 +22,7 @@ Ending = Result (Unit {0}) ToolFault
 abbrev stopped : ToolFault → Ending
 stopped fault = Err fault
 
--- The result of a run after the flush: that of the run, or Io.
+-- `s`, the result after the flush, is `r`, the result of the run, or `Io`.
 abbrev Flushed : Ending → Ending → Type 0
 Flushed r s = (s ≡ r) ⊎ (s ≡ Err faults.Io)
 
@@ -72,7 +73,7 @@ keeps_up (plans.Each piece limits) a b c m d k (bytes, text, due, read, is, writ
 keeps_up (plans.Packed piece limits) a b c m d k (bytes, text, due, read, is, written) =
     (bytes, text, due, read, is, kept c m d text k written)
 
--- The flush writes nothing. So the output that was written before the last chunk was read stays ahead.
+-- The flush writes nothing. So what holds for the output that was written before the last chunk was read still holds.
 stays : (Written : List ℕ → Option (List ℕ) → Option (List ℕ) → Type 0) (a b c m d : Option (List ℕ)) → Keeps m d
     → StaysAhead Written a b c m → StaysAhead Written a b c d
 stays Written a b c m d k (bytes, read, (before, piece, mid, more, is, small, all, wrote)) =
@@ -83,7 +84,7 @@ ahead (plans.Whole whole) a b c m d k h = tt
 ahead (plans.Each piece limits) a b c m d k h = stays (HasWrittenAll piece limits) a b c m d k h
 ahead (plans.Packed piece limits) a b c m d k h = stays (HasWrittenAllPacked piece limits) a b c m d k h
 
--- The result after the flush is Memory only if that of the run is.
+-- The result after the flush is Memory only if the result of the run is Memory.
 memory : (r s : Ending) (old new : Bool) → EndsFlushed faults.Io r old new s → IsErrOf s faults.Memory
     → IsErrOf r faults.Memory
 memory (Ok u) s old new (inl (is, same)) bad = absurd (let no : Ok u ≡ Err faults.Memory = sym is ∙ bad in cc)
@@ -91,11 +92,12 @@ memory (Ok u) s old new (inr (is, failed)) bad =
     absurd (let no : stopped faults.Io ≡ stopped faults.Memory = sym is ∙ bad in cc)
 memory (Err fault) s old new (is, failed) bad = sym is ∙ bad
 
--- A run ends with Io if the input or the output has failed in it.
+-- The input or the output has failed in the run.
 abbrev InRun : Bool → Bool → Type 0
 InRun unread old = (unread ≡ true) ⊎ (old ≡ true)
 
--- The result after the flush is Io if and only if that of the run is, or the run was done and the flush failed.
+-- The result after the flush is Io if and only if the input or the output failed in the run, or the run was done and
+-- the flush failed.
 io : (r s : Ending) (unread old new : Bool) → EndsFlushed faults.Io r old new s
     → (IsErrOf r faults.Io ↔ InRun unread old) → IsErrOf s faults.Io ↔ (InRun unread old ⊎ ((r ≡ Ok tt) × (new ≡ true)))
 io (Ok u) s unread old new (inl (is, same)) g = (

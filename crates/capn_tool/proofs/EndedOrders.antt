@@ -1,4 +1,4 @@
--- Lemmas on an invocation that was carried out, from its run and the end of that. (For `program`.)
+-- Lemmas on an invocation that was carried out, derived from its run and the end of the program. (For `program`.)
 use Rattle.std.proofs.Common.{ℕ, List, Bool, Option, Result, refl}
 use Rattle.clap.specs.Words.{Text, subcommand_of}
 use Rattle.capn_serve.specs.Ending.{WritesEnding, status_of_ending}
@@ -40,7 +40,7 @@ ended name io Runs text exit {words} {order} {a} {b} {c} {m} {d} {unread} {faile
       is = end.is;
     }
 
--- A comparison that was carried out, from its run and the end of that.
+-- A comparison was carried out. The end of the program follows from the run and the flush.
 pub ended_found : (order : CmpOrder) {words : List Text} {a b c m d : Option (List ℕ)}
     {unread failed is_failed : Bool} {found : Result Comparison CmpFault} {errors : Course} {status : ℕ}
     → MeansInvocation (subcommand_of program_line words) (invocations.Cmp order)

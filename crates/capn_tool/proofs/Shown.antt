@@ -28,7 +28,7 @@ help_not_shown c d failed text fault (Ok u) help begun io is (is_err, same) = ab
 help_not_shown c d failed text fault (Err e) help begun io is (is_err, same) =
     rw (same ∙ is) (text, help, begun, io.0 (ap stopped is))
 
--- Case: the help text was written, and the writer flushed.
+-- Case: the help text was written, and the writer was flushed.
 pub help_shown : (c m d : Option (List ℕ)) (old new : Bool) (text : List ℕ) (r : Ending) → IsHelp text
     → Appends c m text → (IsErrOf done faults.Io ↔ (old ≡ true)) → Keeps m d
     → EndsFlushed faults.Io done old new r → ShowsHelp (course c d new) r
@@ -44,7 +44,7 @@ pub version_not_shown : (c d : Option (List ℕ)) (failed : Bool) (fault : ToolF
 version_not_shown c d failed fault (Ok u) begun io is (is_err, same) = absurd same
 version_not_shown c d failed fault (Err e) begun io is (is_err, same) = rw (same ∙ is) (begun, io.0 (ap stopped is))
 
--- Case: the version line was written, and the writer flushed.
+-- Case: the version line was written, and the writer was flushed.
 pub version_shown : (c m d : Option (List ℕ)) (old new : Bool) (r : Ending) → Appends c m version_line
     → (IsErrOf done faults.Io ↔ (old ≡ true)) → Keeps m d → EndsFlushed faults.Io done old new r
     → ShowsVersion (course c d new) r

@@ -1,4 +1,4 @@
--- Lemmas on words that start no run, and the end of the program then. (For `end_unordered`.)
+-- Lemmas on the end of the program if its words start no run. (For `end_unordered`.)
 use Rattle.std.proofs.Common.{◌≡◌, ℕ, Bool, true, false, Result, Err, refl, sym, ◌∙◌}
 use Rattle.clap.specs.declared.error.ErrorKind.{ErrorKind}
 use Rattle.clap.specs.declared.error.ErrorKind.TheVariants as kinds

@@ -1,7 +1,7 @@
--- A reader or a writer before and after a call. (Own.)
+-- A reader or a writer before and after a call. (Our own.)
 use Rattle.std.specs.Prelude.{ℕ, ◌≡◌, List, Bool, false, Option}
 
--- The bytes before and after the call, if they are known, and whether the reader or writer has failed by then.
+-- The bytes before and after the call, if they are known, and whether the reader or writer has failed after the call.
 pub record Course : Type 0 where
   pub before : Option (List ℕ)
   pub after : Option (List ℕ)

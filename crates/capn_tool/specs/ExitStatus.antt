@@ -1,4 +1,5 @@
--- The exit status of the program after each kind of run: 0 if the run is done, or else the status of its fault. (Own.)
+-- The exit status of the program after each kind of run: 0 after `Ok`, and the status of the fault after an `Err`. (Our
+-- own.)
 use Rattle.std.specs.Prelude.{ℕ, Result}
 use Rattle.capn_serve.specs.Ending.{status_of_ending}
 use Rattle.capn_serve.specs.FaultText as served

@@ -1,4 +1,4 @@
--- The line on standard error after each kind of run, if the run was not done. (Own.)
+-- The error line after each kind of run, if the run ended with a fault. (Our own.)
 use Rattle.std.specs.Prelude.{ℕ, ◌≡◌, List, codes, Bool, Option, Result, refl}
 use Rattle.std.specs.Fmt.{digits}
 use Rattle.capn_serve.specs.Ending.{WritesEnding, fault_text_line}
@@ -22,7 +22,7 @@ skipped : fault_text_line (archive_text (faults.Skipped (record {
 unfolding digits
 skipped = refl
 
--- the ending of a run over an archive was written
+-- The ending of a run over an archive was written.
 abbrev pub WritesArchiveEnding : Result (Unit {0}) ArchiveFault → Option (List ℕ) → Option (List ℕ) → Bool → Type 0
 WritesArchiveEnding = WritesEnding archive_text
 

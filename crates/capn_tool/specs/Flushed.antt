@@ -1,4 +1,4 @@
--- A run and the flush of its output. (Own.)
+-- A run and the flush of its output. (Our own.)
 use Rattle.std.specs.Prelude.{ℕ, ◌≡◌, ◌↔◌, ◌⊎◌, List, Bool, true, false, Option, IfSome, IsErrOf, Result, Ok, Err}
 use Rattle.std.specs.Io.KnownBytes.{Keeps}
 use Rattle.capn_serve.specs.Ending.{WritesEnding, status_of_ending}
@@ -19,22 +19,22 @@ use Rattle.capn_tool.specs.Course.{Course}
 use Rattle.capn_args.specs.declared.invocation.Flow.{Flow}
 use Rattle.capn_args.specs.declared.invocation.Flow.TheVariants as flows
 
--- The result of a run after the flush of its output. A run that was done ends with `io`, the fault of an output that
--- failed, if the flush failed. Any other run ends as it did. The two flags say whether the output had failed before the
--- flush and after it.
+-- `result` is the outcome of a run after the flush of its output. If the run was done and the flush failed, `result` is
+-- `io`, the fault of an output that failed. Any other outcome stays the same. `old` and `new` say whether the output
+-- had failed before the flush and after the flush.
 abbrev pub EndsFlushed : {F : Type 0} → F → Result (Unit {0}) F → Bool → Bool → Result (Unit {0}) F → Type 0
 EndsFlushed io (Ok u) old new result = ((result ≡ Ok u) × (new ≡ old)) ⊎ ((result ≡ Err io) × (new ≡ true))
 EndsFlushed io (Err fault) old new result = (result ≡ Err fault) × ((new ≡ old) ⊎ (new ≡ true))
 
--- `input` has a unique text and ending, and the run wrote and returned these, unless memory ran out or the input or the
--- output failed.
+-- If `command` gives `input` a text and an ending, that text was written and the run ended with that ending, or memory
+-- was refused, or the input or the output failed.
 abbrev pub EndsByText : Command → Option (List ℕ) → Option (List ℕ) → Result (Unit {0}) ToolFault → List ℕ → Type 0
 EndsByText command c d outcome input =
     (text : List ℕ) (due : Result (Unit {0}) ToolFault) → IsText command input text due → EndsBy text due c d outcome
 
--- A command was carried out and its output was flushed. `run` is the result before the flush, which writes nothing, and
--- `failed` says whether the output had failed by then. `outcome` is `Io` if and only if the input or the output failed
--- in the run, or the run was done and the flush failed.
+-- `command` was carried out, and the output was flushed. `run` is the result before the flush, which writes nothing,
+-- and `failed` says whether the output had failed before the flush. `outcome` is `Io` if and only if the input or the
+-- output failed in the run, or the run was done and the flush failed.
 pub record CarriesOut (command : Command) (input output : Course) (outcome : Result (Unit {0}) ToolFault) : Type 0 where
   pub run : Result (Unit {0}) ToolFault
   pub failed : Bool
@@ -50,15 +50,15 @@ pub record CarriesOut (command : Command) (input output : Course) (outcome : Res
   pub ahead : StaysAheadAs command input.before input.after output.before output.after
   pub memory : IsErrOf outcome faults.Memory → MayNeedMemory command input.before input.after
 
--- The type of a statement about a run: its reader before and after it, its writer before and after it, whether each has
--- failed, and its result.
+-- The type of a statement about a run. The arguments are the reader before and after the run, the writer before and
+-- after the run, whether the reader failed, whether the writer failed, and the result.
 abbrev pub RunOver : Type 0 → Type 1
 RunOver F = Option (List ℕ) → Option (List ℕ) → Option (List ℕ) → Option (List ℕ) → Bool → Bool
     → Result (Unit {0}) F → Type 0
 
 -- A run for which `Runs` holds went from the input to the output, and the output was flushed. `run` is the result
--- before the flush, `written` is the output by then, and `failed` says whether the output had failed. The flush writes
--- nothing.
+-- before the flush, `written` is the output before the flush, and `failed` says whether the output had failed before
+-- the flush. The flush writes nothing.
 pub record RunsFlushed {F : Type 0} (io : F) (Runs : RunOver F) (input output : Course)
     (outcome : Result (Unit {0}) F) : Type 0 where
   pub run : Result (Unit {0}) F
@@ -68,8 +68,8 @@ pub record RunsFlushed {F : Type 0} (io : F) (Runs : RunOver F) (input output : 
   pub kept : Keeps written output.after
   pub flushed : EndsFlushed io run failed output.failed outcome
 
--- The end of a run with the result `run`. `failed` says whether the output had failed before the flush. The flush
--- writes nothing. The line of the fault was written to the errors, and `status` is the exit status.
+-- A run with the result `run` has ended. `failed` says whether the output had failed before the flush. The flush writes
+-- nothing. If the outcome is a fault, its error line was written to the errors. `status` is the exit status.
 pub record EndsRun {F : Type 0} (text : F → List ℕ) (exit : F → ℕ) (io : F) (run : Result (Unit {0}) F) (failed : Bool)
     (flush errors : Course) (status : ℕ) : Type 0 where
   pub outcome : Result (Unit {0}) F

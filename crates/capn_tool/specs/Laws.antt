@@ -1,4 +1,4 @@
--- Laws of the definitions alone. (Own.)
+-- Laws of the definitions, without any function. (Our own.)
 use Rattle.std.specs.Prelude.{◌≡◌, ℕ, List, Bool, Result}
 use Rattle.capn_serve.specs.FormRun.{AreMessages}
 use Rattle.capn_serve.specs.StreamRun.{first_run}
@@ -14,19 +14,20 @@ use Rattle.capn_commands.specs.declared.part_texts.PartTexts.{PartTexts}
 use Rattle.capn_tool.specs.PartRun.{Follows}
 use Rattle.capn_args.specs.declared.invocation.Show.{Show}
 
--- The text that `show` writes for an input at a path is unique, and so is the ending of the run.
+-- The text that `show` writes for the value at a path in an input is unique, and so is the ending of the run.
 abbrev pub OneShown : Type 0
 OneShown = (show : Show) (path : List ℕ) (p q : PartTexts) → Follows show path p → Follows show path q
     → (input t u : List ℕ) (r s : Result (Unit {0}) RunFault) (y z : Run PartTexts)
     → AreMessages (part_fold show.limits.message_words) (first_run p) show.form input t r y
     → AreMessages (part_fold show.limits.message_words) (first_run q) show.form input u s z → (t ≡ u) × (r ≡ s)
 
--- The text and the ending of an input that is one message in a frame, by the service `p` that shows it.
+-- `text` and `ending` are those of an input that is one message in a frame, shown by the service `p`.
 abbrev pub IsShownAlone : PartTexts → ℕ → StreamForm → List ℕ → Bool → List ℕ → Result (Unit {0}) ToolFault → Type 0
 IsShownAlone p most frame input is_longer text ending =
     IsDueOf (WritesOne serves refuses p most frame) (RefusesOne serves refuses p most frame) input is_longer text ending
 
--- The text that `show` writes for exactly one message at a path is unique, and so is the ending of the run.
+-- The text that `show` writes for the value at a path in exactly one message is unique, and so is the ending of the
+-- run.
 abbrev pub OneShownAlone : Type 0
 OneShownAlone = (show : Show) (path : List ℕ) (p q : PartTexts) → Follows show path p → Follows show path q
     → (frame : StreamForm) (input : List ℕ) (is_longer : Bool) (t u : List ℕ) (r s : Result (Unit {0}) ToolFault)

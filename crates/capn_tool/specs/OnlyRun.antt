@@ -1,4 +1,4 @@
--- The effect of a run that picks the messages of a list. (Own.)
+-- The effect of a run that picks the messages of a list. (Our own.)
 use Rattle.std.specs.Prelude.{◌≡◌, ◌⊎◌, List, ℕ, Bool, false, Option, Some, Result, Err}
 use Rattle.capn_serve.specs.PickRun.{PicksRanges}
 use Rattle.capn_serve.specs.declared.fault.RunFault.{RunFault}
@@ -7,14 +7,14 @@ use Rattle.capn_serve.specs.declared.pick.Range.{Range}
 use Rattle.capn_args.specs.RangeList.{ranges_in}
 use Rattle.capn_args.specs.declared.invocation.Only.{Only}
 
--- memory was refused for the ranges of the list, and nothing was read or written
+-- Memory was refused for the ranges of the list, and nothing was read or written.
 abbrev pub NeedsMemory : Option (List ℕ) → Option (List ℕ) → Option (List ℕ) → Option (List ℕ) → Bool → Bool
     → Result (Unit {0}) RunFault → Type 0
 NeedsMemory a b c d reader_failed writer_failed r = (r ≡ Err faults.Memory)
     × (b ≡ a) × (d ≡ c) × (reader_failed ≡ false) × (writer_failed ≡ false)
 
--- The effect of a run on a reader (from `a` to `b`) and a writer (from `c` to `d`), and its result. The ranges of the
--- list in `only` were picked, or memory was refused for the ranges.
+-- States the effect of a run on a reader (from `a` to `b`) and a writer (from `c` to `d`), and the result of the run.
+-- The messages in the list of `only` were picked, or memory was refused for the ranges.
 abbrev pub OnlyPicked : Only → Option (List ℕ) → Option (List ℕ) → Option (List ℕ) → Option (List ℕ) → Bool → Bool
     → Result (Unit {0}) RunFault → Type 0
 OnlyPicked only a b c d reader_failed writer_failed r = (ranges : List Range) → ranges_in only.list.now ≡ Some ranges

@@ -1,4 +1,4 @@
--- The effect of a run that shows messages or parts of them, in a style or with marks. (Own.)
+-- The effect of a run that shows messages or parts of them, in a style or with marks. (Our own.)
 use Rattle.std.specs.Prelude.{◌≡◌, ◌⊎◌, ℕ, List, Bool, true, false, Option, Some, None, Result, Ok, Err, is_some}
 use Rattle.capn_canon.specs.declared.form.Form.{Form}
 use Rattle.capn_canon.specs.declared.form.Form.TheVariants as forms
@@ -30,7 +30,7 @@ pub record Follows (show : Show) (path : List ℕ) (service : PartTexts) : Type 
   pub offsets : service.offsets ≡ show.offsets
   pub ways : service.ways ≡ show.ways
 
--- The messages were served from the first on, by a service with the options of `show`.
+-- The messages of an input were served from the first one on, by a service with the options of `show`.
 pub record Served (show : Show) (path : List ℕ) (a b c d : Option (List ℕ)) (reader_failed writer_failed : Bool)
     (r : Result (Unit {0}) ToolFault) : Type 0 where
   pub service : PartTexts
@@ -39,7 +39,7 @@ pub record Served (show : Show) (path : List ℕ) (a b c d : Option (List ℕ)) 
   pub shown : Shown service a b c d reader_failed writer_failed ending
   pub is : r ≡ unplaced_end ending
 
--- The one message that the whole input is in a frame was served, by a service with the options of `show`.
+-- The one message of an input, whose frame is the whole input, was served by a service with the options of `show`.
 pub record ServedOne (show : Show) (frame : StreamForm) (path : List ℕ) (a b c d : Option (List ℕ))
     (reader_failed writer_failed : Bool) (r : Result (Unit {0}) ToolFault) : Type 0 where
   pub service : PartTexts
@@ -47,29 +47,29 @@ pub record ServedOne (show : Show) (frame : StreamForm) (path : List ℕ) (a b c
   pub shown : RunsWhole (WritesOne serves refuses service show.limits.message_words frame)
       (RefusesOne serves refuses service show.limits.message_words frame) a b c d reader_failed writer_failed r
 
--- The encoding of the input if `show` selects exactly one message, in a frame.
+-- The encoding of the input if `show` selects exactly one message and that message is in a frame, and otherwise `None`.
 abbrev pub one_frame : Bool → Form → Option StreamForm
 one_frame false form = None
 one_frame true forms.Stream = Some streams.Stream
 one_frame true forms.Packed = Some streams.Packed
 one_frame true forms.Bare = None
 
--- The messages of the input were served, or its one message in a frame was.
+-- The messages of the input were served. With `Some frame` the input is exactly one message in a frame.
 abbrev pub ServedBy : Option StreamForm → Show → List ℕ → Option (List ℕ) → Option (List ℕ) → Option (List ℕ)
     → Option (List ℕ) → Bool → Bool → Result (Unit {0}) ToolFault → Type 0
 ServedBy None show path a b c d reader_failed writer_failed r = Served show path a b c d reader_failed writer_failed r
 ServedBy (Some frame) show path a b c d reader_failed writer_failed r =
     ServedOne show frame path a b c d reader_failed writer_failed r
 
--- a path is given, memory was refused for its numbers, and nothing was read or written
+-- A path is given, memory was refused for the numbers of that path, and nothing was read or written.
 abbrev pub NeedsMemory : Show → Option (List ℕ) → Option (List ℕ) → Option (List ℕ) → Option (List ℕ) → Bool → Bool
     → Result (Unit {0}) ToolFault → Type 0
 NeedsMemory show a b c d reader_failed writer_failed r = (is_some show.path ≡ true) × (r ≡ Err faults.Memory)
     × (b ≡ a) × (d ≡ c) × (reader_failed ≡ false) × (writer_failed ≡ false)
 
--- The effect of a run on a reader (from `a` to `b`) and a writer (from `c` to `d`), and its result. The path text of
--- `show`, if it has one, gives the numbers of a path. Without one, all of each message is shown, at the empty path. If
--- `show` selects exactly one message, that is the whole input.
+-- States the effect of a run on a reader (from `a` to `b`) and a writer (from `c` to `d`), and the result of the run.
+-- If `show` has a path, the value at that path is shown. Otherwise all of each message is shown, at the empty path. If
+-- `show` selects exactly one message, that message is the whole input.
 abbrev pub PartsShown : Show → Option (List ℕ) → Option (List ℕ) → Option (List ℕ) → Option (List ℕ) → Bool → Bool
     → Result (Unit {0}) ToolFault → Type 0
 PartsShown show a b c d reader_failed writer_failed r = (path : List ℕ) → numbers_of show.path ≡ Some path

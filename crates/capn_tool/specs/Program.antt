@@ -1,4 +1,4 @@
--- The program, from the words of its command line to its exit status. (Own.)
+-- The program, from the words of its command line to its exit status. (Our own.)
 use Rattle.std.specs.Prelude.{ℕ, ◌≡◌, ◌⊎◌, List, Bool, Option, Result}
 use Rattle.clap.specs.Words.{Text, subcommand_of}
 use Rattle.capn_commands.specs.ExitStatus.{status_of}
@@ -35,8 +35,8 @@ use Rattle.capn_args.specs.declared.invocation.Explanation.TheVariants as explan
 use Rattle.capn_args.specs.declared.invocation.Invocation.{Invocation}
 use Rattle.capn_args.specs.declared.invocation.Invocation.TheVariants as invocations
 
--- The words mean the invocation `name order`. It was carried out, from the input to the output. The exit status and the
--- text on the errors are those of its outcome.
+-- The words mean the invocation `name order`. That invocation was carried out, from the input to the output. The exit
+-- status and the text on the errors are those of its outcome.
 pub record EndsOrder {O F : Type 0} (name : O → Invocation)
     (CarriesOut : O → Course → Course → Result (Unit {0}) F → Type 0)
     (WritesEnd : Result (Unit {0}) F → Option (List ℕ) → Option (List ℕ) → Bool → Type 0)
@@ -49,8 +49,8 @@ pub record EndsOrder {O F : Type 0} (name : O → Invocation)
   pub told : WritesEnd outcome errors.before errors.after errors.failed
   pub is : status ≡ status_of_end outcome
 
--- The words mean the invocation `name order`, for a run that `Runs` describes, with a flush after it. `io` is the fault
--- of an output that failed.
+-- The words mean the invocation `name order`, for a run that `Runs order` describes, followed by a flush. `io` is the
+-- fault of an output that failed.
 abbrev pub EndsRunOrder : {O F : Type 0} → (O → Invocation) → F → (O → RunOver F)
     → (Result (Unit {0}) F → Option (List ℕ) → Option (List ℕ) → Bool → Type 0) → (Result (Unit {0}) F → ℕ)
     → List Text → Course → Course → Course → ℕ → Type 0
@@ -81,18 +81,18 @@ abbrev pub EndsArchive : List Text → Course → Course → Course → ℕ → 
 EndsArchive =
     EndsRunOrder (λ archive. invocations.Archive archive) archive_faults.Io Archived WritesArchiveEnding archive_status
 
--- The words mean that duplicates are left out.
+-- The words mean that duplicates are left out or counted.
 abbrev pub EndsUniq : List Text → Course → Course → Course → ℕ → Type 0
 EndsUniq =
     EndsRunOrder (λ uniq. invocations.Uniq uniq) archive_faults.Io Deduplicated WritesArchiveEnding archive_status
 
--- The words mean that accepted messages are let through.
+-- The words mean that accepted messages are written.
 abbrev pub EndsFilter : List Text → Course → Course → Course → ℕ → Type 0
 EndsFilter =
     EndsRunOrder (λ filter. invocations.Filter filter) archive_faults.Io Filtered WritesArchiveEnding archive_status
 
--- The words mean that messages are compared. The run over the input found `found`, and was flushed. The text on the
--- errors is that of its outcome, and the exit status also says what was found.
+-- The words mean that messages are compared. The run over the input had the result `found`, and the output was flushed.
+-- The text on the errors is that of the outcome, and the exit status also says whether a message differs.
 pub record EndsCmp (words : List Text) (input output errors : Course) (status : ℕ) : Type 0 where
   pub order : CmpOrder
   pub found : Result Comparison CmpFault
@@ -122,7 +122,7 @@ EndsMake =
     EndsRunOrder (λ make. invocations.Make make) make_faults.Io (λ make. MadeBy make.quoted make.form) WritesMakeEnding
     make_status
 
--- The effect of the program started with `words`, and its exit status.
+-- States the effect of the program started with `words`, and its exit status.
 abbrev pub Ends : List Text → Course → Course → Course → ℕ → Type 0
 Ends words input output errors status =
     EndsMessage words input output errors status

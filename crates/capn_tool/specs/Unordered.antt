@@ -1,4 +1,4 @@
--- Words that start no run, and the end of the program then. (Own.)
+-- The end of the program if its words start no run. (Our own.)
 use Rattle.std.specs.Prelude.{ℕ, ◌≡◌, ◌≢◌, ◌⊎◌, List, true, false, Result, Ok, Err}
 use Rattle.std.specs.Io.KnownBytes.{Appends}
 use Rattle.clap.specs.Words.{Text, subcommand_of, takes}
@@ -16,8 +16,8 @@ use Rattle.capn_args.specs.Meaning.{MeansInvocation}
 use Rattle.capn_args.specs.Usage.{IsHelp, IsReason, version_line}
 use Rattle.capn_args.specs.declared.invocation.Invocation.{Invocation}
 
--- The help text was written to the output. After `Ok` all of it was, and the output has not failed. After `Io` a prefix
--- of it was, and the output has failed. After `Memory` nothing was.
+-- The help text was written to the output. After `Ok` all of the text was written, and the output has not failed. After
+-- `Io` a prefix of the text was written, and the output has failed. After `Memory` nothing was written.
 abbrev pub ShowsHelp : Course → Result (Unit {0}) ToolFault → Type 0
 ShowsHelp output (Ok u) =
     (text : List ℕ) × IsHelp text × Appends output.before output.after text × (output.failed ≡ false)
@@ -28,15 +28,16 @@ ShowsHelp output (Err faults.InputTooLong) = ⊥
 ShowsHelp output (Err (faults.NotWhole n)) = ⊥
 ShowsHelp output (Err (faults.Refused refusal)) = ⊥
 
--- Help is asked for. It was shown, the outcome of that was reported to the errors, and it decides the exit status.
+-- The words ask for help. Help was shown with the result `outcome`, which was reported to the errors and decides the
+-- exit status.
 pub record EndsHelp (output errors : Course) (status : ℕ) : Type 0 where
   pub outcome : Result (Unit {0}) ToolFault
   pub shown : ShowsHelp output outcome
   pub told : ReportsEnding outcome errors.before errors.after errors.failed
   pub is : status ≡ status_of outcome
 
--- The version line was written to the output. After `Ok` all of it was, and the output has not failed. After `Io` a
--- prefix of it was, and the output has failed.
+-- The version line was written to the output. After `Ok` all of the line was written, and the output has not failed.
+-- After `Io` a prefix of the line was written, and the output has failed.
 abbrev pub ShowsVersion : Course → Result (Unit {0}) ToolFault → Type 0
 ShowsVersion output (Ok u) = Appends output.before output.after version_line × (output.failed ≡ false)
 ShowsVersion output (Err faults.Memory) = ⊥
@@ -45,22 +46,22 @@ ShowsVersion output (Err faults.InputTooLong) = ⊥
 ShowsVersion output (Err (faults.NotWhole n)) = ⊥
 ShowsVersion output (Err (faults.Refused refusal)) = ⊥
 
--- The version is asked for. It was shown, the outcome of that was reported to the errors, and it decides the exit
--- status.
+-- The words ask for the version. The version was shown with the result `outcome`, which was reported to the errors and
+-- decides the exit status.
 pub record EndsVersion (output errors : Course) (status : ℕ) : Type 0 where
   pub outcome : Result (Unit {0}) ToolFault
   pub shown : ShowsVersion output outcome
   pub told : ReportsEnding outcome errors.before errors.after errors.failed
   pub is : status ≡ status_of outcome
 
--- A text was written to the errors, or the line of `Memory` if there was no memory for the text. If the errors have
--- failed, a prefix of either was written.
+-- A text was written to the errors, or the error line of `Memory` if there was no memory for the text. If the errors
+-- have failed, a prefix of the text or of the line was written.
 abbrev pub WritesText : Course → Type 0
 WritesText errors = ((text : List ℕ) × WritesLine text errors.before errors.after errors.failed)
     ⊎ WritesLine (fault_line faults.Memory) errors.before errors.after errors.failed
 
--- The end of the program if the words start no run, for a reason of the kind `kind`: memory was refused, help or the
--- version is asked for, or the words are a mistake.
+-- The program has ended because the words start no run, for a reason of the kind `kind`: memory was refused, the words
+-- ask for help or the version, or the words are a mistake.
 pub record EndsUnordered (kind : ErrorKind) (output errors : Course) (status : ℕ) : Type 0 where
   pub memory : kind ≡ kinds.OutOfMemory
       → IsUntouched output × ReportsEnding (Err faults.Memory) errors.before errors.after errors.failed × (status ≡ 3)
@@ -69,8 +70,8 @@ pub record EndsUnordered (kind : ErrorKind) (output errors : Course) (status : �
   pub mistake : kind ≢ kinds.OutOfMemory → kind ≢ kinds.DisplayHelp → kind ≢ kinds.DisplayVersion
       → IsUntouched output × WritesText errors × (status ≡ 2)
 
--- The words start no run, for a reason of the kind `kind`. If they are accepted and mean an invocation, the reason is
--- that memory was refused. Nothing was read.
+-- The words start no run, for a reason of the kind `kind`. If the words are accepted and mean an invocation, the reason
+-- is that memory was refused. Nothing was read.
 pub record Unordered (words : List Text) (input output errors : Course) (status : ℕ) : Type 0 where
   pub kind : ErrorKind
   pub why : IsReason words kind

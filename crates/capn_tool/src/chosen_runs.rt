@@ -11,7 +11,8 @@ use capn_words::Watched;
 use std::alloc::Global;
 use std::io::{Read, Write};
 
-/// Packs or unpacks the input, as `flow` says. Output is written before more input is read.
+/// Packs the input if `flow` is `Pack`, or unpacks the input if `flow` is `Unpack`. Output is written before more input
+/// is read.
 pub(crate) fn flow_through<R: Read, W: Write>(
     alloc: Global,
     flow: Flow,
@@ -30,7 +31,8 @@ pub(crate) fn flow_through<R: Read, W: Write>(
     }
 }
 
-/// Makes messages from the texts of the input. `order` says whether lists of bytes may stand between quotes.
+/// Makes messages in `order.form` from the texts of the input. `order.quoted` says whether lists of bytes may stand
+/// between quotes.
 pub(crate) fn make_by<R: Read, W: Write>(
     alloc: Global,
     order: Make,

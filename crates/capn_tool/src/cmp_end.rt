@@ -12,7 +12,8 @@ use capn_serve::{Ending, RunFault, end};
 use capn_words::Watched;
 use std::io::Write;
 
-/// Returns the outcome of a run of `cmp` by what it `found`: `Ok` after any answer, or the fault.
+/// Returns the outcome of a run of `cmp`: `Ok` if `found` is a comparison, whatever its answer, and otherwise the
+/// fault.
 fn done_of(found: Result<Comparison, CmpFault>) -> Result<(), CmpFault>
     ensures { result ≡ spec.done_of found }
 {
@@ -22,7 +23,8 @@ fn done_of(found: Result<Comparison, CmpFault>) -> Result<(), CmpFault>
     }
 }
 
-/// Returns the exit status of a comparison from what it `found`, and from how it `ended` after the flush of its output.
+/// Returns the exit status of a run of `cmp`. `found` is the comparison or a fault. `ended` is the outcome after the
+/// flush of the output.
 fn status_after(found: Result<Comparison, CmpFault>, ended: &Result<(), CmpFault>) -> u8
     ensures { result ≡ spec.cmp_status found ended.now }
 {
@@ -36,9 +38,9 @@ fn status_after(found: Result<Comparison, CmpFault>, ended: &Result<(), CmpFault
     }
 }
 
-/// Flushes the output after a comparison, writes an error line if it ended with a fault, and returns the exit status.
-/// If a message differs, the status is 1, and no line is written to `errors`. If there is an answer but the flush
-/// fails, the run ends with the fault of an output that failed.
+/// Flushes the output after a run of `cmp`, writes an error line if the run ended with a fault, and returns the exit
+/// status. If a message differs, the status is 1, and no line is written to `errors`. If `found` is a comparison but
+/// the flush fails, the run ends with the fault of an output that failed.
 pub(crate) fn finish_found<W: Write, E: Write>(
     found: Result<Comparison, CmpFault>,
     writer: &mut Watched<W>,

@@ -1,14 +1,7 @@
 //! The program `capn`, over any reader and writers: its command line, and its runs.
 //!
 //! [`program`] is the whole program, from the words of the command line to the exit status. [`invocation_of`], of
-//! [`capn_args`], reads the words and returns the run that they ask for. It is one of:
-//! - a command of [`capn_commands`], such as `canonical` or `check`;
-//! - [`show_parts`], which shows messages or parts of them in a style;
-//! - a run of [`capn_explain`], which explains one message or each that is refused;
-//! - a run of [`capn_archive`] or [`capn_serve`] over an archive, a stream of messages of any length;
-//! - a comparison of messages by [`capn_cmp`];
-//! - packing or unpacking by [`capn_commands`] while the input is read;
-//! - messages made from texts by [`capn_make`].
+//! [`capn_args`], reads the words and returns the invocation that they stand for. An invocation starts one of:
 //!
 //! [`command_of`] reads the words of a command of [`capn_commands`], [`run`] carries the command out, and [`end`]
 //! reports how that run ended.
@@ -33,13 +26,13 @@ pub use only_run::pick_only;
 pub use part_run::show_parts;
 pub use program_run::program;
 
-// The command line: its words, and the invocation that they mean.
+// The command line: the words, and the invocation that is made of the words.
 pub use capn_args::{
     Explanation, Flow, Invocation, Make, Only, Show, Usage, command_of, invocation_of,
     program_command,
 };
 
-// The commands over messages and bytes, their run, and how a run ends.
+// The commands over messages and bytes, the function `run` that carries a command out, and the end of a run.
 pub use capn_commands::{Command, MessageText, ToolFault, end, fault_text, run, status};
 
 // Types of the signatures above.

@@ -11,8 +11,8 @@ use capn_words::Watched;
 use std::alloc::Global;
 use std::io::{Read, Write};
 
-/// Carries `command` out, and flushes the output. Returns the outcome of the run, or `Io` if the run is done and the
-/// flush fails.
+/// Carries `command` out, and flushes the output. Returns the outcome of the run, or `Io` if the run had no fault and
+/// the flush fails.
 pub(crate) fn carry_out<R: Read, W: Write>(
     alloc: Global,
     command: Command,

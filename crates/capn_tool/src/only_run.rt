@@ -11,11 +11,11 @@ use capn_words::Watched;
 use std::alloc::Allocator;
 use std::io::{Read, Write};
 
-/// Writes the frames of the messages that are in the list of `only` byte for byte, as [`run_only`] does with its
-/// ranges.
+/// Writes the frames of the messages whose numbers are in `only.list`, byte for byte. [`run_only`] states how the
+/// stream is read and how the run ends.
 ///
-/// In addition to what [`run_only`] holds, it holds the ranges, of 16 bytes each. If memory for the ranges is refused,
-/// nothing is read.
+/// The run holds the ranges, of 16 bytes each, in addition to what [`run_only`] holds. If memory for the ranges is
+/// refused, nothing is read.
 pub fn pick_only<R: Read, W: Write, A: Allocator + Copy>(
     alloc: A,
     only: &Only,

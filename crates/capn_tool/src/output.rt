@@ -23,8 +23,8 @@ pub(crate) fn write_all<W: Write>(writer: &mut Watched<W>, text: &[u8]) -> Resul
     }
 }
 
-/// Flushes `writer` after a run with this `outcome`. Returns `io`, the fault of an output that failed, if the run was
-/// done and the flush fails. The outcome of any other run stays the same.
+/// Flushes `writer` after a run with this `outcome`. Returns `io`, the fault of an output that failed, if `outcome` is
+/// `Ok` and the flush fails. Otherwise `outcome` is returned.
 pub(crate) fn flush_after<F: Copy, W: Write>(
     outcome: Result<(), F>,
     io: F,

@@ -1,4 +1,4 @@
-//! The run of `show` for its options: over all messages of an input, or over exactly one.
+//! The run of `show`, over all messages of an input or over exactly one.
 
 ghost use Rattle.std.specs.Prelude.{◌≡◌, false};
 ghost use Rattle.capn_tool.specs.PartRun as spec;
@@ -13,7 +13,7 @@ use capn_words::Watched;
 use std::alloc::Allocator;
 use std::io::{Read, Write};
 
-/// Returns the encoding of the input if `show` asks for exactly one message and that is in a frame.
+/// Returns the encoding of the input if `show.one` is set and the message is in a frame, and otherwise `None`.
 fn one_frame(show: &Show) -> Option<StreamForm>
     ensures { result ≡ spec.one_frame show.now.one show.now.form }
 {
@@ -27,9 +27,9 @@ fn one_frame(show: &Show) -> Option<StreamForm>
     }
 }
 
-/// Writes the text of messages, or of the value at a path from each root, in a style or with marks. [`run_show`] does
-/// it for each message of an input, and [`serve_one`] for exactly one message in a frame. A path takes memory for its
-/// numbers.
+/// Writes the text of messages, or of the value at a path from each root, in a style or with marks. [`run_show`] shows
+/// each message of an input, and [`serve_one`] shows the one message of an input in a frame. Memory is allocated for
+/// the numbers of a path.
 pub fn show_parts<R: Read, W: Write, A: Allocator + Copy>(
     alloc: A,
     show: &Show,

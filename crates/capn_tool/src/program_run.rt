@@ -24,11 +24,11 @@ use std::alloc::Global;
 use std::convert::AsStr;
 use std::io::{Read, Write};
 
-/// Runs the whole program, from the words of the command line to the exit status. The first word is its name.
+/// Runs the whole program, from the words of the command line to the exit status. The first word is the program's name.
 ///
-/// The words choose a run. It reads from `reader`, writes to `writer`, and ends with a flush. It is one of:
-/// - a command, as [`capn_commands::run`] promises;
-/// - the text of messages or of parts of them, as [`show_parts`] shows them;
+/// The words choose a run, which reads from `reader`, writes to `writer`, and ends with a flush. The run is one of:
+/// - a command, by [`capn_commands::run`];
+/// - the text of messages or of parts of them, by [`show_parts`];
 /// - the explanation of a message, or of each that is refused, by [`run_explain`] or [`run_explain_refused`];
 /// - a run over an archive, by [`run_archive`], [`run_uniq`] or [`run_filter`];
 /// - a comparison, by [`run_cmp`];
@@ -36,13 +36,13 @@ use std::io::{Read, Write};
 /// - packing or unpacking, by [`pack_stream`] or [`unpack_stream`];
 /// - the messages of texts, by [`capn_make::make`] or [`capn_make::make_texts`].
 ///
-/// If the run is done and the flush fails, the program ends as if the output had failed. After any other run a failed
-/// flush changes nothing. The status is 0 if all is done. It is 1 if the input or a message of it is refused, or if a
-/// message differs. It is 3 if memory, the input or the output failed, or if the input is too long. With 1 and 3 a line
-/// on `errors` says why, unless a message differs. The line is `capn: ` and the text of the fault, which may have a
-/// second line if messages were skipped. A mistake on the command line ends with 2, and `errors` says what is wrong, or
-/// `capn: out of memory` if there is no memory for that. Help and the version are written to `writer` and end with 0,
-/// or with 3 if that fails.
+/// If the run has no fault and the flush fails, the program ends as if the output had failed. After a fault a failed
+/// flush changes nothing. The status is 0 if the run has no fault and no message differs. The status is 1 if the input
+/// or a message of the input is refused, or if a message differs. The status is 3 if memory, the input or the output
+/// failed, or if the input is too long. With 1 and 3 a line on `errors` says why, unless a message differs. The line is
+/// `capn: ` and the text of the fault, which may have a second line if messages were skipped. A mistake on the command
+/// line ends with 2, and `errors` says what is wrong, or `capn: out of memory` if there is no memory for that text.
+/// Help and the version are written to `writer` and end with 0, or with 3 if memory or the output fails.
 #[tactic(auto, using(crate::proofs::EndedOrders::ended, crate::proofs::EndedOrders::ended_found))]
 pub fn program<'a, S: AsStr, R: Read, W: Write, E: Write>(
     alloc: Global,

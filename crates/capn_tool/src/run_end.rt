@@ -10,9 +10,9 @@ use capn_serve::{Ending, end};
 use capn_words::Watched;
 use std::io::Write;
 
-/// Flushes the output after a run with this `outcome`, writes an error line if it ended with a fault, and returns the
-/// exit status. If the run was done and the flush fails, it ends with `io`, the fault of an output that failed. Any
-/// other run ends as it did.
+/// Flushes the output after a run with this `outcome`, writes an error line if the run ended with a fault, and returns
+/// the exit status. If `outcome` is `Ok` and the flush fails, the run ends with `io`, the fault of an output that
+/// failed. Otherwise the run ends with `outcome`.
 pub(crate) fn finish<F: Ending + Copy, W: Write, E: Write>(
     outcome: Result<(), F>,
     io: F,

@@ -46,7 +46,7 @@ fn show_version<W: Write>(writer: &mut Watched<W>) -> Result<(), ToolFault>
     flush_after(Ok(()), ToolFault::Io, writer)
 }
 
-/// Writes the text about a mistake in `said`, or the line of `Memory` if there was no memory for the text.
+/// Writes the text about a mistake in `said`, or the error line of `Memory` if there was no memory for the text.
 fn tell_said<E: Write>(alloc: Global, said: Result<String, AllocError>, errors: &mut Watched<E>)
     requires { has_failed errors.old ≡ false }
     ensures text { IfOk said (λ text. WritesLine (string_bytes text)
@@ -59,13 +59,13 @@ fn tell_said<E: Write>(alloc: Global, said: Result<String, AllocError>, errors: 
             let _told = errors.write_all(text.as_bytes());
         }
         Err(_) => {
-            // The exit status stays that of a mistake.
+            // The exit status stays 2, the status of a mistake.
             let _status = end(alloc, &Err(ToolFault::Memory), errors);
         }
     }
 }
 
-/// Writes the text of the mistake `usage`, or the line of `Memory` if there is no memory for the text.
+/// Writes the text of the mistake `usage`, or the error line of `Memory` if there is no memory for the text.
 fn tell_mistake<E: Write>(alloc: Global, usage: &Usage, errors: &mut Watched<E>)
     requires { has_failed errors.old ≡ false }
     ensures { WritesText
@@ -75,7 +75,7 @@ fn tell_mistake<E: Write>(alloc: Global, usage: &Usage, errors: &mut Watched<E>)
 }
 
 /// Ends the program if its command line starts no run, and returns the exit status. Help and the version are written to
-/// `writer`. The text about a mistake, or the line of refused memory, is written to `errors`.
+/// `writer`. The text about a mistake, or the error line of refused memory, is written to `errors`.
 pub(crate) fn end_unordered<W: Write, E: Write>(
     alloc: Global,
     usage: &Usage,
