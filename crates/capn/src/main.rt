@@ -1,8 +1,9 @@
 //! The entry point of the program `capn`.
 //!
-//! `capn_tool::program` says what it does. This file hands it the words of the command line, standard input, standard
-//! output and standard error, and ends with its status: 0 done, 1 refused, 2 a mistake on the command line, 3 memory
-//! refused, an input or output that failed, or an input that is too long.
+//! `capn_tool::program` states what the program does. This file calls `program` with the words of the command line,
+//! standard input, standard output and standard error, and ends with the exit status that `program` returns: 0 done, 1
+//! refused or different, 2 a mistake on the command line, 3 memory refused, an input or output that failed, or an input
+//! that is too long.
 #![tactic(auto)]
 
 use capn_tool::{ToolFault, end, program};
@@ -14,8 +15,8 @@ use std::process::ExitCode;
 /// The exit status of a mistake on the command line.
 const MISTAKE: u8 = 2;
 
-/// Returns the words of the command line. Each refused growth is an error here. `collect` would request room for all
-/// words first, and continue with less if that is refused.
+/// Returns the words of the command line, or an error if an allocation is refused. `collect` would request room for all
+/// words first, and continue with less room if that request is refused.
 fn words_of(rt: &HostRuntime) -> io::Result<Vec<String>> {
     let mut words = Vec::new(rt.alloc());
     for word in env::args(rt)? {
