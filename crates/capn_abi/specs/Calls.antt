@@ -1,4 +1,4 @@
--- The forms, tariffs and limits that a caller names by numbers, and the content of its buffer after a call. (Own.)
+-- The forms, tariffs and limits that a caller names by numbers, and the buffer after a call. (Our own.)
 use Rattle.std.specs.Prelude.{◌≡◌, ◌⊎◌, ℕ, suc, zero, ◌+◌, ◌*◌, ◌<◌, ◌≤◌, List, ◌++◌, length, drop}
 use Rattle.capn_value.specs.declared.tariff.Tariff.{Tariff}
 use Rattle.capn_value.specs.declared.tariff.Tariff.TheVariants as tariffs
@@ -36,7 +36,7 @@ abbrev pub bounds_of : CapnLimits → Bounds
 bounds_of c =
     record { message_words = c.message_words; budget = c.budget; depth = c.depth; tariff = tariff_named c.tariff }
 
--- the numbers of a caller give limits that are in range, whatever the tariff
+-- the numbers of a caller are limits that are in range, whatever the tariff
 abbrev pub GiveLimits : CapnLimits → Type 0
 GiveLimits c = AreLimits c.message_words c.budget c.depth
 
@@ -48,14 +48,14 @@ IsWritten answer old new = new ≡ answer ++ drop (length answer) old
 abbrev pub HasNoRoom : List ℕ → List ℕ → List ℕ → Type 0
 HasNoRoom answer old new = (length old < length answer) × (new ≡ old)
 
--- the status is 0 and the answer is written, or it is 1 and the answer has no room; the report has its length in both
--- cases
+-- either the status is 0 and the answer is written, or it is 1 and the buffer has no room; in both cases the length
+-- reported is that of the answer
 pub record Delivers (answer : List ℕ) (status told : ℕ) (old new : List ℕ) : Type 0 where
   pub length_is : told ≡ length answer
   pub either : ((status ≡ 0) × IsWritten answer old new) ⊎ ((status ≡ 1) × HasNoRoom answer old new)
 
--- if the buffer is empty nothing is written, and the length reported is 8 for each word paid and 8 more, which is
--- enough; otherwise the answer is delivered
+-- if the buffer is empty, the status is 1, and the length reported is 8 for each word paid and 8 more, which is enough;
+-- otherwise the answer is delivered
 pub record Serves (answer : List ℕ) (status : ℕ) (report : CapnReport) (old new : List ℕ) : Type 0 where
   pub measured : length old ≡ 0
       → (status ≡ 1) × (report.length ≡ 8 * (report.paid + 1)) × (length answer ≤ report.length)

@@ -1,4 +1,4 @@
--- The status and the numbers that report a refusal. (Own.)
+-- The status and the numbers that report a refusal. (Our own.)
 use Rattle.std.specs.Prelude.{◌≡◌, ◌≢◌, ℕ, Bool, ◌||◌, ◌&&◌, nat_eq, nat_lt}
 use Rattle.capn_words.specs.declared.bare.BareFault.{BareFault}
 use Rattle.capn_words.specs.declared.bare.BareFault.TheVariants as bare
@@ -12,11 +12,11 @@ use Rattle.capn_canon.specs.declared.refusal.Refusal.{Refusal}
 use Rattle.capn_canon.specs.declared.refusal.Refusal.TheVariants as refusals
 use Rattle.capn_abi.specs.declared.report.CapnReport.{CapnReport}
 
--- a report of the number `n` alone
+-- a report of the number `n`, with 0 in all other fields
 abbrev pub at_number : ℕ → CapnReport
 at_number n = record { length = 0; at = n; segment = 0; word = 0; paid = 0; visits = 0 }
 
--- a report of an answer: its length, the words that the walk paid, and the number of visits
+-- a report of an answer: the length, the number of words that the walk paid, and the number of visits
 abbrev pub answered : ℕ → ℕ → ℕ → CapnReport
 answered length paid visits = record { length = length; at = 0; segment = 0; word = 0; paid = paid; visits = visits }
 
@@ -98,13 +98,13 @@ report_of (refusals.Walk s) =
 report_of (refusals.Capability k) = at_number k
 report_of refusals.Memory = at_number 0
 
--- `status` and `report` stand for the refusal `e`, and for no other unless memory was refused
+-- `status` and `report` are those of the refusal `e`, and, unless the status is 8, of no other refusal
 pub record Reports (status : ℕ) (report : CapnReport) (e : Refusal) : Type 0 where
   pub status_is : status ≡ code e
   pub report_is : report ≡ report_of e
   pub alone : status ≢ 8 → (f : Refusal) → status ≡ code f → report ≡ report_of f → f ≡ e
 
--- `status` and `report` stand for the refusal `e` of packed bytes, and for no other unless memory was refused
+-- `status` and `report` are those of the refusal `e` of packed bytes, and, unless the status is 8, of no other
 pub record ReportsPacked (status : ℕ) (report : CapnReport) (e : UnpackFault) : Type 0 where
   pub status_is : status ≡ packed_code e
   pub report_is : report ≡ at_number (packed_number e)

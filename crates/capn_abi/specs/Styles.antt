@@ -1,4 +1,4 @@
--- The styles of a message's text, which a caller names by numbers. (Own.)
+-- The styles of a message's text, which a caller names by numbers. (Our own.)
 use Rattle.std.specs.Prelude.{ℕ, zero, suc, ◌≤◌}
 use Rattle.capn_show.specs.declared.style.Style.{Style}
 use Rattle.capn_show.specs.declared.style.Style.TheVariants as styles

@@ -1,10 +1,11 @@
-//! The arguments and reports of the calls for C: forms, limits and styles by numbers, statuses, and what they report.
+//! The arguments and reports of the calls for C: forms, limits and styles by numbers, and the statuses of refusals.
 //!
-//! - [`form_of`], [`flat_form_of`], [`limits_of`] and [`style_of`] read the numbers that a caller passes, and refuse
-//!   one that is out of its range.
+//! - [`form_of`], [`flat_form_of`], [`limits_of`] and [`style_of`] read the numbers that a caller passes, and refuse a
+//!   number that is out of its range.
 //! - [`CapnReport`] is the report that a call fills in, in addition to its status. [`refuse`] and [`refuse_packed`]
-//!   give the status and the report of a refusal. No other refusal has the same two, unless memory was refused.
-//! - [`deliver`] writes an answer into the caller's buffer, if that has room.
+//!   give the status and the report of a refusal. Unless the status is [`MEMORY`], no other refusal has the same status
+//!   and the same report.
+//! - [`deliver`] writes an answer into the caller's buffer if the buffer has room.
 //!
 //! ```text
 //! match limits_of(limits) {
@@ -29,7 +30,7 @@ pub use status_codes::{
 };
 pub use styles::style_of;
 
-// The types in the signatures above.
+// The types that the signatures of this crate name.
 pub use capn_canon::{Form, Refusal};
 pub use capn_pack::UnpackFault;
 pub use capn_show::Style;

@@ -9,22 +9,22 @@ use capn_canon::Form;
 use capn_value::Tariff;
 use capn_walk::Limits;
 
-/// The limits of a call. The caller may pass any numbers: the status of the call says if one is out of its range.
+/// The limits of a call. The caller may pass any numbers. The status says whether a number is out of its range.
 #[derive(Clone, Copy)]
 #[repr(C)]
 pub struct CapnLimits {
-    /// The words of one framed message, from 1 to 2^28.
+    /// The greatest number of words of one framed message, from 1 to 2^28.
     pub message_words: u32,
-    /// The words that a walk pays, at most 2^28.
+    /// The greatest number of words that a walk may pay, at most 2^28.
     pub budget: u32,
-    /// The depth of objects, from 1 to 256.
+    /// The greatest depth of objects, from 1 to 256.
     pub depth: u32,
-    /// The number of the tariff, by which visits are priced. In 0, each content costs 1 in addition to its size. In 1,
-    /// it costs its size alone.
+    /// The number of the tariff, by which visits are priced. Under tariff 0, each content costs 1 in addition to its
+    /// size. Under tariff 1, each content costs only its size.
     pub tariff: u32,
 }
 
-/// Returns the tariff that has this `number`.
+/// Returns the tariff with the given `number`.
 fn tariff_of(number: u32) -> Option<Tariff>
     ensures some { IsSome result ↔ IsTariff number }
     ensures value { IfSome result (λ t. t ≡ tariff_named number) }
@@ -36,7 +36,7 @@ fn tariff_of(number: u32) -> Option<Tariff>
     }
 }
 
-/// Returns the form that has this `number`, or `None` if no form has it.
+/// Returns the form with the given `number`, or `None` if there is none.
 pub fn form_of(number: u32) -> Option<Form>
     ensures some { IsSome result ↔ IsForm number }
     ensures value { IfSome result (λ f. f ≡ form_named number) }
@@ -49,7 +49,7 @@ pub fn form_of(number: u32) -> Option<Form>
     }
 }
 
-/// Returns the form that has this `number`, if it is not packed: a stream, or bare words. Returns `None` for any other.
+/// Returns the form with the given `number`, if that is a stream or bare words. Returns `None` for any other number.
 pub fn flat_form_of(number: u32) -> Option<Form>
     ensures some { IsSome result ↔ IsFlat number }
     ensures value { IfSome result (λ f. f ≡ form_named number) }
@@ -62,7 +62,7 @@ pub fn flat_form_of(number: u32) -> Option<Form>
     }
 }
 
-/// Reads `limits`. Returns the limits, or the status `BAD_LIMITS` or `BAD_TARIFF` if one is out of its range.
+/// Returns the limits that `limits` gives, or `BAD_LIMITS` or `BAD_TARIFF` if a number is out of its range.
 pub fn limits_of(limits: &CapnLimits) -> Result<Limits, u32>
     ensures value { IfOk result (λ l. l ≡ bounds_of limits.now) }
     ensures ok { IfOk result (λ l. GiveLimits limits.now × IsTariff limits.now.tariff) }

@@ -1,24 +1,23 @@
-//! The report of a call: the numbers that it gives in addition to its status.
+//! The type `CapnReport`, the numbers that a call gives in addition to its status.
 
 ghost use Rattle.std.specs.Prelude.{◌≡◌};
 ghost use Rattle.capn_abi.specs.StatusCodes.{at_number, answered};
 
-/// The report of a call, in addition to its status. Each call sets every field. A field that the status has no number
-/// for is 0.
+/// The report of a call, in addition to its status. A field without a meaning for the status is 0.
 #[derive(Clone, Copy)]
 #[repr(C)]
 pub struct CapnReport {
-    /// The number of bytes of the result, if they were written. If they have no room, a number of bytes that is enough.
+    /// The number of bytes of the result, or, if the buffer has no room, a number of bytes that is enough.
     pub length: u64,
-    /// The number that a refusal has: an offset, a count or an index.
+    /// The number in a refusal: an offset, a count or an index.
     pub at: u64,
-    /// The words that the walk paid.
+    /// The number of words that the walk paid.
     pub paid: u32,
     /// The number of visits that the walk made.
     pub visits: u32,
     /// The segment of the slot at which the walk stopped.
     pub segment: u32,
-    /// The word of the slot at which the walk stopped, in its segment.
+    /// The word in that segment of the slot at which the walk stopped.
     pub word: u32,
 }
 
@@ -36,7 +35,7 @@ pub fn report_at(at: u64) -> CapnReport
     }
 }
 
-/// Returns the report of a result of `length` bytes, whose walk `paid` this many words and made `visits` visits.
+/// Returns the report of a result of `length` bytes, for a walk that `paid` words and made `visits` visits.
 pub fn answer_of(length: u64, paid: u32, visits: u32) -> CapnReport
     ensures { result ≡ answered length paid visits }
 {

@@ -36,7 +36,7 @@ pub const BAD_STYLE: u32 = 6;
 /// The status if the canonical bytes of two messages differ.
 pub const DIFFERENT: u32 = 7;
 
-/// The status if a growth of memory was refused.
+/// The status if an allocation was refused.
 pub const MEMORY: u32 = 8;
 
 /// The status if the number of bytes is not a multiple of 8.
@@ -170,7 +170,7 @@ fn report_of_refusal(refusal: Refusal) -> CapnReport
     }
 }
 
-/// Reports `refusal`: writes its numbers to `report`, and returns its status.
+/// Writes the numbers of `refusal` to `report`, and returns the status of `refusal`.
 pub fn refuse(refusal: Refusal, report: &mut CapnReport) -> u32
     ensures { Reports result report.new refusal }
 {
@@ -178,7 +178,7 @@ pub fn refuse(refusal: Refusal, report: &mut CapnReport) -> u32
     code_of(refusal)
 }
 
-/// Reports the refusal `fault` of a packed text: writes its number to `report`, and returns its status.
+/// Writes the number of `fault`, a refusal of a packed text, to `report`, and returns the status of `fault`.
 pub fn refuse_packed(fault: UnpackFault, report: &mut CapnReport) -> u32
     ensures { ReportsPacked result report.new fault }
 {
