@@ -1,4 +1,5 @@
--- The result for two messages is that for the bytes that are read as them. (For `compared.rt` and `compare`.)
+-- The result for two messages is also the result for the bytes that are read as those messages. (For `compared.rt` and
+-- `compare`.)
 use Rattle.std.proofs.Common.{rules, ◌≡◌, ◌↔◌, inl, inr, ℕ, List, Bool, IsTrue, subst}
 use Rattle.std.proofs.Common.{Result, Ok, Err, IfOk, IfErr, IsErrOf}
 use Rattle.capn_value.specs.Tree.{Tree}
@@ -34,7 +35,7 @@ module _ (bs stream : List ℕ) (limits : Bounds) (u : Unpacks bs limits.message
 -- ---- a first message, in each form
 
 module _ (form : Form) (bs ds : List ℕ) (limits : Bounds) where
-  -- a result for the comparison of the message that `bs` are read as with `ds`
+  -- a result for the comparison of `ds` with the message that `bs` are read as
   abbrev AreTold : Result (Result Bool Refusal) Refusal → Type 0
   AreTold r = IsAnswered form bs limits (λ m l x. IsComparedTo form ds m l x) r
 
@@ -72,7 +73,7 @@ module _ (form : Form) (bs ds : List ℕ) (limits : Bounds) where
 
   -- ---- both values
 
-  -- the values that bytes denote are compared, and so are their canonical bytes
+  -- a comparison of the values that bytes denote is also a comparison of their canonical bytes
   pub compares_in : DenotedHaveForms → EqualExactlySame → AreLimits limits.message_words limits.budget limits.depth
       → (told : Bool) → IsCompared form bs ds limits (Ok told) → ComparesIn form bs ds limits told
   compares_in have law are told h =
@@ -102,7 +103,7 @@ module _ (form : Form) (bs ds : List ℕ) (limits : Bounds) where
       (subst (λ (x : Bool). IsCompared form bs ds limits (Ok x)) test
       (subst (λ (x : Result Bool Refusal). IsCompared form bs ds limits x) is h))
 
-  -- the comparison is one of any values that the bytes denote
+  -- the comparison holds for any values that the bytes denote
   pub same_only : (told : Bool) → ComparesIn form bs ds limits told → (v w : Tree) → DenoteBoth form bs ds limits v w
       → IsTrue told ↔ Same v w
   same_only told h v w b =

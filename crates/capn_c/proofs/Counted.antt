@@ -45,7 +45,7 @@ pub entries_told : IndexesFollowVisits → (form : Form) (bs : List ℕ) (limits
 entries_told law form bs limits s h r e =
     subst (λ (x : CapnReport). HasEntries form bs limits x.visits) (sym e) (entries_of_survey law form bs limits s h)
 
--- a frame that comes first, and takes all of the bytes, is read as its message
+-- a frame that comes first and takes all bytes is read as the message of the frame
 pub framed_whole : (bs : List ℕ) (most : ℕ) (m : List (List ℕ)) (taken : ℕ) → StandsFirst bs most m taken
     → length bs ≤ taken → IsFramed bs most m
 framed_whole bs most m taken s h = record {

@@ -1,4 +1,4 @@
--- The digest of a message is that of the bytes that are read as it. (For `digest_in`.)
+-- The digest of a message is also the digest of the bytes that are read as that message. (For `digest_in`.)
 use Rattle.std.proofs.Common.{◌≡◌, ◌≤◌, inl, inr, ℕ, List, subst, Result, Ok, Err, IfOk, IfErr}
 use Rattle.std.proofs.Common.{IsErrOf, MatchResult}
 use Rattle.sha2.specs.Sha256.{sha256}

@@ -1,4 +1,4 @@
--- Entries are written one after the other. (For `put_starts`.)
+-- Lemmas on entries that are written one after the other. (For `put_starts`.)
 use Rattle.std.proofs.Common.{◌≡◌, ℕ, zero, suc, ◌+◌, ◌<◌, ◌≤◌, List, [], ◌∷◌, ◌++◌, length, take, drop, map, set}
 use Rattle.std.proofs.Common.{get_or, refl, ap, ◌∙◌, arith}
 use Rattle.std.specs.List.{sum_by}
@@ -7,7 +7,7 @@ use Rattle.std.proofs.lemmas.List.Sums.{sum_by-cons}
 use Rattle.capn_walk.specs.Index.{filled}
 use Rattle.capn_c.specs.Entries.{starts_from}
 
--- after one more is written, the list has one more of `xs` at its front
+-- after one more entry is written, the list begins with one more of `xs`
 pub one_more : {A : Type 0} (xs old : List A) (i : ℕ) (none : A) → i < length xs → length xs ≤ length old
     → set (take i xs ++ drop i old) i (get_or xs i none) ≡ take (suc i) xs ++ drop (suc i) old
 one_more [] old i none h room = absurd (omega (arith, h))
@@ -23,7 +23,7 @@ one_further xs old i none h room =
     let on : suc i ≡ i + 1 = omega arith in
     one_more xs old i none h room ∙ ap (λ (n : ℕ). take n xs ++ drop n old) on
 
--- a segment starts after the words of those before it
+-- a segment starts after the words of the segments before it
 pub start_at : (n i : ℕ) (m : List (List ℕ)) (none : ℕ) → i < length m
     → get_or (starts_from n m) i none ≡ n + sum_by length (take i m)
 start_at n i [] none h = absurd (omega (arith, h))
@@ -42,7 +42,7 @@ pub starts_first : (m : List (List ℕ)) (rest : List ℕ)
     → take (length m) (starts_from 0 m ++ rest) ≡ starts_from 0 m
 starts_first m rest = take_at (starts_from 0 m) rest (length m) (starts_length 0 m)
 
--- a buffer that has room for the entries has all of them
+-- a buffer that has room for the entries has all of the entries
 pub filled_whole : {A B : Type 0} (f : A → B) (es : List A) (room : List B) → length es ≤ length room
     → filled (map f es) room ≡ map f es ++ drop (length es) room
 filled_whole f es room h =

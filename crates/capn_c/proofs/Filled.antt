@@ -23,7 +23,7 @@ use Rattle.capn_c.specs.inner.Reported.{IsFilled, IsFilledIn}
 use Rattle.capn_c.proofs.OfMessage.{held_refused_message, value_of}
 use Rattle.capn_c.proofs.Reported.{reported_for}
 
--- the delivery of an answer is the result of a call
+-- a call that delivers the canonical bytes has a result as `IsFilled` says
 pub filled : {value : Tree → Type 0} {answer : List ℕ → ℕ → Type 0} {reason : Refusal → Type 0} {needed : Type 0}
     (limits : Bounds) (old new text : List ℕ) (price status : ℕ) (report : CapnReport)
     → report ≡ answered (length text) price 0 → Delivers text status (length text) old new → answer text price
@@ -36,7 +36,7 @@ filled {value} limits old new text price status report told d a within short onl
     λ v h n. subst (λ (b : List ℕ). Delivers b status (length text) old new) (only v h n) d in
     search rules
 
--- the result of a call holds with other values, answers and reasons that follow
+-- the result of a call also holds for other values, answers and reasons that follow
 pub filled_for : {V W : Tree → Type 0} {A B : List ℕ → ℕ → Type 0} {P Q : Refusal → Type 0} {M N : Type 0}
     {limits : Bounds} {old new : List ℕ} {status : ℕ} {report : CapnReport} → ((v : Tree) → W v → V v)
     → ((text : List ℕ) (price : ℕ) → A text price → B text price) → ((e : Refusal) → P e → Q e) → (M → N)
@@ -62,7 +62,7 @@ module _ (m : List (List ℕ)) (limits : Bounds) (old new : List ℕ) where
       (record { value = v; is = is; free = free; canonical = refl; priced = pays }) within short
       (λ w h n. ap canon (unique m v w root is.is h.is)) form
 
-  -- the result for the message is that for the bytes that are read as it
+  -- the result for a message is also the result for the bytes that are read as that message
   pub filled_in : (form : Form) (bs : List ℕ) {needed : Type 0} (status : ℕ) (report : CapnReport)
       → Reads form bs limits.message_words m → IsOf m status report
       → IsFilledIn form bs limits needed old new status report
@@ -71,7 +71,7 @@ module _ (m : List (List ℕ)) (limits : Bounds) (old new : List ℕ) where
       (λ text price a. record { message = m; reads = reads; answer = a })
       (λ e r. refused_message form bs limits m e reads r) (λ k. absurd k) h
 
-  -- the result for the message is that for the segments that hold it
+  -- the result for a message is also the result for the segments that hold that message
   pub filled_held : (n : List (List ℕ)) (status : ℕ) (report : CapnReport) → n ≡ m → IsHeld m limits.message_words
       → IsOf n status report
       → IsFilled (DenotesHeld m limits) (AnswersHeld m limits) (IsRefusedHeld m limits) ⊥ limits old new status report

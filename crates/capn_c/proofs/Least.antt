@@ -1,4 +1,4 @@
--- The number of bytes that a frame has at least. (For `frame`.)
+-- The least number of bytes of a frame of which only the first bytes are known. (For `frame`.)
 use Rattle.std.proofs.Common.{◌≡◌, ◌≢◌, ◌⊎◌, ◌∙◌, inl, inr, ℕ, ◌<◌, ◌≤◌, List, ◌++◌, length, ap}
 use Rattle.std.proofs.Common.{sym, subst, arith}
 use Rattle.std.proofs.lemmas.Bool.Decides.{nat_tests}
@@ -18,7 +18,7 @@ use Rattle.capn_c.specs.FrameNeed.{IsNeeded, needed}
 padding_le : (count : ℕ) → padding count ≤ 4
 padding_le count = grind (arith, nat_tests)
 
--- the bytes that a frame needs, without its number of segments
+-- the number of bytes that a frame needs as long as the number of segments is missing
 pub count_needed : (bs : List ℕ) (most : ℕ) → length bs < 4 → IsNeeded bs most 8
 count_needed bs most short = record {
   least = λ more f. (let w = frame_whole (bs ++ more) most f in omega (arith, w.0.1));
@@ -26,7 +26,7 @@ count_needed bs most short = record {
   bounded = omega arith;
 }
 
--- the bytes that a frame needs, with its number of segments
+-- the number of bytes that a frame needs once the number of segments is there
 pub table_needed : (bs : List ℕ) (most : ℕ) → HasCount bs → length bs < head_length (announced_segments bs)
     → IsNeeded bs most (head_length (announced_segments bs))
 table_needed bs most count short = record {
@@ -36,7 +36,7 @@ table_needed bs most count short = record {
   bounded = omega (arith, count.1, padding_le (announced_segments bs));
 }
 
--- the bytes that a frame needs, with its whole table
+-- the number of bytes that a frame needs once the whole table is there
 pub words_needed : (bs : List ℕ) (most : ℕ) → HasHead bs → announced_words bs ≤ most → length bs < frame_length bs
     → IsNeeded bs most (frame_length bs)
 words_needed bs most head room short = record {
@@ -46,7 +46,7 @@ words_needed bs most head room short = record {
   bounded = omega (arith, head.0.1, room, padding_le (announced_segments bs));
 }
 
--- the bytes that an unfinished frame needs
+-- the number of bytes that an unfinished frame needs
 pub is_needed : (bs : List ℕ) (most : ℕ) → IsUnfinished bs most → IsNeeded bs most (needed bs)
 is_needed bs most (inl none) =
     let e : needed bs ≡ 8 = grind (arith, nat_tests, none) in

@@ -1,4 +1,4 @@
--- The clauses of the call with lent scratch follow from its result. (For `write_lent`.)
+-- The clauses of `capn_canonical_with_scratch` follow from the result of the inner call. (For `write_lent`.)
 use Rattle.std.proofs.Common.{◌≡◌, ◌≢◌, inl, inr, ℕ, ◌+◌, ◌*◌, ◌<◌, ◌≤◌, IsTrue, List, length, take}
 use Rattle.std.specs.Prelude.{MatchResult}
 use Rattle.std.proofs.Common.{Result, Ok, Err, refl, ap, sym, subst, ◌∙◌, arith}

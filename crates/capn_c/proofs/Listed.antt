@@ -1,4 +1,4 @@
--- Each refusal has a status of the list, which is 16 or more unless memory ran out. (For `Lent`, `Reported`,
+-- Each refusal has a status of the list, which is 16 or more unless the refusal is `Memory`. (For `Lent`, `Reported`,
 -- `refusal_way` and `write_message`.)
 use Rattle.std.proofs.Common.{rules, ◌≡◌, ◌≢◌, ◌≤◌, ℕ, List, IsTrue, false, refl}
 use Rattle.capn_target.specs.declared.target.Fault.{Fault}

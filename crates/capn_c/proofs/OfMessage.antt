@@ -1,4 +1,4 @@
--- The result for a message is that for the bytes that are read as it. (For `canonical_fill.rt`,
+-- The result for a message is also the result for the bytes that are read as that message. (For `canonical_fill.rt`,
 -- `canonical_segments_call.rt` and `message_index.rt`.)
 use Rattle.std.proofs.Common.{rules, ◌≡◌, ℕ, List, Err, sym, subst}
 use Rattle.capn_value.specs.Tree.{Tree}
@@ -15,7 +15,7 @@ use Rattle.capn_stream.specs.Segments.{IsHeld}
 use Rattle.capn_c.specs.Held.{IsHeldOr, IsRefusedHeld}
 use Rattle.capn_c.proofs.OutOfMemory.{held_memory}
 
--- the value that bytes denote is that of the message
+-- the value that bytes denote is the value of the message that the bytes are read as
 pub value_of : (form : Form) (bs : List ℕ) (limits : Bounds) (m : List (List ℕ)) → Reads form bs limits.message_words m
     → (v : Tree) → Denotes form bs limits v → IsValueOf m limits v
 value_of form bs limits m reads v d =

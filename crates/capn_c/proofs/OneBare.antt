@@ -21,7 +21,7 @@ pub words-at : (m : List (List ℕ)) (s : ℕ) (r : Option ℕ) (n : ℕ) → r 
 words-at m s None n e f = f ∙ sym (length_of_none m s (sym e))
 words-at m s (Some k) n e f = f ∙ sym (length_of_some m s k (sym e))
 
--- a message is canonical if and only if its check says so, since it has only one value
+-- a message is canonical if and only if its survey says so, since the message has only one value
 pub canonical-message : (m : List (List ℕ)) (limits : Bounds) (c : SurveyedBare) → IsChecked m limits c
     → IsTrue c.is_canonical ↔ IsCanonicalMessage m limits
 canonical-message m limits c k = (

@@ -1,4 +1,4 @@
--- The status 8 is returned only if memory ran out: no other refusal of bytes, or of a message, has it. (For
+-- The status 8 is only that of `Memory`: no other refusal of bytes, or of a message, has that status. (For
 -- `canonical_call.rt`, `canonical_fill.rt`, `canonical_segments_call.rt` and others.)
 use Rattle.std.proofs.Common.{rules, ◌≡◌, ◌⊎◌, inl, inr, ℕ, ◌+◌, ◌<◌, List, length, refl, arith}
 use Rattle.capn_words.specs.declared.bare.BareFault.{BareFault}
@@ -55,7 +55,7 @@ refused_memory forms.Bare bs l (refusals.Frame e) h c = absurd h
 refused_memory forms.Stream bs l (refusals.Frame e) h c = absurd (h.0 (frame_memory e c))
 refused_memory forms.Packed bs l (refusals.Frame e) h c = absurd (h.2.0 (frame_memory e c))
 
--- the reason why bytes are not accepted is a refusal of them
+-- a reason why bytes are not accepted is also a reason why they have no canonical bytes
 pub unaccepted_refused : (form : Form) (bs : List ℕ) (limits : Bounds) (e : Refusal) → IsUnacceptedIn form bs limits e
     → IsRefused form bs limits e
 unaccepted_refused form bs limits e h = search rules
@@ -79,7 +79,7 @@ held_memory m l (refusals.Trailing at) h c = absurd h
 held_memory m l (refusals.Bare e) h c = absurd h
 held_memory m l (refusals.Packed e) h c = absurd h
 
--- the reason why a message that is held is not accepted is a refusal of it
+-- a reason why a message that is held is not accepted is also a reason why it has no canonical bytes
 pub unaccepted_held_refused : (m : List (List ℕ)) (l : Bounds) (r : Refusal) → IsUnacceptedHeld m l r
     → IsRefusedHeld m l r
 unaccepted_held_refused m l r h = search rules
@@ -93,7 +93,7 @@ pub stopped_memory : (m : List (List ℕ)) (l : Bounds) (s : Stopped)
     → IsWalkRefused m l s.fault s.place s.paid s.visits → code (refusals.Walk s) ≡ 8 → ⊥
 stopped_memory m l s h c = plain-refusal m l s.fault s.place s.paid s.visits h (walk_memory s.fault c)
 
--- a message that is not accepted has the status 8 only if memory ran out
+-- the reason why a message is not accepted has the status 8 only if it is `Memory`
 pub message_memory : (m : List (List ℕ)) (l : Bounds) (r : Refusal) → IsUnaccepted m l r → code r ≡ 8
     → r ≡ refusals.Memory
 message_memory m l refusals.Memory h c = refl
@@ -119,7 +119,7 @@ many_need bs limits m reads many =
     let count = (announces bs limits.message_words m (length bs) first).count in
     (whole_of bs limits.message_words m (length bs) first, omega (arith, count, many))
 
--- canonicalising a packed text may need memory only if reading it may
+-- canonicalising a packed text may need memory only if reading the text may
 pub packed_need : (f : Form) (bs : List ℕ) (limits : Bounds) → f ≡ forms.Packed → MayNeedBytesIn f bs limits
     → MayNeedMemory f bs limits
 packed_need forms.Packed bs limits is (inl h) = h

@@ -1,4 +1,5 @@
--- The result for the stream that a text unpacks to is that for the text. (For `figures_of_packed`.)
+-- The result for the stream that a packed text unpacks to is also the result for the packed text. (For
+-- `figures_of_packed`.)
 use Rattle.std.proofs.Common.{rules, ◌≡◌, ℕ, ◌+◌, ◌*◌, ◌≤◌, List, length, subst, sym}
 use Rattle.capn_pack.specs.Packed.{Packs}
 use Rattle.capn_stream.specs.Frames.{most_table_words}

@@ -1,4 +1,4 @@
--- The words from the place of an entry on are in the bytes at its offset. (For `offsets`.)
+-- Lemmas: the words at the place of an entry are in the bytes at the entry's offset. (For `offsets`.)
 use Rattle.std.proofs.Common.{◌≡◌, ℕ, zero, suc, ◌+◌, ◌*◌, ◌<◌, ◌≤◌, List, [], ◌∷◌, ◌++◌, length, take, drop}
 use Rattle.std.proofs.Common.{get_or, map, refl, ap, sym, subst, ◌∙◌, arith, length-drop}
 use Rattle.std.specs.List.{sum_by}
@@ -82,7 +82,7 @@ stand table bs m c at n h =
           ∙ in_contents m at.segment at.word n h.exists h.within);
     }
 
--- a frame has them after its table
+-- a frame has the words of its segments after the table
 frame_contents : (bs : List ℕ) (most : ℕ) (m : List (List ℕ)) → IsFramed bs most m
     → HasContents (head_length (length m)) bs m
 frame_contents bs most m h =
@@ -96,7 +96,7 @@ frame_contents bs most m h =
       long = omega (arith, heads, a.words, a.length_is);
     }
 
--- bare words are the contents, after no table
+-- bare bytes have the words of the segment, without a table before them
 bare_contents : (bs ws : List ℕ) (m : List (List ℕ)) → IsBare bs ws → m ≡ ws ∷ [] → HasContents 0 bs m
 bare_contents bs ws m h e = record {
   after = h.same ∙ (sym (append-nil (bytes ws)) ∙ ap (λ (x : List (List ℕ)). segment_bytes x) (sym e));
@@ -118,7 +118,7 @@ placed forms.Packed bs most m other r e n h = absurd (other refl)
 
 -- ---- the entries of an index
 
--- each entry is written
+-- the entry at index `i` of a list that begins with mapped entries is the mapped entry
 written : {A B : Type 0} (f : A → B) (es : List A) (rest : List B) (i : ℕ) (x : A) (none : B) → i < length es
     → get_or (map f es ++ rest) i none ≡ f (get_or es i x)
 written f [] rest i x none h = absurd (omega (arith, h))

@@ -1,5 +1,4 @@
--- The results of calls that report a refusal. (For `check`, `fill_frame`, `index_frame`, `survey_length` and other
--- calls.)
+-- The results of calls that report a refusal. (For `check`, `fill_frame`, `index_frame` and other calls.)
 use Rattle.std.proofs.Common.{rules, ◌≡◌, ◌≢◌, ◌≤◌, ℕ, List, None, IsTrue, refl, ap, sym, subst, ◌∙◌}
 use Rattle.capn_value.specs.FirstCap.{first_cap}
 use Rattle.capn_value.specs.Tree.{Tree}
@@ -29,7 +28,7 @@ pub refusal_bounded : (budget : ℕ) (e : Refusal) → IsPaidWithin budget e
     → IsBounded budget (report_of e).paid (report_of e).visits
 refusal_bounded budget e within = search rules
 
--- a refusal whose reason is true is reported
+-- a refusal for which the reason holds is reported (`IsReported`)
 pub reported : {reason : Refusal → Type 0} {needed : Type 0} (budget status : ℕ) (report : CapnReport) (e : Refusal)
     → Reports status report e → reason e → IsTrue (is_status (code e)) → (code e ≡ 8 → needed)
     → IsPaidWithin budget e → IsReported reason needed budget status report
@@ -41,7 +40,7 @@ reported budget status report e r h listed memory within = record {
       (refusal_bounded budget e within);
 }
 
--- a refusal that is reported with a reason is reported with any reason that follows
+-- a refusal that is reported with a reason is also reported with any reason that follows
 pub reported_for : {P Q : Refusal → Type 0} {M N : Type 0} {budget status : ℕ} {report : CapnReport}
     → ((e : Refusal) → P e → Q e) → (M → N) → IsReported P M budget status report → IsReported Q N budget status report
 reported_for f g h = record {

@@ -27,7 +27,7 @@ short m limits v is small shallow h =
     let x = c.0 in
     omega arith
 
--- the bound holds of the price that a survey reports
+-- the bound also holds with the price that a survey reports
 pub surveyed_short : (m : List (List ℕ)) (limits : Bounds) (r : Result Surveyed Refusal) → IsMessage m
     → limits.budget ≤ 2 ^ 28 → limits.depth ≤ 256 → IfOk r (λ s. IsSurvey m limits s)
     → IfOk r (λ s. (v : Tree) → IsValueOf m limits v → length (canon v) ≤ 8 * (s.paid + 1))

@@ -1,5 +1,5 @@
--- The text of bytes is that of the message that they are read as, and they have only one text in a style. (For
--- `show_in` and `text_in`.)
+-- The text of a message is also the text of the bytes that are read as that message, and bytes have only one text in a
+-- style. (For `show_in` and `text_in`.)
 use Rattle.std.proofs.Common.{◌≡◌, ◌∙◌, inl, inr, ℕ, List, ap, subst, Result, Ok, Err, IfOk, IfErr}
 use Rattle.std.proofs.Common.{IsErrOf, MatchResult}
 use Rattle.capn_value.specs.Tree.{Tree}
@@ -20,7 +20,7 @@ use Rattle.capn_c.specs.Shown.{MayNeedText, ShowsIn, message_text}
 use Rattle.capn_c.specs.declared.message_text.ShownText.{ShownText}
 use Rattle.capn_c.specs.inner.Told.{IsTextTold}
 
--- the text of bytes is that of any value that they denote
+-- the text of bytes is the text of any value that the bytes denote
 pub text_only : (form : Form) (bs : List ℕ) (limits : Bounds) (style : Style) (text : List ℕ)
     → ShowsIn form bs limits style text → (v : Tree) → Denotes form bs limits v → text ≡ message_text style v
 text_only form bs limits style text h v d =

@@ -1,5 +1,5 @@
--- Laws: a message that is held in segments has the result and the refusals that a frame of the same segments has.
--- (Own.)
+-- Laws: a message that is held in segments has the result and the refusals that a frame of the same segments has. (Our
+-- own.)
 use Rattle.std.specs.Prelude.{◌↔◌, ℕ, List}
 use Rattle.capn_stream.specs.Frames.{Frames}
 use Rattle.capn_walk.specs.Limits.{Bounds}
@@ -9,7 +9,7 @@ use Rattle.capn_canon.specs.declared.form.Form.TheVariants as forms
 use Rattle.capn_canon.specs.declared.refusal.Refusal.{Refusal}
 use Rattle.capn_c.specs.Held.{AnswersHeld, IsRefusedHeld}
 
--- segments have the canonical bytes and the price of their frame, and no other
+-- segments have the same canonical bytes and the same price as their frame
 abbrev pub HeldAreAnsweredAsFramed : Type 0
 HeldAreAnsweredAsFramed = (bs : List ℕ) (message : List (List ℕ)) (limits : Bounds) → Frames bs message
     → (text : List ℕ) (price : ℕ)

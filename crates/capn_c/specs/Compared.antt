@@ -1,4 +1,4 @@
--- The comparison of two messages that bytes encode in a form. (Own.)
+-- The comparison of two messages that bytes encode in a form. (Our own.)
 use Rattle.std.specs.Prelude.{IsTrue, ◌≡◌, ◌↔◌, ℕ, zero, suc, Bool, List, None}
 use Rattle.capn_value.specs.Tree.{Tree}
 use Rattle.capn_value.specs.FirstCap.{first_cap}
@@ -8,15 +8,15 @@ use Rattle.capn_canon.specs.Denotes.{Denotes}
 use Rattle.capn_canon.specs.Layout.{canon}
 use Rattle.capn_canon.specs.declared.form.Form.{Form}
 
--- `first` and `second` denote the values `v` and `w`, which have no capabilities
+-- `first` denotes the value `v`, `second` denotes the value `w`, and neither value has capabilities
 pub record DenoteBoth (form : Form) (first second : List ℕ) (limits : Bounds) (v w : Tree) : Type 0 where
   pub one : Denotes form first limits v
   pub one_free : first_cap v ≡ None
   pub other : Denotes form second limits w
   pub other_free : first_cap w ≡ None
 
--- `first` and `second` denote values without capabilities, and `told` says whether these are the same, which is whether
--- their canonical bytes are equal
+-- `first` and `second` denote values without capabilities; `told` is true if and only if the values are the same, and
+-- if and only if their canonical bytes are equal
 pub record ComparesIn (form : Form) (first second : List ℕ) (limits : Bounds) (told : Bool) : Type 0 where
   pub value : Tree
   pub other : Tree

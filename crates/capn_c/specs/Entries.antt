@@ -1,4 +1,4 @@
--- The index of a message, as C reads it. (Own.)
+-- The index of a message, as C reads it. (Our own.)
 use Rattle.std.specs.Prelude.{◌≡◌, ℕ, ◌+◌, ◌*◌, List, [], ◌∷◌, ◌++◌, length, drop, get_or, map}
 use Rattle.capn_stream.specs.FrameRefusal.{head_length}
 use Rattle.capn_walk.specs.Accepted.{IsAccepted}
@@ -26,13 +26,13 @@ kind_number kinds.Links = 8
 kind_number kinds.Rows = 9
 kind_number kinds.Cap = 10
 
--- the start of each segment, in words, if the first starts at word `n`
+-- the word at which each segment begins, if the first begins at word `n`
 abbrev pub starts_from : ℕ → List (List ℕ) → List ℕ
 starts_from n [] = []
 starts_from n (ws ∷ message) = n ∷ starts_from (n + length ws) message
 
--- an entry as C reads it: its place is an offset in bytes, after a table of `table` bytes, with segments that begin at
--- `starts`
+-- an entry as C reads it: the place is an offset in bytes, counted from the start of a table of `table` bytes, and the
+-- segments begin at the words `starts` after the table
 abbrev pub c_entry : ℕ → List ℕ → Entry → CapnEntry
 c_entry table starts e = record {
   offset = table + 8 * (get_or starts e.segment 0 + e.start);
@@ -43,7 +43,7 @@ c_entry table starts e = record {
   kind = kind_number e.kind;
 }
 
--- the index of a message that comes after a table of `table` bytes, as C reads it
+-- the index of a message as C reads it, if the message comes after a table of `table` bytes
 abbrev pub c_index : ℕ → List (List ℕ) → Bounds → List CapnEntry
 c_index table message limits = map (c_entry table (starts_from 0 message)) (index_of message limits)
 
@@ -53,8 +53,7 @@ table_length forms.Stream message = head_length (length message)
 table_length forms.Packed message = 0
 table_length forms.Bare message = 0
 
--- `bs` are read as an accepted message, whose index is at the start of the caller's buffer; the rest of that is as it
--- was
+-- `bs` are read as an accepted message, whose index is at the start of the buffer; the rest of the buffer is as it was
 pub record IndexedIn (form : Form) (bs : List ℕ) (limits : Bounds) (old new : List CapnEntry) : Type 0 where
   pub message : List (List ℕ)
   pub reads : Reads form bs limits.message_words message

@@ -1,4 +1,4 @@
--- The figures of a message, which a survey finds. (Own.)
+-- The figures of a message, which a survey finds. (Our own.)
 use Rattle.std.specs.Prelude.{◌≡◌, ◌↔◌, ◌≤◌, ℕ, zero, suc, List, length, Option, Some, None}
 use Rattle.capn_words.specs.Message.{bytes, segment_at, total}
 use Rattle.capn_value.specs.Tree.{Tree}
@@ -11,7 +11,7 @@ use Rattle.capn_canon.specs.Reads.{Reads}
 use Rattle.capn_canon.specs.declared.form.Form.{Form}
 use Rattle.capn_c.specs.declared.figures.CapnFigures.{CapnFigures}
 
--- `message` has one segment, whose bytes are the canonical bytes of its value
+-- `message` is accepted within `limits` and has one segment, whose bytes are the canonical bytes of the value
 pub record IsCanonicalMessage (message : List (List ℕ)) (limits : Bounds) : Type 0 where
   pub one : length message ≡ 1
   pub value : Tree
@@ -19,14 +19,14 @@ pub record IsCanonicalMessage (message : List (List ℕ)) (limits : Bounds) : Ty
   pub free : first_cap value ≡ None
   pub same : canon value ≡ bytes (segment_at message 0)
 
--- the capability that two numbers stand for: the first is 0 if there is none, the second is its index
+-- the capability that two numbers stand for: none if the first is 0, otherwise the second is the index
 abbrev pub reported_cap : ℕ → ℕ → Option ℕ
 reported_cap zero k = None
 reported_cap (suc n) k = Some k
 
--- `f` has the figures of an accepted message: its words and segments; the words that its walk pays, and its visits; the
--- least depth under which it is accepted; 1 and the index of the first capability of its value, or 0 and 0; and 1 if it
--- is canonical, else 0
+-- `f` has the figures of an accepted message: the numbers of words and segments, the price, the number of visits, the
+-- least depth limit under which it is accepted, 1 and the index of the first capability (or 0), and 1 if it is
+-- canonical (or 0)
 pub record AreFigures (message : List (List ℕ)) (limits : Bounds) (f : CapnFigures) : Type 0 where
   pub value : Tree
   pub is : IsValueOf message limits value
@@ -39,7 +39,7 @@ pub record AreFigures (message : List (List ℕ)) (limits : Bounds) (f : CapnFig
   pub canonical : (f.canonical ≡ 1) ↔ IsCanonicalMessage message limits
   pub flags : (f.has_capability ≤ 1) × (f.canonical ≤ 1)
 
--- `f` has the figures of the message that `bs` are read as
+-- `bs` are read as a message with the figures `f`
 pub record FiguresIn (form : Form) (bs : List ℕ) (limits : Bounds) (f : CapnFigures) : Type 0 where
   pub message : List (List ℕ)
   pub reads : Reads form bs limits.message_words message

@@ -1,4 +1,4 @@
--- The text of a message in one of the styles that C has numbers for. (Own.)
+-- The text of a message in one of the styles that C has numbers for. (Our own.)
 use Rattle.std.specs.Prelude.{◌≡◌, ◌⊎◌, ℕ, List, [], ◌∷◌, ◌++◌, codes, refl}
 use Rattle.std.specs.Str.{chars, is_utf8}
 use Rattle.capn_value.specs.NumberWidth.{byte}
@@ -15,23 +15,23 @@ use Rattle.capn_canon.specs.Denotes.{Denotes}
 use Rattle.capn_canon.specs.MemoryNeed.{MayNeedMemory}
 use Rattle.capn_canon.specs.declared.form.Form.{Form}
 
--- the text of a message with the value `v` in a style: that of the whole value, and the end that the style has
+-- the text in `style` of a message with the value `v`: the text of the whole value, and the end that the style has
 abbrev pub message_text : Style → Tree → List ℕ
 message_text style v = styled style [] v ++ end_of style
 
--- `message` is accepted, and `text` is its text
+-- `message` is accepted, and `text` is the text of its value in `style`
 pub record ShowsMessage (message : List (List ℕ)) (limits : Bounds) (style : Style) (text : List ℕ) : Type 0 where
   pub value : Tree
   pub is : IsValueOf message limits value
   pub same : text ≡ message_text style value
 
--- `bs` are read as an accepted message, and `text` is its text
+-- `bs` are read as an accepted message, and `text` is the text of its value in `style`
 pub record ShowsIn (form : Form) (bs : List ℕ) (limits : Bounds) (style : Style) (text : List ℕ) : Type 0 where
   pub value : Tree
   pub denotes : Denotes form bs limits value
   pub same : text ≡ message_text style value
 
--- the text of `bs` may need memory: to survey them, or since they denote a value, which has a text
+-- making the text of `bs` may need memory: to read `bs`, or since `bs` denote a value, which has a text
 abbrev pub MayNeedText : Form → List ℕ → Bounds → Type 0
 MayNeedText form bs limits = MayNeedMemory form bs limits ⊎ ((v : Tree) × Denotes form bs limits v)
 

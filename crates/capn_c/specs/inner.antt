@@ -1,3 +1,4 @@
+-- Definitions that no public clause cites.
 pub mod Told
 pub mod Lent
 pub mod Reported

@@ -1,4 +1,4 @@
-//! The call `capn_canonical`: the canonical bytes of a message in any form.
+//! The call `capn_canonical`, which writes the canonical bytes of a message in any form.
 
 ghost use Rattle.std.specs.Prelude.{IsTrue, ◌≡◌, ◌≢◌, ◌⊎◌, ◌↔◌, ◌≤◌, ◌+◌, ◌*◌, ℕ, List, None, length, take};
 ghost use Rattle.capn_value.specs.Tree.{Tree as Value};
@@ -23,8 +23,8 @@ use capn_canon::{Form, Refusal, survey_bytes};
 use capn_walk::Limits;
 use std::alloc::Global;
 
-/// Surveys the message that `bytes` encode in this `form`, and reports a length that is enough for its canonical bytes,
-/// with the status `NO_ROOM`. Returns the status of the refusal if it has none.
+/// Surveys the message that `bytes` encode in `form`. Reports a length that is enough for the canonical bytes, with the
+/// status `NO_ROOM`, or the refusal.
 fn survey_length(
     alloc: Global,
     form: Form,
@@ -56,15 +56,12 @@ fn survey_length(
 
 /// Writes the canonical bytes of the message that `bytes` encode in `form` to `out`, within `limits`.
 ///
-/// - 0: the answer is at the start of `out`.
-/// - 1: `out` has no room for the answer, and is as it was. `length` is exactly what it needs. If `out` is empty, the
-///   message is only surveyed, and `length` is 8 for each word paid and 8 more, which is enough.
-/// - 2, 3 and 4: the form, a limit or the tariff is out of its range.
-/// - 8: memory was refused.
-/// - Others: the refusal.
+/// The status is 0 if the answer is at the start of `out`, and 1 if `out` has no room. It is 2, 3 or 4 if the form, a
+/// limit or the tariff is out of its range, 8 if memory was refused, and otherwise that of the refusal. After 1, `out`
+/// is as it was, and `length` is exactly the length of the answer. If `out` is empty, the message is only surveyed, and
+/// `length` is 8 for each word paid and 8 more, which is enough.
 ///
-/// Bare words, and a stream of at most 64 segments, take no memory, since their canonical bytes are written straight
-/// into `out`.
+/// Bare words, and a stream of at most 64 segments, take no memory.
 #[unsafe(no_mangle)]
 pub extern "C" fn capn_canonical(
     alloc: Global,
@@ -78,33 +75,30 @@ pub extern "C" fn capn_canonical(
     ensures form { (result ≡ 2) ↔ (IsForm form → ⊥) }
     ensures limits { (result ≡ 3) ↔ (IsForm form × (GiveLimits limits.now → ⊥)) }
     ensures tariff { (result ≡ 4) ↔ (IsForm form × GiveLimits limits.now × (IsTariff limits.now.tariff → ⊥)) }
-    // If `result` is 0 or 1, the answer is the canonical bytes of the one value that the bytes denote, and the report
-    // has the words that the walk pays.
+    // If `result` is 0 or 1, the answer is the canonical bytes of the one value that the bytes denote, and `paid` is
+    // the price.
     ensures found { result ≤ 1 → (text : List ℕ)
         × Answers (form_named form) bytes.now (bounds_of limits.now) text report.new.paid
         × Serves text result report.new out.old out.new }
-    // If the bytes denote a value without capabilities, the answer is its canonical bytes, unless memory runs out.
+    // If the bytes denote a value without capabilities, the answer is the canonical bytes, unless `result` is 8.
     ensures only { IsForm form → GiveLimits limits.now → IsTariff limits.now.tariff → (v : Value)
         → Denotes (form_named form) bytes.now (bounds_of limits.now) v → first_cap v ≡ None
         → (result ≡ 8) ⊎ Serves (canon v) result report.new out.old out.new }
-    // The report of an answer has its length and its price. All other fields are 0.
+    // After 0 or 1 the report has the length of the answer and the price. All other fields are 0.
     ensures rest { result ≤ 1 → report.new ≡ answered report.new.length report.new.paid 0 }
     ensures blank { 2 ≤ result → result ≤ 4 → report.new ≡ at_number 0 }
     ensures listed { IsTrue (is_status result) }
-    // Any other status and its report stand for a refusal `e`, whose reason is true. They stand for no other refusal,
-    // unless memory was refused.
+    // Any other status and the report stand for a true refusal `e`, and only for `e` unless the status is 8.
     ensures refused { 5 ≤ result → (e : Refusals) × Reports result report.new e
         × IsRefused (form_named form) bytes.now (bounds_of limits.now) e }
     // Memory is refused only for the ends of more than 64 segments, or for the words that a packed text unpacks to.
     ensures memory { result ≡ 8 → MayNeedMemory (form_named form) bytes.now (bounds_of limits.now) }
-    // The walk pays at most the budget, also if it is refused.
+    // The walk pays at most the budget, also if the message is refused.
     ensures bounded { IsBounded limits.now.budget report.new.paid report.new.visits }
     ensures short { result ≤ 1 → report.new.length ≤ 8 * (report.new.paid + 1) }
     // If `result` is not 0, the buffer is as it was.
     ensures kept { result ≢ 0 → out.new ≡ out.old }
-    // Read bare under the same limits, the answer denotes the trimmed value, which is the same value, and pays exactly
-    // its cost. The canonical bytes of the trimmed value are the answer again. A second value has equal canonical bytes
-    // if and only if it is the same value.
+    // The answer has the four properties of the canonical bytes of `v` (`IsCanonicalForm`).
     ensures canonical { result ≡ 0 → (v : Value) → Denotes (form_named form) bytes.now (bounds_of limits.now) v
         → IsCanonicalForm (take report.new.length out.new) (bounds_of limits.now) v }
 {

@@ -1,4 +1,4 @@
-//! Writes a message's canonical bytes into the caller's buffer, in each of the three forms.
+//! Writes the canonical bytes of a message into the caller's buffer, for each of the three forms.
 
 ghost use Rattle.capn_canon.specs.MemoryNeed.{MayNeedBytesIn, MayNeedMemory};
 ghost use Rattle.capn_canon.specs.declared.form.Form.TheVariants as forms;
@@ -44,8 +44,8 @@ fn fill_bare(bytes: &[u8], limits: Limits, out: &mut [u8], report: &mut CapnRepo
     }
 }
 
-/// Writes the canonical bytes of the frame `bytes` straight to `out`. It is a function of its own so that the ends of
-/// the segments take stack for frames alone.
+/// Writes the canonical bytes of the frame `bytes` straight to `out`. This is a function of its own so that only frames
+/// take stack for the ends of the segments.
 #[inline(never)]
 fn fill_frame(
     alloc: Global,
@@ -63,8 +63,7 @@ fn fill_frame(
     }
 }
 
-/// Writes the canonical bytes of the message that `bytes` encode in this `form` to `out`. Fills in `report`, and
-/// returns the status.
+/// Writes the canonical bytes of the message that `bytes` encode in `form` to `out`, and reports the result.
 pub fn fill(
     alloc: Global,
     form: Form,

@@ -1,4 +1,4 @@
-//! The call `capn_canonical_with_scratch`: canonical bytes with words that the caller lends, and without an allocator.
+//! The call `capn_canonical_with_scratch`, which makes canonical bytes in words that the caller lends.
 
 ghost use Rattle.std.specs.Prelude.{IsTrue, ◌≡◌, ◌≢◌, ◌↔◌, ◌≤◌, ◌+◌, ◌*◌, ℕ, List, None, length, take};
 ghost use Rattle.capn_value.specs.Tree.{Tree as Value};
@@ -29,7 +29,7 @@ use capn_walk::Limits;
 /// The status if the scratch has too few words.
 const NO_SCRATCH: u32 = 9;
 
-/// Reports `refusal`: writes its numbers to `report`, and returns its status.
+/// Writes the numbers of `refusal` to `report`, and returns the status of `refusal`.
 fn tell_refusal(refusal: FormRefusal, report: &mut CapnReport) -> u32
     ensures { IsRefusalTold refusal result report.new }
 {
@@ -51,7 +51,7 @@ fn tell_refusal(refusal: FormRefusal, report: &mut CapnReport) -> u32
     }
 }
 
-/// Reports the result `written`: writes its numbers to `report`, and returns the status.
+/// Writes the numbers of the result `written` to `report`, and returns the status of that result.
 fn tell(written: Result<CanonicalLength, FormRefusal>, report: &mut CapnReport) -> u32
     ensures { IsResultTold written result report.new }
 {
@@ -64,7 +64,7 @@ fn tell(written: Result<CanonicalLength, FormRefusal>, report: &mut CapnReport) 
     }
 }
 
-/// Writes the canonical bytes of the message that `bytes` encode in this `form` to `out`, and reports the result.
+/// Writes the canonical bytes of the message that `bytes` encode in `form` to `out`, and reports the result.
 fn write_lent(
     form: Form,
     bytes: &[u8],
@@ -86,19 +86,18 @@ fn write_lent(
     tell(written, report)
 }
 
-/// Writes the canonical bytes of the message that `bytes` encode in `form` to `out`, within `limits`. It takes no
-/// memory, and keeps in `scratch` what it needs on the way. The contents of `scratch` afterwards are not specified.
+/// Writes the canonical bytes of the message that `bytes` encode in `form` to `out`, within `limits`. No memory is
+/// taken: what is needed on the way is kept in `scratch`. The contents of `scratch` afterwards are not specified.
 ///
-/// - 0: the answer is at the start of `out`.
-/// - 1: `out` has no room for the answer, and is as it was. `length` is exactly what it needs.
-/// - 2, 3 and 4: the form, a limit or the tariff is out of its range.
-/// - 9: the scratch has too few words. `at` is the number of words needed.
-/// - Others: the refusal, never that memory was refused.
+/// The status is 0 if the answer is at the start of `out`, and 1 if `out` has no room. It is 2, 3 or 4 if the form, a
+/// limit or the tariff is out of its range, 9 if `scratch` has too few words, and otherwise that of the refusal, but
+/// never 8. After 1, `out` is as it was, and `length` is exactly the length of the answer. After 9, `at` is the number
+/// of words needed.
 ///
 /// Bare words, and a stream of at most 64 segments, take no scratch. Another stream takes a word for each segment but
-/// the last: 4,095 are always enough. A packed text takes the words that it unpacks to, and then those of the stream:
-/// the limit on message words and 6,144 more are always enough. The scratch for the unpacked words is tested first, and
-/// that for the stream once they are unpacked.
+/// the last, so 4,095 words are always enough. A packed text takes the words that it unpacks to, and then the words of
+/// that stream. The limit on message words and 6,144 more are always enough. The scratch for the unpacked words is
+/// tested first, and the scratch for the stream after unpacking.
 #[unsafe(no_mangle)]
 pub extern "C" fn capn_canonical_with_scratch(
     form: u32,
@@ -112,23 +111,23 @@ pub extern "C" fn capn_canonical_with_scratch(
     ensures form { (result ≡ 2) ↔ (IsForm form → ⊥) }
     ensures limits { (result ≡ 3) ↔ (IsForm form × (GiveLimits limits.now → ⊥)) }
     ensures tariff { (result ≡ 4) ↔ (IsForm form × GiveLimits limits.now × (IsTariff limits.now.tariff → ⊥)) }
-    // If `result` is 0 or 1, the answer is the canonical bytes of the one value that the bytes denote, the report has
-    // the words that the walk pays, and `scratch` has the words that the bytes take.
+    // If `result` is 0 or 1, the answer is the canonical bytes of the one value that the bytes denote, `paid` is the
+    // number of words that the walk pays, and `scratch` has as many words as the bytes take.
     ensures found { result ≤ 1 → (text : List ℕ)
         × Answers (form_named form) bytes.now (bounds_of limits.now) text report.new.paid
         × HasScratch (form_named form) bytes.now (length scratch.old)
         × Delivers text result report.new.length out.old out.new }
-    // If the bytes denote a value without capabilities, and `scratch` has the words that they take, the answer is its
-    // canonical bytes.
+    // If the bytes denote a value without capabilities, and `scratch` has as many words as the bytes take, the answer
+    // is the canonical bytes of that value.
     ensures only { IsForm form → GiveLimits limits.now → IsTariff limits.now.tariff → (v : Value)
         → Denotes (form_named form) bytes.now (bounds_of limits.now) v → first_cap v ≡ None
         → HasScratch (form_named form) bytes.now (length scratch.old)
         → Delivers (canon v) result report.new.length out.old out.new }
-    // The report of an answer has its length and its price. All other fields are 0.
+    // After 0 or 1 the report has the length of the answer and the price. All other fields are 0.
     ensures rest { result ≤ 1 → report.new ≡ answered report.new.length report.new.paid 0 }
     ensures blank { 2 ≤ result → result ≤ 4 → report.new ≡ at_number 0 }
     ensures listed { IsTrue (is_lent_status result) }
-    // `result` is 9 if and only if `scratch` has too few words. The report then has the number of words needed.
+    // `result` is 9 if and only if `scratch` has too few words. Then `at` is the number of words needed.
     ensures lacking { result ≡ 9 → (report.new ≡ at_number report.new.at)
         × LacksScratch (form_named form) bytes.now limits.now.message_words (length scratch.old) report.new.at }
     ensures lacked { IsForm form → GiveLimits limits.now → IsTariff limits.now.tariff → (n : ℕ)
@@ -136,19 +135,16 @@ pub extern "C" fn capn_canonical_with_scratch(
         → (result ≡ 9) × (report.new ≡ at_number n) }
     // The number of words needed is at most what is enough for every input in the form.
     ensures enough { result ≡ 9 → report.new.at ≤ most_scratch (form_named form) limits.now.message_words }
-    // Any other status and its report stand for a refusal `e`, whose reason is true, and for no other refusal. Memory
-    // is never refused.
+    // Any other status and the report stand for one refusal `e`, which is true. Memory is never refused.
     ensures refused { 10 ≤ result → (e : Refusals) × Reports result report.new e
         × IsRefused (form_named form) bytes.now (bounds_of limits.now) e }
     ensures no_memory { result ≢ 8 }
-    // The walk pays at most the budget, also if it is refused.
+    // The walk pays at most the budget, also if the message is refused.
     ensures bounded { IsBounded limits.now.budget report.new.paid report.new.visits }
     ensures short { result ≤ 1 → report.new.length ≤ 8 * (report.new.paid + 1) }
     // If `result` is not 0, the buffer is as it was.
     ensures kept { result ≢ 0 → out.new ≡ out.old }
-    // Read bare under the same limits, the answer denotes the trimmed value, which is the same value, and pays exactly
-    // its cost. The canonical bytes of the trimmed value are the answer again. A second value has equal canonical bytes
-    // if and only if it is the same value.
+    // The answer has the four properties of the canonical bytes of `v` (`IsCanonicalForm`).
     ensures canonical { result ≡ 0 → (v : Value) → Denotes (form_named form) bytes.now (bounds_of limits.now) v
         → IsCanonicalForm (take report.new.length out.new) (bounds_of limits.now) v }
 {

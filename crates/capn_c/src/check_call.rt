@@ -1,4 +1,4 @@
-//! The call `capn_check`: tests whether a message in any form is accepted within limits.
+//! The call `capn_check`, which tests whether a message in any form is accepted within limits.
 
 ghost use Rattle.std.specs.Prelude.{IsTrue, ◌≡◌, ◌⊎◌, ◌↔◌, ◌≤◌};
 ghost use Rattle.capn_value.specs.Tree.{Tree as Value};
@@ -20,7 +20,7 @@ use capn_canon::{Form, survey_bytes};
 use capn_walk::Limits;
 use std::alloc::Global;
 
-/// Surveys the message that `bytes` encode in this `form`, and reports the result.
+/// Surveys the message that `bytes` encode in `form`, and reports the result.
 fn check(alloc: Global, form: Form, bytes: &[u8], limits: Limits, report: &mut CapnReport) -> u32
     ensures { IsDoneIn form bytes.now limits
         ((s : Survey) × Surveys form bytes.now limits s × (report.new ≡ answered 0 s.paid s.visits))
@@ -35,13 +35,11 @@ fn check(alloc: Global, form: Form, bytes: &[u8], limits: Limits, report: &mut C
     }
 }
 
-/// Tests whether the message that `bytes` encode in `form` is accepted within `limits`, and reports the words that its
-/// walk pays.
+/// Tests whether the message that `bytes` encode in `form` is accepted within `limits`, and reports the price.
 ///
-/// - 0: the message is accepted. `paid` and `visits` are those of its walk.
-/// - 2, 3 and 4: the form, a limit or the tariff is out of its range.
-/// - 8: memory was refused, for the ends of more than 64 segments or for the words that are unpacked.
-/// - Others: the refusal, which is never that of a capability.
+/// The status is 0 if the message is accepted. Then `paid` and `visits` are those of the walk. The status is 2, 3 or 4
+/// if the form, a limit or the tariff is out of its range. It is 8 if memory was refused, for the ends of more than 64
+/// segments or for the unpacked words. Otherwise it is that of the refusal, which is never that of a capability.
 #[unsafe(no_mangle)]
 pub extern "C" fn capn_check(
     alloc: Global,
@@ -54,22 +52,21 @@ pub extern "C" fn capn_check(
     ensures form { (result ≡ 2) ↔ (IsForm form → ⊥) }
     ensures limits { (result ≡ 3) ↔ (IsForm form × (GiveLimits limits.now → ⊥)) }
     ensures tariff { (result ≡ 4) ↔ (IsForm form × GiveLimits limits.now × (IsTariff limits.now.tariff → ⊥)) }
-    // If `result` is 0, the bytes are an accepted message. The report has the words that its walk pays and the number
-    // of its visits, and all other fields are 0.
+    // If `result` is 0, the bytes are an accepted message. `paid` is the price, `visits` the number of visits, and all
+    // other fields of the report are 0.
     ensures found { result ≡ 0 → (s : Survey) × Surveys (form_named form) bytes.now (bounds_of limits.now) s
         × (report.new ≡ answered 0 s.paid s.visits) }
-    // If the bytes are an accepted message, `result` is 0, unless memory runs out.
+    // If the bytes are an accepted message, `result` is 0, unless memory was refused.
     ensures only { IsForm form → GiveLimits limits.now → IsTariff limits.now.tariff → (v : Value)
         → Denotes (form_named form) bytes.now (bounds_of limits.now) v → (result ≡ 0) ⊎ (result ≡ 8) }
     ensures blank { 1 ≤ result → result ≤ 4 → report.new ≡ at_number 0 }
     ensures listed { IsTrue (is_status result) }
-    // Any other status and its report stand for a refusal `e`, whose reason is true. They stand for no other refusal,
-    // unless memory was refused.
+    // Any other status and the report stand for a true refusal `e`, and only for `e` unless the status is 8.
     ensures refused { 5 ≤ result → (e : Refusals) × Reports result report.new e
         × IsUnacceptedIn (form_named form) bytes.now (bounds_of limits.now) e }
     // Memory is refused only for the ends of more than 64 segments, or for the words that a packed text unpacks to.
     ensures memory { result ≡ 8 → MayNeedMemory (form_named form) bytes.now (bounds_of limits.now) }
-    // The walk pays at most the budget, also if it is refused.
+    // The walk pays at most the budget, also if the message is refused.
     ensures bounded { IsBounded limits.now.budget report.new.paid report.new.visits }
 {
     *report = report_at(0);

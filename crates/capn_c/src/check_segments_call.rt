@@ -1,4 +1,4 @@
-//! The call `capn_check_segments`: tests whether a message that is held in segments is accepted within limits.
+//! The call `capn_check_segments`, which tests whether a message that is held in segments is accepted within limits.
 
 ghost use Rattle.std.specs.Prelude.{IsTrue, ◌≡◌, ◌≢◌, ◌↔◌, ◌≤◌};
 ghost use Rattle.capn_value.specs.Tree.{Tree as Value};
@@ -36,14 +36,11 @@ fn check_held(
     }
 }
 
-/// Tests whether the message that is held in `segments` is accepted within `limits`, and reports the words that its
-/// walk pays.
+/// Tests whether the message that is held in `segments` is accepted within `limits`, and reports the price of the walk.
 ///
-/// - 0: the message is accepted. `paid` and `visits` are those of its walk.
-/// - 3 and 4: a limit or the tariff is out of its range.
-/// - Others: the refusal that the frame of the same segments would get. It is 48 if there are no segments.
-///
-/// It takes no memory.
+/// The status is 0 if the message is accepted. Then `paid` and `visits` are those of the walk. The status is 3 or 4 if
+/// a limit or the tariff is out of its range, 48 if there are no segments, and otherwise that of the refusal that a
+/// frame of the same segments would get. No memory is taken.
 #[unsafe(no_mangle)]
 pub extern "C" fn capn_check_segments(
     alloc: Global,
@@ -54,8 +51,8 @@ pub extern "C" fn capn_check_segments(
     // The limits, then the tariff are tested before anything is read.
     ensures limits { (result ≡ 3) ↔ (GiveLimits limits.now → ⊥) }
     ensures tariff { (result ≡ 4) ↔ (GiveLimits limits.now × (IsTariff limits.now.tariff → ⊥)) }
-    // If `result` is 0, the segments are an accepted message. The report has the words that its walk pays and the
-    // number of its visits, and all other fields are 0.
+    // If `result` is 0, the segments are an accepted message. `paid` is the price, `visits` the number of visits, and
+    // all other fields of the report are 0.
     ensures found { result ≡ 0 → (s : Survey) × SurveysHeld (message_of segments.now) (bounds_of limits.now) s
         × (report.new ≡ answered 0 s.paid s.visits) }
     // If the segments are an accepted message, `result` is 0.
@@ -63,13 +60,12 @@ pub extern "C" fn capn_check_segments(
         → DenotesHeld (message_of segments.now) (bounds_of limits.now) v → result ≡ 0 }
     ensures blank { 1 ≤ result → result ≤ 4 → report.new ≡ at_number 0 }
     ensures listed { IsTrue (is_status result) }
-    // Any other status and its report stand for a refusal `e`, whose reason is true. They stand for no other refusal,
-    // unless memory was refused.
+    // Any other status and the report stand for a true refusal `e`, and only for `e` unless the status is 8.
     ensures refused { 5 ≤ result → (e : Refusals) × Reports result report.new e
         × IsUnacceptedHeld (message_of segments.now) (bounds_of limits.now) e }
-    // Memory is never refused, since none is needed.
+    // Memory is never refused, since nothing is allocated.
     ensures no_memory { result ≢ 8 }
-    // The walk pays at most the budget, also if it is refused.
+    // The walk pays at most the budget, also if the message is refused.
     ensures bounded { IsBounded limits.now.budget report.new.paid report.new.visits }
 {
     *report = report_at(0);

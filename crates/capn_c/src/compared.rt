@@ -1,4 +1,4 @@
-//! The comparison of two messages that are in the same form, without making canonical bytes.
+//! The comparison of two messages in the same form, without making canonical bytes.
 
 ghost use Rattle.std.specs.Prelude.{IfOk, IfErr, IsErrOf};
 ghost use Rattle.capn_canon.specs.CanonicalLength.{HasBytes};
@@ -17,8 +17,7 @@ use capn_walk::Limits;
 use capn_words::{Bare, Space};
 use std::alloc::Global;
 
-/// Surveys `message` within `limits`. Returns the reason why it has no canonical bytes if it is not accepted or its
-/// value has a capability.
+/// Surveys `message` within `limits`. Refuses a message without canonical bytes.
 fn survey_free<S: Space>(alloc: Global, message: &S, limits: Limits) -> Result<(), Refusal>
     ensures { IsToldOf (S.message message.now) limits (λ _. HasBytes (S.message message.now) limits) result }
 {
@@ -28,8 +27,7 @@ fn survey_free<S: Space>(alloc: Global, message: &S, limits: Limits) -> Result<(
     }
 }
 
-/// Tests whether the message `second` has the value of `first`, which has canonical bytes. Returns the reason why
-/// `second` has no canonical bytes if it has none.
+/// Tests whether `second` has the value of `first`. Refuses a `second` without canonical bytes.
 fn same_message<A: Space, B: Space>(
     alloc: Global,
     first: &A,
@@ -44,8 +42,8 @@ fn same_message<A: Space, B: Space>(
     Ok(same_surveyed(first, second, limits))
 }
 
-/// Does what [`same_message`] does with `first` and the message in the frame `bytes`. Only a frame of more than 64
-/// segments takes memory.
+/// Tests whether the message in the frame `bytes` has the value of `first`. Refuses bytes that are no frame or that go
+/// on after it. Memory is taken only for a frame of more than 64 segments.
 fn same_frame<A: Space>(
     alloc: Global,
     first: &A,
@@ -59,7 +57,7 @@ fn same_frame<A: Space>(
     same_message(alloc, first, &second, limits)
 }
 
-/// Does what [`same_message`] does with `first` and the message in the frame that the packed text `bytes` unpacks to.
+/// Tests whether the message in the frame that the packed text `bytes` unpacks to has the value of `first`.
 fn same_packed<A: Space>(
     alloc: Global,
     first: &A,
@@ -73,7 +71,7 @@ fn same_packed<A: Space>(
     same_frame(alloc, first, stream.as_slice(), limits)
 }
 
-/// Does what [`same_message`] does with `first` and the message that `bytes` encode in this `form`.
+/// Tests whether the message that `bytes` encode in `form` has the value of `first`.
 fn same_in<A: Space>(
     alloc: Global,
     first: &A,
@@ -91,8 +89,8 @@ fn same_in<A: Space>(
     }
 }
 
-/// The task of `compared_in`: compares a message with the one that `second` encodes in this `form`. `second` isn't read
-/// if the first message has no canonical bytes.
+/// The task of `compared_in`: compares a message with the one that `second` encodes in `form`. `second` isn't read if
+/// the first message has no canonical bytes.
 #[derive(Clone, Copy)]
 struct Compare<'a> {
     form: Form,
@@ -116,11 +114,10 @@ impl<'a> MessageTask<Global> for Compare<'a> {
     }
 }
 
-/// Compares the messages that `first` and `second` encode in this `form`, within `limits`. Returns whether they have
-/// the same value, or the refusal of `second`. Returns an outer `Err` with the refusal of `first` if that has no
-/// canonical bytes, and doesn't read `second` then.
+/// Tests whether the messages that `first` and `second` encode in `form` have the same value within `limits`. An inner
+/// `Err` is the refusal of `second`. An outer `Err` is the refusal of `first`, and `second` is then not read.
 ///
-/// The bytes of each are read once. Only packed texts, and frames of more than 64 segments, take memory from `alloc`.
+/// Each input is read once. Only packed texts, and frames of more than 64 segments, take memory from `alloc`.
 pub fn compared_in(
     alloc: Global,
     form: Form,

@@ -1,4 +1,4 @@
-//! `CapnDeparted`, the mismatch of a message with its canonical bytes as C reads it.
+//! The type `CapnDeparted`, the mismatch of a message with its canonical bytes as C reads it.
 
 ghost use Rattle.std.specs.Prelude.{◌≡◌, ◌≤◌, length};
 ghost use Rattle.capn_answers.specs.Mismatches as mismatches;
@@ -11,26 +11,26 @@ use std::alloc::Global;
 #[derive(Clone, Copy)]
 #[repr(C)]
 pub struct CapnDeparted {
-    /// The value in the message of the word that differs, or of the word after the canonical bytes.
+    /// The word in the message that differs, or that follows the canonical bytes.
     pub is: u64,
-    /// The value in the canonical bytes of the word that differs.
+    /// The word of the canonical bytes in the place of the one that differs.
     pub canonical: u64,
-    /// The number of the kind: 0, the message is canonical; 1, it has several segments; 2, a capability; 3, a word
-    /// differs; 4, words follow the canonical bytes.
+    /// The number of the kind. 0: the message is canonical. 1: it has several segments. 2: the value has a capability.
+    /// 3: a word differs. 4: words follow the canonical bytes.
     pub kind: u32,
-    /// The number that says what the word is: 1, a pointer; 2, the tag word of a list; 3, the last word of a list.
+    /// The role of the word that differs. 1: a pointer. 2: the tag word of a list. 3: the last word of a list.
     pub owner: u32,
     /// The index of the word in the segment.
     pub word: u32,
-    /// The number of segments, or the index of the capability.
+    /// The number of segments for kind 1, or the index of the capability for kind 2.
     pub count: u32,
-    /// The length of the path, in numbers.
+    /// The number of numbers in the path.
     pub numbers: u32,
     /// Always 0.
     pub zero: u32,
 }
 
-/// Returns the number that says what the word is: a pointer, a tag word, or the last word of a list.
+/// Returns the number for the role of the word: a pointer, a tag word, or the last word of a list.
 fn number_of_owner(whose: &Whose<Global>) -> u32
     ensures { result ≡ told.owner_number whose.now }
 {
@@ -52,7 +52,7 @@ fn path_of_owner(whose: &Whose<Global>) -> &[u32]
     }
 }
 
-/// Returns the path of `mismatch`, which is empty if the kind has none.
+/// Returns the path of `mismatch`, or no numbers if the kind of `mismatch` has no path.
 pub fn path_of(mismatch: &Mismatch<Global>) -> &[u32]
     ensures { result.now ≡ mismatches.path_of mismatch.now }
 {
@@ -65,7 +65,7 @@ pub fn path_of(mismatch: &Mismatch<Global>) -> &[u32]
     }
 }
 
-/// Returns a mismatch of this `kind` whose path has `numbers` numbers, with 0 in all other fields.
+/// Returns a mismatch of the given `kind` whose path has `numbers` numbers, with 0 in all other fields.
 fn of_kind(kind: u32, numbers: u32) -> CapnDeparted
     ensures { result ≡ record {
       is = 0;
@@ -90,7 +90,7 @@ fn of_kind(kind: u32, numbers: u32) -> CapnDeparted
     }
 }
 
-/// Returns `mismatch` as C reads it. Its path has `numbers` numbers.
+/// Returns `mismatch`, whose path has `numbers` numbers, as C reads it.
 pub fn departed_of(mismatch: &Mismatch<Global>, numbers: u32) -> CapnDeparted
     requires numbers { numbers ≡ length (mismatches.path_of mismatch.now) }
     ensures { result ≡ told.departed_of mismatch.now }

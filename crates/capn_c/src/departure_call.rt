@@ -1,4 +1,4 @@
-//! The call `capn_departure`: the first reason why a message is not canonical.
+//! The call `capn_departure`, which finds the first reason why a message is not canonical.
 
 ghost use Rattle.std.specs.Prelude.{IsTrue, ◌≡◌, ◌≢◌, ◌⊎◌, ◌↔◌, ◌≤◌, ◌*◌, ℕ, List, length};
 ghost use Rattle.capn_value.specs.Tree.{Tree as Value};
@@ -26,8 +26,7 @@ use capn_canon::Form;
 use capn_walk::{Limits, Surveyed};
 use std::alloc::Global;
 
-/// Reports the mismatch `found` of an accepted message in `departed` and `report`, and writes its path to `way` if it
-/// fits.
+/// Reports the mismatch `found` of an accepted message, and writes the path to `way` if the path fits.
 fn tell_mismatch(
     found: &Mismatch<Global>,
     surveyed: Surveyed,
@@ -49,8 +48,7 @@ fn tell_mismatch(
     place_path(numbers, way);
 }
 
-/// Finds the mismatch of the message that `bytes` encode in this `form`, and reports it in `departed`, `way` and
-/// `report`.
+/// Finds the mismatch of the message that `bytes` encode in `form`, and reports the result.
 fn find_mismatch(
     alloc: Global,
     form: Form,
@@ -76,15 +74,15 @@ fn find_mismatch(
     }
 }
 
-/// Tests whether the message that `bytes` encode in `form` is canonical, if it is accepted within `limits`. If it is
-/// not canonical, reports the first reason in `departed`, and writes the path to the slot that it concerns to `way`.
+/// Tests whether the message that `bytes` encode in `form` is canonical, if it is accepted within `limits`. Reports the
+/// first reason why it is not in `departed`, and writes the path to the slot concerned to `way`.
 ///
-/// - 0: the mismatch is reported. `length` is 4 bytes for each number of the path, and `paid` and `visits` are those of
-///   the walk. The numbers are at the start of `way` if all of them fit; otherwise `way` is as it was.
-/// - 2, 3 and 4: the form, a limit or the tariff is out of its range.
-/// - 8: memory was refused, for the table of more than 64 segments or for the words that are unpacked. A message of one
-///   segment that is not canonical also takes it for its canonical bytes and for the path.
-/// - Others: the refusal, which is never that of a capability.
+/// The status is 0 if the message is accepted. Then `length` is 4 bytes for each number of the path, and `paid` and
+/// `visits` are those of the walk. The numbers are at the start of `way` if all of them fit. Otherwise `way` is as it
+/// was. A `way` of two numbers for each level of the depth limit always has room. The status is 2, 3 or 4 if the form,
+/// a limit or the tariff is out of its range. It is 8 if memory was refused: for the ends of more than 64 segments, for
+/// the unpacked words, or for the canonical bytes and the path of a message of one segment that is not canonical.
+/// Otherwise it is that of the refusal, which is never that of a capability.
 ///
 /// A `way` of two numbers for each level of the depth limit always has room.
 #[unsafe(no_mangle)]
@@ -101,25 +99,25 @@ pub extern "C" fn capn_departure(
     ensures form { (result ≡ 2) ↔ (IsForm form → ⊥) }
     ensures limits { (result ≡ 3) ↔ (IsForm form × (GiveLimits limits.now → ⊥)) }
     ensures tariff { (result ≡ 4) ↔ (IsForm form × GiveLimits limits.now × (IsTariff limits.now.tariff → ⊥)) }
-    // If `result` is 0, the bytes are an accepted message, and `departed` is its mismatch with its canonical bytes. The
-    // path is in `way` if it fits. The report has its length, the words that the walk pays, and its visits.
+    // If `result` is 0, the bytes are an accepted message, and `departed` is the mismatch of the message with its
+    // canonical bytes. The path is in `way` if it fits. The report has the length of the path, the price and the
+    // visits.
     ensures found { result ≡ 0 → TellsMismatch (form_named form) bytes.now (bounds_of limits.now)
         departed.new report.new way.old way.new }
-    // If the bytes are an accepted message, `result` is 0, unless memory runs out.
+    // If the bytes are an accepted message, `result` is 0, unless memory was refused.
     ensures only { IsForm form → GiveLimits limits.now → IsTariff limits.now.tariff → (v : Value)
         → Denotes (form_named form) bytes.now (bounds_of limits.now) v → (result ≡ 0) ⊎ (result ≡ 8) }
     // A path has at most two numbers for each level of the depth limit.
     ensures short { result ≡ 0 → report.new.length ≤ 8 * limits.now.depth }
     ensures blank { 1 ≤ result → result ≤ 4 → report.new ≡ at_number 0 }
     ensures listed { IsTrue (is_status result) }
-    // Any other status and its report stand for a refusal `e`, whose reason is true. They stand for no other refusal,
-    // unless memory was refused.
+    // Any other status and the report stand for a true refusal `e`, and only for `e` unless the status is 8.
     ensures refused { 5 ≤ result → (e : Refusals) × Reports result report.new e
         × IsUnacceptedIn (form_named form) bytes.now (bounds_of limits.now) e }
     // Memory is refused only for the ends of more than 64 segments, for the words that a packed text unpacks to, or for
     // a message of one segment that is not canonical.
     ensures memory { result ≡ 8 → MayNeedMismatch (form_named form) bytes.now (bounds_of limits.now) }
-    // The walk pays at most the budget, also if it is refused.
+    // The walk pays at most the budget, also if the message is refused.
     ensures bounded { IsBounded limits.now.budget report.new.paid report.new.visits }
     // If `result` is not 0, `departed` and `way` are as they were.
     ensures kept { result ≢ 0 → (departed.new ≡ departed.old) × (way.new ≡ way.old) }

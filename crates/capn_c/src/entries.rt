@@ -1,4 +1,4 @@
-//! The entries of an index as C reads them, and the rule that turns segments and words into offsets in bytes.
+//! The entries of an index as C reads them, with offsets in bytes in place of segments and words.
 
 ghost use Rattle.std.specs.Prelude.{◌≡◌, ◌≤◌, ◌++◌, length, drop, get_or};
 ghost use Rattle.capn_words.specs.Message.{segment_at};
@@ -7,8 +7,7 @@ ghost use Rattle.capn_c.specs.Entries.{c_entry, kind_number, starts_from};
 use capn_walk::{Entry, EntryForm, Kind};
 use capn_words::Space;
 
-/// An entry of an index for one slot: the target of its pointer, and the number of entries of the slot and everything
-/// below it.
+/// An entry of an index, for one slot: the target of the pointer in the slot.
 #[derive(Clone, Copy)]
 #[repr(C)]
 pub struct CapnEntry {
@@ -16,7 +15,7 @@ pub struct CapnEntry {
     pub offset: u64,
     /// The number of elements or rows of a list, or the index of a capability, else 0.
     pub count: u32,
-    /// The number of entries of this slot and all slots below it.
+    /// The number of entries of the slot and of all slots below it.
     pub span: u32,
     /// The number of data words of a struct, or of each row, else 0.
     pub words: u16,
@@ -46,7 +45,7 @@ fn number_of_kind(kind: Kind) -> u32
     }
 }
 
-/// Returns the word at which `segment` starts, counted after the table, by `starts`.
+/// Returns the word at which `segment` begins, counted from the end of the table, by `starts`.
 #[inline(always)]
 fn start_of(starts: &[u32], segment: u32) -> u32
     ensures { result ≡ get_or starts.now segment 0 }
@@ -60,7 +59,7 @@ fn start_of(starts: &[u32], segment: u32) -> u32
 }
 
 /// Returns `entry` as C reads it, with an offset in bytes. The segment table has `table` bytes, and the segments begin
-/// at `starts`.
+/// at the words `starts` after the table.
 #[inline(always)]
 fn entry_of(entry: Entry, table: u32, starts: &[u32]) -> CapnEntry
     ensures { result ≡ c_entry table starts.now entry }
@@ -76,12 +75,12 @@ fn entry_of(entry: Entry, table: u32, starts: &[u32]) -> CapnEntry
     }
 }
 
-/// The way in which entries are written for C, with offsets in bytes.
+/// The rule by which entries are written for C, with offsets in bytes.
 #[derive(Drop)]
 pub struct Offsets<'a> {
-    /// The number of bytes of the segment table, which is before the words.
+    /// The number of bytes of the segment table before the words.
     pub table: u32,
-    /// The start of each segment, in words after the table.
+    /// The word at which each segment begins, counted from the end of the table.
     pub starts: &'a [u32],
 }
 
@@ -114,7 +113,7 @@ fn words_at<S: Space>(space: &S, segment: u32) -> u32
     space.words(segment).unwrap_or(0)
 }
 
-/// Writes the start of each segment of the message `space` to the front of `starts`, in words counted after the table.
+/// Writes the start of each segment of `space`, counted in words from the end of the table, to the front of `starts`.
 #[tactic(auto, using(std::proofs::lemmas::List::Sums::sum_by_more_le))]
 pub fn put_starts<S: Space>(space: &S, starts: &mut [u32])
     requires { length (S.message space.now) ≤ length starts.old }

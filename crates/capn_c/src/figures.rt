@@ -1,4 +1,4 @@
-//! `CapnFigures`, the figures of a message that a survey finds, and the call that finds them in a message.
+//! The type `CapnFigures`, the figures of a message that a survey finds, and the function that finds them.
 
 ghost use Rattle.std.specs.Prelude.{IsTrue, ◌≡◌, ◌≢◌, ◌↔◌, ◌≤◌, length};
 ghost use Rattle.std.specs.Prelude.{IfOk, IfErr, IsOk, MatchResult};
@@ -18,15 +18,15 @@ use std::alloc::Global;
 #[derive(Clone, Copy)]
 #[repr(C)]
 pub struct CapnFigures {
-    /// The words of all segments.
+    /// The number of words of all segments.
     pub words: u32,
     /// The number of segments.
     pub segments: u32,
-    /// The words that the walk pays.
+    /// The number of words that the walk pays.
     pub paid: u32,
-    /// The number of visits that it makes.
+    /// The number of visits of the walk.
     pub visits: u32,
-    /// The least limit on depth under which the message is accepted. It is 0 for a null root.
+    /// The least limit on depth under which the message is accepted. For a null root it is 0.
     pub depth: u32,
     /// 1 if the value has a capability, else 0.
     pub has_capability: u32,
@@ -66,8 +66,7 @@ fn figures_by<S: Space>(space: &S, measured: MeasuredBare) -> CapnFigures
 
 /// Returns the figures of the message `space` within `limits`, or the reason why it is not accepted.
 ///
-/// A message whose bytes are canonical is walked once, another of one segment twice at most, and one of more segments
-/// once. It takes no memory.
+/// A message of one segment that is not canonical is walked at most twice, any other once. No memory is taken.
 pub fn figures_of<S: Space>(
     alloc: Global,
     space: &S,

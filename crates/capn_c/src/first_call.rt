@@ -1,4 +1,4 @@
-//! The call `capn_first`: the length of the first frame of a stream.
+//! The call `capn_first`, which finds the length of the first frame of a stream.
 
 ghost use Rattle.std.specs.Prelude.{IsTrue, ◌≡◌, ◌⊎◌, ◌↔◌, ◌≤◌, ℕ, List, IfOk, IfErr, IsErrOf, MatchResult};
 ghost use Rattle.capn_words.specs.Message.{most_message_words};
@@ -18,8 +18,8 @@ use capn_abi::{
 use capn_stream::{FrameFault, first};
 use std::alloc::Global;
 
-/// Returns the report of the refusal `fault` of the frame in `bytes`. If the frame is not whole, it has the number of
-/// bytes that the frame needs, else the number of the fault.
+/// Returns the report of the refusal `fault` of the frame in `bytes`. For a frame that is not whole, the report has the
+/// number of bytes that the frame needs, otherwise the number of the fault.
 fn report_of_frame(fault: FrameFault, bytes: &[u8], most: u32) -> CapnReport
     requires small { most ≤ most_message_words }
     requires refused { IsFrameRefused bytes.now most fault }
@@ -32,7 +32,7 @@ fn report_of_frame(fault: FrameFault, bytes: &[u8], most: u32) -> CapnReport
     }
 }
 
-/// Reports the refusal `fault` of the frame in `bytes`: writes its numbers to `report`, and returns its status.
+/// Writes the numbers of the refusal `fault` of the frame in `bytes` to `report`, and returns the status of `fault`.
 fn refuse_frame(fault: FrameFault, bytes: &[u8], most: u32, report: &mut CapnReport) -> u32
     requires small { most ≤ most_message_words }
     requires refused { IsFrameRefused bytes.now most fault }
@@ -55,8 +55,7 @@ fn length_of(alloc: Global, bytes: &[u8], most: u32) -> Result<usize, FrameFault
     Ok(taken)
 }
 
-/// Reports the length of the frame of at most `most` words that comes first in `bytes`, or the number of bytes that it
-/// needs.
+/// Reports the length of the first frame in `bytes`, of at most `most` words, or the number of bytes needed.
 fn frame(alloc: Global, bytes: &[u8], most: u32, report: &mut CapnReport) -> u32
     requires small { most ≤ most_message_words }
     ensures possible { (result ≡ 0) ⊎ (8 ≤ result) }
@@ -79,16 +78,12 @@ fn frame(alloc: Global, bytes: &[u8], most: u32, report: &mut CapnReport) -> u32
     }
 }
 
-/// Reports the length of the first frame in the `bytes` of a stream, or the number of bytes that it needs, within
-/// `limits`.
+/// Reports the length of the first frame in `bytes`, or the number of bytes that the frame needs, within `limits`.
 ///
-/// - 0: the first `length` bytes are the frame.
-/// - 3 and 4: a limit or the tariff is out of its range.
-/// - 8: memory was refused.
-/// - 48 and 51: there are no bytes, or the frame is cut. The frame has at least `length` bytes, counted from its start.
-/// - 49 and 50: the table announces too many segments or words. `at` is their number.
-///
-/// It takes memory only for the ends of more than 64 segments, once their whole frame is in `bytes`.
+/// The status is 0 if the first `length` bytes are the frame. It is 3 or 4 if a limit or the tariff is out of its
+/// range, and 8 if memory was refused. It is 48 or 51 if there are no bytes or the frame is cut. The whole frame has at
+/// least `length` bytes then. It is 49 or 50 if the table announces too many segments or words, and `at` is the number
+/// announced. Memory is taken only for the ends of more than 64 segments, if the whole frame is in `bytes`.
 #[unsafe(no_mangle)]
 pub extern "C" fn capn_first(
     alloc: Global,
@@ -99,23 +94,22 @@ pub extern "C" fn capn_first(
     // The limits, then the tariff are tested before anything is read.
     ensures limits { (result ≡ 3) ↔ (GiveLimits limits.now → ⊥) }
     ensures tariff { (result ≡ 4) ↔ (GiveLimits limits.now × (IsTariff limits.now.tariff → ⊥)) }
-    // If `result` is 0, the first `length` bytes are the frame of a message within the limit.
+    // If `result` is 0, the first `length` bytes are the frame of a message of at most `message_words` words.
     ensures found { result ≡ 0 → (message : List (List ℕ))
         × StandsFirst bytes.now limits.now.message_words message report.new.length }
-    // If the frame of a message within the limit comes first, its length is reported, unless memory runs out.
+    // If a frame of at most `message_words` words comes first, `length` is that of the frame, unless `result` is 8.
     ensures only { GiveLimits limits.now → IsTariff limits.now.tariff → (message : List (List ℕ)) (taken : ℕ)
         → StandsFirst bytes.now limits.now.message_words message taken
         → (result ≡ 8) ⊎ ((result ≡ 0) × (report.new.length ≡ taken)) }
-    // The report of an answer has its length. All other fields are 0.
+    // After 0 the report has the length of the frame. All other fields are 0.
     ensures rest { result ≡ 0 → report.new ≡ answered report.new.length 0 0 }
     ensures blank { 1 ≤ result → result ≤ 4 → report.new ≡ at_number 0 }
     ensures listed { IsTrue (is_status result) }
-    // Any other status and its report stand for a refusal `e`, whose reason is true. They stand for no other refusal,
-    // unless memory was refused.
+    // Any other status and the report stand for a true refusal `e`, and only for `e` unless the status is 8.
     ensures refused { 5 ≤ result → (e : Faults) × ReportsFrame bytes.now result report.new e
         × IsFrameRefused bytes.now limits.now.message_words e }
-    // If the frame is not whole, every whole frame that begins with these bytes has at least the length reported. That
-    // is more than the bytes have, and at most what a frame can have.
+    // If the frame is not whole, every whole frame that begins with these bytes has at least `length` bytes. `length`
+    // is more than the number of bytes passed, and at most what a frame can have.
     ensures needed { (result ≡ 48) ⊎ (result ≡ 51)
         → IsNeeded bytes.now limits.now.message_words report.new.length }
     // Memory is refused only if a whole frame of more than 64 segments comes first.

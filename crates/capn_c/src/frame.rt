@@ -1,4 +1,4 @@
-//! The reading of a stream that holds exactly one message.
+//! The reading of bytes that are exactly one frame.
 
 ghost use Rattle.std.specs.Prelude.{IfOk, IfErr, IsErrOf};
 ghost use Rattle.capn_canon.specs.MemoryNeed.{MayNeedMemory};
@@ -12,8 +12,8 @@ use capn_stream::{Framed, first};
 use capn_walk::Limits;
 use std::alloc::Global;
 
-/// Reads `bytes` as the frame of a message within `limits`. Refuses bytes that are no frame or go on after it. Memory
-/// is taken from `alloc` only for the ends of more than 64 segments.
+/// Reads `bytes` as the frame of a message within `limits`. Refuses bytes that are no frame, and bytes that go on after
+/// the frame. Memory is taken from `alloc` only for the ends of more than 64 segments.
 pub fn read_frame<'a>(alloc: Global, bytes: &'a [u8], limits: Limits) -> Result<Framed<'a>, Refusal>
     ensures read { IfOk result (λ m. Reads forms.Stream bytes.now limits.message_words m) }
     ensures refused { IfErr result (λ e. IsUnacceptedIn forms.Stream bytes.now limits e) }

@@ -1,4 +1,4 @@
-//! The number of bytes that a frame needs whose first bytes have been read.
+//! The number of bytes that an unfinished frame needs.
 
 ghost use Rattle.std.specs.Prelude.{◌≡◌, ◌+◌, ◌*◌, ◌≤◌};
 ghost use Rattle.capn_words.specs.Message.{most_message_words};
@@ -7,8 +7,8 @@ ghost use Rattle.capn_c.specs.FrameNeed.{needed};
 
 use capn_stream::table::{entry_at, head_of, total_of};
 
-/// Returns the number of bytes that a frame of at most `most` words needs, if it begins with `bytes` and is not whole.
-/// It is a lower bound as long as the segment table is incomplete.
+/// Returns the number of bytes that a frame of at most `most` words needs, if the frame begins with `bytes` and is not
+/// whole. As long as the segment table is incomplete, the number is only a lower bound.
 pub fn needed_of(bytes: &[u8], most: u32) -> u64
     requires small { most ≤ most_message_words }
     requires unfinished { IsUnfinished bytes.now most }

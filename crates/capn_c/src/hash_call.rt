@@ -1,4 +1,4 @@
-//! The call `capn_hash`: the SHA-256 of the canonical bytes of a message in any form.
+//! The call `capn_hash`, which finds the SHA-256 of the canonical bytes of a message in any form.
 
 ghost use Rattle.std.specs.Prelude.{IsTrue, ◌≡◌, ◌≢◌, ◌⊎◌, ◌↔◌, ◌≤◌, ℕ, List, None};
 ghost use Rattle.sha2.specs.Sha256.{sha256};
@@ -22,8 +22,7 @@ use capn_canon::Form;
 use capn_walk::Limits;
 use std::alloc::Global;
 
-/// Writes the SHA-256 of the canonical bytes of the message that `bytes` encode in this `form` to `digest`, and reports
-/// the result.
+/// Writes the SHA-256 of the canonical bytes of the message to `digest`, and reports the result.
 fn hash(
     alloc: Global,
     form: Form,
@@ -53,14 +52,11 @@ fn hash(
     }
 }
 
-/// Writes the SHA-256 of the canonical bytes of the message that `bytes` encode in `form`, within `limits`, to
-/// `digest`.
+/// Writes to `digest` the SHA-256 of the canonical bytes of the message that `bytes` encode in `form`, within `limits`.
 ///
-/// - 0: the digest is written.
-/// - 2, 3 and 4: the form, a limit or the tariff is out of its range.
-/// - 8: memory was refused, for what `capn_check` takes it for, or for the canonical bytes of a message that is not
-///   canonical.
-/// - Others: the refusal.
+/// The status is 0 if the digest is written, and 2, 3 or 4 if the form, a limit or the tariff is out of its range. It
+/// is 8 if memory was refused: for the ends of more than 64 segments, for the unpacked words, or for the canonical
+/// bytes of a message that is not canonical. Otherwise it is that of the refusal.
 #[unsafe(no_mangle)]
 pub extern "C" fn capn_hash(
     alloc: Global,
@@ -78,24 +74,23 @@ pub extern "C" fn capn_hash(
     ensures found { result ≡ 0 → (text : List ℕ)
         × Answers (form_named form) bytes.now (bounds_of limits.now) text report.new.paid
         × (digest.new ≡ sha256 text) }
-    // If the message denotes a value without capabilities, its digest is written, unless memory runs out.
+    // If the bytes denote a value without capabilities, the digest is written, unless `result` is 8.
     ensures only { IsForm form → GiveLimits limits.now → IsTariff limits.now.tariff → (v : Value)
         → Denotes (form_named form) bytes.now (bounds_of limits.now) v → first_cap v ≡ None
         → (result ≡ 8) ⊎ ((result ≡ 0) × (digest.new ≡ sha256 (canon v))) }
-    // The report of a digest has the price. All other fields are 0.
+    // After 0 the report has the price. All other fields are 0.
     ensures rest { result ≡ 0 → report.new ≡ answered 0 report.new.paid 0 }
     ensures blank { 1 ≤ result → result ≤ 4 → report.new ≡ at_number 0 }
     ensures listed { IsTrue (is_status result) }
-    // Any other status and its report stand for a refusal `e`, whose reason is true. They stand for no other refusal,
-    // unless memory was refused.
+    // Any other status and the report stand for a true refusal `e`, and only for `e` unless the status is 8.
     ensures refused { 5 ≤ result → (e : Refusals) × Reports result report.new e
         × IsRefused (form_named form) bytes.now (bounds_of limits.now) e }
     // Memory is refused only for the ends of more than 64 segments, for the words that a packed text unpacks to, or for
     // the canonical bytes of a message that is not canonical.
     ensures memory { result ≡ 8 → MayNeedToMake (form_named form) bytes.now (bounds_of limits.now) }
-    // The walk pays at most the budget, also if it is refused.
+    // The walk pays at most the budget, also if the message is refused.
     ensures bounded { IsBounded limits.now.budget report.new.paid report.new.visits }
-    // If `result` is not 0, the buffer is as it was.
+    // If `result` is not 0, `digest` is as it was.
     ensures kept { result ≢ 0 → digest.new ≡ digest.old }
 {
     *report = report_at(0);

@@ -1,4 +1,4 @@
-//! The call `capn_hash_segments`: the SHA-256 of the canonical bytes of a message that is held in segments.
+//! The call `capn_hash_segments`, which finds the SHA-256 of the canonical bytes of a message that is held in segments.
 
 ghost use Rattle.std.specs.Prelude.{IsTrue, ◌≡◌, ◌≢◌, ◌⊎◌, ◌↔◌, ◌≤◌, ℕ, List, None};
 ghost use Rattle.sha2.specs.Sha256.{sha256};
@@ -20,8 +20,7 @@ use capn_walk::Limits;
 use sha2::{Digest, Sha256};
 use std::alloc::Global;
 
-/// Writes the SHA-256 of the canonical bytes of the message that is held in `segments` to `digest`, and reports the
-/// result.
+/// Writes the SHA-256 of the canonical bytes of the message to `digest`, and reports the result.
 fn hash_held(
     alloc: Global,
     segments: &[&[[u8; 8]]],
@@ -52,10 +51,9 @@ fn hash_held(
 /// Writes the SHA-256 of the canonical bytes of the message that is held in `segments`, within `limits`, to `digest`.
 /// Each segment is a list of words of 8 bytes.
 ///
-/// - 0: the digest is written.
-/// - 3 and 4: a limit or the tariff is out of its range.
-/// - 8: memory was refused, for the canonical bytes.
-/// - Others: the refusal that the frame of the same segments would get. It is 48 if there are no segments.
+/// The status is 0 if the digest is written, 3 or 4 if a limit or the tariff is out of its range, and 8 if memory was
+/// refused for the canonical bytes. It is 48 if there are no segments, and otherwise that of the refusal that a frame
+/// of the same segments would get.
 #[unsafe(no_mangle)]
 pub extern "C" fn capn_hash_segments(
     alloc: Global,
@@ -71,23 +69,22 @@ pub extern "C" fn capn_hash_segments(
     ensures found { result ≡ 0 → (text : List ℕ)
         × AnswersHeld (message_of segments.now) (bounds_of limits.now) text report.new.paid
         × (digest.new ≡ sha256 text) }
-    // If the message denotes a value without capabilities, its digest is written, unless memory runs out.
+    // If the message denotes a value without capabilities, the digest is written, unless `result` is 8.
     ensures only { GiveLimits limits.now → IsTariff limits.now.tariff → (v : Value)
         → DenotesHeld (message_of segments.now) (bounds_of limits.now) v → first_cap v ≡ None
         → (result ≡ 8) ⊎ ((result ≡ 0) × (digest.new ≡ sha256 (canon v))) }
-    // The report of a digest has the price. All other fields are 0.
+    // After 0 the report has the price. All other fields are 0.
     ensures rest { result ≡ 0 → report.new ≡ answered 0 report.new.paid 0 }
     ensures blank { 1 ≤ result → result ≤ 4 → report.new ≡ at_number 0 }
     ensures listed { IsTrue (is_status result) }
-    // Any other status and its report stand for a refusal `e`, whose reason is true. They stand for no other refusal,
-    // unless memory was refused.
+    // Any other status and the report stand for a true refusal `e`, and only for `e` unless the status is 8.
     ensures refused { 5 ≤ result → (e : Refusals) × Reports result report.new e
         × IsRefusedHeld (message_of segments.now) (bounds_of limits.now) e }
     // Memory is refused only if the message has canonical bytes.
     ensures memory { result ≡ 8 → MayNeedBytes (message_of segments.now) (bounds_of limits.now) }
-    // The walk pays at most the budget, also if it is refused.
+    // The walk pays at most the budget, also if the message is refused.
     ensures bounded { IsBounded limits.now.budget report.new.paid report.new.visits }
-    // If `result` is not 0, the buffer is as it was.
+    // If `result` is not 0, `digest` is as it was.
     ensures kept { result ≢ 0 → digest.new ≡ digest.old }
 {
     *report = report_at(0);

@@ -1,4 +1,4 @@
-//! Messages that are held in segments: their canonical bytes, their survey and their figures.
+//! Messages that are held in segments: how they are read, canonicalised and surveyed, and their figures.
 
 ghost use Rattle.std.specs.Prelude.{◌≡◌, ◌≢◌, ◌≤◌, ◌+◌, ◌*◌, Ok, None, length};
 ghost use Rattle.std.specs.Prelude.{IfOk, IfErr, IsErrOf, IsOk, MatchResult};
@@ -21,7 +21,8 @@ use capn_walk::{Limits, Surveyed};
 use capn_words::Space;
 use std::alloc::Global;
 
-/// Reads `segments` as a message within `limits`. Refuses them with the fault that a frame of the same segments has.
+/// Reads `segments` as a message within `limits`. Segments that are no message are refused with the fault that a frame
+/// of the same segments has.
 pub fn held<'a>(segments: &'a [&'a [[u8; 8]]], limits: Limits) -> Result<Segments<'a>, Refusal>
     ensures exact { IsHeldOr (message_of segments.now) limits result }
     ensures only { IsHeld (message_of segments.now) limits.message_words → result ≡ Ok (message_of segments.now) }
@@ -83,8 +84,8 @@ pub fn survey_held(
     survey(alloc, &message, limits)
 }
 
-/// Returns the figures of the message that is held in `segments`, within `limits`, or the reason why they hold none or
-/// the message is not accepted.
+/// Returns the figures of the message that is held in `segments`, within `limits`. Segments that are no message, and a
+/// message that is not accepted, are refused.
 pub fn figures_held(
     alloc: Global,
     segments: &[&[[u8; 8]]],

@@ -1,4 +1,4 @@
-//! The call `capn_index`: the index of a message, with an entry for each slot that its walk visits.
+//! The call `capn_index`, which writes the index of a message, with an entry for each slot that the walk visits.
 
 ghost use Rattle.std.specs.Prelude.{IsTrue, ◌≡◌, ◌≢◌, ◌⊎◌, ◌↔◌, ◌<◌, ◌≤◌, ◌*◌, length};
 ghost use Rattle.capn_value.specs.Tree.{Tree as Value};
@@ -24,8 +24,7 @@ use capn_walk::Limits;
 use capn_walk::laws::indexes;
 use std::alloc::Global;
 
-/// Writes the index of the message that `bytes` encode in this `form`, a stream or bare words, to `out`, and reports
-/// the result.
+/// Writes the index of the message that `bytes` encode in `form`, which isn't packed, to `out`, and reports the result.
 fn index_in(
     alloc: Global,
     form: Form,
@@ -50,16 +49,13 @@ fn index_in(
 /// Writes the index of the message that `bytes` encode in `form`, a stream or bare words, to `out`, within `limits`.
 /// The index has an entry for each slot that the walk visits, in preorder.
 ///
-/// - 0: the entries are at the start of `out`.
-/// - 1: `out` has no room for the entries, and is as it was.
-/// - 2, 3 and 4: the form is neither a stream nor bare words, or a limit or the tariff is out of its range.
-/// - 8: memory was refused.
-/// - Others: the refusal, which is never that of a capability.
+/// The status is 0 if the entries are at the start of `out`, and 1 if `out` has no room and is as it was. In both cases
+/// `visits` is the number of entries, and `length` is 24 bytes for each. The status is 2 if the form is neither a
+/// stream nor bare words, 3 or 4 if a limit or the tariff is out of its range, and 8 if memory was refused. Otherwise
+/// it is that of the refusal, which is never that of a capability.
 ///
-/// If the status is 0 or 1, `visits` is the number of entries, and `length` is 24 bytes for each.
-///
-/// Bare words, and a stream of at most 64 segments, take no memory, since their entries are written straight into
-/// `out`. A stream of more segments takes it for its table.
+/// Bare words, and a stream of at most 64 segments, take no memory: the entries are written straight into `out`. A
+/// stream of more segments takes memory for the table of its segments.
 #[unsafe(no_mangle)]
 pub extern "C" fn capn_index(
     alloc: Global,
@@ -73,29 +69,28 @@ pub extern "C" fn capn_index(
     ensures form { (result ≡ 2) ↔ (IsFlat form → ⊥) }
     ensures limits { (result ≡ 3) ↔ (IsFlat form × (GiveLimits limits.now → ⊥)) }
     ensures tariff { (result ≡ 4) ↔ (IsFlat form × GiveLimits limits.now × (IsTariff limits.now.tariff → ⊥)) }
-    // If `result` is 0 or 1, the bytes are an accepted message. The report has the number of entries of its index, and
-    // the words that its walk pays.
+    // If `result` is 0 or 1, the bytes are an accepted message. `visits` is the number of entries of the index, and
+    // `paid` is the price.
     ensures counted { result ≤ 1 → (s : Survey) × Surveys (form_named form) bytes.now (bounds_of limits.now) s
         × (report.new ≡ answered (24 * s.visits) s.paid s.visits) }
-    // The number in `visits` counts all entries of the index, whether they have room or not.
+    // `visits` counts all entries of the index, also if `out` has no room for them.
     ensures entries { result ≤ 1
         → HasEntries (form_named form) bytes.now (bounds_of limits.now) report.new.visits }
-    // If `result` is 0, the index is in `out`. If it is 1, `out` has too few entries for it.
+    // If `result` is 0, the index is in `out`. If `result` is 1, `out` has fewer entries than the index.
     ensures written { result ≡ 0 → (report.new.visits ≤ length out.old)
         × IndexedIn (form_named form) bytes.now (bounds_of limits.now) out.old out.new }
     ensures no_room { result ≡ 1 → length out.old < report.new.visits }
-    // If the bytes are an accepted message, `result` is 0 or 1, unless memory runs out.
+    // If the bytes are an accepted message, `result` is 0 or 1, unless memory was refused.
     ensures only { IsFlat form → GiveLimits limits.now → IsTariff limits.now.tariff → (v : Value)
         → Denotes (form_named form) bytes.now (bounds_of limits.now) v → (result ≤ 1) ⊎ (result ≡ 8) }
     ensures blank { 2 ≤ result → result ≤ 4 → report.new ≡ at_number 0 }
     ensures listed { IsTrue (is_status result) }
-    // Any other status and its report stand for a refusal `e`, whose reason is true. They stand for no other refusal,
-    // unless memory was refused.
+    // Any other status and the report stand for a true refusal `e`, and only for `e` unless the status is 8.
     ensures refused { 5 ≤ result → (e : Refusals) × Reports result report.new e
         × IsUnacceptedIn (form_named form) bytes.now (bounds_of limits.now) e }
-    // Memory is refused only if `capn_check` may need it.
+    // Memory is refused only if reading the bytes may need it.
     ensures memory { result ≡ 8 → MayNeedMemory (form_named form) bytes.now (bounds_of limits.now) }
-    // The walk pays at most the budget, also if it is refused.
+    // The walk pays at most the budget, also if the message is refused.
     ensures bounded { IsBounded limits.now.budget report.new.paid report.new.visits }
     // If `result` is not 0, `out` is as it was.
     ensures kept { result ≢ 0 → out.new ≡ out.old }

@@ -1,4 +1,4 @@
-//! The call `capn_is_canonical`: tests whether bare bytes are canonical.
+//! The call `capn_is_canonical`, which tests whether bare bytes are canonical.
 
 ghost use Rattle.std.specs.Prelude.{IsTrue, ◌≡◌, ◌≢◌, ◌⊎◌, ◌↔◌, ◌≤◌, None, true, false};
 ghost use Rattle.capn_value.specs.Tree.{Tree as Value};
@@ -37,12 +37,10 @@ fn test(alloc: Global, bytes: &[u8], limits: Limits, report: &mut CapnReport) ->
     }
 }
 
-/// Tests whether `bytes`, read bare within `limits`, are the canonical bytes of the value that they denote.
+/// Tests whether `bytes`, read bare within `limits`, are the canonical bytes of the value that `bytes` denote.
 ///
-/// - 0: they are.
-/// - 5: they are not.
-/// - 3 and 4: a limit or the tariff is out of its range.
-/// - Others: the refusal, never that memory was refused.
+/// The status is 0 if the bytes are canonical, and 5 if they are not. It is 3 or 4 if a limit or the tariff is out of
+/// its range, and otherwise that of the refusal, but never 8.
 #[unsafe(no_mangle)]
 pub extern "C" fn capn_is_canonical(
     alloc: Global,
@@ -53,24 +51,23 @@ pub extern "C" fn capn_is_canonical(
     // The limits, then the tariff are tested before anything is read.
     ensures limits { (result ≡ 3) ↔ (GiveLimits limits.now → ⊥) }
     ensures tariff { (result ≡ 4) ↔ (GiveLimits limits.now × (IsTariff limits.now.tariff → ⊥)) }
-    // If `result` is 0 or 5, the bytes denote one value, which has no capability. `result` says whether the bytes are
-    // its canonical bytes.
+    // If `result` is 0 or 5, the bytes denote one value, which has no capability. `result` is 0 if the bytes are the
+    // canonical bytes of that value.
     ensures yes { result ≡ 0 → SaysCanonical bytes.now (bounds_of limits.now) true }
     ensures no { result ≡ 5 → SaysCanonical bytes.now (bounds_of limits.now) false }
-    // If the bytes denote a value without capabilities, `result` is 0 or 5, unless memory runs out.
+    // If the bytes denote a value without capabilities, `result` is 0 or 5 (`no_memory` excludes 8).
     ensures only { GiveLimits limits.now → IsTariff limits.now.tariff → (v : Value)
         → Denotes forms.Bare bytes.now (bounds_of limits.now) v → first_cap v ≡ None
         → (result ≡ 8) ⊎ ((result ≡ 0) × (canon v ≡ bytes.now)) ⊎ ((result ≡ 5) × (canon v ≢ bytes.now)) }
     // If `result` is 0 or 5, all fields of the report are 0.
     ensures blank { result ≤ 5 → report.new ≡ at_number 0 }
     ensures listed { IsTrue (is_status result) }
-    // Any other status and its report stand for a refusal `e`, whose reason is true. They stand for no other refusal,
-    // unless memory was refused.
+    // Any other status and the report stand for a true refusal `e`, and only for `e` unless the status is 8.
     ensures refused { 6 ≤ result → (e : Refusals) × Reports result report.new e
         × IsRefused forms.Bare bytes.now (bounds_of limits.now) e }
-    // Memory is never refused, since none is needed, whatever the depth.
+    // Memory is never refused, since nothing is allocated, whatever the depth.
     ensures no_memory { result ≢ 8 }
-    // The walk pays at most the budget, also if it is refused.
+    // The walk pays at most the budget, also if the message is refused.
     ensures bounded { IsBounded limits.now.budget report.new.paid report.new.visits }
 {
     *report = report_at(0);

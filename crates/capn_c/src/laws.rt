@@ -5,8 +5,8 @@ ghost use Rattle.capn_c.specs.Offsets.{OffsetsAreOfContents, OffsetsAreOfPlaces}
 
 use capn_walk::laws::indexes;
 
-/// States that the words of a message from an entry's segment and word on are in the bytes at the entry's offset. So
-/// the target of the slot is there, if it has content. This holds of streams and bare words.
+/// States that for streams and bare words the offset of an entry leads to the words of the entry's place. So the target
+/// of a slot, if it has content, is in the bytes at the offset of the slot's entry.
 pub fn offsets()
     ensures places { OffsetsAreOfPlaces }
     ensures contents { OffsetsAreOfContents }
@@ -14,8 +14,7 @@ pub fn offsets()
     indexes();
 }
 
-/// States that a message that is held in segments has the result that a frame of the same segments has under the same
-/// limits, and the same refusals.
+/// States that a message that is held in segments has the result and the refusals of a frame of the same segments.
 pub fn segments()
     ensures answered { HeldAreAnsweredAsFramed }
     ensures refused { HeldAreRefusedAsFramed }

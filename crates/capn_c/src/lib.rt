@@ -1,15 +1,15 @@
 //! The library for C: one export for each call. The buffers belong to the caller.
 //!
-//! Each export returns a status and fills in a [`CapnReport`]. The statuses up to 7 concern the call:
+//! Each export returns a status and fills in a [`CapnReport`]. The statuses up to 7 concern the call.
 //! - 0: the result is written.
-//! - 1: its buffer has no room.
+//! - 1: the buffer has no room for the result.
 //! - 2, 3, 4 and 6: the form, a limit, the tariff or the style is out of its range.
 //! - 5: the bytes are not canonical.
 //! - 7: two messages differ.
 //!
 //! Status 9 says that the scratch is too short. Status 8, and those from 16 on, stand for a refusal. The report has the
-//! numbers of the status, and 0 in all other fields. An export requires nothing but what its types say: memory that is
-//! there, and no overlap of what is written.
+//! numbers of the status, and 0 in all other fields. Only what the types say is required of a caller: that the memory
+//! exists, and that no written memory overlaps other arguments.
 #![tactic(auto)]
 
 mod canonical_call;

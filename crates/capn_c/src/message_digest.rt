@@ -1,4 +1,4 @@
-//! The digest of the canonical bytes of a message in any form: hashed in place if the message is canonical.
+//! The digest of the canonical bytes of a message in any form. A canonical message is hashed in place.
 
 ghost use Rattle.std.specs.Prelude.{◌≡◌, ◌≤◌, ℕ, List, None, IfSome, IfOk, IfErr, IsErrOf, MatchResult};
 ghost use Rattle.sha2.specs.Sha256.{sha256};
@@ -17,16 +17,16 @@ use capn_words::Space;
 use sha2::{Digest, Sha256};
 use std::alloc::Global;
 
-/// The digest of a message's canonical bytes, and the words that its walk pays.
+/// The digest of a message's canonical bytes, and the price of the message.
 #[derive(Drop)]
 pub struct Digested {
     /// The SHA-256 of the canonical bytes.
     pub digest: [u8; 32],
-    /// The words that the walk pays.
+    /// The number of words that the walk pays.
     pub paid: u32,
 }
 
-/// Returns the digest of the message `space`, hashed in place, if it is canonical. Returns `None` for any other.
+/// Returns the digest of the message `space`, hashed in place, or `None` if `space` is not canonical or is refused.
 fn digest_in_place<S: Space>(space: &S, limits: Limits) -> Option<Digested>
     ensures found { IfSome result (λ d. (text : List ℕ) × AnswersMessage (S.message space.now) limits text d.paid
         × (d.digest ≡ sha256 text)) }
@@ -41,8 +41,7 @@ fn digest_in_place<S: Space>(space: &S, limits: Limits) -> Option<Digested>
     })
 }
 
-/// The task of `digest_in`: finds the digest of the message that was read, and makes its canonical bytes only if it is
-/// not canonical.
+/// The task of `digest_in`, which makes canonical bytes only if the message is not canonical.
 #[derive(Clone, Copy)]
 struct Hash;
 
@@ -69,11 +68,11 @@ impl MessageTask<Global> for Hash {
     }
 }
 
-/// Returns the digest of the canonical bytes of the message that `bytes` encode in this `form`, within `limits`, or the
-/// reason why it has no canonical bytes.
+/// Returns the digest of the canonical bytes of the message that `bytes` encode in `form`, within `limits`. A message
+/// without canonical bytes is refused.
 ///
-/// The bytes are read once. Memory is taken from `alloc` only by a packed text, by a frame of more than 64 segments,
-/// and by a message that is not canonical, for its canonical bytes.
+/// The bytes are read once. Memory is taken from `alloc` only for a packed text, for a frame of more than 64 segments,
+/// and for the canonical bytes of a message that is not canonical.
 pub fn digest_in(
     alloc: Global,
     form: Form,

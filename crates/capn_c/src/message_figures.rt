@@ -1,4 +1,4 @@
-//! The figures of a message in any of the three forms.
+//! The function `figures_in`, which finds the figures of a message in any of the three forms.
 
 ghost use Rattle.capn_canon.specs.Refusal.{IsUnacceptedIn};
 ghost use Rattle.capn_canon.specs.MemoryNeed.{MayNeedMemory};
@@ -33,11 +33,11 @@ fn figures_of_packed(alloc: Global, bytes: &[u8], limits: Limits) -> Result<Capn
     figures_of_frame(alloc, stream.as_slice(), limits)
 }
 
-/// Returns the figures of the message that `bytes` encode in this `form`, within `limits`, or the reason why they hold
-/// none or the message is not accepted.
+/// Returns the figures of the message that `bytes` encode in `form`, within `limits`. Bytes that are no message, and a
+/// message that is not accepted, are refused.
 ///
-/// The bytes are read once, and the message is walked as by [`figures_of`]. Memory is taken from `alloc` only by a
-/// packed text, and by a frame of more than 64 segments.
+/// The bytes are read once, and the message is walked as by [`figures_of`]. Memory is taken from `alloc` only for a
+/// packed text, and for a frame of more than 64 segments.
 pub fn figures_in(
     alloc: Global,
     form: Form,

@@ -21,8 +21,8 @@ use capn_walk::{Limits, Surveyed, index_into_form};
 use capn_words::{Bare, Space};
 use std::alloc::Global;
 
-/// Writes the index of the accepted message `space` to `out`, which has room for it. The offsets count from the start
-/// of a segment table of `table` bytes, after which the segments begin at `starts`.
+/// Writes the index of the accepted message `space` to `out`, which has room for the index. The offsets count from the
+/// start of a segment table of `table` bytes. The segments begin at the words `starts` after the table.
 fn write_index<S: Space>(
     space: &S,
     limits: Limits,
@@ -40,8 +40,7 @@ fn write_index<S: Space>(
     }
 }
 
-/// Writes the index of the accepted message `space` to `out`, with memory for the starts of its segments. Returns
-/// `false` if the memory is refused.
+/// Writes the index of the accepted message `space` to `out`. Returns `false` if memory for the starts is refused.
 fn write_many<S: Space>(
     alloc: Global,
     space: &S,
@@ -61,8 +60,8 @@ fn write_many<S: Space>(
     true
 }
 
-/// Writes the index of the accepted message `space` to `out`. Only more than 64 segments take memory. Returns `false`
-/// if it is refused.
+/// Writes the index of the accepted message `space` to `out`. Memory is taken only for more than 64 segments. Returns
+/// `false` if that memory is refused.
 fn write_entries<S: Space>(
     alloc: Global,
     space: &S,
@@ -92,7 +91,7 @@ fn report_of_index(surveyed: Surveyed) -> CapnReport
 }
 
 /// Writes the index of the message `space`, which follows a segment table of `table` bytes, to `out`, and reports the
-/// result. Only more than 64 segments take memory.
+/// result. Memory is taken only for more than 64 segments.
 fn index_message<S: Space>(
     alloc: Global,
     space: &S,
@@ -130,7 +129,7 @@ fn table_of<S: Space>(space: &S) -> u32
 }
 
 /// Writes the index of the message in the frame `bytes` to `out`, within `limits`. Fills in `report`, and returns the
-/// status. Memory is taken from `alloc` only by a frame of more than 64 segments.
+/// status. Memory is taken from `alloc` only for a frame of more than 64 segments.
 pub fn index_frame(
     alloc: Global,
     bytes: &[u8],

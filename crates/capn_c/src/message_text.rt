@@ -27,7 +27,7 @@ fn joined(mut first: Vec<u8>, second: Vec<u8>) -> Option<Vec<u8>>
     }
 }
 
-/// Returns the text of the message `space` in this `style`, or `None` if it is not accepted or memory was refused.
+/// Returns the text of the message `space` in `style`, or `None` if `space` is not accepted or memory was refused.
 fn text_of<S: Space>(alloc: Global, space: &S, limits: Limits, style: Style) -> Option<Vec<u8>>
     ensures { IfSome result (λ text. ShowsMessage (S.message space.now) limits style text.items) }
 {
@@ -76,8 +76,8 @@ impl MessageTask<Global> for Show {
     }
 }
 
-/// Returns the text of the message that `bytes` encode in this `form`, in this `style`, and its survey within `limits`.
-/// Returns the reason why they hold none or the message is not accepted otherwise. The bytes are read once.
+/// Returns the text in `style` of the message that `bytes` encode in `form`, and the survey within `limits`. Bytes that
+/// are no message, and a message that is not accepted, are refused. The bytes are read once.
 pub fn text_in(
     alloc: Global,
     form: Form,

@@ -1,4 +1,4 @@
-//! The calls `capn_pack` and `capn_unpack`.
+//! The calls `capn_pack` and `capn_unpack`, which pack whole words and unpack a whole text.
 
 ghost use Rattle.std.specs.Prelude.{◌↔◌, IsTrue, ◌≡◌, ◌≢◌, ◌⊎◌, ◌≤◌, ◌<◌, ◌%◌, ◌*◌, ℕ, List, length};
 ghost use Rattle.capn_pack.specs.Packed.{Packs};
@@ -15,10 +15,9 @@ use std::alloc::Global;
 
 /// Writes the packed text of the whole words `bytes` to `out`.
 ///
-/// - 0: the text is at the start of `out`.
-/// - 1: `out` has no room for the text, and is as it was. `length` is what it needs.
-/// - 8: memory was refused.
-/// - 16: the bytes are not whole words. `at` is their number.
+/// The status is 0 if the text is at the start of `out`, and 1 if `out` has no room. After 1, `out` is as it was, and
+/// `length` is the length of the text. The status is 8 if memory was refused, and 16 if the bytes are not whole words.
+/// After 16, `at` is the number of bytes.
 #[unsafe(no_mangle)]
 pub extern "C" fn capn_pack(
     alloc: Global,
@@ -26,21 +25,21 @@ pub extern "C" fn capn_pack(
     out: &mut [u8],
     report: &mut CapnReport,
 ) -> u32
-    // If `result` is 0 or 1, the answer is the text that the packer chooses for the words. It is a packed text of them.
+    // If `result` is 0 or 1, the answer is the text that the packer chooses for the words, which unpacks to them.
     ensures found { result ≤ 1 → (text : List ℕ) × Chosen text bytes.now × Packs text bytes.now
         × Delivers text result report.new.length out.old out.new }
-    // The text that the packer chooses for the words is the answer, unless memory runs out.
+    // The text that the packer chooses for the words is the answer, unless memory was refused.
     ensures only { (text : List ℕ) → Chosen text bytes.now
         → (result ≡ 8) ⊎ Delivers text result report.new.length out.old out.new }
     // Two texts that the packer chooses are equal if and only if their words are equal.
     ensures unique { (a b vs ws : List ℕ) → Chosen a vs → Chosen b ws
         → ((a ≡ b) ↔ (vs ≡ ws)) }
-    // Bytes that are whole words are never refused but for memory. Others are refused by 16, with their number.
+    // Whole words are refused only for memory. Other bytes are refused by 16, with the number of bytes in `at`.
     ensures whole { length bytes.now % 8 ≡ 0 → (result ≤ 1) ⊎ (result ≡ 8) }
     ensures not_whole { length bytes.now % 8 ≢ 0 → (result ≡ 16) × (report.new ≡ at_number (length bytes.now)) }
     // Memory is refused only if there are bytes.
     ensures memory { result ≡ 8 → 0 < length bytes.now }
-    // The report of an answer has its length. All other fields are 0.
+    // After 0 or 1 the report has the length of the text. All other fields are 0.
     ensures rest { result ≤ 1 → report.new ≡ answered report.new.length 0 0 }
     ensures blank { result ≡ 8 → report.new ≡ at_number 0 }
     ensures kept { result ≢ 0 → out.new ≡ out.old }
@@ -61,13 +60,11 @@ pub extern "C" fn capn_pack(
     }
 }
 
-/// Unpacks the packed text `bytes` to `out`, if it has at most `max_words` words.
+/// Unpacks the packed text `bytes` to `out`, if the text unpacks to at most `max_words` words.
 ///
-/// - 0: the words are at the start of `out`.
-/// - 1: `out` has no room for the words, and is as it was. `length` is what they need.
-/// - 8: memory was refused.
-/// - 32: the text ends within the group whose tag is at `at`.
-/// - 33: the group whose tag is at `at` exceeds the maximum.
+/// The status is 0 if the words are at the start of `out`, and 1 if `out` has no room. After 1, `out` is as it was, and
+/// `length` is the length of the words in bytes. The status is 8 if memory was refused. After 32 the text ends within
+/// the group whose tag is at `at`. After 33 that group exceeds `max_words`.
 #[unsafe(no_mangle)]
 pub extern "C" fn capn_unpack(
     alloc: Global,
@@ -80,17 +77,16 @@ pub extern "C" fn capn_unpack(
     ensures found { result ≤ 1 → (words : List ℕ)
         × Packs bytes.now words × (length words ≤ 8 * max_words) × HasWords words
         × Delivers words result report.new.length out.old out.new }
-    // If the packed text unpacks to at most `max_words` words, the answer is those words, unless memory runs out.
+    // If the packed text unpacks to at most `max_words` words, the answer is those words, unless memory was refused.
     ensures only { (words : List ℕ) → Packs bytes.now words → length words ≤ 8 * max_words
         → (result ≡ 8) ⊎ Delivers words result report.new.length out.old out.new }
     ensures listed { IsTrue (is_status result) }
-    // Any other status and its report stand for a refusal `e` of the packed text, whose reason is true. The report has
-    // the offset of the group.
+    // Any other status and the report stand for a true refusal `e` of the text. `at` is the offset of the group.
     ensures refused { 2 ≤ result → (e : Faults) × ReportsPacked result report.new e
         × IsUnpackRefused bytes.now max_words e }
-    // Memory is refused only if a whole group within the maximum comes first.
+    // Memory is refused only if a whole group of at most `max_words` words comes first.
     ensures memory { result ≡ 8 → StartsWithin bytes.now max_words }
-    // The report of an answer has its length. All other fields are 0.
+    // After 0 or 1 the report has the length of the words in bytes. All other fields are 0.
     ensures rest { result ≤ 1 → report.new ≡ answered report.new.length 0 0 }
     ensures kept { result ≢ 0 → out.new ≡ out.old }
 {

@@ -1,4 +1,4 @@
-//! The numbers of a path, written into the caller's buffer and reported.
+//! The numbers of a path: how they are written into the caller's buffer, and reported.
 
 ghost use Rattle.std.specs.Prelude.{◌≡◌, ◌≤◌, ◌*◌, length};
 ghost use Rattle.capn_c.specs.PathNumbers.{ArePlaced, TellsPath};
@@ -7,7 +7,7 @@ use capn_abi::{CapnReport, refuse, report_at};
 use capn_canon::Refusal;
 use capn_walk::Stopped;
 
-/// Writes the numbers of `path` at the start of `room`, if all of them fit. Otherwise `room` is as it was.
+/// Writes the numbers of `path` at the start of `room` if all of them fit. Otherwise leaves `room` as it was.
 pub fn place_path(path: &[u32], room: &mut [u32])
     ensures { ArePlaced path.now room.old room.new }
 {
@@ -16,8 +16,8 @@ pub fn place_path(path: &[u32], room: &mut [u32])
     }
 }
 
-/// Reports the stop of a walk, `stopped`, with the length in bytes of the `path` to it. Writes the path to `room` if it
-/// fits, and returns the status.
+/// Reports `stopped`, the stop of a walk, with the length in bytes of the `path` to that stop. Writes the path to
+/// `room` if the path fits, and returns the status.
 pub fn tell_path(stopped: Stopped, path: &[u32], room: &mut [u32], report: &mut CapnReport) -> u32
     requires few { length path.now ≤ 512 }
     ensures told { TellsPath result report.new stopped path.now room.old room.new }

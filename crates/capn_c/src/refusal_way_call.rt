@@ -1,4 +1,4 @@
-//! The call `capn_refusal_way`: the path to the slot at which the walk of a message is refused.
+//! The call `capn_refusal_way`, which finds the path to the slot at which the walk of a message is refused.
 
 ghost use Rattle.std.specs.Prelude.{IsTrue, ◌≡◌, ◌⊎◌, ◌↔◌, ◌<◌, ◌≤◌, ◌*◌, ℕ, List};
 ghost use Rattle.capn_value.specs.Tree.{Tree as Value};
@@ -24,8 +24,7 @@ use capn_canon::Form;
 use capn_walk::Limits;
 use std::alloc::Global;
 
-/// Walks the message that `bytes` encode in this `form`, and reports its survey, or the path to the slot at which the
-/// walk stopped.
+/// Walks the message that `bytes` encode in `form`. Reports the survey, or the path to the stop of the walk.
 fn refusal_way(
     alloc: Global,
     form: Form,
@@ -63,18 +62,15 @@ fn refusal_way(
     }
 }
 
-/// Tests whether the message that `bytes` encode in `form` is accepted within `limits`. If its walk is refused, writes
-/// the path to the slot at which it stopped to `way`: the numbers that lead there from the root.
+/// Tests whether the message that `bytes` encode in `form` is accepted within `limits`. If the walk is refused, writes
+/// the path to the slot at which the walk stopped to `way`: the numbers that lead there from the root.
 ///
-/// - 0: the message is accepted. `paid` and `visits` are those of its walk.
-/// - 2, 3 and 4: the form, a limit or the tariff is out of its range.
-/// - 8: memory was refused, for what `capn_check` takes it for, or for the path if the walk is refused.
-/// - From 64 to 74: the walk is refused. `length` is 4 bytes for each number of the path. The numbers are at the start
-///   of `way` if all of them fit; otherwise `way` is as it was.
-/// - Others: the refusal, which is never that of a capability.
-///
-/// A `way` of two numbers for each level of the depth limit always has room. A message that is refused is walked at
-/// most twice.
+/// The status is 0 if the message is accepted. Then `paid` and `visits` are those of the walk. The status is 2, 3 or 4
+/// if the form, a limit or the tariff is out of its range. It is 8 if memory was refused: for the ends of more than 64
+/// segments, for the unpacked words, or for the path. Otherwise it is that of the refusal, which is never that of a
+/// capability. A status from 64 to 74 is a refusal of the walk. Then `length` is 4 bytes for each number of the path.
+/// The numbers are at the start of `way` if all of them fit. Otherwise `way` is as it was. A `way` of two numbers for
+/// each level of the depth limit always has room. A message that is refused is walked at most twice.
 #[unsafe(no_mangle)]
 pub extern "C" fn capn_refusal_way(
     alloc: Global,
@@ -88,29 +84,29 @@ pub extern "C" fn capn_refusal_way(
     ensures form { (result ≡ 2) ↔ (IsForm form → ⊥) }
     ensures limits { (result ≡ 3) ↔ (IsForm form × (GiveLimits limits.now → ⊥)) }
     ensures tariff { (result ≡ 4) ↔ (IsForm form × GiveLimits limits.now × (IsTariff limits.now.tariff → ⊥)) }
-    // If `result` is 0, the bytes are an accepted message. The report has the words that its walk pays and the number
-    // of its visits, and all other fields are 0.
+    // If `result` is 0, the bytes are an accepted message. `paid` is the price, `visits` the number of visits, and all
+    // other fields of the report are 0.
     ensures found { result ≡ 0 → (s : Survey) × Surveys (form_named form) bytes.now (bounds_of limits.now) s
         × (report.new ≡ answered 0 s.paid s.visits) }
-    // If the bytes are an accepted message, `result` is 0, unless memory runs out.
+    // If the bytes are an accepted message, `result` is 0, unless memory was refused.
     ensures only { IsForm form → GiveLimits limits.now → IsTariff limits.now.tariff → (v : Value)
         → Denotes (form_named form) bytes.now (bounds_of limits.now) v → (result ≡ 0) ⊎ (result ≡ 8) }
     ensures blank { 1 ≤ result → result ≤ 4 → report.new ≡ at_number 0 }
     ensures listed { IsTrue (is_status result) }
-    // A status from 5 to 63 and its report stand for a refusal `e` that is not one of the walk, and whose reason is
-    // true. They stand for no other refusal, unless memory was refused.
+    // A status from 5 to 63 and the report stand for a refusal `e` that is true and not one of the walk, and, unless
+    // the status is 8, for no other refusal.
     ensures refused { 5 ≤ result → result < 64 → (e : Refusals) × Reports result report.new e
         × IsUnacceptedIn (form_named form) bytes.now (bounds_of limits.now) e }
-    // A status from 64 on is a refusal of the walk. The report has its place and the length of the path to it, and the
-    // path is in `way` if it fits.
+    // A status from 64 on is a refusal of the walk. The report has the place of the stop and the length of the path to
+    // that place. The path is in `way` if the path fits.
     ensures told { 64 ≤ result → (s : Stop) × (numbers : List ℕ)
         × IsStoppedIn (form_named form) bytes.now (bounds_of limits.now) s numbers
         × TellsPath result report.new s numbers way.old way.new }
     // A path has at most two numbers for each level of the depth limit.
     ensures short { 64 ≤ result → report.new.length ≤ 8 * limits.now.depth }
-    // Memory is refused only if `capn_check` may need it, or if the walk of the message is refused.
+    // Memory is refused only if reading the bytes may need it, or if the walk of the message is refused.
     ensures memory { result ≡ 8 → MayNeedItsPath (form_named form) bytes.now (bounds_of limits.now) }
-    // The walk pays at most the budget, also if it is refused.
+    // The walk pays at most the budget, also if the message is refused.
     ensures bounded { IsBounded limits.now.budget report.new.paid report.new.visits }
     // If the walk is not refused, `way` is as it was.
     ensures kept { result < 64 → way.new ≡ way.old }

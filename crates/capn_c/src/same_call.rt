@@ -1,4 +1,4 @@
-//! The call `capn_same`: compares the values of two messages in the same form.
+//! The call `capn_same`, which compares the values of two messages in the same form.
 
 ghost use Rattle.std.specs.Prelude.{IsTrue, ◌≡◌, ◌≢◌, ◌⊎◌, ◌↔◌, ◌≤◌, None, true, false};
 ghost use Rattle.capn_value.specs.Tree.{Tree as Value};
@@ -22,8 +22,7 @@ use capn_canon::laws::{canonicity, denotation};
 use capn_walk::Limits;
 use std::alloc::Global;
 
-/// Compares the messages that `first` and `second` encode in this `form`, and reports the result, or the refusal and
-/// which message it is of.
+/// Compares the messages that `first` and `second` encode in `form`, and reports the result.
 fn compare(
     alloc: Global,
     form: Form,
@@ -70,13 +69,11 @@ fn compare(
 /// Tests whether the messages that `first` and `second` encode in `form` have the same canonical bytes within `limits`.
 /// No canonical bytes are made.
 ///
-/// - 0: their canonical bytes are equal.
-/// - 7: both have canonical bytes, which differ.
-/// - 2, 3 and 4: the form, a limit or the tariff is out of its range.
-/// - 8: memory was refused, for the ends of more than 64 segments or for the words that are unpacked.
-/// - Others: the refusal of `first`, or else of `second`. If `first` is refused, `second` isn't read.
-///
-/// `which` is 1 if `second` is refused, or if memory was refused for it, and else 0.
+/// The status is 0 if the canonical bytes of the two messages are equal, and 7 if they differ. It is 2, 3 or 4 if the
+/// form, a limit or the tariff is out of its range. It is 8 if memory was refused, for the ends of more than 64
+/// segments or for the unpacked words. Otherwise it is that of the refusal of `first`, or else of `second`. If `first`
+/// is refused, `second` isn't read. `which` is 1 if `second` is refused, or if memory was refused for `second`, and
+/// otherwise 0.
 #[unsafe(no_mangle)]
 pub extern "C" fn capn_same(
     alloc: Global,
@@ -91,20 +88,20 @@ pub extern "C" fn capn_same(
     ensures form { (result ≡ 2) ↔ (IsForm form → ⊥) }
     ensures limits { (result ≡ 3) ↔ (IsForm form × (GiveLimits limits.now → ⊥)) }
     ensures tariff { (result ≡ 4) ↔ (IsForm form × GiveLimits limits.now × (IsTariff limits.now.tariff → ⊥)) }
-    // If `result` is 0 or 7, `first` and `second` denote values without capabilities. If it is 0, the values are the
-    // same up to trailing zero words and trailing null pointers of structs, and their canonical bytes are equal. If it
-    // is 7, neither holds.
+    // If `result` is 0 or 7, `first` and `second` denote values without capabilities. If `result` is 0, the values are
+    // the same up to trailing zero words and trailing null pointers of structs, and the canonical bytes are equal. If
+    // `result` is 7, the values are not the same, and the canonical bytes differ.
     ensures same { result ≡ 0 → ComparesIn (form_named form) first.now second.now (bounds_of limits.now) true }
     ensures different { result ≡ 7 → ComparesIn (form_named form) first.now second.now (bounds_of limits.now) false }
-    // If both denote values without capabilities, `result` is 0 or 7, unless memory runs out.
+    // If both denote values without capabilities, `result` is 0, 7 or 8.
     ensures only { IsForm form → GiveLimits limits.now → IsTariff limits.now.tariff → (v w : Value)
         → DenoteBoth (form_named form) first.now second.now (bounds_of limits.now) v w
         → (result ≡ 8) ⊎ ((result ≡ 0) × Same v w) ⊎ ((result ≡ 7) × (Same v w → ⊥)) }
     // If `result` is at most 7, `which` and all fields of the report are 0.
     ensures blank { result ≤ 7 → (which.new ≡ 0) × (report.new ≡ at_number 0) }
     ensures listed { IsTrue (is_status result) }
-    // Any other status and its report stand for a refusal `e` of the message that `which` names, whose reason is true.
-    // They stand for no other refusal, unless memory was refused.
+    // Any other status and the report stand for a refusal `e`, which is true of the message that `which` names. Unless
+    // the status is 8, they stand for no other refusal of that message.
     ensures refused { (result ≡ 1) ⊎ (5 ≤ result) → result ≢ 7 → (e : Refusals) × Reports result report.new e
         × IsRefused (form_named form) (named which.new first.now second.now) (bounds_of limits.now) e }
     // `second` is refused only if `first` has canonical bytes.
@@ -113,7 +110,7 @@ pub extern "C" fn capn_same(
     // Memory is refused only for the ends of more than 64 segments, or for the words that a packed text unpacks to.
     ensures memory { result ≡ 8
         → MayNeedMemory (form_named form) (named which.new first.now second.now) (bounds_of limits.now) }
-    // The walk pays at most the budget, also if it is refused.
+    // The walk pays at most the budget, also if the message is refused.
     ensures bounded { IsBounded limits.now.budget report.new.paid report.new.visits }
 {
     *which = 0;

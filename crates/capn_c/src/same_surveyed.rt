@@ -17,7 +17,7 @@ use std::marker::Brand;
 use std::sync::ledger::{Blank, Ledger};
 
 /// Tests whether the values of `first` and `second`, two messages that have canonical bytes within `limits`, are the
-/// same. It ends at the first difference, and takes no memory but the stack.
+/// same. The test ends at the first difference. Only the stack is used.
 pub fn same_surveyed<A: Space, B: Space>(first: &A, second: &B, limits: Limits) -> bool
     requires one { HasBytes (A.message first.now) limits }
     requires other { HasBytes (B.message second.now) limits }
@@ -37,8 +37,8 @@ pub fn same_surveyed<A: Space, B: Space>(first: &A, second: &B, limits: Limits) 
     )
 }
 
-/// Does what [`same_surveyed`] does, with counts in the new ledgers `one` and `other`. Both values are at most `depth`
-/// objects deep.
+/// Compares the values of `first` and `second`, at most `depth` objects deep, for [`same_surveyed`], with counts in the
+/// new ledgers `one` and `other`.
 fn same_with_ledgers<A: Space, B: Space, L: Ledger, M: Ledger>(
     first: &A,
     second: &B,
@@ -65,8 +65,8 @@ fn same_with_ledgers<A: Space, B: Space, L: Ledger, M: Ledger>(
     }
 }
 
-/// Does what [`same_surveyed`] does, and counts the reads in `reads` and `others`. If `second` has one segment, it is
-/// read as that segment's words alone, which is faster.
+/// Compares the values of `first` and `second`, at most `depth` objects deep, and counts the reads in `reads` and
+/// `others`. If `second` has one segment, only the words of that segment are read, which is faster.
 fn same_beside<A: Space, B: Space, L: Ledger, M: Ledger>(
     first: &CountedSpace<'_, A, L>,
     second: &CountedSpace<'_, B, M>,

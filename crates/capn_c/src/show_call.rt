@@ -1,4 +1,4 @@
-//! The call `capn_show`: the text of a message in any form, in one of four styles.
+//! The call `capn_show`, which writes the text of a message in any form, in one of four styles.
 
 ghost use Rattle.std.specs.Prelude.{IsTrue, ◌≡◌, ◌≢◌, ◌⊎◌, ◌↔◌, ◌≤◌, ℕ, List};
 ghost use Rattle.capn_value.specs.Tree.{Tree as Value};
@@ -23,8 +23,7 @@ use capn_canon::Form;
 use capn_walk::Limits;
 use std::alloc::Global;
 
-/// Writes the text of the message that `bytes` encode in this `form` to `out`, in the style with the number `style`,
-/// and reports the result.
+/// Writes the text of the message to `out`, in the style with the number `style`, and reports the result.
 fn show_in(
     alloc: Global,
     form: Form,
@@ -61,16 +60,14 @@ fn show_in(
     }
 }
 
-/// Writes the text of the message that `bytes` encode in `form` to `out`, within `limits`. The `style` is lines, lines
-/// with texts between quotes, a line of JSON, or a line of JSON with texts as strings.
+/// Writes the text of the message that `bytes` encode in `form` to `out`, within `limits`. The `style` 0 is lines, 1 is
+/// lines with texts between quotes, 2 is a line of JSON, and 3 is a line of JSON with texts as strings.
 ///
-/// - 0: the text is at the start of `out`.
-/// - 1: `out` has no room for the text, and is as it was. `length` is exactly what it needs.
-/// - 2, 3, 4 and 6: the form, a limit, the tariff or the style is out of its range.
-/// - 8: memory was refused, for the ends of more than 64 segments, for the words that are unpacked, or for the text.
-/// - Others: the refusal, which is never that of a capability.
-///
-/// If the status is 0 or 1, `paid` and `visits` are those of the walk.
+/// The status is 0 if the text is at the start of `out`, and 1 if `out` has no room. In both cases `paid` and `visits`
+/// are those of the walk. After 1, `out` is as it was, and `length` is exactly the length of the text. The status is 2,
+/// 3, 4 or 6 if the form, a limit, the tariff or the style is out of its range. It is 8 if memory was refused: for the
+/// ends of more than 64 segments, for the unpacked words, or for the text. Otherwise it is that of the refusal, which
+/// is never that of a capability.
 #[unsafe(no_mangle)]
 pub extern "C" fn capn_show(
     alloc: Global,
@@ -87,27 +84,25 @@ pub extern "C" fn capn_show(
     ensures tariff { (result ≡ 4) ↔ (IsForm form × GiveLimits limits.now × (IsTariff limits.now.tariff → ⊥)) }
     ensures style { (result ≡ 6)
         ↔ (IsForm form × GiveLimits limits.now × IsTariff limits.now.tariff × (IsStyle style → ⊥)) }
-    // If `result` is 0 or 1, the bytes are an accepted message, and the answer is its text.
+    // If `result` is 0 or 1, the bytes are an accepted message, and the answer is the text of that message.
     ensures found { result ≤ 1 → (text : List ℕ)
         × ShowsIn (form_named form) bytes.now (bounds_of limits.now) (style_named style) text
         × Delivers text result report.new.length out.old out.new }
-    // If the bytes are an accepted message, the answer is its text, unless memory runs out.
+    // If the bytes are an accepted message, the answer is the text of that message, unless `result` is 8.
     ensures only { IsForm form → GiveLimits limits.now → IsTariff limits.now.tariff → IsStyle style → (v : Value)
         → Denotes (form_named form) bytes.now (bounds_of limits.now) v
         → (result ≡ 8) ⊎ Delivers (message_text (style_named style) v) result report.new.length out.old out.new }
-    // The report of an answer has its length, the words that the walk pays, and its visits. All other fields are 0.
+    // After 0 or 1 the report has the length of the text, the price and the number of visits. All other fields are 0.
     ensures rest { result ≤ 1 → (s : Survey) × Surveys (form_named form) bytes.now (bounds_of limits.now) s
         × (report.new ≡ answered report.new.length s.paid s.visits) }
     ensures blank { 2 ≤ result → result ≤ 6 → report.new ≡ at_number 0 }
     ensures listed { IsTrue (is_status result) }
-    // Any other status and its report stand for a refusal `e`, whose reason is true. They stand for no other refusal,
-    // unless memory was refused.
+    // Any other status and the report stand for a true refusal `e`, and only for `e` unless the status is 8.
     ensures refused { 5 ≤ result → result ≢ 6 → (e : Refusals) × Reports result report.new e
         × IsUnacceptedIn (form_named form) bytes.now (bounds_of limits.now) e }
-    // Memory is refused only for the ends of more than 64 segments, for the words that a packed text unpacks to, or for
-    // the text of an accepted message.
+    // Memory is refused only for the ends of more than 64 segments, for unpacked words, or for the text.
     ensures memory { result ≡ 8 → MayNeedText (form_named form) bytes.now (bounds_of limits.now) }
-    // The walk pays at most the budget, also if it is refused.
+    // The walk pays at most the budget, also if the message is refused.
     ensures bounded { IsBounded limits.now.budget report.new.paid report.new.visits }
     // If `result` is not 0, the buffer is as it was.
     ensures kept { result ≢ 0 → out.new ≡ out.old }

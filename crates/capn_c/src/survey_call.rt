@@ -1,4 +1,4 @@
-//! The call `capn_survey`: the figures of a message in any form.
+//! The call `capn_survey`, which finds the figures of a message in any form.
 
 ghost use Rattle.std.specs.Prelude.{IsTrue, ◌≡◌, ◌≢◌, ◌⊎◌, ◌↔◌, ◌≤◌};
 ghost use Rattle.capn_value.specs.Tree.{Tree as Value};
@@ -21,7 +21,7 @@ use capn_canon::Form;
 use capn_walk::Limits;
 use std::alloc::Global;
 
-/// Writes the figures of the message that `bytes` encode in this `form` to `figures`, and reports the result.
+/// Writes the figures of the message that `bytes` encode in `form` to `figures`, and reports the result.
 fn survey_in(
     alloc: Global,
     form: Form,
@@ -45,17 +45,14 @@ fn survey_in(
     }
 }
 
-/// Writes the figures of the message that `bytes` encode in `form`, within `limits`, to `figures`: its words and
-/// segments, the words that its walk pays, its visits, its depth, its first capability, and whether its bytes are
-/// canonical.
+/// Writes the figures of the message that `bytes` encode in `form`, within `limits`, to `figures`: words, segments,
+/// price, visits, depth, the first capability, and whether the message is canonical.
 ///
-/// - 0: the figures are written.
-/// - 2, 3 and 4: the form, a limit or the tariff is out of its range.
-/// - 8: memory was refused, for what `capn_check` takes it for.
-/// - Others: the refusal, which is never that of a capability.
+/// The status is 0 if the figures are written, and 2, 3 or 4 if the form, a limit or the tariff is out of its range. It
+/// is 8 if memory was refused, for the ends of more than 64 segments or for the unpacked words. Otherwise it is that of
+/// the refusal, which is never that of a capability.
 ///
-/// It reads the bytes once. A message of one segment is walked once if its bytes are canonical, else at most twice. Any
-/// other message is walked once.
+/// The bytes are read once. A message of one segment that is not canonical is walked at most twice, any other once.
 #[unsafe(no_mangle)]
 pub extern "C" fn capn_survey(
     alloc: Global,
@@ -69,22 +66,20 @@ pub extern "C" fn capn_survey(
     ensures form { (result ≡ 2) ↔ (IsForm form → ⊥) }
     ensures limits { (result ≡ 3) ↔ (IsForm form × (GiveLimits limits.now → ⊥)) }
     ensures tariff { (result ≡ 4) ↔ (IsForm form × GiveLimits limits.now × (IsTariff limits.now.tariff → ⊥)) }
-    // If `result` is 0, the bytes are an accepted message, and `figures` has its figures. The report has the words that
-    // its walk pays, and its visits.
+    // If `result` is 0, the bytes are an accepted message with the `figures`. The report has the price and the visits.
     ensures found { result ≡ 0 → FiguresIn (form_named form) bytes.now (bounds_of limits.now) figures.new
         × (report.new ≡ answered 0 figures.new.paid figures.new.visits) }
-    // If the bytes are an accepted message, `result` is 0, unless memory runs out.
+    // If the bytes are an accepted message, `result` is 0, unless memory was refused.
     ensures only { IsForm form → GiveLimits limits.now → IsTariff limits.now.tariff → (v : Value)
         → Denotes (form_named form) bytes.now (bounds_of limits.now) v → (result ≡ 0) ⊎ (result ≡ 8) }
     ensures blank { 1 ≤ result → result ≤ 4 → report.new ≡ at_number 0 }
     ensures listed { IsTrue (is_status result) }
-    // Any other status and its report stand for a refusal `e`, whose reason is true. They stand for no other refusal,
-    // unless memory was refused.
+    // Any other status and the report stand for a true refusal `e`, and only for `e` unless the status is 8.
     ensures refused { 5 ≤ result → (e : Refusals) × Reports result report.new e
         × IsUnacceptedIn (form_named form) bytes.now (bounds_of limits.now) e }
     // Memory is refused only for the ends of more than 64 segments, or for the words that a packed text unpacks to.
     ensures memory { result ≡ 8 → MayNeedMemory (form_named form) bytes.now (bounds_of limits.now) }
-    // The walk pays at most the budget, also if it is refused.
+    // The walk pays at most the budget, also if the message is refused.
     ensures bounded { IsBounded limits.now.budget report.new.paid report.new.visits }
     // If `result` is not 0, `figures` is as it was.
     ensures kept { result ≢ 0 → figures.new ≡ figures.old }

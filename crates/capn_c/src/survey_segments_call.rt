@@ -1,4 +1,4 @@
-//! The call `capn_survey_segments`: the figures of a message that is held in segments.
+//! The call `capn_survey_segments`, which finds the figures of a message that is held in segments.
 
 ghost use Rattle.std.specs.Prelude.{IsTrue, ◌≡◌, ◌≢◌, ◌↔◌, ◌≤◌};
 ghost use Rattle.capn_value.specs.Tree.{Tree as Value};
@@ -38,17 +38,12 @@ fn tell_figures(
     }
 }
 
-/// Writes the figures of the message that is held in `segments`, within `limits`, to `figures`: its words and segments,
-/// the words that its walk pays, its visits, its depth, its first capability, and whether its bytes are canonical.
+/// Writes the figures of the message that is held in `segments`, within `limits`, to `figures`: words, segments, price,
+/// visits, depth, the first capability, and whether the message is canonical.
 ///
-/// - 0: the figures are written.
-/// - 3 and 4: a limit or the tariff is out of its range.
-/// - Others: the refusal that the frame of the same segments would get. It is 48 if there are no segments.
-///
-/// It takes no memory.
-///
-/// A message of one segment is walked once if its bytes are canonical, else at most twice. Any other message is walked
-/// once.
+/// The status is 0 if the figures are written, 3 or 4 if a limit or the tariff is out of its range, 48 if there are no
+/// segments, and otherwise that of the refusal that a frame of the same segments would get. No memory is taken. A
+/// message of one segment that is not canonical is walked at most twice, any other once.
 #[unsafe(no_mangle)]
 pub extern "C" fn capn_survey_segments(
     alloc: Global,
@@ -60,8 +55,8 @@ pub extern "C" fn capn_survey_segments(
     // The limits, then the tariff are tested before anything is read.
     ensures limits { (result ≡ 3) ↔ (GiveLimits limits.now → ⊥) }
     ensures tariff { (result ≡ 4) ↔ (GiveLimits limits.now × (IsTariff limits.now.tariff → ⊥)) }
-    // If `result` is 0, the segments are an accepted message, and `figures` has its figures. The report has the words
-    // that its walk pays, and its visits.
+    // If `result` is 0, the segments are an accepted message with the `figures`. The report has the price and the
+    // visits.
     ensures found { result ≡ 0 → FiguresHeld (message_of segments.now) (bounds_of limits.now) figures.new
         × (report.new ≡ answered 0 figures.new.paid figures.new.visits) }
     // If the segments are an accepted message, `result` is 0.
@@ -69,13 +64,12 @@ pub extern "C" fn capn_survey_segments(
         → DenotesHeld (message_of segments.now) (bounds_of limits.now) v → result ≡ 0 }
     ensures blank { 1 ≤ result → result ≤ 4 → report.new ≡ at_number 0 }
     ensures listed { IsTrue (is_status result) }
-    // Any other status and its report stand for a refusal `e`, whose reason is true. They stand for no other refusal,
-    // unless memory was refused.
+    // Any other status and the report stand for a true refusal `e`, and only for `e` unless the status is 8.
     ensures refused { 5 ≤ result → (e : Refusals) × Reports result report.new e
         × IsUnacceptedHeld (message_of segments.now) (bounds_of limits.now) e }
-    // Memory is never refused, since none is needed.
+    // Memory is never refused, since nothing is allocated.
     ensures no_memory { result ≢ 8 }
-    // The walk pays at most the budget, also if it is refused.
+    // The walk pays at most the budget, also if the message is refused.
     ensures bounded { IsBounded limits.now.budget report.new.paid report.new.visits }
     // If `result` is not 0, `figures` is as it was.
     ensures kept { result ≢ 0 → figures.new ≡ figures.old }

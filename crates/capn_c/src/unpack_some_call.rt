@@ -10,8 +10,7 @@ use capn_abi::{CapnReport, DONE, MEMORY, PACKED_CUT, PACKED_TOO_LONG, report_at}
 use capn_pack::{Next, Progress, unpack_some};
 use std::alloc::Global;
 
-/// Returns the status that says what is `next` in the packed text: its end, a group that is cut, or one that has no
-/// room.
+/// Returns the status for what is `next` in the packed text: the end, a group that is cut, or a group that has no room.
 fn code_of_next(next: Next) -> u32
     ensures { result ≡ next_code next }
 {
@@ -22,7 +21,7 @@ fn code_of_next(next: Next) -> u32
     }
 }
 
-/// Returns `progress` as a report, with the bytes written in `length` and the bytes taken in `at`.
+/// Returns `progress` as a report, with the number of bytes written in `length` and the number of bytes taken in `at`.
 fn report_of_progress(progress: Progress) -> CapnReport
     ensures { result ≡ progressed (8 * progress.words) progress.bytes }
 {
@@ -47,16 +46,11 @@ fn put(bytes: &[u8], out: &mut [u8])
     out[..bytes.len()].copy_from_slice(bytes);
 }
 
-/// Unpacks the whole groups that come first in the packed text `bytes` to `out`, as many as have room.
+/// Unpacks whole groups from the front of the packed text `bytes` to `out`, as many as have room.
 ///
-/// - 0: the bytes are whole groups, and all of them were taken.
-/// - 8: memory was refused.
-/// - 32: a group is cut. `at` is the offset of its tag.
-/// - 33: a group has no room. `at` is the offset of its tag.
-///
-/// If the status is 0, 32 or 33, `length` bytes were written and `at` bytes were taken.
-///
-/// It takes memory for the words that it writes.
+/// The status is 0 if all bytes are whole groups and were taken, and 8 if memory was refused. It is 32 if the next
+/// group is cut, and 33 if that group has no room. After 0, 32 or 33, `length` bytes were written and `at` bytes were
+/// taken, so `at` is the offset of the next group's tag. Memory is taken for the words that are written.
 #[unsafe(no_mangle)]
 pub extern "C" fn capn_unpack_some(
     alloc: Global,
@@ -64,7 +58,7 @@ pub extern "C" fn capn_unpack_some(
     out: &mut [u8],
     report: &mut CapnReport,
 ) -> u32
-    // If memory is not refused, the buffer has the words, and the report has the progress.
+    // If memory is not refused, the words are in the buffer, and the report has the numbers of bytes written and taken.
     ensures some { result ≢ 8 → UnpacksInto bytes.now result report.new out.old out.new }
     // Memory is refused only if a whole group that has room comes first.
     ensures memory { result ≡ 8 → StartsWithin bytes.now (words_in (length out.old)) }

@@ -10,8 +10,8 @@ use capn_canon::{IntoRefusal, Refusal, canonical_into};
 use capn_walk::Limits;
 use capn_words::Space;
 
-/// Writes the canonical bytes of the message `space` at the start of `out`, if it has room for them. Fills in `report`,
-/// and returns the status. It takes no memory.
+/// Writes the canonical bytes of the message `space` at the start of `out`, if `out` has room for them. Fills in
+/// `report`, and returns the status. No memory is taken.
 pub fn write_message<S: Space>(
     space: &S,
     limits: Limits,

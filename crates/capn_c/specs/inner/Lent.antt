@@ -21,7 +21,7 @@ use Rattle.capn_abi.specs.StatusCodes.{Reports, answered, at_number}
 use Rattle.capn_abi.specs.declared.report.CapnReport.{CapnReport}
 use Rattle.capn_c.specs.Lent.{LacksScratch, is_lent_status}
 
--- `status` and `report` are those of the refusal
+-- `status` and `report` are those of the given refusal
 abbrev pub IsRefusalTold : FormRefusal → ℕ → CapnReport → Type 0
 IsRefusalTold (told.Bare e) status report = Reports status report (refusals.Bare e)
 IsRefusalTold (told.Packed e) status report = Reports status report (refusals.Packed e)
@@ -37,7 +37,7 @@ abbrev pub IsResultTold : Result CanonicalLength FormRefusal → ℕ → CapnRep
 IsResultTold r status report = MatchResult r (λ c. (status ≡ 0) × (report ≡ answered c.length c.paid 0))
     (λ e. IsRefusalTold e status report)
 
--- the clauses of the call with lent scratch, for one form and limits that are in range
+-- the clauses of `capn_canonical_with_scratch` hold, for one form and limits that are in range
 pub record IsLent (form : Form) (bs : List ℕ) (limits : Bounds) (scratch : ℕ) (old new : List ℕ) (status : ℕ)
     (report : CapnReport) : Type 0 where
   pub possible : (status ≤ 1) ⊎ (9 ≤ status)

@@ -21,8 +21,8 @@ use Rattle.capn_c.specs.Entries.{IndexedIn, c_index}
 use Rattle.capn_c.specs.Held.{DenotesHeld, IsUnacceptedHeld}
 use Rattle.capn_c.specs.declared.entries.CapnEntry.{CapnEntry}
 
--- the status is in the list; from 8 on it stands for a refusal for which `reason` holds; it is 8 only if memory may be
--- needed; and no walk pays beyond its budget
+-- the status is in the list, and from 8 on it stands for a refusal for which `reason` holds; 8 is returned only if
+-- memory may be needed (`needed`), and the walk pays at most the budget
 pub record IsReported (reason : Refusal → Type 0) (needed : Type 0) (budget status : ℕ) (report : CapnReport)
     : Type 0 where
   pub listed : IsTrue (is_status status)
@@ -32,8 +32,7 @@ pub record IsReported (reason : Refusal → Type 0) (needed : Type 0) (budget st
 
 -- ---- calls with one success, of status 0
 
--- a call returns 0 only if `done` holds, and does so whenever there is a value, unless memory runs out; otherwise it
--- reports a refusal
+-- a call returns 0 only if `done` holds; if there is a value, it returns 0 or 8; otherwise it reports a refusal
 pub record IsDone (done : Type 0) (value : Tree → Type 0) (reason : Refusal → Type 0) (needed : Type 0)
     (budget status : ℕ) (report : CapnReport) : Type 0 where
   pub possible : (status ≡ 0) ⊎ (8 ≤ status)
@@ -41,19 +40,19 @@ pub record IsDone (done : Type 0) (value : Tree → Type 0) (reason : Refusal �
   pub only : (v : Tree) → value v → (status ≡ 0) ⊎ (status ≡ 8)
   pub reported : IsReported reason needed budget status report
 
--- a call on bytes in a form returns 0 only if `done` holds, or reports why they are not accepted
+-- a call on bytes in a form returns 0 only if `done` holds, or reports why the bytes are not accepted
 abbrev pub IsDoneIn : Form → List ℕ → Bounds → (done needed : Type 0) → ℕ → CapnReport → Type 0
 IsDoneIn form bs limits done needed status report =
     IsDone done (Denotes form bs limits) (IsUnacceptedIn form bs limits) needed limits.budget status report
 
--- a call on segments returns 0 only if `done` holds, or reports why they are not accepted; it takes no memory
+-- a call on segments returns 0 only if `done` holds, or reports why the segments are not accepted, but never 8
 abbrev pub IsDoneHeld : List (List ℕ) → Bounds → (done : Type 0) → ℕ → CapnReport → Type 0
 IsDoneHeld message limits done status report =
     IsDone done (DenotesHeld message limits) (IsUnacceptedHeld message limits) ⊥ limits.budget status report
 
 -- ---- calls for canonical bytes
 
--- a call has written the canonical bytes of a value to the buffer, or says that they have no room, or reports a refusal
+-- a call has written the canonical bytes of a value, or says that the buffer has no room, or reports a refusal
 pub record IsFilled (value : Tree → Type 0) (answer : List ℕ → ℕ → Type 0) (reason : Refusal → Type 0)
     (needed : Type 0) (limits : Bounds) (old new : List ℕ) (status : ℕ) (report : CapnReport) : Type 0 where
   pub possible : (status ≤ 1) ⊎ (8 ≤ status)
@@ -65,8 +64,8 @@ pub record IsFilled (value : Tree → Type 0) (answer : List ℕ → ℕ → Typ
   pub kept : status ≢ 0 → new ≡ old
   pub canonical : status ≡ 0 → (v : Tree) → value v → IsCanonicalForm (take report.length new) limits v
 
--- a call has written the canonical bytes of bytes in a form to the buffer, or says that they have no room, or reports
--- why there are none
+-- a call has written the canonical bytes of a message in a form to the buffer, or says that the buffer has no room, or
+-- reports why there are none
 abbrev pub IsFilledIn : Form → List ℕ → Bounds → (needed : Type 0) → (old new : List ℕ) → ℕ → CapnReport → Type 0
 IsFilledIn form bs limits needed old new status report =
     IsFilled (Denotes form bs limits) (Answers form bs limits) (IsRefused form bs limits) needed limits old new status
@@ -79,8 +78,8 @@ pub record HasRoom (message : List (List ℕ)) (limits : Bounds) (room : ℕ) : 
   pub accepted : IsAccepted message limits
   pub fits : length (index_of message limits) ≤ room
 
--- the index of a message that comes after a table of `table` bytes is at the start of the buffer, and the rest of that
--- is as it was
+-- the index of a message that comes after a table of `table` bytes is at the start of the buffer, and the rest of the
+-- buffer is as it was
 abbrev pub IsIndex : (table : ℕ) → List (List ℕ) → Bounds → (old new : List CapnEntry) → Type 0
 IsIndex table message limits old new =
     new ≡ c_index table message limits ++ drop (length (index_of message limits)) old
@@ -91,7 +90,7 @@ pub record IsIndexOr (table : ℕ) (message : List (List ℕ)) (limits : Bounds)
   pub written : IsTrue is_written → IsIndex table message limits old new
   pub kept : is_written ≡ false → new ≡ old
 
--- a call has written the index of a surveyed message to the buffer, or says that it doesn't fit, or reports a refusal
+-- a call has written the index of a surveyed message, or says that the buffer has no room, or reports a refusal
 pub record IsIndexed (survey : Surveyed → Type 0) (index : Type 0) (value : Tree → Type 0) (reason : Refusal → Type 0)
     (needed : Type 0) (budget : ℕ) (old new : List CapnEntry) (status : ℕ) (report : CapnReport) : Type 0 where
   pub possible : (status ≤ 1) ⊎ (8 ≤ status)
@@ -102,8 +101,8 @@ pub record IsIndexed (survey : Surveyed → Type 0) (index : Type 0) (value : Tr
   pub reported : IsReported reason needed budget status report
   pub kept : status ≢ 0 → new ≡ old
 
--- a call has written the index of the message that bytes are read as to the buffer, or says that it doesn't fit, or
--- reports why the message is not accepted
+-- a call has written the index of a message in a form to the buffer, or says that the buffer has no room, or reports
+-- why the message is not accepted
 abbrev pub IsIndexedIn : Form → List ℕ → Bounds → (needed : Type 0) → (old new : List CapnEntry) → ℕ → CapnReport
     → Type 0
 IsIndexedIn form bs limits needed old new status report =

@@ -1,5 +1,4 @@
--- A survey gives the price, and a length that is enough. A value without capabilities is refused only if memory runs
--- out.
+-- A survey gives a length that is enough. A value without capabilities is refused only by `Memory`.
 use Rattle.std.proofs.Common.{inl, ap, sym, refl, ◌∙◌, arith, Err}
 use Rattle.capn_canon.specs.Layout.{canon}
 use Rattle.capn_abi.specs.declared.report.CapnReport.{CapnReport}

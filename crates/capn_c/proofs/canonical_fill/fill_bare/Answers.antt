@@ -1,4 +1,4 @@
--- The canonical bytes written for the words are those of their bytes.
+-- The canonical bytes written for bare words are those of the bytes that encode the words.
 use Rattle.std.proofs.Common.{[], ◌∷◌, refl}
 use Rattle.capn_canon.specs.declared.form.Form.TheVariants as forms
 use Rattle.capn_canon.specs.declared.refusal.Refusal.TheVariants as refusals

@@ -1,4 +1,4 @@
--- The form and the limits of the inner call are those that the numbers name.
+-- The inner call gets the form and the limits that the caller's numbers name.
 use Rattle.std.proofs.Common.{◌≡◌, ℕ, List, length, subst}
 use Rattle.capn_walk.specs.Limits.{Bounds}
 use Rattle.capn_canon.specs.declared.form.Form.{Form}

@@ -1,4 +1,4 @@
--- The result for two messages is that for their bytes.
+-- The result for two messages is also the result for the bytes that are read as those messages.
 use Rattle.capn_canon.proofs.shared.TaskRuns.{run_answered}
 use Rattle.capn_c.specs.inner.Told.{IsComparedTo}
 use Rattle.capn_c.proofs.Comparisons.{compared_bounded, compared_found, compared_refused}

@@ -1,4 +1,4 @@
--- Bare words are read as a message of one segment, and are refused as it is.
+-- Bare words are read as a message of one segment. A refusal of that message is a refusal of the words.
 use Rattle.std.proofs.Common.{◌≢◌, [], ◌∷◌, Bool, Result, IfErr, refl, subst}
 use Rattle.std.proofs.lemmas.Result.{IfOk-weaker, IfErr-weaker}
 use Rattle.capn_canon.specs.declared.form.Form.TheVariants as forms

@@ -1,4 +1,4 @@
--- The result for the stream that a packed text unpacks to is that for the text.
+-- The result for the stream that a packed text unpacks to is also the result for the packed text.
 use Rattle.std.proofs.Common.{arith}
 use Rattle.std.proofs.lemmas.Result.{IfOk-weaker, IfErr-weaker}
 use Rattle.capn_c.proofs.Comparisons.{packed_refused, packed_same}

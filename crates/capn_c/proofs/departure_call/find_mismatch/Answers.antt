@@ -1,4 +1,4 @@
--- An accepted message is refused only if memory runs out.
+-- An accepted message is refused only by `Memory`.
 use Rattle.std.proofs.Common.{ap, Err}
 use Rattle.capn_c.proofs.Reported.{unaccepted_done}
 use Rattle.capn_c.proofs.departure_call.find_mismatch.Goals as goal

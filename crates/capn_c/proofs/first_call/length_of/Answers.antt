@@ -1,4 +1,4 @@
--- The result for the first frame is that for its length.
+-- The length of the first frame follows from the result for that frame.
 use Rattle.std.proofs.Common.{rules}
 use Rattle.capn_c.proofs.first_call.length_of.Goals as goal
 

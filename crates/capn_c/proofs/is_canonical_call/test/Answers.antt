@@ -1,4 +1,4 @@
--- A refusal is reported, which is never that memory ran out.
+-- The refusal that is reported is never `Memory`.
 use Rattle.capn_canon.specs.declared.form.Form.TheVariants as forms
 use Rattle.capn_c.proofs.Reported.{refused_bytes}
 use Rattle.capn_c.proofs.is_canonical_call.test.Goals as goal

@@ -1,5 +1,4 @@
--- The bytes have only one text in the style that the number names. An accepted message is refused only if memory runs
--- out.
+-- Bytes have only one text in a style. An accepted message is refused only by `Memory`.
 use Rattle.std.proofs.Common.{rules, List, ℕ, inl, inr, ap, subst, ◌∙◌, Err}
 use Rattle.capn_canon.proofs.shared.NotUnaccepted.{not_unaccepted}
 use Rattle.capn_show.specs.declared.style.Style.{Style}
