@@ -2,9 +2,9 @@
 //! line with its name and a line with a call, whose words are parted by a space. Bytes are hexadecimal, and `-` stands
 //! for none. A call after the word `plain` pays by the plain tariff, any other by the strict one. The answers must
 //! equal the stored output, which no run of this program wrote. Each call is made once with enough memory, and then
-//! once for each of its growths, with that growth refused. A message is also cut at each byte. The line of a case is
-//! printed only if the call reported refused memory each time, gave its answer afterwards, and gave for each prefix
-//! what the definitions give.
+//! once for each of its allocations, with that allocation refused. A message is also cut at each byte. The line of a
+//! case is printed only if the call reported a refused allocation each time, gave its answer afterwards, and gave for
+//! each prefix what the definitions give.
 #![tactic(auto)]
 
 mod cuts;
@@ -65,8 +65,8 @@ impl Answers for Calls {
     }
 }
 
-/// Returns the answer for a call, as a line. Checks the call with each growth refused, and with its message cut at each
-/// byte.
+/// Returns the answer for a call, as a line. Checks the call with each allocation refused, and with its message cut at
+/// each byte.
 fn answer_line(alloc: Global, line: &str) -> Result<String> {
     let words: Vec<&str> = line.split(' ').collect(alloc)?;
     let (growths, call) = growths_and_call(words.as_slice());

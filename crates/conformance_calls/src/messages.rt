@@ -35,7 +35,8 @@ pub(crate) fn limits_answer(alloc: Global, words: &[&str]) -> Result<String> {
     Ok(String::from_str(alloc, text)?)
 }
 
-/// Tests whether `bytes` are the layout of `tree`. Returns `false` if memory ran out, and an error if they are not.
+/// Tests whether `bytes` are the layout of `tree`. Returns `false` if an allocation was refused, and an error if they
+/// are not.
 fn is_layout(heap: &Heap, tree: &Tree<&Heap>, bytes: &[u8]) -> Result<bool> {
     match layout(heap, tree) {
         Ok(laid) if laid.as_slice() == bytes => Ok(true),
@@ -45,7 +46,7 @@ fn is_layout(heap: &Heap, tree: &Tree<&Heap>, bytes: &[u8]) -> Result<bool> {
     }
 }
 
-/// Tests whether `bytes` are the layout of the tree `made`. Returns `false` if memory ran out.
+/// Tests whether `bytes` are the layout of the tree `made`. Returns `false` if an allocation was refused.
 fn is_layout_of_made(heap: &Heap, made: Result<Tree<&Heap>, Memory>, bytes: &[u8]) -> Result<bool> {
     match made {
         Ok(tree) => {
@@ -58,8 +59,8 @@ fn is_layout_of_made(heap: &Heap, made: Result<Tree<&Heap>, Memory>, bytes: &[u8
     }
 }
 
-/// Tests whether `bytes` are the layout of `tree`, of its copy, and of its trimmed form. Returns `false` if memory ran
-/// out.
+/// Tests whether `bytes` are the layout of `tree`, of its copy, and of its trimmed form. Returns `false` if an
+/// allocation was refused.
 fn is_layout_of_each(heap: &Heap, tree: &Tree<&Heap>, bytes: &[u8]) -> Result<bool> {
     Ok(
         is_layout(heap, tree, bytes)?
@@ -68,8 +69,8 @@ fn is_layout_of_each(heap: &Heap, tree: &Tree<&Heap>, bytes: &[u8]) -> Result<bo
     )
 }
 
-/// Tests whether `bytes` are the layout of the tree that a walk of the message makes. Returns `false` if memory ran
-/// out.
+/// Tests whether `bytes` are the layout of the tree that a walk of the message makes. Returns `false` if an allocation
+/// was refused.
 fn is_layout_of<S: Space>(heap: &Heap, space: &S, limits: Limits, bytes: &[u8]) -> Result<bool> {
     match walk(heap, space, limits) {
         Ok(walked) => {
@@ -82,8 +83,8 @@ fn is_layout_of<S: Space>(heap: &Heap, space: &S, limits: Limits, bytes: &[u8]) 
     }
 }
 
-/// Tests whether `bytes` are the layout of the tree of the first message in `stream`. Returns `false` if memory ran
-/// out.
+/// Tests whether `bytes` are the layout of the tree of the first message in `stream`. Returns `false` if an allocation
+/// was refused.
 fn is_layout_of_frame(heap: &Heap, stream: &[u8], limits: Limits, bytes: &[u8]) -> Result<bool> {
     match first(heap, stream, MOST_MESSAGE_WORDS) {
         Ok((space, _)) => is_layout_of(heap, &space, limits, bytes),
@@ -92,8 +93,8 @@ fn is_layout_of_frame(heap: &Heap, stream: &[u8], limits: Limits, bytes: &[u8]) 
     }
 }
 
-/// Tests whether `bytes` are the layout of the tree of the message that `input` holds in `form`. Returns `false` if
-/// memory ran out.
+/// Tests whether `bytes` are the layout of the tree of the message that `input` holds in `form`. Returns `false` if an
+/// allocation was refused.
 fn is_layout_in_form(
     heap: &Heap,
     form: Form,

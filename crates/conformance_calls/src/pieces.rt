@@ -64,7 +64,7 @@ fn framer_text(
     }
 }
 
-/// Checks that a framer fails at every call, after memory ran out.
+/// Checks that a framer fails at every call, after an allocation was refused.
 fn has_to_fail(framer: &mut Framer<&Heap>) -> Result<()> {
     match (framer.feed(&[0]), framer.finish(), framer.take()) {
         (Err(FrameFault::Failed), Err(FrameFault::Failed), None) => Ok(()),
@@ -72,7 +72,7 @@ fn has_to_fail(framer: &mut Framer<&Heap>) -> Result<()> {
     }
 }
 
-/// Does a step of a framer and appends its answer. Returns whether memory ran out.
+/// Does a step of a framer and appends its answer. Returns whether an allocation was refused.
 fn framer_step(
     framer: &mut Framer<&Heap>,
     alloc: Global,
@@ -85,7 +85,7 @@ fn framer_step(
     Ok(told.as_str() == MEMORY)
 }
 
-/// Returns the answers of a framer to all steps, or to those up to the one at which memory ran out.
+/// Returns the answers of a framer to all steps, or to those up to the one at which an allocation was refused.
 fn framer_steps(framer: &mut Framer<&Heap>, alloc: Global, words: &[&str]) -> Result<String> {
     let mut text = String::new(alloc);
     let mut is_piece = false;

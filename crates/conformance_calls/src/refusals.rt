@@ -6,7 +6,7 @@ use conformance_cases::MEMORY;
 use std::alloc::Global;
 use std::fmt::Display;
 
-/// Displays `fault`. Refused memory is displayed as `Memory`, by which the check of growths recognises it.
+/// Displays `fault`. A refused allocation is displayed as `Memory`, by which the check of allocations recognises it.
 pub(crate) fn told<E: Display + Drop>(alloc: Global, fault: E) -> Result<String> {
     let text = format!(in alloc; "{fault}")?;
     match text.as_str().strip_suffix("out of memory") {

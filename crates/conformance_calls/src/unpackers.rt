@@ -6,7 +6,7 @@ use capn_pack::{UnpackFault, Unpacker};
 use conformance_cases::{Heap, MEMORY, bytes_at, cut_short, digits_of, push_told, word_at};
 use std::alloc::Global;
 
-/// Checks that an unpacker fails at every call, after memory ran out.
+/// Checks that an unpacker fails at every call, after an allocation was refused.
 fn unpacker_has_to_fail(unpacker: &mut Unpacker, alloc: Global) -> Result<()> {
     let mut unpacked = Vec::new(alloc);
     match (unpacker.feed(&[0, 0], &mut unpacked), unpacker.finish()) {
@@ -47,7 +47,7 @@ fn unpacker_text(
     }
 }
 
-/// Does a step of an unpacker and appends its answer. Returns whether memory ran out.
+/// Does a step of an unpacker and appends its answer. Returns whether an allocation was refused.
 fn unpacker_step(
     unpacker: &mut Unpacker,
     alloc: Global,

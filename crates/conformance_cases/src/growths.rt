@@ -1,4 +1,4 @@
-//! `answer_each`: answers a case with enough memory, and then with each growth of its call refused in turn.
+//! `answer_each`: answers a case with enough memory, and then with each allocation of its call refused in turn.
 
 use anyhow::{Result, bail};
 use std::alloc::Global;
@@ -7,7 +7,8 @@ use test_allocator::Refusing;
 /// The allocator for the call of a case. Memory for the case itself, such as its text, is never refused.
 pub type Heap = Refusing<Global>;
 
-/// The end of the answer for a call that reported refused memory. The bytes that it had written by then come before it.
+/// The end of the answer for a call that reported a refused allocation. The bytes that it had written by then come
+/// before it.
 pub const MEMORY: &str = "Memory";
 
 /// A program that answers cases.
@@ -16,7 +17,7 @@ pub trait Answers {
     fn answer(&self, alloc: Global, heap: &Heap, words: &[&str]) -> Result<String>;
 }
 
-/// Returns the answer for a call that ran out of memory: the bytes `written` before, and `MEMORY`.
+/// Returns the answer for a call that had an allocation refused: the bytes `written` before, and `MEMORY`.
 pub fn cut_short(alloc: Global, written: &[u8]) -> Result<String> {
     let digits = hex::encode(alloc, written)?;
     Ok(format!(in alloc; "{digits}{MEMORY}")?)
@@ -30,7 +31,7 @@ fn behind_status(text: &str) -> &str {
     }
 }
 
-/// Tests whether `told`, the answer with a refused growth, is a prefix of `want` followed by `MEMORY`.
+/// Tests whether `told`, the answer with a refused allocation, is a prefix of `want` followed by `MEMORY`.
 fn is_cut_short(told: &str, want: &str) -> bool {
     match told.strip_suffix(MEMORY) {
         Some(begun) => want.starts_with(begun) || behind_status(want).starts_with(begun),
@@ -38,8 +39,8 @@ fn is_cut_short(told: &str, want: &str) -> bool {
     }
 }
 
-/// Refuses growth `number` of a call. The call must report refused memory and nothing else. Called again without a
-/// refusal, it must give the answer `want`.
+/// Refuses allocation `number` of a call. The call must report a refused allocation and nothing else. Called again
+/// without a refusal, it must give the answer `want`.
 fn refuse<C: Answers>(
     alloc: Global,
     calls: &C,
@@ -59,17 +60,17 @@ fn refuse<C: Answers>(
     Ok(())
 }
 
-/// The growths of a call that are refused.
+/// The allocations of a call that are refused.
 #[derive(Clone, Copy, PartialEq, Eq)]
 pub enum Growths {
-    /// Each growth.
+    /// Each allocation.
     Each,
-    /// About 64 growths at equal distances, for a call after the word `few`. It is for large messages, whose thousands
-    /// of growths would take minutes in runs that check each step.
+    /// About 64 allocations at equal distances, for a call after the word `few`. It is for large messages, whose
+    /// thousands of allocations would take minutes in runs that check each step.
     Few,
 }
 
-/// Returns the growths to refuse for a case, and the words of its call.
+/// Returns the allocations to refuse for a case, and the words of its call.
 pub fn growths_and_call<'w, 'a>(words: &'w [&'a str]) -> (Growths, &'w [&'a str]) {
     match words {
         [first, call @ ..] if *first == "few" => (Growths::Few, call),

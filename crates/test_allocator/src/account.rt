@@ -1,22 +1,24 @@
-//! The account of a test allocator: which growths it refuses, and the count and the greatest size of those requested.
+//! The account of a test allocator: which allocations it refuses, and the count and the greatest size of those
+//! requested.
 
 ghost use Rattle.std.specs.Prelude.{◌≡◌, ◌⊎◌, ◌+◌, ◌-◌, ◌^◌, ◌<◌, ◌↔◌, true, max, min};
 
-/// The growths that are refused, and the figures of those requested so far.
+/// The allocations that are refused, and the figures of those requested so far.
 #[derive(Clone, Copy)]
 pub(crate) struct Account {
-    /// The number of the growth that is refused, counted from 1 for the next one. With 0 none is refused by its number.
+    /// The number of the allocation that is refused, counted from 1 for the next one. With 0 none is refused by its
+    /// number.
     pub left: u64,
-    /// The greatest size in bytes of a growth that is let through.
+    /// The greatest size in bytes of an allocation that is let through.
     pub most: usize,
     /// The greatest size in bytes that was requested.
     pub greatest: usize,
-    /// The number of growths requested.
+    /// The number of allocations requested.
     pub count: u64,
 }
 
 impl Account {
-    /// Returns an account that refuses only the growth with the number `number`, counted from 1. With 0 it refuses
+    /// Returns an account that refuses only the allocation with the number `number`, counted from 1. With 0 it refuses
     /// none.
     pub(crate) fn nth(number: u64) -> Account
         ensures left { result.left ≡ number }
@@ -32,14 +34,14 @@ impl Account {
         }
     }
 
-    /// Tests whether a growth of `size` bytes is refused.
+    /// Tests whether an allocation of `size` bytes is refused.
     pub(crate) fn refuses(self, size: usize) -> bool
         ensures { (result ≡ true) ↔ ((self.left ≡ 1) ⊎ (self.most < size)) }
     {
         self.left == 1 || self.most < size
     }
 
-    /// Returns the account after a request for a growth of `size` bytes.
+    /// Returns the account after a request for an allocation of `size` bytes.
     pub(crate) fn counted(self, size: usize) -> Account
         ensures left { result.left ≡ self.left - 1 }
         ensures most { result.most ≡ self.most }

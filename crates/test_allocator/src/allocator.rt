@@ -1,18 +1,18 @@
-//! `Refusing`: an allocator that refuses growths, and keeps an account of those requested.
+//! `Refusing`: an allocator that refuses allocations, and keeps an account of those requested.
 
 use crate::account::Account;
 use std::alloc::{AllocError, Allocator};
 use std::cell::Cell;
 
-/// An allocator that passes each call to `inner`, except for the growths that it refuses.
+/// An allocator that passes each call to `inner`, except for the allocations that it refuses.
 pub struct Refusing<B: Allocator> {
     inner: B,
     account: Cell<Account>,
 }
 
 impl<B: Allocator> Refusing<B> {
-    /// Returns an allocator over `inner` that refuses only the growth with the number `number`, counted from 1. With 0
-    /// it refuses none.
+    /// Returns an allocator over `inner` that refuses only the allocation with the number `number`, counted from 1.
+    /// With 0 it refuses none.
     pub fn nth(inner: B, number: u64) -> Refusing<B> {
         Refusing {
             inner,
@@ -20,29 +20,29 @@ impl<B: Allocator> Refusing<B> {
         }
     }
 
-    /// Refuses each growth of more than `most` bytes, from now on.
+    /// Refuses each allocation of more than `most` bytes, from now on.
     pub fn refuse_above(&self, most: usize) {
         let account = self.account.get();
         self.account.set(Account { most, ..account });
     }
 
-    /// Refuses each growth from now on.
+    /// Refuses each allocation from now on.
     pub fn refuse_each(&self) {
         self.refuse_above(0);
     }
 
-    /// Tests whether fewer growths were requested than the number of the one to refuse, so that it refused none by its
-    /// number.
+    /// Tests whether fewer allocations were requested than the number of the one to refuse, so that it refused none by
+    /// its number.
     pub fn has_spared(&self) -> bool {
         self.account.get().left != 0
     }
 
-    /// Returns the greatest size in bytes of the growths requested, refused ones included.
+    /// Returns the greatest size in bytes of the allocations requested, refused ones included.
     pub fn greatest(&self) -> usize {
         self.account.get().greatest
     }
 
-    /// Returns the number of growths requested, refused ones included.
+    /// Returns the number of allocations requested, refused ones included.
     pub fn count(&self) -> u64 {
         self.account.get().count
     }
@@ -57,7 +57,7 @@ impl<B: Allocator> Drop for Refusing<B> {
     }
 }
 
-// Counts a growth of `size` bytes, and tests whether it is to be refused.
+// Counts an allocation of `size` bytes, and tests whether it is to be refused.
 fn is_refused(account: &Cell<Account>, size: usize) -> bool {
     let before = account.get();
     account.set(before.counted(size));

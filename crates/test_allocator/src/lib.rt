@@ -1,4 +1,4 @@
-//! An allocator for tests. It refuses growths by their number or by their size, and counts them.
+//! An allocator for tests. It refuses allocations by their number or by their size, and counts them.
 #![tactic(auto)]
 
 mod account;

@@ -171,7 +171,7 @@ fn ending(rt: &impl Abort, alloc: Global, seed: u64) -> Result<u32, AllocError> 
 
 // All calls agree on messages with cycles, near and far, overlaps, shared rows, tags and offsets at the ends of their
 // ranges, and landing pads that point to pads. They agree in each result, and in the place, the price and the visits of
-// each refusal. Every ending occurs except refused memory.
+// each refusal. Every ending occurs except a refused allocation.
 #[test]
 fn a_hundred_thousand_messages(rt: HostRuntime) -> Result<(), Fail> {
     let mut met = 0;

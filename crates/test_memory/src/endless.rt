@@ -51,7 +51,7 @@ enum Order {
     One(MessageText, Form),
 }
 
-/// Returns the result of a command to which no growth above `ROOM` is allowed.
+/// Returns the result of a command to which no allocation above `ROOM` is allowed.
 fn outcome_of(alloc: Global, order: Order, first: &[u8], pieces: u64) -> Result<(), ToolFault> {
     let limits = Limits::new(WORDS, 1_000, 64).unwrap_or(Limits::usual());
     let command = match order {

@@ -38,7 +38,8 @@ fn are_without_room(framers: &mut [Framer<&Refusing<Global>>]) -> bool {
     true
 }
 
-/// No framer takes memory for the words that a table announces: once growths are refused, none has room for 256 bytes.
+/// No framer takes memory for the words that a table announces: once allocations are refused, none has room for 256
+/// bytes.
 #[test]
 fn many_framers_that_wait_for_the_greatest_message(rt: HostRuntime) -> Result<(), Fail> {
     let heap = Refusing::nth(rt.alloc(), 0);

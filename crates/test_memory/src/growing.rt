@@ -1,5 +1,5 @@
-//! Tests of the number and the size of calls' growths: for tables of many segments, for bytes fed one by one, and for
-//! sizes that are only announced.
+//! Tests of the number and the size of calls' allocations: for tables of many segments, for bytes fed one by one, and
+//! for sizes that are only announced.
 
 use crate::cuts::long_table;
 use crate::short_runs::output;
@@ -53,8 +53,8 @@ fn many_segments(alloc: Global) -> Result<Vec<u8>, AllocError> {
     Ok(stream)
 }
 
-/// Returns the number of growths that reading the message of `stream` takes, and the greatest size of one. Returns both
-/// for writing its frame, too.
+/// Returns the number of allocations that reading the message of `stream` takes, and the greatest size of one. Returns
+/// both for writing its frame, too.
 fn framed_growths(alloc: Global, stream: &[u8]) -> Option<((u64, usize), (u64, usize))> {
     let heap = Refusing::nth(alloc, 0);
     let (message, _) = first(&heap, stream, MOST).ok()?;
@@ -70,8 +70,8 @@ fn framed_growths(alloc: Global, stream: &[u8]) -> Option<((u64, usize), (u64, u
     }
 }
 
-/// A message of many segments takes four bytes for each segment, whatever it holds. Its frame takes one growth of its
-/// length.
+/// A message of many segments takes four bytes for each segment, whatever it holds. Its frame takes one allocation of
+/// its length.
 #[test]
 fn growths_of_many_segments(rt: HostRuntime) -> Result<(), Fail> {
     let stream = many_segments(rt.alloc())?;
@@ -80,7 +80,7 @@ fn growths_of_many_segments(rt: HostRuntime) -> Result<(), Fail> {
     Ok(())
 }
 
-/// Counts the growths of a framer that is fed `stream` byte by byte.
+/// Counts the allocations of a framer that is fed `stream` byte by byte.
 fn growths_by_the_byte(alloc: Global, stream: &[u8]) -> Option<u64> {
     let heap = Refusing::nth(alloc, 0);
     let mut framer = Framer::new(&heap, MOST);
@@ -106,7 +106,7 @@ fn a_mebibyte_byte_by_byte(rt: HostRuntime) -> Result<(), Fail> {
     Ok(())
 }
 
-/// Tests whether `bytes` are canonical, which takes no growth of more than a kibibyte to find out.
+/// Tests whether `bytes` are canonical, which takes no allocation of more than a kibibyte to find out.
 fn is_small(alloc: Global, bytes: &[u8]) -> bool {
     let heap = Refusing::nth(alloc, 0);
     let is_own = match canonicalise(&heap, Form::Bare, bytes, limits(64)) {
@@ -126,7 +126,7 @@ fn voids_by_the_million(rt: HostRuntime) -> Result<(), Fail> {
     Ok(())
 }
 
-/// Returns the number of growths of `check` over a packed input that begins with an empty message, and the greatest
+/// Returns the number of allocations of `check` over a packed input that begins with an empty message, and the greatest
 /// size of one.
 fn priced_growths(alloc: Global, packed: &[u8]) -> Option<(u64, usize)> {
     let heap = Refusing::nth(alloc, 0);
@@ -140,7 +140,7 @@ fn priced_growths(alloc: Global, packed: &[u8]) -> Option<(u64, usize)> {
     }
 }
 
-/// Packed zeros that stand for 64 MiB are unpacked bit by bit: no growth is above 514 KiB.
+/// Packed zeros that stand for 64 MiB are unpacked bit by bit: no allocation is above 514 KiB.
 #[test]
 fn packed_zeros_are_unpacked_bit_by_bit(rt: HostRuntime) -> Result<(), Fail> {
     let mut packed = Vec::new(rt.alloc());
@@ -155,7 +155,7 @@ fn packed_zeros_are_unpacked_bit_by_bit(rt: HostRuntime) -> Result<(), Fail> {
     Ok(())
 }
 
-/// Counts the growths of the walk of a message.
+/// Counts the allocations of the walk of a message.
 fn walked_growths(alloc: Global, bytes: &[u8]) -> Option<u64> {
     let heap = Refusing::nth(alloc, 0);
     let space = Bare::new(bytes).ok()?;
@@ -168,7 +168,7 @@ fn walked_growths(alloc: Global, bytes: &[u8]) -> Option<u64> {
     Some(count)
 }
 
-/// Counts the growths that it takes to show a message.
+/// Counts the allocations that it takes to show a message.
 fn shown_growths(alloc: Global, stream: &[u8]) -> Option<u64> {
     let heap = Refusing::nth(alloc, 0);
     let command = Command::Show(Form::Stream, limits(256));
@@ -178,7 +178,7 @@ fn shown_growths(alloc: Global, stream: &[u8]) -> Option<u64> {
     }
 }
 
-/// A message is shown without its tree: a few growths suffice, for the message, its survey and a text of 64 KiB.
+/// A message is shown without its tree: a few allocations suffice, for the message, its survey and a text of 64 KiB.
 #[test]
 fn a_message_is_shown_without_its_value(rt: HostRuntime) -> Result<(), Fail> {
     let deep = chain(rt.alloc(), 200)?;

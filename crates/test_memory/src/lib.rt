@@ -1,5 +1,5 @@
-//! Tests of the libraries' calls with too little memory or input. Memory is refused at each growth in turn, and input
-//! is cut at each byte.
+//! Tests of the libraries' calls with too little memory or input. Each allocation is refused in turn, and input is cut
+//! at each byte.
 //!
 //! They are apart from the crates that they test, because a crate with tests is proved twice.
 #![tactic(auto)]

@@ -1,5 +1,5 @@
-//! Tests of archives of very many messages or bytes, and of the growths of a run that packs. No run over them reports
-//! that memory ran out if there is enough.
+//! Tests of archives of very many messages or bytes, and of the allocations of a run that packs. No run over them
+//! reports that an allocation was refused if there is enough memory.
 
 use capn_archive::{ArchiveFault, ArchiveOrder, Task, UniqOrder, run_archive, run_uniq};
 use capn_canon::Form;
@@ -77,7 +77,7 @@ const LINE: &[u8] = b"65538 at 4295032832 bytes 16 segments 1 words 1 \
 refused Range at 0:0, paid 0, visits 1\n";
 
 /// A refused message past 4 GiB has its line. The test fails for code that has room only for numbers below 2^32 and
-/// reports that memory ran out.
+/// reports `Memory`.
 #[test]
 fn a_refusal_past_4_gibibytes_is_listed(rt: HostRuntime) {
     let order = ArchiveOrder {
@@ -111,7 +111,7 @@ fn different(alloc: Global, count: u32) -> Result<Vec<u8>, AllocError> {
 }
 
 /// Each of 20,000 different messages is kept. The test fails for code that takes no more than some number of digests
-/// and reports that memory ran out. (`capn_digests` has a test of a million digests.)
+/// and reports `Memory`. (`capn_digests` has a test of a million digests.)
 #[test]
 fn twenty_thousand_that_differ_are_kept(rt: HostRuntime) -> Result<(), Fail> {
     let stream = different(rt.alloc(), 20_000)?;
@@ -132,7 +132,7 @@ fn twenty_thousand_that_differ_are_kept(rt: HostRuntime) -> Result<(), Fail> {
 /// The number of rows that are packed, each of 65,536 bytes.
 const PACKED: u64 = 49;
 
-/// Counts the growths of packing `row`, `PACKED` times.
+/// Counts the allocations of packing `row`, `PACKED` times.
 fn packed_growths(alloc: Global, row: &[u8]) -> Option<u64> {
     let heap = Refusing::nth(alloc, 0);
     let mut reader = Watched::new(Rows {
@@ -158,8 +158,8 @@ fn row_of(alloc: Global, last: u64) -> Result<Vec<u8>, AllocError> {
     Ok(row)
 }
 
-/// A dense word at the end of a row is held back, which takes one growth more than a row without one. The test fails
-/// for code that unpacks what it packed to find the last group of each row, which takes two more.
+/// A dense word at the end of a row is held back, which takes one allocation more than a row without one. The test
+/// fails for code that unpacks what it packed to find the last group of each row, which takes two more.
 #[test]
 fn nothing_that_was_packed_is_unpacked(rt: HostRuntime) -> Result<(), Fail> {
     let sparse = row_of(rt.alloc(), 1)?;

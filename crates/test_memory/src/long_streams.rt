@@ -106,7 +106,7 @@ fn stream_form_of(form: Form) -> StreamForm {
     }
 }
 
-/// The demand of a run: its number of growths, the greatest size of one, and the number of bytes that it wrote.
+/// The demand of a run: its number of allocations, the greatest size of one, and the number of bytes that it wrote.
 #[derive(Clone, Copy)]
 struct Demand {
     growths: u64,
@@ -201,7 +201,8 @@ fn two_hundred_thousand_messages(rt: HostRuntime) -> Result<(), Fail> {
     Ok(())
 }
 
-/// Tests whether a run over 200,704 messages ends with `Ok`, writes `written` bytes, and takes no growth above 256 KiB.
+/// Tests whether a run over 200,704 messages ends with `Ok`, writes `written` bytes, and takes no allocation above 256
+/// KiB.
 fn writes(alloc: Global, order: Order, written: u64) -> Result<bool, AllocError> {
     let row = times(alloc, &EMPTY, IN_A_ROW)?;
     match taken(alloc, order, Form::Stream, row.as_slice(), ROWS) {
@@ -259,7 +260,7 @@ fn two_hundred_thousand_messages_of_one_value(rt: HostRuntime) -> Result<(), Fai
     Ok(())
 }
 
-/// Returns the demand of a run over `rows` packed rows, if it takes no growth of more than 1 MiB.
+/// Returns the demand of a run over `rows` packed rows, if it takes no allocation of more than 1 MiB.
 fn taken_of_packed(alloc: Global, order: Order, rows: u64) -> Result<Option<Demand>, AllocError> {
     let frame = packed_zeros(alloc)?;
     let row = times(alloc, frame.as_slice(), PACKED_IN_A_ROW)?;

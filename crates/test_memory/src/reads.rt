@@ -1,4 +1,4 @@
-//! A test of the bytes left to a reader after a refused growth.
+//! A test of the bytes left to a reader after a refused allocation.
 
 use crate::refused::stream_of_65;
 use capn_stream::{ReadFault, read_message};
@@ -7,9 +7,9 @@ use std::alloc::Global;
 use std::test::Fail;
 use test_allocator::Refusing;
 
-/// Reads a message while growth `number` is refused. Returns whether there was no growth with that number, and the
-/// number of bytes left to the reader. The latter is `None` unless the message was read in that case and memory ran out
-/// in the other.
+/// Reads a message while allocation `number` is refused. Returns whether there was no allocation with that number, and
+/// the number of bytes left to the reader. The latter is `None` unless the message was read in that case and an
+/// allocation was refused in the other.
 fn left_by(alloc: Global, stream: &[u8], number: u64) -> (bool, Option<usize>) {
     let short = Refusing::nth(alloc, number);
     let mut reader = Watched::new(stream);
@@ -25,7 +25,7 @@ fn left_by(alloc: Global, stream: &[u8], number: u64) -> (bool, Option<usize>) {
     (is_spared, None)
 }
 
-/// No byte of the next message is read if memory is refused for the one before.
+/// No byte of the next message is read if an allocation is refused for the one before.
 #[test]
 fn no_byte_of_the_next_message_is_read(rt: HostRuntime) -> Result<(), Fail> {
     let mut twice = stream_of_65(rt.alloc())?;

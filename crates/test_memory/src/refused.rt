@@ -1,4 +1,4 @@
-//! Tests of calls with each growth refused in turn.
+//! Tests of calls with each allocation refused in turn.
 
 use crate::short_runs::*;
 use crate::short_shows::*;
@@ -173,8 +173,8 @@ pub(crate) fn answer(of: &Subject, short: &Refusing<Global>, call: Call) -> Answ
     }
 }
 
-/// Calls `call` while growth `number` is refused, and then once more. Returns whether there was no growth with that
-/// number, and both outcomes. If there was one, the second call has enough memory.
+/// Calls `call` while allocation `number` is refused, and then once more. Returns whether there was no allocation with
+/// that number, and both outcomes. If there was one, the second call has enough memory.
 fn answers(of: &Subject, call: Call, number: u64) -> (bool, Answer, Answer) {
     let short = Refusing::nth(of.alloc, number);
     let first = answer(of, &short, call);
@@ -189,8 +189,8 @@ fn takes_memory(call: Call) -> bool {
     !matches!(call, Call::Survey | Call::Check | Call::Account(Form::Bare))
 }
 
-/// Refuses each growth of `call` in turn, until no growth is left to refuse. The call then returns only `Memory`, and
-/// with enough memory it returns what is right. A call that takes no memory has no growth to refuse.
+/// Refuses each allocation of `call` in turn, until no allocation is left to refuse. The call then returns only
+/// `Memory`, and with enough memory it returns what is right. A call that takes no memory has no allocation to refuse.
 fn refuse_each(rt: &impl Abort, of: &Subject, name: &str, call: Call) {
     for number in 1..1_000u64 {
         match answers(of, call, number) {
@@ -212,9 +212,9 @@ fn each_call(rt: HostRuntime) -> Result<(), Fail> {
     Ok(())
 }
 
-/// Shows two messages, each with the text `text`, while growth `number` is refused. Returns whether there was no growth
-/// with that number, and the outcome. It is right if both texts are written, or if memory ran out after the first text
-/// and perhaps a prefix of the second.
+/// Shows two messages, each with the text `text`, while allocation `number` is refused. Returns whether there was no
+/// allocation with that number, and the outcome. It is right if both texts are written, or if an allocation was refused
+/// after the first text and perhaps a prefix of the second.
 fn shows_twice(alloc: Global, twice: &[u8], text: &[u8], number: u64) -> (bool, Answer) {
     let short = Refusing::nth(alloc, number);
     let (outcome, shown) = output(alloc, &short, command_of(Order::Show), twice);
@@ -230,7 +230,7 @@ fn shows_twice(alloc: Global, twice: &[u8], text: &[u8], number: u64) -> (bool, 
     )
 }
 
-/// If a growth for the second of two messages is refused, the text of the first is still written.
+/// If an allocation for the second of two messages is refused, the text of the first is still written.
 #[test]
 fn the_first_message_is_written(rt: HostRuntime) -> Result<(), Fail> {
     let once = stream_of_65(rt.alloc())?;
@@ -260,8 +260,8 @@ fn two_messages(alloc: Global) -> Result<Vec<u8>, Fail> {
     Ok(stream)
 }
 
-/// Runs `command` while growth `number` is refused. Returns whether there was no growth with that number, and whether
-/// the run ended as it must: with `Ok` in that case, else with `Memory`.
+/// Runs `command` while allocation `number` is refused. Returns whether there was no allocation with that number, and
+/// whether the run ended as it must: with `Ok` in that case, else with `Memory`.
 fn ends_by(alloc: Global, command: &Command, input: &[u8], number: u64) -> (bool, bool) {
     let short = Refusing::nth(alloc, number);
     let (outcome, _) = output(alloc, &short, *command, input);
@@ -274,7 +274,7 @@ fn ends_by(alloc: Global, command: &Command, input: &[u8], number: u64) -> (bool
     (is_spared, outcome == want)
 }
 
-/// Counts the growths of a run. Returns `None` if one of them is refused and the run does not end with `Memory`.
+/// Counts the allocations of a run. Returns `None` if one of them is refused and the run does not end with `Memory`.
 fn growths_of(alloc: Global, command: &Command, input: &[u8]) -> Option<u64> {
     for number in 1..1_000u64 {
         match ends_by(alloc, command, input, number) {
@@ -286,7 +286,8 @@ fn growths_of(alloc: Global, command: &Command, input: &[u8]) -> Option<u64> {
     None
 }
 
-/// A run ends with `Memory` whichever growth is refused, even for a message that is whole in a chunk after another one.
+/// A run ends with `Memory` whichever allocation is refused, even for a message that is whole in a chunk after another
+/// one.
 #[test]
 fn a_refused_growth_ends_a_run(rt: HostRuntime) -> Result<(), Fail> {
     let stream = two_messages(rt.alloc())?;

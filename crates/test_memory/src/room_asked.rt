@@ -1,4 +1,4 @@
-//! Tests of the greatest growth of `show`, for bare inputs and for the texts of long lists.
+//! Tests of the greatest allocation of `show`, for bare inputs and for the texts of long lists.
 
 use crate::long_streams::Counted;
 use crate::short_runs::output;
@@ -19,8 +19,8 @@ fn bare_of(alloc: Global, root: u64, len: usize) -> Result<Vec<u8>, AllocError> 
     Ok(bytes)
 }
 
-/// Tests whether a bare message of `len` bytes is shown, and no growth is above the size of four chunks and twice its
-/// bytes.
+/// Tests whether a bare message of `len` bytes is shown, and no allocation is above the size of four chunks and twice
+/// its bytes.
 fn follows_its_input(alloc: Global, root: u64, len: usize) -> Result<bool, AllocError> {
     let input = bare_of(alloc, root, len)?;
     let most = len.saturating_mul(2).saturating_add(262_144);
@@ -47,7 +47,7 @@ const LONG_LEN: usize = 4_194_312;
 /// Twice the greatest size of a text that is held: a text that is not yet long enough to be written, and one chunk.
 const ROOM: usize = 2 * (65_536 + 4_096);
 
-/// Returns the length of the text of a message in `style`, if no growth is above `ROOM`.
+/// Returns the length of the text of a message in `style`, if no allocation is above `ROOM`.
 fn shown_in(alloc: Global, style: Style, bytes: &[u8]) -> Option<u64> {
     let heap = Refusing::nth(alloc, 0);
     heap.refuse_above(ROOM);

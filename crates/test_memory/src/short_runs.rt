@@ -1,4 +1,4 @@
-//! Calls that are tested with refused growths: canonical bytes, texts of faults, and runs.
+//! Calls that are tested with refused allocations: canonical bytes, texts of faults, and runs.
 
 use crate::subject::{Answer, Subject, judged, limits, wanting};
 use capn_canon::{
@@ -101,7 +101,7 @@ fn written<A: Allocator + Copy>(
     output(of.alloc, alloc, command, input)
 }
 
-/// Returns the outcome of a run. After a refused growth its output must be a prefix of the right one.
+/// Returns the outcome of a run. After a refused allocation its output must be a prefix of the right one.
 pub(crate) fn run_answer(of: &Subject, short: &Refusing<Global>, command: Command) -> Answer {
     let (_, want) = written(of, of.alloc, command);
     let (outcome, text) = written(of, short, command);

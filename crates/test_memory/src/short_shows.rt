@@ -1,4 +1,4 @@
-//! Calls that are tested with refused growths: texts with marks, and messages made from texts.
+//! Calls that are tested with refused allocations: texts with marks, and messages made from texts.
 
 use crate::subject::{Answer, Subject, judged, limits, wanting};
 use capn_canon::Form;
@@ -36,7 +36,7 @@ fn marked<A: Allocator + Copy>(of: &Subject, alloc: A) -> (Result<(), ShowFault>
     (outcome, text)
 }
 
-/// Tests whether `fault` is refused memory.
+/// Tests whether `fault` is a refused allocation.
 fn is_memory(fault: ShowFault) -> bool {
     match fault {
         ShowFault::Memory => true,
@@ -45,8 +45,8 @@ fn is_memory(fault: ShowFault) -> bool {
     }
 }
 
-/// Returns the outcome of showing the message with marks. After a refused growth the text must be a prefix of the right
-/// one.
+/// Returns the outcome of showing the message with marks. After a refused allocation the text must be a prefix of the
+/// right one.
 pub(crate) fn marked_answer(of: &Subject, short: &Refusing<Global>) -> Answer {
     let (_, want) = marked(of, of.alloc);
     let (outcome, text) = marked(of, short);
@@ -67,7 +67,7 @@ fn made<A: Allocator + Copy>(ample: Global, alloc: A) -> (Result<(), MakeFault>,
     (outcome, writer.into_inner())
 }
 
-/// Returns the outcome of making messages from the texts. After a refused growth the output must be a prefix of the
+/// Returns the outcome of making messages from the texts. After a refused allocation the output must be a prefix of the
 /// right one.
 pub(crate) fn made_answer(of: &Subject, short: &Refusing<Global>) -> Answer {
     let (_, want) = made(of.alloc, of.alloc);

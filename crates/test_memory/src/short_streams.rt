@@ -1,4 +1,4 @@
-//! Calls that are tested with refused growths: on streams and packed bytes.
+//! Calls that are tested with refused allocations: on streams and packed bytes.
 
 use crate::subject::{Answer, MOST, Subject, judged, judged_message, wanting};
 use capn_pack::{PackFault, UnpackFault, Unpacker, pack, unpack};
@@ -22,7 +22,8 @@ pub(crate) fn frame_answer(of: &Subject, short: &Refusing<Global>) -> Answer {
     }
 }
 
-/// Returns the outcome of feeding the stream to `framer`. After a refused growth the framer must fail at every call.
+/// Returns the outcome of feeding the stream to `framer`. After a refused allocation the framer must fail at every
+/// call.
 fn fed_answer(of: &Subject, framer: &mut Framer<&Refusing<Global>>) -> Answer {
     match framer.feed(of.stream) {
         Ok(_) => match framer.take() {
@@ -66,8 +67,8 @@ pub(crate) fn unpack_answer(of: &Subject, short: &Refusing<Global>) -> Answer {
     }
 }
 
-/// Returns the outcome of a new unpacker that appends to `bytes`. After a refused growth these must be a prefix of the
-/// stream, and the unpacker must fail at the next call.
+/// Returns the outcome of a new unpacker that appends to `bytes`. After a refused allocation these must be a prefix of
+/// the stream, and the unpacker must fail at the next call.
 fn unpacked_answer(of: &Subject, bytes: &mut Vec<u8, &Refusing<Global>>) -> Answer {
     let mut unpacker = Unpacker::new();
     match unpacker.feed(of.packed.as_slice(), bytes) {

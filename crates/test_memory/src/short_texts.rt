@@ -1,4 +1,4 @@
-//! Calls that are tested with refused growths: on texts that are read.
+//! Calls that are tested with refused allocations: on texts that are read.
 
 use crate::short_values::judged_tree;
 use crate::subject::{Answer, Subject, wanting};
@@ -45,7 +45,8 @@ fn is_next(of: &Subject, texts: &mut Texts) -> bool {
     }
 }
 
-/// Returns the outcome of reading the next of `texts`. After a refused growth the reading position must be unchanged.
+/// Returns the outcome of reading the next of `texts`. After a refused allocation the reading position must be
+/// unchanged.
 fn next_answer(of: &Subject, short: &Refusing<Global>, texts: &mut Texts) -> Answer {
     match texts.read_next(short) {
         Ok(Some(tree)) => judged_tree(of, Ok(tree)),

@@ -1,4 +1,4 @@
-//! Calls that are tested with refused growths: on messages and their values.
+//! Calls that are tested with refused allocations: on messages and their values.
 
 use crate::subject::{Answer, Subject, judged, limits, wanting};
 use capn_canon::{LayoutFault, Patch, layout};
@@ -80,7 +80,7 @@ pub(crate) fn items(short: &Refusing<Global>) -> Result<Items<u16, &Refusing<Glo
     Ok(items)
 }
 
-/// Returns the number of growths of a list of four items whose room is allocated at once.
+/// Returns the number of allocations of a list of four items whose room is allocated at once.
 pub(crate) fn growths_of_four(alloc: Global) -> Result<u64, AllocError> {
     let heap = Refusing::nth(alloc, 0);
     let mut items = Items::with_capacity(&heap, 4)?;

@@ -1,5 +1,5 @@
-//! Tests of the sizes of the growths of calls on big messages. No memory may be allocated before the input is known to
-//! need it.
+//! Tests of the sizes of the allocations of calls on big messages. No memory may be allocated before the input is known
+//! to need it.
 
 use crate::refused::{CALLS, Call, answer};
 use crate::short_values::growths_of_four;
@@ -43,7 +43,7 @@ fn wide_struct(alloc: Global) -> Result<Vec<u8>, AllocError> {
     segment_of(alloc, 0xffff_0000_0000, 65_535)
 }
 
-/// Checks that the outcome of `call` is right, and that no growth of it is above `most` bytes.
+/// Checks that the outcome of `call` is right, and that no allocation of it is above `most` bytes.
 fn within(rt: &impl Abort, of: &Subject, name: &str, call: Call, most: usize) {
     let heap = Refusing::nth(of.alloc, 0);
     heap.refuse_above(most);
@@ -55,13 +55,13 @@ fn within(rt: &impl Abort, of: &Subject, name: &str, call: Call, most: usize) {
     );
 }
 
-/// Checks the growths of each call for a message of one segment. Seven of the calls use a small input instead.
+/// Checks the allocations of each call for a message of one segment. Seven of the calls use a small input instead.
 fn through_each(rt: &impl Abort, alloc: Global, segment: &[u8]) -> Result<(), Fail> {
     let stream = stream_of(alloc, segment)?;
     stream_through_each(rt, alloc, stream.as_slice())
 }
 
-/// Checks that no call on the message of `stream` takes a growth of more than eight times its bytes and 512 KiB.
+/// Checks that no call on the message of `stream` takes an allocation of more than eight times its bytes and 512 KiB.
 pub(crate) fn stream_through_each(
     rt: &impl Abort,
     alloc: Global,
@@ -94,8 +94,8 @@ fn the_greatest_height_through_each_call(rt: HostRuntime) -> Result<(), Fail> {
     through_each(&rt, rt.alloc(), deep.as_slice())
 }
 
-/// Big messages are found canonical without memory. A frame takes one growth of its length. Items grow once if room for
-/// them is allocated at once.
+/// Big messages are found canonical without memory. A frame takes one allocation of its length. Items take one
+/// allocation if room for all of them is allocated at once.
 #[test]
 fn exact_growths(rt: HostRuntime) -> Result<(), Fail> {
     let heap = Refusing::nth(rt.alloc(), 0);
@@ -114,8 +114,8 @@ fn exact_growths(rt: HostRuntime) -> Result<(), Fail> {
     Ok(())
 }
 
-/// Tests whether the walk stops with the fault `want`, and neither it nor canonical bytes take a growth of more than a
-/// kibibyte.
+/// Tests whether the walk stops with the fault `want`, and neither it nor canonical bytes take an allocation of more
+/// than a kibibyte.
 fn stops_small(alloc: Global, words: &[u64], want: Fault) -> Result<bool, AllocError> {
     let bytes = bytes_of(alloc, words)?;
     let heap = Refusing::nth(alloc, 0);
@@ -155,7 +155,7 @@ fn is_cut(alloc: Global, stream: &[u8]) -> bool {
 }
 
 /// Tests whether `unpack` refuses `text` with `want`, or takes it if `want` is `None`. The limit on words is the
-/// greatest, and no growth may be above `most` bytes.
+/// greatest, and no allocation may be above `most` bytes.
 fn unpacks_small(alloc: Global, text: &[u8], want: Option<UnpackFault>, most: usize) -> bool {
     let heap = Refusing::nth(alloc, 0);
     let told = match unpack(&heap, text, u32::MAX) {

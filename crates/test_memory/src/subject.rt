@@ -1,4 +1,4 @@
-//! `Subject`: the messages that calls with refused growths are tested on, and the judgement of their outcomes.
+//! `Subject`: the messages that calls with refused allocations are tested on, and the judgement of their outcomes.
 
 use crate::words::bytes_of;
 use capn_pack::pack;
@@ -11,7 +11,7 @@ use std::test::Fail;
 /// The limit on the words of a message.
 pub(crate) const MOST: u32 = 268_435_456;
 
-/// The outcome of a call: a right result, a wrong one, or refused memory.
+/// The outcome of a call: a right result, a wrong one, or a refused allocation.
 #[derive(Clone, Copy)]
 pub(crate) enum Answer {
     Right,
@@ -105,7 +105,7 @@ pub(crate) fn judged(is_right: bool) -> Answer {
     }
 }
 
-/// Returns `Memory` if `is_right`, and `Wrong` otherwise: for a call that ran out of memory.
+/// Returns `Memory` if `is_right`, and `Wrong` otherwise: for a call that had an allocation refused.
 pub(crate) fn wanting(is_right: bool) -> Answer {
     if is_right {
         Answer::Memory

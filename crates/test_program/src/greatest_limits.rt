@@ -1,4 +1,5 @@
-//! Tests of long lists of numbers and of the greatest limits. No run reports that memory ran out if there is enough.
+//! Tests of long lists of numbers and of the greatest limits. No run reports that an allocation was refused if there is
+//! enough memory.
 
 use crate::large_inputs::{is_ended, over};
 use std::alloc::Global;

@@ -1,4 +1,4 @@
-//! Tests of large messages and long paths. No run reports that memory ran out if there is enough.
+//! Tests of large messages and long paths. No run reports that an allocation was refused if there is enough memory.
 
 use crate::broken::{Ending, Input, ended};
 use std::alloc::{AllocError, Global};

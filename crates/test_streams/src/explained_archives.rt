@@ -80,7 +80,7 @@ canonical: yes\n";
     Ok(())
 }
 
-/// Counts the growths of a run over `archive` that ends with `Ok` and writes something.
+/// Counts the allocations of a run over `archive` that ends with `Ok` and writes something.
 fn growths(alloc: Global, number: Option<u64>, archive: &[u8]) -> Option<u64> {
     let heap = Refusing::nth(alloc, 0);
     let (ending, text) = explained(alloc, &heap, number, archive);
@@ -95,7 +95,7 @@ fn growths(alloc: Global, number: Option<u64>, archive: &[u8]) -> Option<u64> {
 const ZERO: [u64; 2] = [0x1_0000_0000, 0];
 
 /// No account is made of a message after the first. Code that makes one for each message lays out the canonical bytes
-/// of each of these 2,000, which takes at least one growth each.
+/// of each of these 2,000, which takes at least one allocation each.
 #[test]
 fn no_later_message_is_laid_out(rt: HostRuntime) -> Result<(), Fail> {
     let two = archive_of(rt.alloc(), &ZERO, 2)?;

@@ -323,8 +323,8 @@ fn explains_why_a_message_is_not_canonical(rt: HostRuntime) -> Result<(), Fail> 
     Ok(())
 }
 
-/// Explains a message of `bytes` while the growth `refused` is refused. Returns the outcome, and whether no growth was
-/// refused.
+/// Explains a message of `bytes` while the allocation `refused` is refused. Returns the outcome, and whether no
+/// allocation was refused.
 fn explained_under(alloc: Global, refused: u64, bytes: &[u8]) -> (Outcome, bool) {
     let heap = Refusing::nth(alloc, refused);
     let order = Explain {
@@ -342,7 +342,7 @@ fn explained_under(alloc: Global, refused: u64, bytes: &[u8]) -> (Outcome, bool)
     (outcome, heap.has_spared())
 }
 
-/// If any growth is refused for the only message, the run ends with `Memory`, and nothing is written.
+/// If any allocation is refused for the only message, the run ends with `Memory`, and nothing is written.
 #[test]
 fn tells_that_memory_ran_out_for_the_only_message(rt: HostRuntime) -> Result<(), Fail> {
     let bytes = &MISMATCHED[0].0;
@@ -361,7 +361,7 @@ fn tells_that_memory_ran_out_for_the_only_message(rt: HostRuntime) -> Result<(),
     Ok(())
 }
 
-/// Memory that ran out for the first message is not reported if there is a second one.
+/// A refused allocation for the first message is not reported if there is a second message.
 #[test]
 fn forgets_that_memory_ran_out_where_another_message_comes(rt: HostRuntime) -> Result<(), Fail> {
     let mut frames = Vec::from_slice(rt.alloc(), &MISMATCHED[0].0)?;

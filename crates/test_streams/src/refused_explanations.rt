@@ -219,7 +219,7 @@ fn writes_before_it_reads_again(rt: HostRuntime) -> Result<(), Fail> {
     Ok(())
 }
 
-/// If any growth is refused, the run ends with `Memory`, and what was written is a prefix of its text.
+/// If any allocation is refused, the run ends with `Memory`, and what was written is a prefix of its text.
 #[test]
 fn tells_that_memory_ran_out(rt: HostRuntime) -> Result<(), Fail> {
     let lines = lines_of_two(rt.alloc())?;

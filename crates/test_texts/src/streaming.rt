@@ -207,7 +207,7 @@ impl Write for Counting {
     }
 }
 
-/// Returns the number of bytes that a run writes, if it ends with `Ok` and no growth is above `most` bytes.
+/// Returns the number of bytes that a run writes, if it ends with `Ok` and no allocation is above `most` bytes.
 fn written_within(alloc: Global, repeating: Repeating, most: usize) -> Option<u64> {
     let heap = Refusing::nth(alloc, 0);
     heap.refuse_above(most);
@@ -233,7 +233,7 @@ fn many_texts_in_little_memory(rt: HostRuntime) {
     assert!(rt; written_within(rt.alloc(), repeating, 1_024) == Some(3_200_016));
 }
 
-/// A text of one line of 16 MiB takes no growth of more than twice its bytes.
+/// A text of one line of 16 MiB takes no allocation of more than twice its bytes.
 #[test]
 fn a_line_of_16_mebibytes(rt: HostRuntime) -> Result<(), Fail> {
     let mut digits = Vec::new(rt.alloc());

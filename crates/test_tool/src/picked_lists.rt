@@ -12,7 +12,8 @@ const FRAMES: [u8; 48] = [
     0, 0, 0, 0, 1, 0, 0, 0, 0, 0, 0, 0, 0, 0, 0, 0,
 ];
 
-/// Returns the number of bytes that a pick by `list` writes, if it ends with `Ok` and no growth is above `most` bytes.
+/// Returns the number of bytes that a pick by `list` writes, if it ends with `Ok` and no allocation is above `most`
+/// bytes.
 fn picked_within(alloc: Global, list: &str, most: usize) -> Option<usize> {
     let heap = Refusing::nth(alloc, 0);
     heap.refuse_above(most);
@@ -40,7 +41,7 @@ fn odd(alloc: Global, count: u32) -> Result<String, AllocError> {
 }
 
 /// A list takes 16 bytes for each of its ranges, or at most twice that. Code that takes the room of the longest list
-/// before it reads this one has a growth of mebibytes.
+/// before it reads this one has an allocation of mebibytes.
 #[test]
 fn a_list_asks_for_the_room_of_its_ranges(rt: HostRuntime) -> Result<(), Fail> {
     assert!(rt; picked_within(rt.alloc(), "3", 256) == Some(16));

@@ -11,7 +11,7 @@ use std::error::Error;
 use std::process::Abort;
 use test_allocator::Refusing;
 
-/// Checks the text and the status of `fault`, and that its line is written even if all memory is refused.
+/// Checks the text and the status of `fault`, and that its line is written even if every allocation is refused.
 fn expect_text(rt: &impl Abort, alloc: Global, fault: ToolFault, text: &str, code: u8) {
     match fault_text(alloc, &fault) {
         Ok(got) => assert!(rt; got.as_bytes() == text.as_bytes() && status(&Err(fault)) == code),

@@ -1,9 +1,10 @@
-//! Calls that make values by hand. Each takes the results of others, so that refused memory is reported at the end.
+//! Calls that make values by hand. Each takes the results of others, so that a refused allocation is reported at the
+//! end.
 
 use capn_value::{Body, Items, Misfit, Tree, Value};
 use std::alloc::{AllocError, Global};
 
-/// A value, or the error that memory ran out.
+/// A value, or the error that an allocation was refused.
 pub(crate) type Made = Result<Value, AllocError>;
 
 /// Returns a body of the data `words` and the `slots`.
@@ -123,7 +124,7 @@ pub(crate) fn one_of_each(alloc: Global, element: Value) -> Made {
     Ok(Value::Node(body(alloc, &[0xab_cdef], slots)?))
 }
 
-/// Returns the value as a tree. The error is its misfit, or `None` if memory ran out.
+/// Returns the value as a tree. The error is its misfit, or `None` if an allocation was refused.
 pub(crate) fn tree(made: Made) -> Result<Tree, Option<Misfit>> {
     match made {
         Ok(value) => match Tree::new(value) {
