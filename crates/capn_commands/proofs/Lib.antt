@@ -10,7 +10,6 @@ pub mod WholeRun
 pub mod OneText
 pub mod Verdicts
 pub mod Served
-mod ShownMessage
 pub mod EachServed
 pub mod BareServed
 pub mod OneRead

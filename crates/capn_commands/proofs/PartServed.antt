@@ -4,8 +4,11 @@ use Rattle.std.proofs.Common.{Ok, Err, refl, sym, subst, ◌∙◌, append-nil, 
 use Rattle.std.specs.Prelude.{if◌then◌else◌}
 use Rattle.std.specs.Io.KnownBytes.{Appends}
 use Rattle.capn_value.specs.Tree.{Tree}
+use Rattle.capn_walk.specs.Accepted.{IsValueOf, IsWalkRefused}
 use Rattle.capn_walk.specs.Limits.{Bounds}
 use Rattle.capn_walk.specs.declared.walk_answer.Stopped.{Stopped}
+use Rattle.capn_canon.specs.declared.refusal.Refusal.{Refusal}
+use Rattle.capn_canon.specs.declared.refusal.Refusal.TheVariants as refusals
 use Rattle.capn_show.specs.Outgoing.{Outgoing, Adds}
 use Rattle.capn_show.specs.Written.{IsWritten, IsUnwritten}
 use Rattle.capn_show.specs.declared.fault.Broken.TheVariants as broken
@@ -17,9 +20,7 @@ use Rattle.capn_serve.specs.Service.{DoesService}
 use Rattle.capn_serve.specs.declared.position.Position.{Position}
 use Rattle.capn_serve.specs.declared.fault.ServeFault.{ServeFault}
 use Rattle.capn_serve.specs.declared.fault.ServeFault.TheVariants as faults
-use Rattle.capn_commands.specs.PartTexts.{part_end, part_of, refuses, serves}
 use Rattle.capn_commands.specs.inner.AddedParts.{AddsEnd, AddsPart, IsFaultOf}
-use Rattle.capn_commands.specs.declared.part_texts.PartTexts.{PartTexts}
 
 abbrev Ending : Type 0
 Ending = Result (Unit {0}) ServeFault
@@ -111,26 +112,30 @@ module _ (m : List (List ℕ)) (limits : Bounds) (of other : Tree → List ℕ) 
 
 -- ---- the result as that of a service
 
-module _ (m : List (List ℕ)) (s : PartTexts) (at : Position) (frame : List ℕ) (p q : Outgoing) where
-  abbrev old : served.Outgoing
-  old = served.outgoing p.taken p.kept
+-- A service that adds the text of a message's value and its end, and keeps its state.
+module _ {X : Type 0} (serves : X → Position → List ℕ → List (List ℕ) → List ℕ → X → Type 0)
+    (refuses : X → Position → List ℕ → List (List ℕ) → Refusal → Type 0) (m : List (List ℕ)) (limits : Bounds)
+    (of : Tree → List ℕ) (line : List ℕ) (s : X) (at : Position) (frame : List ℕ)
+    (serve : (v : Tree) → IsValueOf m limits v → serves s at frame m (of v ++ line) s)
+    (refuse : (r : Refusal) (stop : Stopped) → r ≡ refusals.Walk stop
+    → IsWalkRefused m limits stop.fault stop.place stop.paid stop.visits → refuses s at frame m r) (p q : Outgoing)
+  where
+    abbrev old : served.Outgoing
+    old = served.outgoing p.taken p.kept
 
-  abbrev new : served.Outgoing
-  new = served.outgoing q.taken q.kept
+    abbrev new : served.Outgoing
+    new = served.outgoing q.taken q.kept
 
-  adds : (text : List ℕ) → Adds p q text → served.Adds old new text
-  adds text h = (h.written, h.taken, h.kept)
+    adds : (text : List ℕ) → Adds p q text → served.Adds old new text
+    adds text h = (h.written, h.taken, h.kept)
 
-  abbrev text_of : Tree → List ℕ
-  text_of v = part_of s at m v ++ part_end s at m
-
-  pub does_part : (end : Ending) → p.failed ≡ false → AddsPart m s.limits (part_of s at m) (part_end s at m) p q end
-      → DoesService serves refuses s at frame m old new q.failed end s
-  does_part (Ok u) fine (v, of, h, short) =
-      ((text_of v, ((v, of, refl), refl), adds (text_of v) h, h.failed ∙ fine), λ few. short)
-  does_part (Err faults.Memory) fine (inl h) = (inl (adds [] h), h.failed ∙ fine)
-  does_part (Err faults.Memory) fine (inr (v, of, (count, h))) =
-      (inr (text_of v, s, count, ((v, of, refl), refl), adds _ h), h.failed ∙ fine)
-  does_part (Err faults.Io) fine (v, of, (count, wrote, broke)) =
-      ((text_of v, s, count, ((v, of, refl), refl), wrote), broke)
-  does_part (Err (faults.Refused r)) fine (why, h) = (why, adds [] h, h.failed ∙ fine)
+    pub does_part : (end : Ending) → p.failed ≡ false → AddsPart m limits of line p q end
+        → DoesService serves refuses s at frame m old new q.failed end s
+    does_part (Ok u) fine (v, is, h, short) =
+        ((of v ++ line, serve v is, adds (of v ++ line) h, h.failed ∙ fine), λ few. short)
+    does_part (Err faults.Memory) fine (inl h) = (inl (adds [] h), h.failed ∙ fine)
+    does_part (Err faults.Memory) fine (inr (v, is, (count, h))) =
+        (inr (of v ++ line, s, count, serve v is, adds _ h), h.failed ∙ fine)
+    does_part (Err faults.Io) fine (v, is, (count, wrote, broke)) =
+        ((of v ++ line, s, count, serve v is, wrote), broke)
+    does_part (Err (faults.Refused r)) fine ((stop, is, why), h) = (refuse r stop is why, adds [] h, h.failed ∙ fine)

@@ -2,19 +2,24 @@
 
 ghost use Rattle.std.specs.Prelude.{◌≡◌, List, ℕ, false};
 ghost use Rattle.capn_words.specs.Watched.{inner_of, has_failed};
+ghost use Rattle.capn_value.specs.Text.{show_text};
 ghost use Rattle.capn_show.specs.Outgoing.{outgoing};
+ghost use Rattle.capn_show.specs.Style.{end_of};
+ghost use Rattle.capn_show.specs.declared.style.Style.TheVariants as styles;
 ghost use Rattle.capn_serve.specs.Outgoing as sent;
 ghost use Rattle.capn_serve.specs.Service.{DoesService, PutsMessage};
 ghost use Rattle.capn_serve.specs.declared.position.Position.{Position};
 ghost use Rattle.capn_commands.specs.MessageText.{PutsMessageText};
+ghost use Rattle.capn_commands.specs.inner.AddedParts.{AddsPart};
 ghost use Rattle.capn_commands.specs.inner.MessageTexts as spec;
 ghost use Rattle.capn_commands.specs.declared.message_texts.MessageTexts.{MessageTexts};
 
 use crate::fault::ToolFault;
 use crate::message_text::{put_digest, put_price};
+use crate::part_texts::{add_end, fault_of};
 use crate::plan::MessageText;
-use capn_serve::{Position, Run, ServeFault, Service, fault_of_stop, flush_long};
-use capn_show::{ShowFault, show_message};
+use capn_serve::{Position, Run, ServeFault, Service, flush_long};
+use capn_show::show_message;
 use capn_walk::Limits;
 use capn_words::{Space, Watched};
 use std::alloc::Allocator;
@@ -36,23 +41,6 @@ pub(crate) fn first_run(piece: MessageText, limits: Limits) -> Run<MessageTexts>
     Run::new(MessageTexts { piece, limits })
 }
 
-/// Appends `line` to `text`, or nothing if an allocation is refused. Writes `text` if `text` then has at least 65,536
-/// bytes.
-fn add_line<W: Write, A: Allocator>(
-    line: &[u8],
-    text: &mut Vec<u8, A>,
-    writer: &mut Watched<W>,
-) -> Result<(), ServeFault>
-    requires fine { has_failed writer.old ≡ false }
-    ensures { spec.AddsLine line.now (outgoing W.contents writer.old text.old.items)
-        (outgoing W.contents writer.new text.new.items) result }
-{
-    match text.extend_from_slice(line) {
-        Ok(()) => flush_long(text, writer),
-        Err(_) => Err(ServeFault::Memory),
-    }
-}
-
 /// Adds the text of the value of `message`, and the line `end`. A long text is written while it is made.
 fn add_shown<S: Space, W: Write, A: Allocator + Copy>(
     alloc: A,
@@ -62,14 +50,12 @@ fn add_shown<S: Space, W: Write, A: Allocator + Copy>(
     writer: &mut Watched<W>,
 ) -> Result<(), ServeFault>
     requires fine { has_failed writer.old ≡ false }
-    ensures { spec.AddsShown (S.message message.now) limits (outgoing W.contents writer.old text.old.items)
-        (outgoing W.contents writer.new text.new.items) result }
+    ensures { AddsPart (S.message message.now) limits show_text (end_of styles.Lines)
+        (outgoing W.contents writer.old text.old.items) (outgoing W.contents writer.new text.new.items) result }
 {
     match show_message(alloc, text, writer, message, limits) {
-        Ok(()) => add_line(b"end\n", text, writer),
-        Err(ShowFault::Stopped(stopped)) => Err(fault_of_stop(stopped)),
-        Err(ShowFault::Io) => Err(ServeFault::Io),
-        Err(ShowFault::Memory) => Err(ServeFault::Memory),
+        Ok(()) => add_end(b"end\n", text, writer),
+        Err(fault) => Err(fault_of(fault)),
     }
 }
 

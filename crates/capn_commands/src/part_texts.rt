@@ -41,7 +41,7 @@ pub struct PartTexts<'w> {
 }
 
 /// Maps the fault of a message that is refused, or whose text is not complete, to a `ServeFault`.
-fn fault_of(fault: ShowFault) -> ServeFault
+pub(crate) fn fault_of(fault: ShowFault) -> ServeFault
     ensures { IsFaultOf fault result }
 {
     match fault {

@@ -1,8 +1,5 @@
 -- The service that writes a text for each message of a stream, or for the one message of a bare input.
-use Rattle.std.specs.Prelude.{◌≡◌, ◌⊎◌, ℕ, ◌<◌, List, [], ◌∷◌, ◌++◌, codes, length, Result, Ok, Err}
-use Rattle.capn_value.specs.Tree.{Tree}
-use Rattle.capn_value.specs.Text.{show_text}
-use Rattle.capn_walk.specs.Accepted.{IsValueOf}
+use Rattle.std.specs.Prelude.{◌≡◌, ℕ, List}
 use Rattle.capn_walk.specs.Limits.{Bounds}
 use Rattle.capn_canon.specs.declared.refusal.Refusal.{Refusal}
 use Rattle.capn_serve.specs.declared.position.Position.{Position}
@@ -10,9 +7,7 @@ use Rattle.capn_serve.specs.declared.service.Run.{Run}
 use Rattle.capn_serve.specs.StreamRun.{start}
 use Rattle.capn_serve.specs.declared.fault.ServeFault.{ServeFault}
 use Rattle.capn_serve.specs.declared.fault.ServeFault.TheVariants as serve_faults
-use Rattle.capn_show.specs.Outgoing.{Outgoing, Adds, BreaksOff}
-use Rattle.capn_show.specs.declared.fault.Broken.TheVariants as broken
-use Rattle.capn_commands.specs.MessageText.{IsMessageText, IsNoMessageText, IsStopped}
+use Rattle.capn_commands.specs.MessageText.{IsMessageText, IsNoMessageText}
 use Rattle.capn_commands.specs.declared.message_texts.MessageTexts.{MessageTexts}
 use Rattle.capn_commands.specs.declared.plan.MessageText.{MessageText}
 use Rattle.capn_commands.specs.declared.fault.ToolFault.{ToolFault}
@@ -42,28 +37,3 @@ served_fault (faults.NotWhole n) = serve_faults.Memory
 -- The state of a run before its first message.
 abbrev pub first_run : MessageText → Bounds → Run MessageTexts
 first_run piece limits = record { service = message_texts piece limits; at = start }
-
--- `line` was added, and less than 65,536 bytes are kept. Or memory was refused or the writer failed within `line`.
-abbrev pub AddsLine : List ℕ → Outgoing → Outgoing → Result (Unit {0}) ServeFault → Type 0
-AddsLine line old new (Ok u) = Adds old new line × (length new.kept < 65536)
-AddsLine line old new (Err serve_faults.Memory) = BreaksOff old new broken.Memory line
-AddsLine line old new (Err serve_faults.Io) = BreaksOff old new broken.Io line
-AddsLine line old new (Err (serve_faults.Refused r)) = ⊥
-
--- The text of the value `v`, and the line `end`.
-abbrev pub ended_text : Tree → List ℕ
-ended_text v = show_text v ++ (codes "end" ++ 10 ∷ [])
-
--- The text of a message's value and the line `end` were added, and less than 65,536 bytes are kept. Or memory was
--- refused or the writer failed within the text and the line. Or the message or memory was refused, and nothing was
--- added.
-abbrev pub AddsShown : List (List ℕ) → Bounds → Outgoing → Outgoing → Result (Unit {0}) ServeFault → Type 0
-AddsShown message limits old new (Ok u) =
-    (v : Tree) × IsValueOf message limits v × Adds old new (ended_text v) × (length new.kept < 65536)
-AddsShown message limits old new (Err serve_faults.Memory) =
-    Adds old new []
-    ⊎ ((v : Tree) × IsValueOf message limits v × BreaksOff old new broken.Memory (ended_text v))
-AddsShown message limits old new (Err serve_faults.Io) =
-    (v : Tree) × IsValueOf message limits v × BreaksOff old new broken.Io (ended_text v)
-AddsShown message limits old new (Err (serve_faults.Refused r)) =
-    IsStopped message limits (faults.Refused r) × Adds old new []

@@ -1,12 +1,16 @@
-use Rattle.std.proofs.Common.{◌≡◌, ℕ, List, Result, ap, sym, subst}
+use Rattle.std.proofs.Common.{◌≡◌, ◌++◌, ℕ, List, Result, ap, refl, sym, subst}
+use Rattle.capn_value.specs.Text.{show_text}
 use Rattle.capn_show.specs.Outgoing.{outgoing}
-use Rattle.capn_commands.specs.MessageText.{PutsMessageText}
-use Rattle.capn_commands.specs.inner.MessageTexts.{message_texts}
+use Rattle.capn_show.specs.Style.{end_of}
+use Rattle.capn_show.specs.declared.style.Style.TheVariants as styles
+use Rattle.capn_commands.specs.MessageText.{IsMessageText, IsNoMessageText, PutsMessageText}
+use Rattle.capn_commands.specs.inner.MessageTexts.{refuses, serves}
 use Rattle.capn_commands.specs.declared.message_texts.MessageTexts.{MessageTexts}
 use Rattle.capn_commands.specs.declared.plan.MessageText.{MessageText}
 use Rattle.capn_commands.specs.declared.plan.MessageText.TheVariants as kinds
 use Rattle.capn_commands.specs.declared.fault.ToolFault.{ToolFault}
-use Rattle.capn_commands.proofs.ShownMessage.{does_shown}
+use Rattle.capn_commands.specs.declared.fault.ToolFault.TheVariants as faults
+use Rattle.capn_commands.proofs.PartServed.{does_part}
 use Rattle.capn_commands.proofs.message_texts.MessageTextsService.serve.Goals as goal
 
 -- The text that the service writes for the message was appended.
@@ -18,11 +22,19 @@ puts this s message old new r is put =
 
 pub returns-in-Text : goal.returns-in-Text
 returns-in-Text g c =
-    does_shown (g.S.Space.message c.args.message.now) c.args.self.now.limits c.args.self.now c.args._at
-    c.args._frame.now (outgoing g.W.Write.contents c.args.writer.now c.args.text.now.items)
+    let m = g.S.Space.message c.args.message.now in
+    let s = c.args.self.now in
+    does_part serves refuses m s.limits show_text (end_of styles.Lines) s c.args._at c.args._frame.now
+    (λ v is. (
+      subst (λ (k : MessageText). IsMessageText k m s.limits (show_text v ++ end_of styles.Lines))
+          (sym c.in-Text.is) (v, is, refl),
+      refl,
+    ))
+    (λ r stop is why. subst (λ (k : MessageText). IsNoMessageText k m s.limits (faults.Refused r))
+    (sym c.in-Text.is) (stop, ap faults.Refused is, why))
+    (outgoing g.W.Write.contents c.args.writer.now c.args.text.now.items)
     (outgoing g.W.Write.contents c.add_shown.new.writer c.add_shown.new.text.items) c.add_shown.result
-    (ap (λ (k : MessageText). message_texts k c.args.self.now.limits) c.in-Text.is) c.requires.fine
-    c.add_shown.ensures
+    c.requires.fine c.add_shown.ensures
 
 pub returns-in-Price : goal.returns-in-Price
 returns-in-Price g c =
