@@ -1,4 +1,4 @@
--- Lemmas for `run_archive` and `run_service`: the faults and the result of a run over an archive.
+-- Lemmas for `run_archive`, `run_filter` and `run_uniq`: the faults and the outcome of a run over an archive.
 use Rattle.std.proofs.Common.{◌≡◌, ◌≢◌, ◌↔◌, ◌⊎◌, inl, inr, ℕ, Bool, true, false, Option, None, Some, Result, Ok, Err}
 use Rattle.std.proofs.Common.{refl, ap, sym, ◌∙◌}
 use Rattle.capn_canon.specs.declared.refusal.Refusal.{Refusal}

@@ -1,21 +1,21 @@
--- Lemmas for `run_archive`, `run_service` and `serve_messages`: the end of a run that writes a closing text.
-use Rattle.std.proofs.Common.{◌≡◌, ◌≢◌, inl, inr, ℕ, ◌+◌, List, [], ◌++◌, length, take, Bool, true, false, Option}
+-- Lemmas for `run_archive`, `run_filter`, `run_uniq` and `serve_messages`: the end of a run that writes something
+-- after its last message.
+use Rattle.std.proofs.Common.{◌≡◌, ◌≢◌, inl, inr, ℕ, List, [], ◌++◌, length, take, Bool, true, false, Option}
 use Rattle.std.proofs.Common.{None, Some, IfSome, Result, Ok, Err, refl, ap, sym, subst, ◌∙◌}
-use Rattle.std.proofs.Math.Seq.{take-length, take-append-add}
+use Rattle.std.proofs.Math.Seq.{take-length}
 use Rattle.std.specs.Io.KnownBytes.{Appends}
 use Rattle.std.proofs.KnownBytes.{Appends-nil, Appends-trans}
 use Rattle.capn_words.specs.Watched.{HasBegun}
 use Rattle.capn_canon.specs.declared.form.Form.{Form}
-use Rattle.capn_canon.specs.declared.form.Form.TheVariants as forms
 use Rattle.capn_serve.specs.declared.fault.RunFault.{RunFault}
+use Rattle.capn_archive.specs.declared.fault.ArchiveFault.{ArchiveFault}
 use Rattle.capn_archive.specs.declared.fault.ArchiveFault.TheVariants as faults
 use Rattle.capn_archive.specs.inner.Closing.{PutsClosing}
-use Rattle.capn_archive.specs.Finish.{EndsAs, Finish, Finished, HasBegunClosing, HasClosing, outcome}
+use Rattle.capn_archive.specs.Finish.{EndsAs, Finish, Finished, HasBegunClosing, HasClosing, fault_after, outcome}
 use Rattle.capn_archive.specs.Finish.{stopped_by}
-use Rattle.capn_serve.specs.Fold.{Fold, Leaves, texts_of}
-use Rattle.capn_serve.specs.StreamRun.{HasWrittenAll, IsAhead}
-use Rattle.capn_serve.specs.PackedRun.{HasWrittenAllPacked}
-use Rattle.capn_serve.specs.FormRun.{HasWritten, IsReadSoFar, MessagesEnd, ServesMessages, most_stream}
+use Rattle.capn_serve.specs.Fold.{Fold, Leaves}
+use Rattle.capn_serve.specs.FormRun.{HasWritten, IsReadSoFar, MessagesEnd, ServesMessages}
+use Rattle.capn_serve.proofs.shared.AfterMessages.{begun_after, begun_text, read_so_far}
 use Rattle.capn_archive.proofs.Endings.{io_is_not_memory, memory_is_not_io, neither, not_io, not_memory}
 use Rattle.capn_archive.proofs.Endings.{reader_fine, same_io, told, told_memory, writer_fine}
 use Rattle.capn_archive.proofs.ToldAlone.{TellsAlone}
@@ -45,33 +45,26 @@ module _ {X : Type 0} (f : Fold X) (x : X) (finish : Finish X) (form : Form) whe
   stopped_exact alone e y (Some input) c d (inr (inr (text, z, are, wrote, left))) =
       inr (inr (text, (text, Err e, z, are, (refl, left_same alone z y e left)), wrote))
 
-  pub finished_stopped : TellsAlone f → (a b c d : Option (List ℕ)) (reader writer : Bool) (e : RunFault) (y : X)
-      → ServesMessages f x form a b c d reader writer (Err e) y
-      → Finished f x finish form a b c d reader writer (stopped_by f x finish y e)
-  finished_stopped alone a b c d reader writer e y run = record {
-    exact = stopped_exact alone e y a c d run.exact;
-    io = same_io (finish.skipped y) (f.place y).index e reader writer run.io;
-    begun = record {
-      bytes = run.begun.bytes;
-      read = run.begun.read;
-      bounded = run.begun.bounded;
-      needed = run.begun.needed;
-      written = inl run.begun.written;
-    };
-    heard = run.heard;
-    memory = λ h. inl (run.memory (told_memory (finish.skipped y) (f.place y).index e h));
-  }
+  pub finished_stopped : TellsAlone f → (a b c d : Option (List ℕ)) (reader writer : Bool) (fault : RunFault) (y : X)
+      → ServesMessages f x form a b c d reader writer (Err fault) y → (e : ArchiveFault)
+      → e ≡ fault_after (finish.skipped y) (f.place y).index fault
+      → Finished f x finish form a b c d reader writer (told e)
+  finished_stopped alone a b c d reader writer fault y run e is =
+      subst (λ (g : ArchiveFault). Finished f x finish form a b c d reader writer (told g)) (sym is) record {
+        exact = stopped_exact alone fault y a c d run.exact;
+        io = same_io (finish.skipped y) (f.place y).index fault reader writer run.io;
+        begun = record {
+          bytes = run.begun.bytes;
+          read = run.begun.read;
+          bounded = run.begun.bounded;
+          needed = run.begun.needed;
+          written = inl run.begun.written;
+        };
+        heard = run.heard;
+        memory = λ h. inl (run.memory (told_memory (finish.skipped y) (f.place y).index fault h));
+      }
 
   -- ---- the end after all messages
-
-  -- A prefix of the closing text was written after `text`.
-  begun_after : (c m d : Option (List ℕ)) (y : X) (text : List ℕ) (count : ℕ) → Appends c m text
-      → Appends m d (take count (finish.closing y)) → HasBegun c d (text ++ finish.closing y)
-  begun_after c m d y text count before wrote = (
-    length text + count,
-    subst (Appends c d) (sym (take-append-add text (finish.closing y) count))
-        (Appends-trans c m d text (take count (finish.closing y)) before wrote),
-  )
 
   closed_exact : (a c m d : Option (List ℕ)) (y : X) → IfSome a (MessagesEnd f x form c m (Ok tt) y)
       → Appends m d (finish.closing y) → IfSome a (EndsAs f x finish form c d (outcome f x finish y))
@@ -90,29 +83,6 @@ module _ {X : Type 0} (f : Fold X) (x : X) (finish : Finish X) (form : Form) whe
   failed_exact None c d = tt
   failed_exact (Some input) c d = inr (inl refl)
 
--- If a prefix of the text of messages was written, some text was written.
-begun_text : {X : Type 0} (f : Fold X) (x : X) (form : Form) (bytes : List ℕ) (c d : Option (List ℕ))
-    → HasWritten f x form bytes c d → (text : List ℕ) × Appends c d text
-begun_text f x forms.Stream bytes c d (parts, rest, y, count, are, wrote) = (take count (texts_of parts), wrote)
-begun_text f x forms.Packed bytes c d (stream, begins, parts, rest, y, count, are, wrote) =
-    (take count (texts_of parts), wrote)
-begun_text f x forms.Bare bytes c d (inl wrote) = ([], wrote)
-begun_text f x forms.Bare bytes c d (inr (text, y, count, writes, wrote)) = (take count text, wrote)
-
--- `IsAhead` still holds after `more` was written too.
-ahead_more : (P : List ℕ → Option (List ℕ) → Option (List ℕ) → Type 0) (bytes more : List ℕ)
-    (c m d : Option (List ℕ)) → IsAhead P bytes c m → Appends m d more → IsAhead P bytes c d
-ahead_more P bytes more c m d (before, piece, mid, first, is, small, written, wrote) after =
-    (before, piece, mid, first ++ more, is, small, written, Appends-trans mid m d first more wrote after)
-
-read_so_far : {X : Type 0} (f : Fold X) (x : X) (form : Form) (bytes more : List ℕ) (c m d : Option (List ℕ))
-    → IsReadSoFar f x form bytes c m → Appends m d more → IsReadSoFar f x form bytes c d
-read_so_far f x forms.Stream bytes more c m d (bound, ahead) wrote =
-    (bound, ahead_more (HasWrittenAll f x most_stream) bytes more c m d ahead wrote)
-read_so_far f x forms.Packed bytes more c m d (bound, ahead) wrote =
-    (bound, ahead_more (HasWrittenAllPacked f x most_stream) bytes more c m d ahead wrote)
-read_so_far f x forms.Bare bytes more c m d bound wrote = bound
-
 module _ {X : Type 0} (f : Fold X) (x : X) (finish : Finish X) (form : Form) where
   -- All messages were served, and the closing text is not empty.
   has_closing : (a b c m : Option (List ℕ)) (reader writer : Bool) (y : X)
@@ -128,38 +98,41 @@ module _ {X : Type 0} (f : Fold X) (x : X) (finish : Finish X) (form : Form) whe
       → HasBegunClosing f x finish form a c d
   begins_closing None b c m d reader writer y run (count, wrote) =
       let (text, before) = begun_text f x form run.begun.bytes c m run.begun.written in
-      (text, y, tt, begun_after f x finish form c m d y text count before wrote)
+      (text, y, tt, begun_after c m d text (finish.closing y) count before wrote)
   begins_closing (Some input) b c m d reader writer y run (count, wrote) =
       let (text, are, before) = run.exact in
-      (text, y, are, begun_after f x finish form c m d y text count before wrote)
+      (text, y, are, begun_after c m d text (finish.closing y) count before wrote)
 
 module _ {X : Type 0} (f : Fold X) (x : X) (finish : Finish X) (form : Form) (a b c m : Option (List ℕ))
     (reader before : Bool) (y : X) (run : ServesMessages f x form a b c m reader before (Ok tt) y) where
   -- Case: the whole closing text was written.
   pub finished_closed : (d : Option (List ℕ)) (after : Bool) → Appends m d (finish.closing y) → after ≡ false
-      → Finished f x finish form a b c d reader after (outcome f x finish y)
-  finished_closed d after wrote fine = record {
-    exact = closed_exact f x finish form a c m d y run.exact wrote;
-    io = (
-      λ h. absurd (not_io (finish.ended y) (finish.skipped y) (f.place y).index h),
-      λ h. absurd (neither reader before after run.io fine h),
-    );
-    begun = record {
-      bytes = run.begun.bytes;
-      read = run.begun.read;
-      bounded = read_so_far f x form run.begun.bytes (finish.closing y) c m d run.begun.bounded wrote;
-      needed = run.begun.needed;
-      written = inr (begins_closing f x finish form a b c m d reader before y run (
-        length (finish.closing y),
-        subst (Appends m d) (sym (take-length (finish.closing y))) wrote,
-      ));
-    };
-    heard = λ h. absurd (reader_fine reader before run.io h);
-    memory = λ h. absurd (not_memory (finish.ended y) (finish.skipped y) (f.place y).index h);
-  }
+      → (r : Result (Unit {0}) ArchiveFault) → r ≡ outcome f x finish y
+      → Finished f x finish form a b c d reader after r
+  finished_closed d after wrote fine r is =
+      subst (λ (q : Result (Unit {0}) ArchiveFault). Finished f x finish form a b c d reader after q) (sym is) record {
+        exact = closed_exact f x finish form a c m d y run.exact wrote;
+        io = (
+          λ h. absurd (not_io (finish.ended y) (finish.skipped y) (f.place y).index h),
+          λ h. absurd (neither reader before after run.io fine h),
+        );
+        begun = record {
+          bytes = run.begun.bytes;
+          read = run.begun.read;
+          bounded = read_so_far f x form run.begun.bytes (finish.closing y) c m d run.begun.bounded wrote;
+          needed = run.begun.needed;
+          written = inr (begins_closing f x finish form a b c m d reader before y run (
+            length (finish.closing y),
+            subst (Appends m d) (sym (take-length (finish.closing y))) wrote,
+          ));
+        };
+        heard = λ h. absurd (reader_fine reader before run.io h);
+        memory = λ h. absurd (not_memory (finish.ended y) (finish.skipped y) (f.place y).index h);
+      }
 
   -- Case: the closing text is empty.
-  pub finished_done : finish.closing y ≡ [] → Finished f x finish form a b c m reader before (outcome f x finish y)
+  pub finished_done : finish.closing y ≡ [] → (r : Result (Unit {0}) ArchiveFault) → r ≡ outcome f x finish y
+      → Finished f x finish form a b c m reader before r
   finished_done none =
       finished_closed m before (subst (Appends m m) (sym none) (Appends-nil m)) (writer_fine reader before run.io)
 
@@ -201,22 +174,20 @@ module _ {X : Type 0} (f : Fold X) (x : X) (finish : Finish X) (form : Form) (a 
     memory = λ h. absurd (io_is_not_memory h);
   }
 
-  pub finished_unclosed : (d : Option (List ℕ)) (after : Bool) (fault : RunFault)
+  unclosed_by : (d : Option (List ℕ)) (after : Bool) (fault : RunFault)
       → PutsClosing (finish.closing y) m d after (Err fault)
       → Finished f x finish form a b c d reader after (stopped_by f x finish y fault)
-  finished_unclosed d after fault (inl (memory, same, fine, some)) =
+  unclosed_by d after fault (inl (memory, same, fine, some)) =
       subst (λ (e : RunFault). Finished f x finish form a b c d reader after (stopped_by f x finish y e))
       (sym memory) (unclosed d after same fine some)
-  finished_unclosed d after fault (inr (io, begun, failed)) =
+  unclosed_by d after fault (inr (io, begun, failed)) =
       subst (λ (e : RunFault). Finished f x finish form a b c d reader after (stopped_by f x finish y e)) (sym io)
       (broken d after begun failed)
 
-module _ {X : Type 0} where
-  -- The state `x` and the limit `most` can be replaced by `first` and `words`, which are equal to them.
-  pub of_order : (fold : ℕ → Fold X) (form : Form) (words most : ℕ) (first x : X) → most ≡ words → x ≡ first
-      → (a b c d : Option (List ℕ)) (reader writer : Bool) (r : Result (Unit {0}) RunFault) (y : X)
-      → ServesMessages (fold most) x form a b c d reader writer r y
-      → ServesMessages (fold words) first form a b c d reader writer r y
-  of_order fold form words most first x same fresh a b c d reader writer r y ran =
-      subst (λ (z : X). ServesMessages (fold words) z form a b c d reader writer r y) fresh
-      (subst (λ (n : ℕ). ServesMessages (fold n) x form a b c d reader writer r y) same ran)
+  pub finished_unclosed : (d : Option (List ℕ)) (after : Bool) (fault : RunFault)
+      → PutsClosing (finish.closing y) m d after (Err fault) → (e : ArchiveFault)
+      → e ≡ fault_after (finish.skipped y) (f.place y).index fault
+      → Finished f x finish form a b c d reader after (told e)
+  finished_unclosed d after fault put e is =
+      subst (λ (g : ArchiveFault). Finished f x finish form a b c d reader after (told g)) (sym is)
+      (unclosed_by d after fault put)

@@ -1,5 +1,5 @@
--- Lemmas for `run_archive` and `run_service`: a run reports a refused message or skipped ones, never both, because with
--- `--keep-going` messages are skipped, not refused.
+-- Lemmas for `run_archive`, `run_filter` and `run_uniq`: a run reports a refused message or skipped ones, never both,
+-- because with `--keep-going` messages are skipped, not refused.
 use Rattle.std.proofs.Common.{◌≡◌, ℕ, List, Option, refl}
 use Rattle.capn_walk.specs.Limits.{Bounds}
 use Rattle.capn_canon.specs.Refusal.{IsRefusedMessage}

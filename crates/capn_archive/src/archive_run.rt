@@ -6,14 +6,18 @@ ghost use Rattle.capn_words.specs.Watched.{inner_of, has_failed};
 ghost use Rattle.capn_archive.specs.ArchiveRun as spec;
 ghost use Rattle.capn_archive.specs.ArchiveRun.{Archived};
 ghost use Rattle.capn_archive.specs.Finish as finish;
+ghost use Rattle.capn_serve.specs.Fold.{fold_until};
 ghost use Rattle.capn_serve.specs.FormRun.{ServesMessages};
+ghost use Rattle.capn_serve.specs.StreamRun.{start};
 
 use crate::archive_service::ArchiveService;
 use crate::end_of_archive::{fault_after, outcome, write_closing};
 use crate::fault::ArchiveFault;
 use crate::tally::no_tally;
 use crate::task::ArchiveOrder;
-use capn_serve::{Run, RunFault, serve_form};
+use capn_canon::Form;
+use capn_serve::{Run, RunFault, Service, serve_form};
+use capn_walk::Limits;
 use capn_words::Watched;
 use std::alloc::Allocator;
 use std::io::{Read, Write};
@@ -27,25 +31,26 @@ fn first_run(order: ArchiveOrder) -> Run<ArchiveService>
     })
 }
 
-/// Serves the messages of the input, in the form that `order` names.
-fn serve_messages<R: Read, W: Write, A: Allocator + Copy>(
+/// Serves the messages of an input in `form`, within `limits`.
+pub(crate) fn serve_messages<S: Service, R: Read, W: Write, A: Allocator + Copy>(
     alloc: A,
-    order: &ArchiveOrder,
-    run: &mut Run<ArchiveService>,
+    form: Form,
+    limits: Limits,
+    run: &mut Run<S>,
     reader: &mut Watched<R>,
     writer: &mut Watched<W>,
 ) -> Result<(), RunFault>
-    requires fresh { run.old ≡ spec.first_run order.now }
+    requires fresh { run.old.at ≡ start }
     requires reader_fine { has_failed reader.old ≡ false }
     requires writer_fine { has_failed writer.old ≡ false }
-    ensures { ServesMessages (spec.archive_fold order.now) (spec.first_run order.now) order.now.form
-        (R.remaining (inner_of reader.old))
-        (R.remaining (inner_of reader.new))
+    ensures { (first : _) → run.old ≡ first
+        → ServesMessages (fold_until S.serves S.refuses S.done limits.message_words) first form
+        (R.remaining (inner_of reader.old)) (R.remaining (inner_of reader.new))
         (W.contents (inner_of writer.old)) (W.contents (inner_of writer.new)) (has_failed reader.new)
         (has_failed writer.new) result run.new }
 {
-    let most = order.limits.message_words();
-    serve_form(alloc, order.form, most, run, reader, writer)
+    let most = limits.message_words();
+    serve_form(alloc, form, most, run, reader, writer)
 }
 
 /// Returns the fault with which `run` ends after `fault` stopped the loop over the messages, or the closing text.
@@ -78,7 +83,7 @@ pub fn run_archive<R: Read, W: Write, A: Allocator + Copy>(
         (has_failed writer.new) result }
 {
     let mut run = first_run(order);
-    match serve_messages(alloc, &order, &mut run, reader, writer) {
+    match serve_messages(alloc, order.form, order.limits, &mut run, reader, writer) {
         Ok(()) => match write_closing(alloc, &order, &run, writer) {
             Ok(()) => outcome(run.service.tally.skipped, run.at.index),
             Err(fault) => Err(fault_of(&run, fault)),

@@ -6,11 +6,12 @@ ghost use Rattle.capn_archive.specs.Finish as finish;
 ghost use Rattle.capn_archive.specs.FilterRun as spec;
 ghost use Rattle.capn_archive.specs.FilterRun.{Filtered};
 
+use crate::archive_run::serve_messages;
 use crate::end_of_archive::{fault_after, outcome};
 use crate::fault::ArchiveFault;
 use crate::filter_order::FilterOrder;
 use crate::filter_service::FilterService;
-use capn_serve::{Run, RunFault, serve_form};
+use capn_serve::{Run, RunFault};
 use capn_words::Watched;
 use std::alloc::Allocator;
 use std::io::{Read, Write};
@@ -39,28 +40,6 @@ fn fault_of(run: &Run<FilterService>, fault: RunFault) -> ArchiveFault
     fault_after(run.service.skipped, run.at.index, fault)
 }
 
-/// Serves the messages of the input, up to one that ends the run, and returns the outcome of the run.
-fn run_service<R: Read, W: Write, A: Allocator + Copy>(
-    alloc: A,
-    order: &FilterOrder,
-    run: &mut Run<FilterService>,
-    reader: &mut Watched<R>,
-    writer: &mut Watched<W>,
-) -> Result<(), ArchiveFault>
-    requires fresh { run.old ≡ spec.first_run order.now }
-    requires reader_fine { has_failed reader.old ≡ false }
-    requires writer_fine { has_failed writer.old ≡ false }
-    ensures { Filtered order.now (R.remaining (inner_of reader.old)) (R.remaining (inner_of reader.new))
-        (W.contents (inner_of writer.old)) (W.contents (inner_of writer.new)) (has_failed reader.new)
-        (has_failed writer.new) result }
-{
-    let most = order.limits.message_words();
-    match serve_form(alloc, order.form, most, run, reader, writer) {
-        Ok(()) => outcome_of(run),
-        Err(stopped) => Err(fault_of(run, stopped)),
-    }
-}
-
 /// Reads the messages of an archive from `reader`, and writes the frame of each accepted one to `writer`, unchanged. If
 /// the input is packed, the unpacked bytes of the frame are written. If the input is bare, all of it is written. If
 /// `order.canonical` is true, only canonical messages are written. A canonical message has one segment, which holds the
@@ -86,6 +65,10 @@ pub fn run_filter<R: Read, W: Write, A: Allocator + Copy>(
         (W.contents (inner_of writer.old)) (W.contents (inner_of writer.new)) (has_failed reader.new)
         (has_failed writer.new) result }
 {
+    let (form, limits) = (order.form, order.limits);
     let mut run = first_run(order);
-    run_service(alloc, &order, &mut run, reader, writer)
+    match serve_messages(alloc, form, limits, &mut run, reader, writer) {
+        Ok(()) => outcome_of(&run),
+        Err(stopped) => Err(fault_of(&run, stopped)),
+    }
 }

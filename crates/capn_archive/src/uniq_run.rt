@@ -8,11 +8,12 @@ ghost use Rattle.capn_archive.specs.UniqRun as spec;
 ghost use Rattle.capn_archive.specs.UniqRun.{Deduplicated};
 ghost use Rattle.capn_serve.specs.declared.fault.RunFault.TheVariants as faults;
 
+use crate::archive_run::serve_messages;
 use crate::end_of_archive::{fault_after, outcome};
 use crate::fault::ArchiveFault;
 use crate::uniq_order::UniqOrder;
 use crate::uniq_service::UniqService;
-use capn_serve::{Run, RunFault, serve_form, write_all};
+use capn_serve::{Run, RunFault, write_all};
 use capn_words::Watched;
 use std::alloc::Allocator;
 use std::io::{Read, Write};
@@ -67,32 +68,6 @@ fn fault_of<A: Allocator>(run: &Run<UniqService<A>>, fault: RunFault) -> Archive
     fault_after(run.service.skipped(), run.at.index, fault)
 }
 
-/// Serves all messages of the input, writes the counting line if `order.count` is set, and returns the outcome of the
-/// run.
-fn run_service<R: Read, W: Write, A: Allocator + Copy>(
-    alloc: A,
-    order: &UniqOrder,
-    run: &mut Run<UniqService<A>>,
-    reader: &mut Watched<R>,
-    writer: &mut Watched<W>,
-) -> Result<(), ArchiveFault>
-    requires fresh { run.old ≡ spec.first_run order.now }
-    requires reader_fine { has_failed reader.old ≡ false }
-    requires writer_fine { has_failed writer.old ≡ false }
-    ensures { Deduplicated order.now (R.remaining (inner_of reader.old)) (R.remaining (inner_of reader.new))
-        (W.contents (inner_of writer.old)) (W.contents (inner_of writer.new)) (has_failed reader.new)
-        (has_failed writer.new) result }
-{
-    let most = order.limits.message_words();
-    match serve_form(alloc, order.form, most, run, reader, writer) {
-        Ok(()) => match write_count(alloc, run, writer) {
-            Ok(()) => outcome_of(run),
-            Err(fault) => Err(fault_of(run, fault)),
-        },
-        Err(stopped) => Err(fault_of(run, stopped)),
-    }
-}
-
 /// Reads the messages of an archive from `reader`, and writes to `writer` each one whose canonical bytes no earlier
 /// message had. Canonical bytes are compared by their SHA-256. The frame of a message is written unchanged. If the
 /// input is packed, the unpacked bytes of the frame are written. If the input is bare, all of it is written. If
@@ -118,6 +93,13 @@ pub fn run_uniq<R: Read, W: Write, A: Allocator + Copy>(
         (W.contents (inner_of writer.old)) (W.contents (inner_of writer.new)) (has_failed reader.new)
         (has_failed writer.new) result }
 {
+    let (form, limits) = (order.form, order.limits);
     let mut run = first_run(alloc, order);
-    run_service(alloc, &order, &mut run, reader, writer)
+    match serve_messages(alloc, form, limits, &mut run, reader, writer) {
+        Ok(()) => match write_count(alloc, &run, writer) {
+            Ok(()) => outcome_of(&run),
+            Err(fault) => Err(fault_of(&run, fault)),
+        },
+        Err(stopped) => Err(fault_of(&run, stopped)),
+    }
 }

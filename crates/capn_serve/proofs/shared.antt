@@ -5,3 +5,4 @@ pub mod Appending
 pub mod Given
 pub mod OneServing
 pub mod Until
+pub mod AfterMessages

@@ -1,16 +1,14 @@
 use Rattle.std.proofs.Common.{ℕ}
 use Rattle.capn_words.specs.Watched.{inner_of, has_failed}
-use Rattle.capn_archive.specs.ArchiveRun.{first_run}
-use Rattle.capn_archive.specs.Tasks.{refuses, serves}
-use Rattle.capn_serve.specs.Fold.{fold_of}
-use Rattle.capn_archive.proofs.Finishes.{of_order}
+use Rattle.capn_serve.specs.Fold.{fold_until}
+use Rattle.capn_serve.proofs.shared.AfterMessages.{of_order}
 use Rattle.capn_archive.proofs.archive_run.serve_messages.Goals as goal
 
 pub returns : goal.returns
-returns g c =
-    of_order (λ (n : ℕ). fold_of serves refuses n) c.args.order.now.form c.args.order.now.limits.message_words
-    c.message_words-most.result (first_run c.args.order.now) c.args.run.now c.message_words-most.ensures.value
-    c.requires.fresh (g.R.Read.remaining (inner_of c.args.reader.now))
+returns g c first fresh =
+    of_order (λ (n : ℕ). fold_until g.S.Service.serves g.S.Service.refuses g.S.Service.done n) c.args.form
+    c.args.limits.message_words c.message_words-most.result first c.args.run.now c.message_words-most.ensures.value
+    fresh (g.R.Read.remaining (inner_of c.args.reader.now))
     (g.R.Read.remaining (inner_of c.serve_form.new.reader)) (g.W.Write.contents (inner_of c.args.writer.now))
     (g.W.Write.contents (inner_of c.serve_form.new.writer)) (has_failed c.serve_form.new.reader)
     (has_failed c.serve_form.new.writer) c.serve_form.result c.serve_form.new.run c.serve_form.ensures
