@@ -209,11 +209,11 @@ orders name one = record {
 }
 
 -- `o` is a run over an archive for a task of the subcommand `name`.
-abbrev ArchiveIs : Text → List Row → Invocation → Type 0
+abbrev pub ArchiveIs : Text → List Row → Invocation → Type 0
 ArchiveIs name rows o = (a : ArchiveOrder) × TaskIs rows a.task × AreOptions rows a × (task_name a.task ≡ name)
     × (o ≡ invocations.Archive a)
 
-abbrev archives : Text → Kind AreSame
+abbrev pub archives : Text → Kind AreSame
 archives name = record {
   Is = ArchiveIs name;
   one = λ rows o p is also.
@@ -315,13 +315,12 @@ pub not_unpacking : (rows : List Row) (o p : Invocation) → MessageIs unpacks.I
 not_unpacking rows o p (c, are, whole, is) (x, (streaming, usual), also) =
     not_both rows (codes "streaming") whole streaming
 
--- The kinds of invocations, by name.
+-- The kinds of invocations, by name, without the names that have one task of an archive whatever their flags.
 abbrev pub kinds : List (Text × Kind AreSame)
 kinds = (codes "show", either plain_shows shows not_plain)
     ∷ (codes "check", messages (writes pieces.Price) IsAny)
     ∷ (codes "explain", orders (λ (x : Explanation). invocations.Explain x) explanation_one)
     ∷ (codes "list", archives (codes "list"))
-    ∷ (codes "limits", archives (codes "limits"))
     ∷ (codes "canonical", either whole_canonicals (archives (codes "canonical")) not_framed)
     ∷ (codes "hash", messages (writes pieces.Digest) IsAny)
     ∷ (codes "uniq", orders (λ (u : UniqOrder). invocations.Uniq u) uniq_one)
@@ -335,11 +334,11 @@ kinds = (codes "show", either plain_shows shows not_plain)
 
 -- A run over an archive is of the kind of its subcommand's name.
 sorted_archive : (rows : List Row) (a : ArchiveOrder) (t : Task) → a.task ≡ t → TaskIs rows a.task → AreOptions rows a
-    → Named kinds (task_name t) rows (invocations.Archive a)
+    → Named kinds archives (task_name t) rows (invocations.Archive a)
 sorted_archive rows a tasks.Canonical e is are = inr (a, is, are, ap task_name e, refl)
 sorted_archive rows a t e is are = (a, is, are, ap task_name e, refl)
 
-sorted : (rows : List Row) (o : Invocation) → HasOptions rows o → Named kinds (name_of o) rows o
+sorted : (rows : List Row) (o : Invocation) → HasOptions rows o → Named kinds archives (name_of o) rows o
 sorted rows (invocations.Message (commands.Show f l)) is =
     inl (commands.Show f l, (f, l, false, is.0, refl), is.1, refl)
 sorted rows (invocations.Message (commands.Check f l)) is =
@@ -370,12 +369,13 @@ sorted rows (invocations.Make m) is = (m, is, refl)
 
 -- An invocation that a subcommand means is of the kind of its name.
 pub by_name : (name : Text) (rows : List Row) (o : Invocation) → MeansInvocation (Some (name, rows)) o
-    → Named kinds name rows o
-by_name name rows o m = subst (λ (n : Text). Named kinds n rows o) (sym m.0) (sorted rows o m.1)
+    → Named kinds archives name rows o
+by_name name rows o m = subst (λ (n : Text). Named kinds archives n rows o) (sym m.0) (sorted rows o m.1)
 
 pub means_one_invocation : MeansOneInvocation
 means_one_invocation None o p m n = absurd m
-means_one_invocation (Some s) o p m n = named_one kinds s.0 s.1 o p (by_name s.0 s.1 o m) (by_name s.0 s.1 p n)
+means_one_invocation (Some s) o p m n =
+    named_one kinds archives s.0 s.1 o p (by_name s.0 s.1 o m) (by_name s.0 s.1 p n)
 
 -- An invocation that is the same as that of `command` is equal to it.
 pub same_command : (o : Invocation) (command : Command) → AreSame o (invocations.Message command)

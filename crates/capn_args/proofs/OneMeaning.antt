@@ -16,7 +16,7 @@ use Rattle.capn_commands.specs.declared.plan.MessageText.TheVariants as pieces
 use Rattle.capn_args.specs.Meaning.{CommandIs, InputIs, Means, MeansOne, command_name}
 use Rattle.capn_args.specs.OptionValues.{FlagIs, FormIs, NumberIs, LimitsAre, UnpackedIs, flag_text, form_name}
 use Rattle.capn_args.specs.OptionValues.{tariff_name}
-use Rattle.capn_args.proofs.ByName.{Kind, Named, differ, named_one}
+use Rattle.capn_args.proofs.ByName.{Kind, Named, differ, named_one, nothing}
 
 -- ---- the values of options
 
@@ -131,7 +131,7 @@ kinds = (codes "show", writes pieces.Text)
     ∷ []
 
 -- A command is of the kind of its subcommand's name.
-sorted : (rows : List Row) (c : Command) → CommandIs rows c → Named kinds (command_name c) rows c
+sorted : (rows : List Row) (c : Command) → CommandIs rows c → Named kinds nothing (command_name c) rows c
 sorted rows (commands.Show f l) is = (f, l, false, is, refl)
 sorted rows (commands.Check f l) is = (f, l, false, is, refl)
 sorted rows commands.Pack is = refl
@@ -142,9 +142,10 @@ sorted rows (commands.One pieces.Text f l) is = (f, l, true, is, refl)
 sorted rows (commands.One pieces.Price f l) is = (f, l, true, is, refl)
 sorted rows (commands.One pieces.Digest f l) is = (f, l, true, is, refl)
 
-by_name : (name : Text) (rows : List Row) (c : Command) → Means (Some (name, rows)) c → Named kinds name rows c
-by_name name rows c m = subst (λ (n : Text). Named kinds n rows c) (sym m.0) (sorted rows c m.1)
+by_name : (name : Text) (rows : List Row) (c : Command) → Means (Some (name, rows)) c
+    → Named kinds nothing name rows c
+by_name name rows c m = subst (λ (n : Text). Named kinds nothing n rows c) (sym m.0) (sorted rows c m.1)
 
 pub means_one : MeansOne
 means_one None c d m n = absurd m
-means_one (Some s) c d m n = named_one kinds s.0 s.1 c d (by_name s.0 s.1 c m) (by_name s.0 s.1 d n)
+means_one (Some s) c d m n = named_one kinds nothing s.0 s.1 c d (by_name s.0 s.1 c m) (by_name s.0 s.1 d n)

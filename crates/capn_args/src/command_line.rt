@@ -1,15 +1,17 @@
 //! The call `invocation_of`, which reads the words of a command line and returns the invocation that they mean.
 
-ghost use Rattle.std.specs.Prelude.{◌≡◌, [], true, codes, map};
+ghost use Rattle.std.specs.Prelude.{◌≡◌, ◌≢◌, List, [], true, codes, map};
 ghost use Rattle.std.specs.Prelude.{IfErr, IfOk, IfSome, IsSome, Some};
-ghost use Rattle.clap.specs.Words.{fault_of, found_of, kind_of, rows_of, subcommand_of, takes};
+ghost use Rattle.clap.specs.Words.{Row, fault_of, found_of, kind_of, rows_of, subcommand_of, takes};
 ghost use Rattle.capn_args.specs.Usage.{error_of, IsReason, GivesInvocation};
 ghost use Rattle.capn_archive.specs.declared.filter_order.FilterOrder.{FilterOrder};
 ghost use Rattle.capn_cmp.specs.declared.cmp_order.CmpOrder.{CmpOrder};
 ghost use Rattle.capn_archive.specs.declared.task.ArchiveOrder.{ArchiveOrder};
+ghost use Rattle.capn_archive.specs.declared.task.Task.{Task};
 ghost use Rattle.capn_archive.specs.declared.uniq_order.UniqOrder.{UniqOrder};
 ghost use Rattle.capn_args.specs.CommandLine.{program_line};
-ghost use Rattle.capn_args.specs.Meaning.{AreOptions, CmpIs, FilterIs, MakeIs, MeansInvocation, UniqIs};
+ghost use Rattle.capn_args.specs.Meaning.{AreOptions, CmpIs, FilterIs, MakeIs, MeansInvocation, TaskIs};
+ghost use Rattle.capn_args.specs.Meaning.{UniqIs, task_name};
 ghost use Rattle.capn_args.specs.declared.invocation.Make.{Make};
 ghost use Rattle.capn_args.specs.declared.invocation.Invocation.{Invocation};
 
@@ -44,6 +46,36 @@ fn archive_of(task: Task, matches: &ArgMatches) -> Option<ArchiveOrder>
         limits,
         keep_going,
     })
+}
+
+/// Returns the task of an archive that the command `name` has whatever its flags, if there is one.
+fn task_of(name: &str) -> Option<Task>
+    requires not_list { name.now ≢ codes "list" }
+    requires not_canonical { name.now ≢ codes "canonical" }
+    ensures named { IfSome result (λ task. task_name task ≡ name.now) }
+    ensures flags { IfSome result (λ task. (rows : List Row) → TaskIs rows task) }
+    ensures served { (task : Task) → task_name task ≡ name.now → IsSome result }
+{
+    match name {
+        "limits" => Some(Task::Limits),
+        _ => None,
+    }
+}
+
+/// Returns the invocation of the command `name`, which has one task of an archive, with the options in `matches`, if
+/// they mean one.
+fn task_invocation<'a>(name: &str, matches: &ArgMatches<'a>) -> Option<Invocation<'a>>
+    requires not_list { name.now ≢ codes "list" }
+    requires not_canonical { name.now ≢ codes "canonical" }
+    ensures means { IfSome result (MeansInvocation (Some (name.now, rows_of (found_of matches.now)))) }
+    ensures served { (archive : ArchiveOrder) → task_name archive.task ≡ name.now
+        → TaskIs (rows_of (found_of matches.now)) archive.task
+        → AreOptions (rows_of (found_of matches.now)) archive
+        → IsSome result }
+{
+    let task = task_of(name)?;
+    let archive = archive_of(task, matches)?;
+    Some(Invocation::Archive(archive))
 }
 
 /// Returns the invocation of `list` that the options in `matches` mean, if they mean one. With `--digest` each line has
@@ -201,7 +233,6 @@ fn named_invocation<'a>(name: &str, matches: &ArgMatches<'a>) -> Option<Invocati
         "check" => check_of(matches),
         "explain" => Some(Invocation::Explain(explain_of(matches)?)),
         "list" => list_of(matches),
-        "limits" => Some(Invocation::Archive(archive_of(Task::Limits, matches)?)),
         "canonical" => canonical_of(matches),
         "uniq" => Some(Invocation::Uniq(uniq_of(matches)?)),
         "filter" => Some(Invocation::Filter(filter_of(matches)?)),
@@ -211,7 +242,7 @@ fn named_invocation<'a>(name: &str, matches: &ArgMatches<'a>) -> Option<Invocati
         "unpack" => unpack_of(matches),
         "make" => Some(Invocation::Make(make_of(matches)?)),
         "hash" => hash_of(matches),
-        _ => None,
+        _ => task_invocation(name, matches),
     }
 }
 
