@@ -8,94 +8,77 @@ ghost use Rattle.capn_args.specs.Usage.{error_of};
 use crate::input_options::{form_of, limits_of};
 use crate::message_number::message_number;
 use crate::option_mistakes;
-use crate::option_values::{flag_of, stream_form_of, text_in};
+use crate::option_values::{is_given, stream_form_of, text_in};
 use crate::path::is_path;
 use crate::range_list::is_range_list;
+use crate::rows::EXCLUSIONS;
 use crate::subcommands::mistake;
 use crate::usage::Usage;
 use clap::ArgMatches;
 use clap::error::ErrorKind;
 use std::alloc::Global;
 
-/// Returns the message for options of `pick` that mean no invocation. The message is about `--form`, else about the
-/// value of `--only`, else about `--from` and `--to` with `--only`.
-fn said_of_pick(matches: &ArgMatches) -> &'static str {
-    if stream_form_of(matches).is_none() {
-        return option_mistakes::NO_FRAMED_FORM;
-    }
-    match text_in(matches, "only") {
-        Some(list) => {
-            if is_range_list(list) {
-                option_mistakes::WITHOUT_FROM_AND_TO
-            } else {
-                option_mistakes::NO_LIST
-            }
+/// Returns the message of the first row of `EXCLUSIONS` that the options given to the command `name` break, if any.
+fn excluded(name: &str, matches: &ArgMatches) -> Option<&'static str> {
+    for row in &EXCLUSIONS {
+        if row.command == name
+            && is_given(matches, row.option)
+            && row.others.iter().any(|other| is_given(matches, other))
+        {
+            return Some(row.message);
         }
-        None => option_mistakes::NO_FRAMED_FORM,
     }
+    None
 }
 
-/// Returns the message for options of `cmp` that mean no invocation. The message is about `--form`, else about
-/// `--tariff`.
-fn said_of_cmp(matches: &ArgMatches) -> &'static str {
-    match stream_form_of(matches) {
-        Some(_) => option_mistakes::NO_SUCH_TARIFF,
-        None => option_mistakes::NO_FRAMED_FORM,
-    }
-}
-
-/// Returns the message for options of `show` that mean no invocation, if the form and the limits are valid. The message
-/// is about the value of `--at`, else about an option that is refused with `--json`.
-fn said_of_show(matches: &ArgMatches) -> &'static str {
-    match text_in(matches, "at") {
-        Some(path) => {
-            if !is_path(path) {
-                return option_mistakes::NO_PATH;
-            }
+/// Returns the message for a value that `--at`, `--number` or `--only` does not take, if one of them has such a value.
+fn wrong_value(matches: &ArgMatches) -> Option<&'static str> {
+    if let Some(path) = text_in(matches, "at") {
+        if !is_path(path) {
+            return Some(option_mistakes::NO_PATH);
         }
-        None => {}
     }
-    match flag_of(matches, "offsets") {
-        Some(true) => option_mistakes::WITHOUT_OFFSETS,
-        _ => option_mistakes::WITHOUT_WAYS,
+    if let Some(number) = text_in(matches, "number") {
+        if message_number(number).is_none() {
+            return Some(option_mistakes::NO_NUMBER);
+        }
     }
+    if let Some(list) = text_in(matches, "only") {
+        if !is_range_list(list) {
+            return Some(option_mistakes::NO_LIST);
+        }
+    }
+    None
 }
 
-/// Returns the message for options of `explain` that mean no invocation, if the form and the limits are valid. The
-/// message is about the value of `--number`, else about `--number` with `--keep-going`.
-fn said_of_explain(matches: &ArgMatches) -> &'static str {
-    match text_in(matches, "number") {
-        Some(text) => match message_number(text) {
-            Some(_) => option_mistakes::WITHOUT_NUMBER,
-            None => option_mistakes::NO_NUMBER,
-        },
-        None => option_mistakes::NO_NUMBER,
-    }
-}
-
-/// Returns the message for options of the command `name` that mean no invocation. `pick`, `cmp` and `unpack` have
-/// messages of their own. For the other commands the message is about `--form`, else about `--tariff`, else about the
-/// other options of `show`, `explain` or `canonical`.
-fn said_of(name: &str, matches: &ArgMatches) -> &'static str {
-    if name == "pick" {
-        return said_of_pick(matches);
-    }
-    if name == "cmp" {
-        return said_of_cmp(matches);
-    }
-    if name == "unpack" {
-        return option_mistakes::WITHOUT_MESSAGE_WORDS;
-    }
-    if form_of(matches).is_none() {
-        return option_mistakes::NO_SUCH_FORM;
-    }
-    if limits_of(matches).is_none() {
-        return option_mistakes::NO_SUCH_TARIFF;
-    }
+/// Returns the message for a form or a tariff that the command `name` doesn't take. `pick` and `cmp` don't take the
+/// form `bare`. `pick` and `unpack` have no tariff.
+fn wrong_input(name: &str, matches: &ArgMatches) -> Option<&'static str> {
     match name {
-        "show" => said_of_show(matches),
-        "explain" => said_of_explain(matches),
-        _ => option_mistakes::ONLY_FRAMED,
+        "unpack" => None,
+        "pick" | "cmp" if stream_form_of(matches).is_none() => {
+            Some(option_mistakes::NO_FRAMED_FORM)
+        }
+        "pick" => None,
+        _ if form_of(matches).is_none() => Some(option_mistakes::NO_SUCH_FORM),
+        _ if limits_of(matches).is_none() => Some(option_mistakes::NO_SUCH_TARIFF),
+        _ => None,
+    }
+}
+
+/// Returns the message for options of the command `name` that mean nothing: about `--form`, else about `--tariff`, else
+/// about the value of another option, else about options that exclude each other, else about `--keep-going` without
+/// `--framed`.
+fn said_of(name: &str, matches: &ArgMatches) -> &'static str {
+    if let Some(said) = wrong_input(name, matches) {
+        return said;
+    }
+    if let Some(said) = wrong_value(matches) {
+        return said;
+    }
+    match excluded(name, matches) {
+        Some(said) => said,
+        None => option_mistakes::ONLY_FRAMED,
     }
 }
 

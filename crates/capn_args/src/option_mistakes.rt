@@ -9,29 +9,14 @@ pub const NO_SUCH_FORM: &str = "--form takes stream, packed or bare";
 /// The message for a value that `--at` does not take.
 pub const NO_PATH: &str = "--at takes numbers below 2^64, parted by dots";
 
-/// The message for `--json` together with `--offsets`.
-pub const WITHOUT_OFFSETS: &str = "--json goes without --offsets";
-
-/// The message for `--json` together with `--ways`.
-pub const WITHOUT_WAYS: &str = "--json goes without --ways";
-
 /// The message for a value that `--number` does not take.
 pub const NO_NUMBER: &str = "--number takes 1 to 2^64 - 1, without a sign or leading zeros";
-
-/// The message for `--keep-going` together with `--number`.
-pub const WITHOUT_NUMBER: &str = "--keep-going goes without --number";
 
 /// The message for a value that `--only` does not take.
 pub const NO_LIST: &str = "--only takes ascending numbers and ranges, as 3,7,9-12";
 
-/// The message for `--only` together with `--from` or `--to`.
-pub const WITHOUT_FROM_AND_TO: &str = "--only goes without --from and --to";
-
 /// The message for a value that `--form` of `pick` and `cmp` does not take.
 pub const NO_FRAMED_FORM: &str = "--form takes stream or packed";
-
-/// The message for `--message-words` together with `--streaming`.
-pub const WITHOUT_MESSAGE_WORDS: &str = "--streaming goes without --message-words";
 
 /// The message for `--keep-going` of `canonical` without `--framed`.
 pub const ONLY_FRAMED: &str = "--keep-going needs --framed";

@@ -31,6 +31,19 @@ pub struct OptionRow {
     pub commands: &'static [&'static str],
 }
 
+/// Options of a command that exclude each other.
+#[derive(Clone, Copy)]
+pub struct Exclusion {
+    /// The name of the command.
+    pub command: &'static str,
+    /// The name of an option.
+    pub option: &'static str,
+    /// The names of the options that `option` excludes.
+    pub others: &'static [&'static str],
+    /// The message if `option` is given together with one of `others`.
+    pub message: &'static str,
+}
+
 /// The kind of value that `--form` takes.
 pub(crate) const FORM: Taken = Taken::Usual("FORM", "stream");
 

@@ -52,6 +52,17 @@ pub(crate) fn is_usual(matches: &ArgMatches, id: &str) -> bool
     }
 }
 
+/// Tests whether the option `id` is given on the command line.
+pub(crate) fn is_given(matches: &ArgMatches, id: &str) -> bool {
+    match origin_of(matches, id) {
+        Some(source) => match source {
+            ValueSource::CommandLine => true,
+            ValueSource::DefaultValue => false,
+        },
+        None => false,
+    }
+}
+
 /// Returns the number of the option `id`, given or default, if it is below 2^64.
 fn number_of(matches: &ArgMatches, id: &str) -> Option<u64>
     ensures read { IfSome result (λ n. NumberIs (rows_of (found_of matches.now)) id.now n) }

@@ -1,7 +1,7 @@
 //! The table of the commands and their options.
 
 use crate::help::Page;
-use crate::option_row::{FORM, OptionRow, Taken, WORDS};
+use crate::option_row::{Exclusion, FORM, OptionRow, Taken, WORDS};
 use crate::{archives_help, bytes_help, messages_help};
 use capn_value::{MOST_COST, MOST_HEIGHT};
 
@@ -296,5 +296,39 @@ written before a refusal stays written",
 2 MiB of memory; what was written before a refusal
 stays written. It goes without `--message-words`",
         commands: &["unpack"],
+    },
+];
+
+/// The options that exclude each other. If several rows are broken, the first one here is reported.
+pub const EXCLUSIONS: [Exclusion; 5] = [
+    Exclusion {
+        command: "show",
+        option: "json",
+        others: &["offsets"],
+        message: "--json goes without --offsets",
+    },
+    Exclusion {
+        command: "show",
+        option: "json",
+        others: &["ways"],
+        message: "--json goes without --ways",
+    },
+    Exclusion {
+        command: "explain",
+        option: "keep-going",
+        others: &["number"],
+        message: "--keep-going goes without --number",
+    },
+    Exclusion {
+        command: "pick",
+        option: "only",
+        others: &["from", "to"],
+        message: "--only goes without --from and --to",
+    },
+    Exclusion {
+        command: "unpack",
+        option: "streaming",
+        others: &["message-words"],
+        message: "--streaming goes without --message-words",
     },
 ];
