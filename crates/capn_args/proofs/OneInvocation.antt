@@ -11,7 +11,7 @@ use Rattle.capn_args.specs.OptionValues.{FlagIs, FormIs, NumberIs, form_name}
 use Rattle.capn_args.specs.Meaning.{AreOptions, AreSame, CmpIs, ExplainIs, ExplanationIs, FilterIs, HasOptions}
 use Rattle.capn_args.specs.Meaning.{IsNumbered, IsSamePath, MakeIs, MarksAre, MeansInvocation, MeansOneInvocation}
 use Rattle.capn_args.specs.Meaning.{OnlyIs, PathIs, PickIs, RefusedIs, ShowIs, StyleIs, TaskIs, UniqIs}
-use Rattle.capn_args.specs.Meaning.{is_plain, name_of, style_for, task_name, usual_with}
+use Rattle.capn_args.specs.Meaning.{is_plain, name_of, task_name, usual_with}
 use Rattle.capn_commands.specs.Plan.{form_of}
 use Rattle.capn_commands.specs.declared.plan.MessageText.TheVariants as pieces
 use Rattle.capn_args.proofs.ByName.{Kind, Named, differ, named_one}
@@ -44,13 +44,10 @@ use Rattle.capn_args.specs.declared.invocation.Invocation.TheVariants as invocat
 
 -- Tasks with the same subcommand and the same flags are equal.
 task_one : (rows : List Row) (s t : Task) → task_name s ≡ task_name t → TaskIs rows s → TaskIs rows t → s ≡ t
-task_one rows tasks.List tasks.List e is also = refl
-task_one rows tasks.Digests tasks.Digests e is also = refl
-task_one rows tasks.Limits tasks.Limits e is also = refl
-task_one rows tasks.Canonical tasks.Canonical e is also = refl
 task_one rows tasks.List tasks.Digests e is also = absurd (not_both rows (codes "digest") is also)
 task_one rows tasks.Digests tasks.List e is also = absurd (not_both rows (codes "digest") also is)
-task_one rows s t e is also = absurd (differ e refl)
+task_one rows s tasks.List e is also = cc
+task_one rows s t e is also = cc
 
 pub archive_one : (rows : List Row) (a b : ArchiveOrder) → task_name a.task ≡ task_name b.task → TaskIs rows a.task
     → AreOptions rows a → TaskIs rows b.task → AreOptions rows b → invocations.Archive a ≡ invocations.Archive b
@@ -129,11 +126,7 @@ only_one rows p q (f, w, usual, list) (g, v, usually, other) = (
 
 -- The flags determine the style.
 pub style_one : (rows : List Row) (s t : Style) → StyleIs rows s → StyleIs rows t → s ≡ t
-style_one rows s t (text, json, a, b, is) (other, too, c, d, also) =
-    sym is
-    ∙ ap (λ (x : Bool). style_for x json) (flag_one rows (codes "text") text other a c)
-    ∙ ap (λ (x : Bool). style_for other x) (flag_one rows (codes "json") json too b d)
-    ∙ also
+style_one rows s t is also = let same : Some s ≡ Some t = sym is ∙ also in cc
 
 -- The value of `--at` determines the path.
 path_one : (rows : List Row) (f g : Bool) (v w : Option (Bor Text)) → PathIs rows f v → PathIs rows g w → IsSamePath v w

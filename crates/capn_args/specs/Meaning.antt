@@ -1,6 +1,7 @@
 -- The meaning of a command line, which is the invocation that a subcommand and the values of its options stand for.
 -- (Our own.)
 use Rattle.std.specs.Prelude.{ℕ, ◌≡◌, ◌&&◌, ◌||◌, not, List, Bool, true, false, Option, Some, None, codes, ⊤, IsSome}
+use Rattle.std.specs.Prelude.{option_and_then, option_map}
 use Rattle.std.specs.Borrow.{Bor}
 use Rattle.clap.specs.Words.{Row, Text, first_of}
 use Rattle.capn_words.specs.Message.{most_message_words}
@@ -25,7 +26,7 @@ use Rattle.capn_serve.specs.declared.pick.Pick.{Pick}
 use Rattle.capn_explain.specs.declared.explain.Explain.{Explain}
 use Rattle.capn_explain.specs.declared.explain_refused.ExplainRefused.{ExplainRefused}
 use Rattle.capn_args.specs.CommandLine.{most_number}
-use Rattle.capn_args.specs.OptionValues.{FlagIs, FormIs, IsUsual, LimitsAre, NumberIn, UnpackedIs}
+use Rattle.capn_args.specs.OptionValues.{FlagIs, FormIs, IsUsual, LimitsAre, NumberIn, UnpackedIs, flag_in}
 use Rattle.capn_args.specs.MessageNumber.{number_of}
 use Rattle.capn_args.specs.RangeList.{ranges_in}
 use Rattle.capn_args.specs.Path.{path_of}
@@ -142,10 +143,14 @@ style_for true false = styles.Quoted
 style_for false true = styles.Json
 style_for true true = styles.JsonText
 
--- `style` is the one that `--text` and `--json` mean.
+-- The style that `--text` and `--json` mean, if the command has these flags.
+abbrev pub style_in : List Row → Option Style
+style_in rows =
+    option_and_then (λ text. option_map (style_for text) (flag_in rows (codes "json"))) (flag_in rows (codes "text"))
+
+-- `style` is the one that the flags for a style mean.
 abbrev pub StyleIs : List Row → Style → Type 0
-StyleIs rows style = (text : Bool) × (json : Bool) × FlagIs rows (codes "text") text
-    × FlagIs rows (codes "json") json × (style_for text json ≡ style)
+StyleIs rows style = style_in rows ≡ Some style
 
 -- `offsets` and `ways` say whether the flags of these names are given. In a style without lines, neither is given.
 abbrev pub MarksAre : List Row → Style → Bool → Bool → Type 0

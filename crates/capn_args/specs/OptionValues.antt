@@ -1,5 +1,5 @@
 -- The values of options, given or default. (Our own.)
-use Rattle.std.specs.Prelude.{ℕ, ◌≡◌, ◌+◌, ◌≤◌, List, Bool, true, false, Option, Some, codes, find, option_and_then}
+use Rattle.std.specs.Prelude.{ℕ, ◌≡◌, ◌+◌, ◌≤◌, List, Bool, true, false, cond, Option, Some, None, codes, find, option_and_then}
 use Rattle.std.specs.Str.{bytes_eq}
 use Rattle.std.specs.Str.Parse.{IsNumeral, digits_value, without_leading_plus}
 use Rattle.clap.specs.Words.{Row, Text, first_of, one_of}
@@ -61,6 +61,15 @@ NumberIn rows option least most n = NumberIs rows option n × (least ≤ n) × (
 abbrev pub flag_text : Bool → Text
 flag_text true = codes "true"
 flag_text false = codes "false"
+
+-- The flag that a text stands for, if it stands for one.
+abbrev pub flag_value : Text → Option Bool
+flag_value text =
+    cond (bytes_eq text (flag_text true)) (Some true) (cond (bytes_eq text (flag_text false)) (Some false) None)
+
+-- True if the flag `option` is given, false if it is not, and `None` if the command has no such flag.
+abbrev pub flag_in : List Row → Text → Option Bool
+flag_in rows option = option_and_then flag_value (one_of option rows)
 
 -- The flag `option` is given if and only if `given` is true.
 abbrev pub FlagIs : List Row → Text → Bool → Type 0

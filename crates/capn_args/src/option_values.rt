@@ -3,7 +3,7 @@
 ghost use Rattle.std.specs.Prelude.{◌≡◌, ◌≤◌, ◌↔◌, ◌<◌, ◌^◌, ℕ, Bool, None, Some, IfNone, IfSome, IsSome, IsTrue};
 ghost use Rattle.clap.specs.Words.{first_of, found_of, rows_of};
 ghost use Rattle.capn_words.specs.Message.{most_message_words};
-ghost use Rattle.capn_args.specs.OptionValues.{FormIs, NumberIs, FlagIs, IsUsual, NumberIn, source_of};
+ghost use Rattle.capn_args.specs.OptionValues.{FormIs, NumberIs, FlagIs, IsUsual, NumberIn, flag_in, source_of};
 ghost use Rattle.capn_serve.specs.declared.pick.StreamForm.{StreamForm};
 ghost use Rattle.capn_args.specs.Meaning.{usual_with};
 ghost use Rattle.capn_commands.specs.Plan as plans;
@@ -19,6 +19,7 @@ use clap::parser::ValueSource;
 pub(crate) fn flag_of(matches: &ArgMatches, id: &str) -> Option<bool>
     ensures read { IfSome result (λ given. FlagIs (rows_of (found_of matches.now)) id.now given) }
     ensures served { (given : Bool) → FlagIs (rows_of (found_of matches.now)) id.now given → IsSome result }
+    ensures value { result ≡ flag_in (rows_of (found_of matches.now)) id.now }
 {
     let given = matches.get_one::<bool>(id)?;
     Some(given)

@@ -2,7 +2,6 @@
 
 ghost use Rattle.std.specs.Prelude.{◌≡◌, Bool, List, codes, IfSome, IsSome, None, Some};
 ghost use Rattle.clap.specs.Words.{Row, first_of, found_of, rows_of};
-ghost use Rattle.capn_show.specs.declared.style.Style.{Style};
 ghost use Rattle.capn_args.specs.OptionValues.{FlagIs, FormIs, LimitsAre};
 ghost use Rattle.capn_args.specs.Meaning as meaning;
 ghost use Rattle.capn_args.specs.Meaning.{MarksAre, MeansInvocation, StyleIs};
@@ -32,8 +31,7 @@ fn style_for(text: bool, json: bool) -> Style
 
 /// Returns the style that `--text` and `--json` mean.
 fn style_of(matches: &ArgMatches) -> Option<Style>
-    ensures read { IfSome result (StyleIs (rows_of (found_of matches.now))) }
-    ensures served { (style : Style) → StyleIs (rows_of (found_of matches.now)) style → IsSome result }
+    ensures { result ≡ meaning.style_in (rows_of (found_of matches.now)) }
 {
     let text = flag_of(matches, "text")?;
     let json = flag_of(matches, "json")?;

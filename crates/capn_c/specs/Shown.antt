@@ -6,11 +6,10 @@ use Rattle.capn_value.specs.Text.{line}
 use Rattle.capn_value.specs.Tree.{Tree, nil, numbers}
 use Rattle.capn_walk.specs.Accepted.{IsValueOf}
 use Rattle.capn_walk.specs.Limits.{Bounds}
-use Rattle.capn_show.specs.Styled.{styled}
+use Rattle.capn_show.specs.Style.{end_of, styled}
 use Rattle.capn_show.specs.declared.style.Style.{Style}
 use Rattle.capn_show.specs.declared.style.Style.TheVariants as styles
 use Rattle.capn_abi.specs.Styles.{style_named}
-use Rattle.capn_show.specs.Style.{end_of}
 use Rattle.capn_canon.specs.Denotes.{Denotes}
 use Rattle.capn_canon.specs.MemoryNeed.{MayNeedMemory}
 use Rattle.capn_canon.specs.declared.form.Form.{Form}

@@ -8,8 +8,7 @@ use Rattle.capn_walk.specs.declared.walk_answer.Stopped.{Stopped}
 use Rattle.capn_canon.specs.declared.refusal.Refusal.{Refusal}
 use Rattle.capn_canon.specs.declared.refusal.Refusal.TheVariants as refusals
 use Rattle.capn_marks.specs.MarkedPart.{marked_at}
-use Rattle.capn_show.specs.Style.{end_of}
-use Rattle.capn_show.specs.Styled.{styled}
+use Rattle.capn_show.specs.Style.{end_of, styled}
 use Rattle.capn_serve.specs.declared.position.Position.{Position}
 use Rattle.capn_commands.specs.MessageMarks.{marked_end, marks_of}
 use Rattle.capn_commands.specs.declared.part_texts.PartTexts.{PartTexts}

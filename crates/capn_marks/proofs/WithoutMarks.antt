@@ -10,7 +10,7 @@ use Rattle.capn_marks.specs.Annotation as annotation
 use Rattle.capn_marks.specs.Marked.{mark, offset_mark, path_mark, byte_at, unmarked}
 use Rattle.capn_show.specs.Part.{follow, step_down}
 use Rattle.capn_marks.specs.MarkedPart.{There, at_root, led, lines_style, marked_at, stepped, there_text}
-use Rattle.capn_show.specs.Styled.{part_in, styled}
+use Rattle.capn_show.specs.Style.{part_in, styled}
 use Rattle.capn_show.specs.ReadyPlaces.{bytes_of}
 use Rattle.capn_show.proofs.shared.BareTexts as texts
 use Rattle.capn_show.proofs.shared.PlainTexts.{plain-shown}

@@ -1,7 +1,7 @@
 -- Laws of texts with marks. (Our own.)
 use Rattle.std.specs.Prelude.{◌≡◌, ℕ, List, false}
 use Rattle.capn_value.specs.Tree.{Tree}
-use Rattle.capn_show.specs.Styled.{styled}
+use Rattle.capn_show.specs.Style.{styled}
 use Rattle.capn_marks.specs.MarkedPart.{lines_style, marked_at}
 use Rattle.capn_marks.specs.declared.marks.Marks.{Marks}
 

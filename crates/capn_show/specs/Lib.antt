@@ -10,5 +10,4 @@ pub mod Part
 pub mod Quoting
 pub mod ReadyPlaces
 pub mod Style
-pub mod Styled
 pub mod Written

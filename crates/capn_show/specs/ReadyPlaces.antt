@@ -16,8 +16,8 @@ use Rattle.capn_walk.specs.View.{number_in}
 use Rattle.capn_walk.specs.ShownValue.{Shows, ShowsStruct, words_of_row, slots_of_row}
 use Rattle.capn_walk.specs.Accepted.{root}
 use Rattle.capn_show.specs.JsonTexts.{json_escaped}
-use Rattle.capn_show.specs.Quoting.{escaped, plain_bytes, quoted_bytes, shown_by}
-use Rattle.capn_show.specs.Styled.{part_in, styled}
+use Rattle.capn_show.specs.Quoting.{escaped, plain_bytes, quoted_bytes}
+use Rattle.capn_show.specs.Style.{part_in, styled}
 use Rattle.capn_show.specs.declared.style.Style.{Style}
 use Rattle.capn_show.specs.declared.style.Style.TheVariants as styles
 use Rattle.capn_show.specs.declared.fault.ShowFault.{ShowFault}
@@ -55,6 +55,11 @@ escaped_of true = json_escaped
 abbrev pub is_escaped : Bool → ℕ → Bool
 is_escaped false b = b == 34 || (b == 92 || b == 0)
 is_escaped true b = b == 34 || (b == 92 || (b == 9 || (b == 10 || b == 13)))
+
+-- The style of lines. The argument says whether a list of bytes that is a text is written between quotes.
+abbrev pub lines_style : Bool → Style
+lines_style false = styles.Lines
+lines_style true = styles.Quoted
 
 -- The style of JSON. The argument says whether a list of bytes that is a text is written as a string.
 abbrev pub json_style : Bool → Style
@@ -137,11 +142,6 @@ module _ (m : List (List ℕ)) where
     pub low : height value ≤ height v
 
   -- ---- statements that `Says` holds of a text, for instance that the text was added
-
-  -- `Says` holds of the lines of the value with the target `found` at `level`, in which `by` gives the lines of a list
-  -- of bytes.
-  abbrev pub IsFoundShown : (ℕ → List ℕ → List ℕ) → Target → ℕ → (List ℕ → Type 0) → Type 0
-  IsFoundShown by found level Says = (v : Tree) → Shows m found v → Says (shown_by by level v)
 
   -- `Says` holds of the text that `text` makes of the `number` numbers of the list at word `w` of segment `s`.
   abbrev pub NumbersShown : ℕ → ℕ → Width → ℕ → (List ℕ → List ℕ) → (List ℕ → Type 0) → Type 0

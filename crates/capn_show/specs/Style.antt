@@ -1,5 +1,13 @@
--- The properties of a style. (Our own.)
-use Rattle.std.specs.Prelude.{ℕ, List, [], ◌∷◌, ◌++◌, codes, Bool, true, false}
+-- A style: its properties, and the text of the part of a value at a path of numbers. (Our own.)
+use Rattle.std.specs.Prelude.{◌≡◌, ℕ, List, [], ◌∷◌, ◌++◌, Bool, true, false, Option, Some, None, codes, refl}
+use Rattle.std.specs.Str.{chars, is_utf8}
+use Rattle.capn_value.specs.NumberWidth.{byte}
+use Rattle.capn_value.specs.Tree.{Tree, nil, node, numbers, no_trees, tree}
+use Rattle.capn_value.specs.Text.{line, named, shown}
+use Rattle.capn_show.specs.Part.{at_path, part_text, text_at}
+use Rattle.capn_show.specs.Quoting.{quoted_bytes, shown_by}
+use Rattle.capn_show.specs.Json.{json_line, json_line_by}
+use Rattle.capn_show.specs.JsonTexts.{text_or_digits}
 use Rattle.capn_show.specs.declared.style.Style.{Style}
 use Rattle.capn_show.specs.declared.style.Style.TheVariants as styles
 
@@ -23,3 +31,48 @@ is_quoted styles.Lines = false
 is_quoted styles.Quoted = true
 is_quoted styles.Json = false
 is_quoted styles.JsonText = false
+
+-- The text of a part in a style. If there is no part, the text is one line.
+abbrev pub part_in : Style → Option Tree → List ℕ
+part_in styles.Lines part = part_text part
+part_in styles.Quoted None = line 0 (codes "none")
+part_in styles.Quoted (Some t) = shown_by quoted_bytes 0 t
+part_in styles.Json None = 10 ∷ []
+part_in styles.Json (Some t) = json_line t
+part_in styles.JsonText None = 10 ∷ []
+part_in styles.JsonText (Some t) = json_line_by text_or_digits t
+
+-- The text of the part of `t` at `path`, in a style.
+abbrev pub styled : Style → List ℕ → Tree → List ℕ
+styled style path t = part_in style (at_path t path)
+
+-- A struct with one slot, which has the bytes of a text.
+abbrev with_text : Tree
+with_text = node [] (tree (numbers byte (104 ∷ 34 ∷ 0 ∷ [])) no_trees)
+
+in_lines : (path : List ℕ) (t : Tree) → styled styles.Lines path t ≡ text_at path t
+in_lines path t = refl
+
+between_quotes : styled styles.Quoted (0 ∷ []) with_text
+    ≡ line 0 (named (codes "bytes") 3 ++ codes " \"h\\\"\\0\"")
+between_quotes = refl
+
+no_text : styled styles.Quoted [] (numbers byte (255 ∷ [])) ≡ shown 0 (numbers byte (255 ∷ []))
+no_text = refl
+
+nothing_there : styled styles.Quoted (1 ∷ []) with_text ≡ line 0 (codes "none")
+nothing_there = refl
+
+null_in_json : styled styles.Json [] nil ≡ codes "null\n"
+null_in_json = refl
+
+nothing_in_json : styled styles.Json (1 ∷ []) with_text ≡ codes "\n"
+nothing_in_json = refl
+
+text_in_json : styled styles.JsonText (0 ∷ []) with_text ≡ codes "{\"text\":\"h\\\"\"}\n"
+unfolding is_utf8 chars lib.Utf8.encode
+text_in_json = refl
+
+no_text_in_json : styled styles.JsonText [] (numbers byte (255 ∷ [])) ≡ styled styles.Json [] (numbers byte (255 ∷ []))
+unfolding is_utf8 chars lib.Utf8.encode
+no_text_in_json = refl

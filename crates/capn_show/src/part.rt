@@ -9,7 +9,7 @@ ghost use Rattle.capn_walk.specs.Accepted.{root};
 ghost use Rattle.capn_show.specs.Outgoing.{Adds, BreaksOff, outgoing};
 ghost use Rattle.capn_show.specs.Part as parts;
 ghost use Rattle.capn_show.specs.ReadyPlaces.{IsReady, Holds, HasValue, LeadsTo, IsPartShown};
-ghost use Rattle.capn_show.specs.Styled.{styled};
+ghost use Rattle.capn_show.specs.Style.{styled};
 ghost use Rattle.capn_show.specs.Written.{IsWritten, IsUnwritten};
 
 use crate::descent::{named, step_down};

@@ -4,8 +4,8 @@ ghost use Rattle.std.specs.Prelude.{◌*◌, ◌<◌, ◌^◌, None, IfErr, OnOk
 ghost use Rattle.capn_words.specs.Message.{IsMessage};
 ghost use Rattle.capn_target.specs.Shapes.{IsInMessage};
 ghost use Rattle.capn_show.specs.Outgoing.{Adds, BreaksOff, outgoing};
-ghost use Rattle.capn_show.specs.Styled.{part_in};
-ghost use Rattle.capn_show.specs.ReadyPlaces.{IsFound, IsFoundShown, IsThereShown, bytes_of, json_style};
+ghost use Rattle.capn_show.specs.Style.{part_in};
+ghost use Rattle.capn_show.specs.ReadyPlaces.{IsFound, IsThereShown, json_style, lines_style};
 
 use crate::emitter::Lines;
 use crate::fault::Broken;
@@ -57,9 +57,9 @@ fn show_lines<S: Space, W: Write, A: Allocator, const QUOTED: bool>(
     requires inside { IsInMessage (S.message space.now) found }
     requires ready { IsFound (S.message space.now) found depth }
     requires room { 2 * depth < 2 ^ 32 }
-    ensures shown { OnOk result (IsFoundShown (S.message space.now) (bytes_of QUOTED) found 0 (Adds
+    ensures shown { OnOk result (IsThereShown (S.message space.now) (lines_style QUOTED) found (Adds
         (outgoing W.contents writer.old text.old.items) (outgoing W.contents writer.new text.new.items))) }
-    ensures cut { IfErr result (λ e. IsFoundShown (S.message space.now) (bytes_of QUOTED) found 0 (BreaksOff
+    ensures cut { IfErr result (λ e. IsThereShown (S.message space.now) (lines_style QUOTED) found (BreaksOff
         (outgoing W.contents writer.old text.old.items) (outgoing W.contents writer.new text.new.items) e)) }
 {
     show_found(text, writer, &mut Lines::<QUOTED>, space, found, 0, depth)

@@ -14,7 +14,7 @@ use Rattle.capn_canon.specs.declared.refusal.Refusal.TheVariants as refusals
 use Rattle.capn_canon.proofs.shared.NotRefused.{accepted-not_refused}
 use Rattle.capn_canon.proofs.shared.OneRefusal.{one_message_refusal}
 use Rattle.capn_marks.specs.MarkedPart.{marked_at}
-use Rattle.capn_show.specs.Styled.{styled}
+use Rattle.capn_show.specs.Style.{styled}
 use Rattle.capn_show.specs.declared.style.Style.{Style}
 use Rattle.capn_serve.specs.Fold.{AreServed, EndsRefused, EndsUnframed, Fold, IsFolded, Part}
 use Rattle.capn_serve.specs.BareRun.{EndsBare}

@@ -1,7 +1,6 @@
 use Rattle.std.proofs.Common.{List, ℕ, subst}
 use Rattle.capn_show.specs.Outgoing.{outgoing}
-use Rattle.capn_show.specs.Styled.{styled}
-use Rattle.capn_show.specs.Style.{end_of}
+use Rattle.capn_show.specs.Style.{end_of, styled}
 use Rattle.capn_commands.specs.inner.AddedParts.{AddsEnd}
 use Rattle.capn_commands.proofs.PartServed.{part_fault, part_line}
 use Rattle.capn_commands.proofs.part_texts.add_part.Goals as goal

@@ -3,9 +3,8 @@ use Rattle.capn_words.specs.Message.{total}
 use Rattle.capn_marks.specs.MarkedPart.{marked_at}
 use Rattle.capn_marks.specs.declared.marks.Marks.{Marks}
 use Rattle.capn_show.specs.Outgoing.{outgoing}
-use Rattle.capn_show.specs.Styled.{styled}
+use Rattle.capn_show.specs.Style.{end_of, styled}
 use Rattle.capn_commands.specs.MessageMarks.{marked_end, marks_of}
-use Rattle.capn_show.specs.Style.{end_of}
 use Rattle.capn_commands.specs.inner.AddedParts.{AddsPart}
 use Rattle.capn_commands.proofs.PartServed.{with_marks, without_marks}
 use Rattle.capn_commands.proofs.part_texts.add_text.Goals as goal

@@ -1,6 +1,6 @@
 use Rattle.std.proofs.Common.{arith}
 use Rattle.capn_show.specs.Outgoing.{outgoing}
-use Rattle.capn_show.specs.Styled.{styled}
+use Rattle.capn_show.specs.Style.{styled}
 use Rattle.capn_show.proofs.shared.Ends.{unwritten}
 use Rattle.capn_show.proofs.part.show_part.Goals as goal
 

@@ -3,7 +3,7 @@ use Rattle.std.proofs.lemmas.Result.{on_ok_weaker, IfErr-weaker}
 use Rattle.std.specs.Prelude.{Option}
 use Rattle.capn_value.specs.Tree.{Tree}
 use Rattle.capn_show.specs.Outgoing.{Adds, BreaksOff, outgoing}
-use Rattle.capn_show.specs.Styled.{part_in}
+use Rattle.capn_show.specs.Style.{part_in}
 use Rattle.capn_show.proofs.part.write_part.Goals as goal
 
 pub named-found-requires-clause-value : goal.named-found-requires-clause-value

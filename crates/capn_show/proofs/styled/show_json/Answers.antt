@@ -3,7 +3,7 @@ use Rattle.std.proofs.lemmas.Result.{on_ok_weaker, IfErr-weaker}
 use Rattle.std.specs.Prelude.{Some}
 use Rattle.capn_value.specs.Tree.{Tree}
 use Rattle.capn_show.specs.Json.{json_by, json_line_by}
-use Rattle.capn_show.specs.Styled.{part_in}
+use Rattle.capn_show.specs.Style.{part_in}
 use Rattle.capn_show.specs.inner.JsonRule.{bytes_json_of}
 use Rattle.capn_show.specs.ReadyPlaces.{json_style}
 use Rattle.capn_show.proofs.JsonEmitted.{json-emitted}

@@ -1,9 +1,20 @@
-use Rattle.std.proofs.Common.{[], refl, not, eqb}
+use Rattle.std.proofs.Common.{◌≡◌, ◌∙◌, Bool, true, false, [], refl, not, eqb}
 use Rattle.std.proofs.lemmas.Result.{on_ok_weaker, IfErr-weaker}
+use Rattle.std.specs.Prelude.{Some}
+use Rattle.capn_value.specs.Tree.{Tree}
 use Rattle.capn_show.specs.Outgoing.{outgoing}
+use Rattle.capn_show.specs.Quoting.{shown_by}
+use Rattle.capn_show.specs.ReadyPlaces.{bytes_of, lines_style}
+use Rattle.capn_show.specs.Style.{part_in}
 use Rattle.capn_show.proofs.shared.Appended.{otherwise, otherwise-broken}
 use Rattle.capn_show.proofs.shared.BareTexts.{bare}
+use Rattle.capn_show.proofs.shared.PlainTexts.{plain-shown}
 use Rattle.capn_show.proofs.styled.show_lines.Goals as goal
+
+-- The lines are the text in the style that `QUOTED` selects.
+lined : (quoted : Bool) (v : Tree) → shown_by (bytes_of quoted) 0 v ≡ part_in (lines_style quoted) (Some v)
+lined false v = plain-shown 0 v
+lined true v = refl
 
 pub returns-clause-shown : goal.returns-clause-shown
 returns-clause-shown g c =
@@ -13,7 +24,7 @@ returns-clause-shown g c =
     let asked = not (eqb g.row.QUOTED 0) in
     let text = bare asked (λ m at. 0) (λ path i. path) (λ byte path. []) (λ n path. refl) m 0 [] c.args.found in
     on_ok_weaker c.show_found.result
-    (λ k v h. otherwise p q _ _ (text v) (k v h))
+    (λ k v h. otherwise p q _ _ (text v ∙ lined asked v) (k v h))
     c.show_found.ensures.shown
 
 pub returns-clause-cut : goal.returns-clause-cut
@@ -24,5 +35,5 @@ returns-clause-cut g c =
     let asked = not (eqb g.row.QUOTED 0) in
     let text = bare asked (λ m at. 0) (λ path i. path) (λ byte path. []) (λ n path. refl) m 0 [] c.args.found in
     IfErr-weaker c.show_found.result _ _
-    (λ e k v h. otherwise-broken p q e _ _ (text v) (k v h))
+    (λ e k v h. otherwise-broken p q e _ _ (text v ∙ lined asked v) (k v h))
     c.show_found.ensures.cut
