@@ -1,5 +1,6 @@
 -- The values of options, given or default. (Our own.)
-use Rattle.std.specs.Prelude.{ℕ, ◌≡◌, ◌+◌, ◌≤◌, List, Bool, true, false, cond, Option, Some, None, codes, find, option_and_then}
+use Rattle.std.specs.Prelude.{ℕ, ◌≡◌, ◌+◌, ◌≤◌, List, Bool, true, false, cond, Option, Some, None, codes, find}
+use Rattle.std.specs.Prelude.{option_and_then}
 use Rattle.std.specs.Str.{bytes_eq}
 use Rattle.std.specs.Str.Parse.{IsNumeral, digits_value, without_leading_plus}
 use Rattle.clap.specs.Words.{Row, Text, first_of, one_of}
@@ -13,7 +14,7 @@ use Rattle.capn_stream.specs.Frames.{most_table_words}
 use Rattle.capn_canon.specs.declared.form.Form.{Form}
 use Rattle.capn_canon.specs.declared.form.Form.TheVariants as forms
 
--- The name of each form.
+-- The name of a form on the command line.
 abbrev pub form_name : Form → Text
 form_name forms.Stream = codes "stream"
 form_name forms.Packed = codes "packed"
@@ -23,7 +24,7 @@ form_name forms.Bare = codes "bare"
 abbrev pub FormIs : List Row → Form → Type 0
 FormIs rows form = first_of (codes "form") rows ≡ Some (form_name form)
 
--- The name of each tariff.
+-- The name of a tariff on the command line.
 abbrev pub tariff_name : Tariff → Text
 tariff_name tariffs.Strict = codes "strict"
 tariff_name tariffs.Plain = codes "plain"
@@ -53,11 +54,11 @@ abbrev pub UnpackedIs : List Row → ℕ → Type 0
 UnpackedIs rows most = (n : ℕ) × NumberIs rows (codes "message-words") n × (n ≤ most_message_words)
     × (most ≡ n + most_table_words)
 
--- `option` has the number `n`, which is from `least` to `most`.
+-- The value of `option` is the number `n`, which is from `least` to `most`.
 abbrev pub NumberIn : List Row → Text → ℕ → ℕ → ℕ → Type 0
 NumberIn rows option least most n = NumberIs rows option n × (least ≤ n) × (n ≤ most)
 
--- The text that stands for a flag, which is `true` if the flag is given, and `false` if it is not.
+-- The value of a flag as a text: `true` if the flag is given, and `false` if it is not.
 abbrev pub flag_text : Bool → Text
 flag_text true = codes "true"
 flag_text false = codes "false"
@@ -82,3 +83,7 @@ source_of rows option = option_and_then (λ row. row.source) (find (λ row. byte
 -- `option` is not given, so that it has its default.
 abbrev pub IsUsual : List Row → Text → Type 0
 IsUsual rows option = source_of rows option ≡ Some sources.DefaultValue
+
+-- `option` is given on the command line.
+abbrev pub IsGiven : List Row → Text → Type 0
+IsGiven rows option = source_of rows option ≡ Some sources.CommandLine

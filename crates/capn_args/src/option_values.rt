@@ -3,7 +3,8 @@
 ghost use Rattle.std.specs.Prelude.{◌≡◌, ◌≤◌, ◌↔◌, ◌<◌, ◌^◌, ℕ, Bool, None, Some, IfNone, IfSome, IsSome, IsTrue};
 ghost use Rattle.clap.specs.Words.{first_of, found_of, rows_of};
 ghost use Rattle.capn_words.specs.Message.{most_message_words};
-ghost use Rattle.capn_args.specs.OptionValues.{FormIs, NumberIs, FlagIs, IsUsual, NumberIn, flag_in, source_of};
+ghost use Rattle.capn_args.specs.OptionValues.{FormIs, NumberIs, FlagIs, IsGiven, IsUsual, NumberIn, flag_in};
+ghost use Rattle.capn_args.specs.OptionValues.{source_of};
 ghost use Rattle.capn_serve.specs.declared.pick.StreamForm.{StreamForm};
 ghost use Rattle.capn_args.specs.Meaning.{usual_with};
 ghost use Rattle.capn_commands.specs.Plan as plans;
@@ -54,7 +55,9 @@ pub(crate) fn is_usual(matches: &ArgMatches, id: &str) -> bool
 }
 
 /// Tests whether the option `id` is given on the command line.
-pub(crate) fn is_given(matches: &ArgMatches, id: &str) -> bool {
+pub(crate) fn is_given(matches: &ArgMatches, id: &str) -> bool
+    ensures { IsTrue result ↔ IsGiven (rows_of (found_of matches.now)) id.now }
+{
     match origin_of(matches, id) {
         Some(source) => match source {
             ValueSource::CommandLine => true,
