@@ -1,7 +1,6 @@
 -- A packed stream that is served in chunks: what has been written for the bytes that were read. (Our own.)
 use Rattle.std.specs.Prelude.{◌≡◌, ◌≢◌, ◌⊎◌, ◌↔◌, ℕ, ◌+◌, ◌<◌, ◌^◌, List, [], ◌++◌, length, Bool, true, false, Option}
 use Rattle.std.specs.Prelude.{Result, Ok, Err}
-use Rattle.std.specs.Io.KnownBytes.{Consumes}
 use Rattle.capn_pack.specs.PackedPieces as packing
 use Rattle.capn_pack.specs.PackedPieces.{Held, NoGroupFirst, Splits, advanced}
 use Rattle.capn_stream.specs.StreamPieces.{Framing}
@@ -12,7 +11,7 @@ use Rattle.capn_serve.specs.declared.position.Position.{Position}
 use Rattle.capn_serve.specs.declared.fault.RunFault.{RunFault}
 use Rattle.capn_serve.specs.declared.fault.RunFault.TheVariants as faults
 use Rattle.capn_serve.specs.Fold.{Fold, IsFolded, Leaves, end_of}
-use Rattle.capn_serve.specs.Outgoing.{Outgoing, Adds, sent}
+use Rattle.capn_serve.specs.Outgoing.{Outgoing, Adds}
 use Rattle.capn_serve.specs.ChunkRun.{IsListening, Tells, TellsBegun, TellsFront}
 use Rattle.capn_serve.specs.StreamRun.{has_more, taken_of}
 use Rattle.capn_serve.specs.PackedRun.{cut_group, unless_more}
@@ -98,12 +97,6 @@ module _ {X : Type 0} (f : Fold X) where
       × (failed ≡ false)
   ServesPacked x before bytes old new failed (Err fault) held framer left y =
       HaltsPacked x before bytes old new failed fault y
-
-  -- A reader returned `taken` bytes, and the whole messages in what these bytes unpack to were served.
-  abbrev pub HearsPacked : X → ℕ → Option (List ℕ) → Option (List ℕ) → ℕ → Pending → Option (List ℕ)
-      → Option (List ℕ) → X → Type 0
-  HearsPacked x limit a b taken after c d y = (bytes : List ℕ) × Consumes a b bytes × (length bytes ≡ taken)
-      × TellsPacked x (fresh limit) bytes after (sent c) (sent d) y
 
 -- The packed input ended at the position `at` with no whole frame in `rest`, and `ending` is the end of the run.
 abbrev pub EndsPacked : Position → List ℕ → ℕ → List ℕ → ℕ → Result (Unit {0}) RunFault → Type 0

@@ -2,7 +2,7 @@
 -- own.)
 use Rattle.std.specs.Prelude.{◌≡◌, ◌⊎◌, ◌↔◌, ℕ, ◌+◌, ◌<◌, ◌≤◌, nat_lt, List, [], ◌++◌, length, take, Bool, true}
 use Rattle.std.specs.Prelude.{false, Option, Some, None, IfSome, Result, Ok, Err}
-use Rattle.std.specs.Io.KnownBytes.{Consumes, Appends, IsAtEnd}
+use Rattle.std.specs.Io.KnownBytes.{Consumes, Appends}
 use Rattle.capn_stream.specs.StreamPieces.{IsUnfinished}
 use Rattle.capn_stream.specs.FrameRefusal as frame_rules
 use Rattle.capn_stream.specs.declared.fault.FrameFault.TheVariants as frames
@@ -12,8 +12,6 @@ use Rattle.capn_serve.specs.declared.fault.RunFault.{RunFault}
 use Rattle.capn_serve.specs.declared.fault.RunFault.TheVariants as faults
 use Rattle.capn_serve.specs.declared.service.Run.{Run}
 use Rattle.capn_serve.specs.Fold.{Fold, Part, AreParts, IfGoing, IsFolded, Leaves, texts_of}
-use Rattle.capn_serve.specs.Outgoing.{sent}
-use Rattle.capn_serve.specs.ChunkRun.{Tells}
 
 -- The bytes of `input` that a run takes: the first `limit` bytes, or all if there are fewer.
 abbrev pub taken_of : ℕ → List ℕ → List ℕ
@@ -36,16 +34,6 @@ start = record { index = 0; offset = 0 }
 -- The run of a service before its first message.
 abbrev pub first_run : {S : Type 0} → S → Run S
 first_run s = record { service = s; at = start }
-
--- A reader returned `bytes`, which are all that it had, or one byte more than `limit`. `kept` are the bytes that were
--- taken, and `is_longer` says whether there are more.
-pub record Kept (limit : ℕ) (old new : Option (List ℕ)) (kept : List ℕ) (is_longer : Bool) (bytes : List ℕ)
-    : Type 0 where
-  pub read : Consumes old new bytes
-  pub bounded : length bytes ≤ limit + 1
-  pub are : taken_of limit bytes ≡ kept
-  pub more : has_more limit bytes ≡ is_longer
-  pub ended : is_longer ≡ false → IsAtEnd new
 
 -- A reader returned at least one byte.
 abbrev pub TakesBytes : Option (List ℕ) → Option (List ℕ) → Type 0
@@ -122,12 +110,6 @@ module _ {X : Type 0} (f : Fold X) (x : X) (limit : ℕ) where
     pub begun : Begins a b c d
     pub heard : reader_failed ≡ true → KeepsUp a b c d
     pub memory : r ≡ Err faults.Memory → TakesBytes a b
-
--- A reader returned `taken` bytes, and the whole messages in these bytes were served.
-abbrev pub Hears : {X : Type 0} → Fold X → X → Option (List ℕ) → Option (List ℕ) → ℕ → List ℕ → Option (List ℕ)
-    → Option (List ℕ) → X → Type 0
-Hears f x a b taken rest c d y = (bytes : List ℕ) × Consumes a b bytes × (length bytes ≡ taken)
-    × Tells f x bytes rest (sent c) (sent d) y
 
 -- The input ended at the position `at`, between two messages if the result is `Ok`, or within a frame if the result is
 -- a fault.
