@@ -1,4 +1,3 @@
 -- Definitions that no public clause cites.
 pub mod Closing
 pub mod FilterVerdict
-pub mod LineRoom

@@ -6,11 +6,14 @@ ghost use Rattle.capn_archive.specs.CanonicalFrame.{PutsFront, PutsText};
 ghost use Rattle.capn_archive.specs.Lines as spec;
 ghost use Rattle.capn_serve.specs.declared.fault.ServeFault.TheVariants as faults;
 
-use crate::line::Line;
+use crate::line::{put_digest, put_head, put_measured};
 use crate::message_head::MessageHead;
 use capn_canon::{MeasuredBare, Refusal};
-use capn_serve::ServeFault;
+use capn_serve::{NumberLine, ServeFault};
 use std::alloc::{AllocError, Allocator};
+
+/// A line with room for the longest one, of `list --digest`. A number has at most 20 digits.
+type Line = NumberLine<352>;
 
 /// Returns the line of `list` for an accepted message.
 fn list_line(head: &MessageHead, measured: &MeasuredBare) -> Line
@@ -18,9 +21,9 @@ fn list_line(head: &MessageHead, measured: &MeasuredBare) -> Line
 {
     let mut line = Line::new();
     line.put(b"\n");
-    line.put_measured(measured);
+    put_measured(&mut line, measured);
     line.put(b" ");
-    line.put_head(head);
+    put_head(&mut line, head);
     line
 }
 
@@ -30,11 +33,11 @@ fn digests_line(head: &MessageHead, measured: &MeasuredBare, digest: Option<[u8;
 {
     let mut line = Line::new();
     line.put(b"\n");
-    line.put_digest(digest);
+    put_digest(&mut line, digest);
     line.put(b" sha256 ");
-    line.put_measured(measured);
+    put_measured(&mut line, measured);
     line.put(b" ");
-    line.put_head(head);
+    put_head(&mut line, head);
     line
 }
 
@@ -43,7 +46,7 @@ fn head_text(head: &MessageHead) -> Line
     ensures { result ≡ spec.head_text head.now }
 {
     let mut line = Line::new();
-    line.put_head(head);
+    put_head(&mut line, head);
     line
 }
 

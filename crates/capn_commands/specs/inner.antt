@@ -2,6 +2,5 @@
 pub mod MessageTexts
 pub mod OneServing
 pub mod Pending
-pub mod PriceRoom
 pub mod ReadInput
 pub mod AddedParts

@@ -29,7 +29,6 @@ mod pack_run;
 mod part_texts;
 mod pending;
 mod plan;
-mod price_line;
 mod show_run;
 mod unpack_run;
 mod whole_input;

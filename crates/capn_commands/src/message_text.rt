@@ -1,15 +1,15 @@
 //! The lines of one message: the price line, the verdict line and the digest line. The price line has the price and the
 //! number of visits. The verdict line, for a bare message, also says whether the bytes are canonical.
 
-ghost use Rattle.std.specs.Prelude.{◌≡◌, ◌≤◌, ◌∷◌, ◌++◌, [], length};
+ghost use Rattle.std.specs.Prelude.{◌≡◌, ◌<◌, ◌≤◌, ◌∷◌, ◌++◌, [], length};
 ghost use Rattle.sha2.specs.Sha256.{sha256};
 ghost use Rattle.hex.specs.Hex.{encode_lower};
 ghost use Rattle.capn_commands.specs.MessageText.{PutsMessageText, PutsBareMessageText, PutsLine, price_line, priced};
 ghost use Rattle.capn_commands.specs.declared.plan.MessageText.TheVariants as kinds;
 
 use crate::fault::ToolFault;
-use crate::price_line::{PriceLine, short_line};
 use capn_canon::{canonical_of, own_canonical, survey_bare};
+use capn_serve::NumberLine;
 use capn_walk::{Limits, survey};
 use capn_words::{Bare, Space};
 use sha2::{Digest, Sha256};
@@ -27,10 +27,29 @@ fn put_priced<A: Allocator>(
     requires { length end.now ≤ 16 }
     ensures { PutsLine (priced paid visits end.now) text.old.items text.new.items result }
 {
-    match PriceLine::append(text, paid, visits, end) {
+    // Two numbers of at most 20 digits each, 16 bytes of words, and the end.
+    let mut line = NumberLine::<72>::new();
+    line.put(end);
+    line.put_named(b" visits ", visits as u64);
+    line.put_named(b"ok paid ", paid as u64);
+    match text.extend_from_slice(line.as_bytes()) {
         Ok(()) => Ok(()),
         Err(_) => Err(ToolFault::Memory),
     }
+}
+
+/// Returns the line with the price `paid` and the number `visits`, each of one digit, as a small message has them. The
+/// line has a constant length, so no length is computed.
+#[inline(always)]
+fn short_line(paid: u32, visits: u32) -> [u8; 19]
+    requires paid { paid < 10 }
+    requires visits { visits < 10 }
+    ensures { result ≡ price_line paid visits }
+{
+    let mut line = *b"ok paid 0 visits 0\n";
+    line[8] = b'0' + paid as u8;
+    line[17] = b'0' + visits as u8;
+    line
 }
 
 /// Appends the line with the price `paid` and the number `visits`. Nothing is appended if an allocation is refused.

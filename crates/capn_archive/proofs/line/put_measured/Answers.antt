@@ -2,14 +2,14 @@ use Rattle.std.proofs.Common.{codes}
 use Rattle.std.specs.Fmt.{decimal}
 use Rattle.capn_archive.specs.Lines.{capability_text}
 use Rattle.capn_archive.proofs.LineParts.{before, both_before}
-use Rattle.capn_archive.proofs.line.Line.put_measured.Goals as goal
+use Rattle.capn_archive.proofs.line.put_measured.Goals as goal
 
 pub returns-clause-measured : goal.returns-clause-measured
-returns-clause-measured c =
+returns-clause-measured g c =
     let f = c.args.measured.now in
-    let old = c.args.self.now in
+    let old = c.args.line.now in
     let canonical = before (codes " canonical ") _ old _ c.put.new.self c.put_answer.ensures.answer c.put.ensures in
-    let index = before (capability_text f.survey.capability) _ old _ c.put_capability.new.self canonical
+    let index = before (capability_text f.survey.capability) _ old _ c.put_capability.new.line canonical
     c.put_capability.ensures.capability in
     let capability = before (codes " capability ") _ old _ c.put-2.new.self index c.put-2.ensures in
     let depth = both_before (codes " depth ") (decimal f.depth) _ old _ c.put_named.new.self capability
