@@ -1,7 +1,7 @@
 -- Lemmas for `run_explain`, `run_explain_refused` and their `serve_messages`: the end of a run that explains messages.
-use Rattle.std.proofs.Common.{◌≡◌, ◌≢◌, ◌⊎◌, inl, inr, ℕ, ◌+◌, List, [], ◌++◌, length, take, Bool, true, false, Option}
+use Rattle.std.proofs.Common.{◌≡◌, ◌≢◌, ◌⊎◌, inl, inr, ℕ, List, [], ◌++◌, length, take, Bool, true, false, Option}
 use Rattle.std.proofs.Common.{None, Some, IfSome, Result, Ok, Err, refl, ap, sym, subst, ◌∙◌, append-nil}
-use Rattle.std.proofs.Math.Seq.{take-length, take-append-add}
+use Rattle.std.proofs.Math.Seq.{take-length}
 use Rattle.std.specs.Io.KnownBytes.{Appends}
 use Rattle.std.proofs.KnownBytes.{Appends-trans}
 use Rattle.capn_words.specs.Watched.{HasBegun}
@@ -11,26 +11,15 @@ use Rattle.capn_canon.specs.declared.refusal.Refusal.{Refusal}
 use Rattle.capn_serve.specs.declared.position.Position.{Position}
 use Rattle.capn_serve.specs.declared.fault.RunFault.{RunFault}
 use Rattle.capn_serve.specs.declared.fault.RunFault.TheVariants as faults
-use Rattle.capn_serve.specs.Fold.{Fold, Leaves, texts_of}
-use Rattle.capn_serve.specs.StreamRun.{HasWrittenAll, IsAhead}
-use Rattle.capn_serve.specs.PackedRun.{HasWrittenAllPacked}
+use Rattle.capn_serve.specs.Fold.{Fold, Leaves}
 use Rattle.capn_serve.specs.FormRun.{AreMessages, BeginsMessages, HasWritten, IsReadSoFar, MessagesEnd, ServesMessages}
-use Rattle.capn_serve.specs.FormRun.{most_stream}
 use Rattle.capn_serve.specs.WhatCame.{Came, TellsInput}
+use Rattle.capn_serve.proofs.shared.AfterMessages.{begun_after, begun_text, read_so_far}
 use Rattle.capn_explain.specs.Finish.{Answer, Answered, AnswersAs, EndsForMemory, Finish, HasBegunClosing, HasClosing}
 use Rattle.capn_explain.specs.Finish.{TellsEnd, fault_text, last_ending, last_text, plain}
 use Rattle.capn_explain.specs.inner.Closing.{PutsClosing, PutsFault}
 use Rattle.capn_explain.proofs.Closings.{Ending, done_fine, io_is_not_memory, refused_fine}
 use Rattle.capn_explain.proofs.Closings.{stopped}
-
--- If a prefix of the text of messages was written, some text was written.
-begun_text : {X : Type 0} (f : Fold X) (x : X) (form : Form) (bytes : List ℕ) (c d : Option (List ℕ))
-    → HasWritten f x form bytes c d → (text : List ℕ) × Appends c d text
-begun_text f x forms.Stream bytes c d (parts, rest, y, count, are, wrote) = (take count (texts_of parts), wrote)
-begun_text f x forms.Packed bytes c d (stream, begins, parts, rest, y, count, are, wrote) =
-    (take count (texts_of parts), wrote)
-begun_text f x forms.Bare bytes c d (inl wrote) = ([], wrote)
-begun_text f x forms.Bare bytes c d (inr (text, y, count, writes, wrote)) = (take count text, wrote)
 
 -- The part that was read of a message, with no bytes.
 nothing : Came
@@ -45,29 +34,6 @@ tells_left f x form input fault came z y (inl same) tells =
 tells_left f x forms.Stream input fault came z y (inr refuses) tells = inl (z, refuses)
 tells_left f x forms.Packed input fault came z y (inr refuses) tells = inl (z, refuses)
 tells_left f x forms.Bare input fault came z y (inr refuses) tells = tt
-
--- `IsAhead` still holds after `more` was written too.
-ahead_more : (P : List ℕ → Option (List ℕ) → Option (List ℕ) → Type 0) (bytes more : List ℕ)
-    (c m d : Option (List ℕ)) → IsAhead P bytes c m → Appends m d more → IsAhead P bytes c d
-ahead_more P bytes more c m d (before, piece, mid, first, is, small, written, wrote) after =
-    (before, piece, mid, first ++ more, is, small, written, Appends-trans mid m d first more wrote after)
-
-read_so_far : {X : Type 0} (f : Fold X) (x : X) (form : Form) (bytes more : List ℕ) (c m d : Option (List ℕ))
-    → IsReadSoFar f x form bytes c m → Appends m d more → IsReadSoFar f x form bytes c d
-read_so_far f x forms.Stream bytes more c m d (bound, ahead) wrote =
-    (bound, ahead_more (HasWrittenAll f x most_stream) bytes more c m d ahead wrote)
-read_so_far f x forms.Packed bytes more c m d (bound, ahead) wrote =
-    (bound, ahead_more (HasWrittenAllPacked f x most_stream) bytes more c m d ahead wrote)
-read_so_far f x forms.Bare bytes more c m d bound wrote = bound
-
--- A prefix of `last` was written after `text`.
-begun_after : (c m d : Option (List ℕ)) (text last : List ℕ) (count : ℕ) → Appends c m text
-    → Appends m d (take count last) → HasBegun c d (text ++ last)
-begun_after c m d text last count before wrote = (
-  length text + count,
-  subst (Appends c d) (sym (take-append-add text last count))
-      (Appends-trans c m d text (take count last) before wrote),
-)
 
 -- The result of a run that ended with the fault `e`.
 abbrev pub answered : {E : Type 0} → E → Result (Unit {0}) E
@@ -398,21 +364,11 @@ module _ {X E : Type 0} (f : Fold X) (x : X) (finish : Finish X) (answer : Answe
     finished_untold d after faults.Io fault run tells (done, same, fine) = absurd (cc)
     finished_untold d after faults.InputTooLong fault run tells (done, same, fine) = absurd (cc)
 
-module _ {X : Type 0} where
-  -- The state `x` and the limit `most` can be replaced by `first` and `words`, which are equal to them.
-  pub of_order : (fold : ℕ → Fold X) (form : Form) (words most : ℕ) (first x : X) → most ≡ words → x ≡ first
-      → (a b c d : Option (List ℕ)) (reader writer : Bool) (r : Ending) (y : X)
-      → ServesMessages (fold most) x form a b c d reader writer r y
-      → ServesMessages (fold words) first form a b c d reader writer r y
-  of_order fold form words most first x same fresh a b c d reader writer r y ran =
-      subst (λ (z : X). ServesMessages (fold words) z form a b c d reader writer r y) fresh
-      (subst (λ (n : ℕ). ServesMessages (fold n) x form a b c d reader writer r y) same ran)
-
-  -- In `TellsEnd`, the state `x` and the limit `most` can be replaced by `first` and `words`, which are equal to them.
-  pub told_of_order : (fold : ℕ → Fold X) (form : Form) (words most : ℕ) (first x : X) → most ≡ words → x ≡ first
-      → (a : Option (List ℕ)) (r : Ending) (came : Came) (y : X)
-      → IfSome a (λ input. TellsEnd (fold most) x form input r came y)
-      → IfSome a (λ input. TellsEnd (fold words) first form input r came y)
-  told_of_order fold form words most first x same fresh a r came y tells =
-      subst (λ (z : X). IfSome a (λ input. TellsEnd (fold words) z form input r came y)) fresh
-      (subst (λ (n : ℕ). IfSome a (λ input. TellsEnd (fold n) x form input r came y)) same tells)
+-- In `TellsEnd`, the state `x` and the limit `most` can be replaced by `first` and `words`, which are equal to them.
+pub told_of_order : {X : Type 0} (fold : ℕ → Fold X) (form : Form) (words most : ℕ) (first x : X) → most ≡ words
+    → x ≡ first → (a : Option (List ℕ)) (r : Ending) (came : Came) (y : X)
+    → IfSome a (λ input. TellsEnd (fold most) x form input r came y)
+    → IfSome a (λ input. TellsEnd (fold words) first form input r came y)
+told_of_order {X = X} fold form words most first x same fresh a r came y tells =
+    subst (λ (z : X). IfSome a (λ input. TellsEnd (fold words) z form input r came y)) fresh
+    (subst (λ (n : ℕ). IfSome a (λ input. TellsEnd (fold n) x form input r came y)) same tells)

@@ -5,12 +5,15 @@ ghost use Rattle.capn_words.specs.Watched.{inner_of, has_failed};
 ghost use Rattle.capn_explain.specs.ExplainRun as spec;
 ghost use Rattle.capn_explain.specs.ExplainRun.{Explained};
 ghost use Rattle.capn_explain.specs.Finish.{TellsEnd};
+ghost use Rattle.capn_serve.specs.Fold.{fold_until};
 ghost use Rattle.capn_serve.specs.FormRun.{ServesMessages};
+ghost use Rattle.capn_serve.specs.StreamRun.{start};
 
 use crate::closing::{ending_of, write_closing, write_fault};
 use crate::explain::Explain;
 use crate::reporter::Reporter;
-use capn_serve::{Begun, Run, RunFault, serve_form_with};
+use capn_canon::{Form, Limits};
+use capn_serve::{Begun, Run, RunFault, Service, serve_form_with};
 use capn_words::Watched;
 use std::alloc::Allocator;
 use std::io::{Read, Write};
@@ -21,28 +24,31 @@ fn first_run<A: Allocator + Copy>(alloc: A, order: Explain) -> Run<Reporter<A>>
     Run::new(Reporter::new(alloc, order))
 }
 
-/// Serves the messages of the input, in the form that `order` names. If a message is refused before its walk, `begun`
-/// keeps the part of that message that was read.
-fn serve_messages<R: Read, W: Write, A: Allocator + Copy>(
+/// Serves the messages of an input in `form`, within `limits`. If a message is refused before its walk, `begun` keeps
+/// the part of that message that was read.
+pub(crate) fn serve_messages<S: Service, R: Read, W: Write, A: Allocator + Copy>(
     alloc: A,
-    order: &Explain,
-    run: &mut Run<Reporter<A>>,
+    form: Form,
+    limits: Limits,
+    run: &mut Run<S>,
     begun: &mut Begun<A>,
     reader: &mut Watched<R>,
     writer: &mut Watched<W>,
 ) -> Result<(), RunFault>
-    requires fresh { run.old ≡ spec.first_run order.now }
+    requires fresh { run.old.at ≡ start }
     requires reader_fine { has_failed reader.old ≡ false }
     requires writer_fine { has_failed writer.old ≡ false }
-    ensures serves { ServesMessages (spec.explain_fold order.now) (spec.first_run order.now) order.now.form
+    ensures serves { (first : _) → run.old ≡ first
+        → ServesMessages (fold_until S.serves S.refuses S.done limits.message_words) first form
         (R.remaining (inner_of reader.old)) (R.remaining (inner_of reader.new))
         (W.contents (inner_of writer.old)) (W.contents (inner_of writer.new)) (has_failed reader.new)
         (has_failed writer.new) result run.new }
-    ensures begun { IfSome (R.remaining (inner_of reader.old)) (λ input. TellsEnd (spec.explain_fold order.now)
-        (spec.first_run order.now) order.now.form input result begun.new run.new) }
+    ensures begun { (first : _) → run.old ≡ first → IfSome (R.remaining (inner_of reader.old)) (λ input.
+        TellsEnd (fold_until S.serves S.refuses S.done limits.message_words) first form input result begun.new
+        run.new) }
 {
-    let most = order.limits.message_words();
-    serve_form_with(alloc, order.form, most, run, begun, reader, writer)
+    let most = limits.message_words();
+    serve_form_with(alloc, form, most, run, begun, reader, writer)
 }
 
 /// Explains one message of the input of `reader`, which is the first refused one, or the one with the number in
@@ -74,9 +80,10 @@ pub fn run_explain<R: Read, W: Write, A: Allocator + Copy>(
         (W.contents (inner_of writer.old)) (W.contents (inner_of writer.new)) (has_failed reader.new)
         (has_failed writer.new) result }
 {
+    let (form, limits) = (order.form, order.limits);
     let mut run = first_run(alloc, order);
     let mut begun = Begun::new(alloc);
-    match serve_messages(alloc, &order, &mut run, &mut begun, reader, writer) {
+    match serve_messages(alloc, form, limits, &mut run, &mut begun, reader, writer) {
         Ok(()) => match write_closing(alloc, &run, writer) {
             Ok(()) => ending_of(&run),
             Err(fault) => Err(fault),

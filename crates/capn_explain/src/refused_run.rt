@@ -1,18 +1,17 @@
 //! The call `run_explain_refused`, which does a whole run that explains every refused message of an input.
 
-ghost use Rattle.std.specs.Prelude.{◌≡◌, false, IfSome};
+ghost use Rattle.std.specs.Prelude.{◌≡◌, false};
 ghost use Rattle.capn_words.specs.Watched.{inner_of, has_failed};
 ghost use Rattle.capn_explain.specs.RefusedRun as spec;
 ghost use Rattle.capn_explain.specs.RefusedRun.{ExplainedRefused};
-ghost use Rattle.capn_explain.specs.Finish.{TellsEnd};
-ghost use Rattle.capn_serve.specs.FormRun.{ServesMessages};
 
 use crate::closing::write_fault;
 use crate::explain_refused::ExplainRefused;
+use crate::explain_run::serve_messages;
 use crate::fault::ReportFault;
 use crate::refused_closing::{answer_of, ending_of, write_closing};
 use crate::refused_reporter::{RefusedReporter, each_of};
-use capn_serve::{Begun, Run, RunFault, serve_form_with};
+use capn_serve::{Begun, Run};
 use capn_words::Watched;
 use std::alloc::Allocator;
 use std::io::{Read, Write};
@@ -21,30 +20,6 @@ fn first_run<A: Allocator>(alloc: A, order: ExplainRefused) -> Run<RefusedReport
     ensures { result ≡ spec.first_run order }
 {
     Run::new(RefusedReporter::new(alloc, order))
-}
-
-/// Serves the messages of the input, in the form that `order` names. If a message is refused before its walk, `begun`
-/// keeps the part of that message that was read.
-fn serve_messages<R: Read, W: Write, A: Allocator + Copy>(
-    alloc: A,
-    order: &ExplainRefused,
-    run: &mut Run<RefusedReporter<A>>,
-    begun: &mut Begun<A>,
-    reader: &mut Watched<R>,
-    writer: &mut Watched<W>,
-) -> Result<(), RunFault>
-    requires fresh { run.old ≡ spec.first_run order.now }
-    requires reader_fine { has_failed reader.old ≡ false }
-    requires writer_fine { has_failed writer.old ≡ false }
-    ensures serves { ServesMessages (spec.refused_fold order.now) (spec.first_run order.now) order.now.form
-        (R.remaining (inner_of reader.old)) (R.remaining (inner_of reader.new))
-        (W.contents (inner_of writer.old)) (W.contents (inner_of writer.new)) (has_failed reader.new)
-        (has_failed writer.new) result run.new }
-    ensures begun { IfSome (R.remaining (inner_of reader.old)) (λ input. TellsEnd (spec.refused_fold order.now)
-        (spec.first_run order.now) order.now.form input result begun.new run.new) }
-{
-    let most = order.limits.message_words();
-    serve_form_with(alloc, order.form, most, run, begun, reader, writer)
 }
 
 /// Explains every refused message of the input of `reader`, within the limits of `order`. Writes the lines to `writer`,
@@ -75,14 +50,16 @@ pub fn run_explain_refused<R: Read, W: Write, A: Allocator + Copy>(
         (W.contents (inner_of writer.old)) (W.contents (inner_of writer.new)) (has_failed reader.new)
         (has_failed writer.new) result }
 {
+    let (form, limits) = (order.form, order.limits);
     let mut run = first_run(alloc, order);
+    let each = each_of(ExplainRefused { form, limits });
     let mut begun = Begun::new(alloc);
-    match serve_messages(alloc, &order, &mut run, &mut begun, reader, writer) {
+    match serve_messages(alloc, form, limits, &mut run, &mut begun, reader, writer) {
         Ok(()) => match write_closing(alloc, &run, writer) {
             Ok(()) => answer_of(&run, ending_of(&run)),
             Err(fault) => Err(ReportFault::Ended(fault)),
         },
-        Err(stopped) => match write_fault(alloc, &each_of(order), stopped, &begun, true, writer) {
+        Err(stopped) => match write_fault(alloc, &each, stopped, &begun, true, writer) {
             Ok(()) => answer_of(&run, Err(stopped)),
             Err(fault) => Err(ReportFault::Ended(fault)),
         },

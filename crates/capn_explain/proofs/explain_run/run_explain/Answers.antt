@@ -17,82 +17,66 @@ not_io run = ending_not_io run.service.outcome run.service.order.number run.serv
 pub write_closing-requires : goal.write_closing-requires
 write_closing-requires g c =
     (done_fine (has_failed c.serve_messages.new.reader) (has_failed c.serve_messages.new.writer)
-    c.in-Ok.ensures.serves.io).1
+    (c.in-Ok.ensures.serves (first_run c.args.order) c.first_run-run.ensures).io).1
 
 pub write_fault-requires : goal.write_fault-requires
 write_fault-requires g c =
     fine_if_told c.in-Err.stopped (has_failed c.serve_messages.new.reader) (has_failed c.serve_messages.new.writer)
-    c.in-Err.ensures.serves.io
+    (c.in-Err.ensures.serves (first_run c.args.order) c.first_run-run.ensures).io
 
 pub returns-in-Ok-write_closing : goal.returns-in-Ok-write_closing
 returns-in-Ok-write_closing g c =
-    let began = c.in-Ok.ensures.serves.begun in
-    let none = served_none c.args.order (first_run c.args.order) c.args.order.form began.bytes _ _ began.written in
+    let ran = c.in-Ok.ensures.serves (first_run c.args.order) c.first_run-run.ensures in
+    let none = served_none c.args.order (first_run c.args.order) c.args.order.form ran.begun.bytes _ _
+    ran.begun.written in
     subst (λ (r : Ending). Explained c.args.order (g.R.Read.remaining (inner_of c.args.reader.now))
     (g.R.Read.remaining (inner_of c.serve_messages.new.reader)) (g.W.Write.contents (inner_of c.args.writer.now))
     (g.W.Write.contents (inner_of c.write_closing.new.writer)) (has_failed c.serve_messages.new.reader)
     (has_failed c.write_closing.new.writer) r) (sym c.ending_of.ensures)
     record {
       run = finished_closed (explain_fold c.args.order) (first_run c.args.order) (explain_finish c.args.order) plain
-          (plain_faithful (explain_fold c.args.order))
-          c.args.order.form (g.R.Read.remaining (inner_of c.args.reader.now))
-          (g.R.Read.remaining (inner_of c.serve_messages.new.reader)) (g.W.Write.contents (inner_of c.args.writer.now))
-          (g.W.Write.contents (inner_of c.serve_messages.new.writer)) (has_failed c.serve_messages.new.reader)
-          (has_failed c.serve_messages.new.writer) c.serve_messages.new.run
-          (g.W.Write.contents (inner_of c.write_closing.new.writer)) (has_failed c.write_closing.new.writer)
-          (not_io c.serve_messages.new.run) c.in-Ok.ensures.serves c.in-Ok-write_closing.ensures;
+          (plain_faithful (explain_fold c.args.order)) c.args.order.form _ _ _ _ _ _ c.serve_messages.new.run _ _
+          (not_io c.serve_messages.new.run) ran c.in-Ok-write_closing.ensures;
       nothing = closed_none c.serve_messages.new.run _ _ _ _ _ none c.in-Ok-write_closing.ensures;
     }
 
 pub returns-in-Ok : goal.returns-in-Ok
 returns-in-Ok g c =
-    let began = c.in-Ok.ensures.serves.begun in
-    let none = served_none c.args.order (first_run c.args.order) c.args.order.form began.bytes _ _ began.written in
+    let ran = c.in-Ok.ensures.serves (first_run c.args.order) c.first_run-run.ensures in
+    let none = served_none c.args.order (first_run c.args.order) c.args.order.form ran.begun.bytes _ _
+    ran.begun.written in
     record {
       run = finished_unclosed (explain_fold c.args.order) (first_run c.args.order) (explain_finish c.args.order) plain
-          (plain_faithful (explain_fold c.args.order))
-          c.args.order.form (g.R.Read.remaining (inner_of c.args.reader.now))
-          (g.R.Read.remaining (inner_of c.serve_messages.new.reader)) (g.W.Write.contents (inner_of c.args.writer.now))
-          (g.W.Write.contents (inner_of c.serve_messages.new.writer)) (has_failed c.serve_messages.new.reader)
-          (has_failed c.serve_messages.new.writer) c.serve_messages.new.run
-          (g.W.Write.contents (inner_of c.write_closing.new.writer)) (has_failed c.write_closing.new.writer)
-          c.in-Err-write_closing.fault (not_io c.serve_messages.new.run) c.in-Ok.ensures.serves
-          c.in-Err-write_closing.ensures;
+          (plain_faithful (explain_fold c.args.order)) c.args.order.form _ _ _ _ _ _ c.serve_messages.new.run _ _
+          c.in-Err-write_closing.fault (not_io c.serve_messages.new.run) ran c.in-Err-write_closing.ensures;
       nothing = unclosed_none (closing c.serve_messages.new.run) _ _ _ _ _ c.in-Err-write_closing.fault none
           c.in-Err-write_closing.ensures;
     }
 
 pub returns-in-Ok-write_fault : goal.returns-in-Ok-write_fault
 returns-in-Ok-write_fault g c =
-    let began = c.in-Err.ensures.serves.begun in
-    let none = served_none c.args.order (first_run c.args.order) c.args.order.form began.bytes _ _ began.written in
+    let ran = c.in-Err.ensures.serves (first_run c.args.order) c.first_run-run.ensures in
+    let tells = c.in-Err.ensures.begun (first_run c.args.order) c.first_run-run.ensures in
+    let none = served_none c.args.order (first_run c.args.order) c.args.order.form ran.begun.bytes _ _
+    ran.begun.written in
     record {
       run = finished_told (explain_fold c.args.order) (first_run c.args.order) (explain_finish c.args.order) plain
-          (plain_faithful (explain_fold c.args.order))
-          c.args.order.form (g.R.Read.remaining (inner_of c.args.reader.now))
-          (g.R.Read.remaining (inner_of c.serve_messages.new.reader)) (g.W.Write.contents (inner_of c.args.writer.now))
-          (g.W.Write.contents (inner_of c.serve_messages.new.writer)) (has_failed c.serve_messages.new.reader)
-          (has_failed c.serve_messages.new.writer) c.serve_messages.new.run c.serve_messages.new.begun
-          (g.W.Write.contents (inner_of c.write_fault.new.writer)) (has_failed c.write_fault.new.writer)
-          c.in-Err.stopped c.in-Err.ensures.serves c.in-Err.ensures.begun
-          c.in-Ok-write_fault.ensures;
+          (plain_faithful (explain_fold c.args.order)) c.args.order.form _ _ _ _ _ _ c.serve_messages.new.run
+          c.serve_messages.new.begun _ _ c.in-Err.stopped ran tells c.in-Ok-write_fault.ensures;
       nothing = told_none (λ at r. told_at c.args.order at r c.serve_messages.new.begun) _ _ _ _ _ c.in-Err.stopped none
           c.in-Ok-write_fault.ensures;
     }
 
 pub returns : goal.returns
 returns g c =
-    let began = c.in-Err.ensures.serves.begun in
-    let none = served_none c.args.order (first_run c.args.order) c.args.order.form began.bytes _ _ began.written in
+    let ran = c.in-Err.ensures.serves (first_run c.args.order) c.first_run-run.ensures in
+    let tells = c.in-Err.ensures.begun (first_run c.args.order) c.first_run-run.ensures in
+    let none = served_none c.args.order (first_run c.args.order) c.args.order.form ran.begun.bytes _ _
+    ran.begun.written in
     record {
       run = finished_untold (explain_fold c.args.order) (first_run c.args.order) (explain_finish c.args.order) plain
-          (plain_faithful (explain_fold c.args.order))
-          c.args.order.form (g.R.Read.remaining (inner_of c.args.reader.now))
-          (g.R.Read.remaining (inner_of c.serve_messages.new.reader)) (g.W.Write.contents (inner_of c.args.writer.now))
-          (g.W.Write.contents (inner_of c.serve_messages.new.writer)) (has_failed c.serve_messages.new.reader)
-          (has_failed c.serve_messages.new.writer) c.serve_messages.new.run c.serve_messages.new.begun
-          (g.W.Write.contents (inner_of c.write_fault.new.writer)) (has_failed c.write_fault.new.writer)
-          c.in-Err.stopped c.in-Err-write_fault.fault c.in-Err.ensures.serves c.in-Err.ensures.begun
+          (plain_faithful (explain_fold c.args.order)) c.args.order.form _ _ _ _ _ _ c.serve_messages.new.run
+          c.serve_messages.new.begun _ _ c.in-Err.stopped c.in-Err-write_fault.fault ran tells
           c.in-Err-write_fault.ensures;
       nothing = untold_none (λ at r. told_at c.args.order at r c.serve_messages.new.begun) _ _ _ _ _ c.in-Err.stopped
           c.in-Err-write_fault.fault none c.in-Err-write_fault.ensures;

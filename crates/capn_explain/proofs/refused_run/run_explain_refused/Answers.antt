@@ -18,12 +18,12 @@ not_io run = ending_not_io run.service.skipped run.service.first
 pub write_closing-requires : goal.write_closing-requires
 write_closing-requires g c =
     (done_fine (has_failed c.serve_messages.new.reader) (has_failed c.serve_messages.new.writer)
-    c.in-Ok.ensures.serves.io).1
+    (c.in-Ok.ensures.serves (first_run c.args.order) c.first_run-run.ensures).io).1
 
 pub write_fault-requires : goal.write_fault-requires
 write_fault-requires g c =
     fine_if_told c.in-Err.stopped (has_failed c.serve_messages.new.reader) (has_failed c.serve_messages.new.writer)
-    c.in-Err.ensures.serves.io
+    (c.in-Err.ensures.serves (first_run c.args.order) c.first_run-run.ensures).io
 
 pub returns-in-Ok-write_closing : goal.returns-in-Ok-write_closing
 returns-in-Ok-write_closing g c =
@@ -35,22 +35,15 @@ returns-in-Ok-write_closing g c =
     (sym (c.answer_of.ensures
     ∙ ap (λ (e : Ending). answer_by run.service.skipped run.at.index e) c.ending_of.ensures))
     (finished_closed (refused_fold c.args.order) (first_run c.args.order) (refused_finish c.args.order) refused_answer
-    (answer_faithful c.args.order) c.args.order.form (g.R.Read.remaining (inner_of c.args.reader.now))
-    (g.R.Read.remaining (inner_of c.serve_messages.new.reader)) (g.W.Write.contents (inner_of c.args.writer.now))
-    (g.W.Write.contents (inner_of c.serve_messages.new.writer)) (has_failed c.serve_messages.new.reader)
-    (has_failed c.serve_messages.new.writer) run (g.W.Write.contents (inner_of c.write_closing.new.writer))
-    (has_failed c.write_closing.new.writer) (not_io run) c.in-Ok.ensures.serves c.in-Ok-write_closing.ensures)
+    (answer_faithful c.args.order) c.args.order.form _ _ _ _ _ _ run _ _ (not_io run)
+    (c.in-Ok.ensures.serves (first_run c.args.order) c.first_run-run.ensures) c.in-Ok-write_closing.ensures)
 
 pub returns-in-Ok : goal.returns-in-Ok
 returns-in-Ok g c =
     finished_unclosed (refused_fold c.args.order) (first_run c.args.order) (refused_finish c.args.order) refused_answer
-    (answer_faithful c.args.order) c.args.order.form (g.R.Read.remaining (inner_of c.args.reader.now))
-    (g.R.Read.remaining (inner_of c.serve_messages.new.reader)) (g.W.Write.contents (inner_of c.args.writer.now))
-    (g.W.Write.contents (inner_of c.serve_messages.new.writer)) (has_failed c.serve_messages.new.reader)
-    (has_failed c.serve_messages.new.writer) c.serve_messages.new.run
-    (g.W.Write.contents (inner_of c.write_closing.new.writer)) (has_failed c.write_closing.new.writer)
-    c.in-Err-write_closing.fault (not_io c.serve_messages.new.run) c.in-Ok.ensures.serves
-    c.in-Err-write_closing.ensures
+    (answer_faithful c.args.order) c.args.order.form _ _ _ _ _ _ c.serve_messages.new.run _ _
+    c.in-Err-write_closing.fault (not_io c.serve_messages.new.run)
+    (c.in-Ok.ensures.serves (first_run c.args.order) c.first_run-run.ensures) c.in-Err-write_closing.ensures
 
 pub returns-in-Ok-write_fault : goal.returns-in-Ok-write_fault
 returns-in-Ok-write_fault g c =
@@ -61,13 +54,10 @@ returns-in-Ok-write_fault g c =
     (has_failed c.serve_messages.new.reader) (has_failed c.write_fault.new.writer) r)
     (sym c.answer_of-in-Ok-write_fault.ensures)
     (finished_told (refused_fold c.args.order) (first_run c.args.order) (refused_finish c.args.order) refused_answer
-    (answer_faithful c.args.order) c.args.order.form (g.R.Read.remaining (inner_of c.args.reader.now))
-    (g.R.Read.remaining (inner_of c.serve_messages.new.reader)) (g.W.Write.contents (inner_of c.args.writer.now))
-    (g.W.Write.contents (inner_of c.serve_messages.new.writer)) (has_failed c.serve_messages.new.reader)
-    (has_failed c.serve_messages.new.writer) run c.serve_messages.new.begun
-    (g.W.Write.contents (inner_of c.write_fault.new.writer)) (has_failed c.write_fault.new.writer)
-    c.in-Err.stopped c.in-Err.ensures.serves c.in-Err.ensures.begun
-    (by_order c.args.order c.each_of.result c.each_of.ensures c.serve_messages.new.begun c.in-Err.stopped
+    (answer_faithful c.args.order) c.args.order.form _ _ _ _ _ _ run c.serve_messages.new.begun _ _ c.in-Err.stopped
+    (c.in-Err.ensures.serves (first_run c.args.order) c.first_run-run.ensures)
+    (c.in-Err.ensures.begun (first_run c.args.order) c.first_run-run.ensures)
+    (by_order c.args.order c.each_of-each.result c.each_of-each.ensures c.serve_messages.new.begun c.in-Err.stopped
     (g.W.Write.contents (inner_of c.serve_messages.new.writer)) (g.W.Write.contents (inner_of c.write_fault.new.writer))
     (has_failed c.serve_messages.new.writer) (has_failed c.write_fault.new.writer) (Ok tt)
     c.in-Ok-write_fault.ensures))
@@ -75,13 +65,11 @@ returns-in-Ok-write_fault g c =
 pub returns : goal.returns
 returns g c =
     finished_untold (refused_fold c.args.order) (first_run c.args.order) (refused_finish c.args.order) refused_answer
-    (answer_faithful c.args.order) c.args.order.form (g.R.Read.remaining (inner_of c.args.reader.now))
-    (g.R.Read.remaining (inner_of c.serve_messages.new.reader)) (g.W.Write.contents (inner_of c.args.writer.now))
-    (g.W.Write.contents (inner_of c.serve_messages.new.writer)) (has_failed c.serve_messages.new.reader)
-    (has_failed c.serve_messages.new.writer) c.serve_messages.new.run c.serve_messages.new.begun
-    (g.W.Write.contents (inner_of c.write_fault.new.writer)) (has_failed c.write_fault.new.writer)
-    c.in-Err.stopped c.in-Err-write_fault.fault c.in-Err.ensures.serves c.in-Err.ensures.begun
-    (by_order c.args.order c.each_of.result c.each_of.ensures c.serve_messages.new.begun c.in-Err.stopped
+    (answer_faithful c.args.order) c.args.order.form _ _ _ _ _ _ c.serve_messages.new.run c.serve_messages.new.begun
+    _ _ c.in-Err.stopped c.in-Err-write_fault.fault
+    (c.in-Err.ensures.serves (first_run c.args.order) c.first_run-run.ensures)
+    (c.in-Err.ensures.begun (first_run c.args.order) c.first_run-run.ensures)
+    (by_order c.args.order c.each_of-each.result c.each_of-each.ensures c.serve_messages.new.begun c.in-Err.stopped
     (g.W.Write.contents (inner_of c.serve_messages.new.writer)) (g.W.Write.contents (inner_of c.write_fault.new.writer))
     (has_failed c.serve_messages.new.writer) (has_failed c.write_fault.new.writer) (Err c.in-Err-write_fault.fault)
     c.in-Err-write_fault.ensures)
