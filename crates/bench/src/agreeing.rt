@@ -37,7 +37,7 @@ fn check_canonical(alloc: Global, bytes: &[u8]) -> Result<()> {
     Ok(())
 }
 
-/// Tests whether `bytes`, packed and unpacked, are the same.
+/// Tests whether `bytes` are the same after packing and unpacking.
 fn is_unpacked(alloc: Global, bytes: &[u8]) -> Result<bool> {
     let text = packed(alloc, bytes)?;
     Ok(unpacked(alloc, &text)?.as_slice() == bytes)

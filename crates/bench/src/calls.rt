@@ -29,7 +29,7 @@ fn walk_of<S: Space>(alloc: Global, space: &S) -> Result<Walked> {
     }
 }
 
-/// Returns the words that the walk of a framed message pays. Its tree is freed.
+/// Returns the words that the walk of a framed message pays. The tree of the walk is freed.
 pub(crate) fn walked(alloc: Global, framed: &[u8]) -> Result<u32> {
     let message = message(alloc, framed)?;
     let walked = walk_of(alloc, &message)?;

@@ -5,7 +5,8 @@ use crate::shapes::{Shape, framed};
 use anyhow::Result;
 use std::alloc::Global;
 
-/// Does an operation `steps` times. Returns the sum of the numbers that it returned, so that no step can be left out.
+/// Does an operation `steps` times. Returns the sum of the numbers that it returned, so that the compiler cannot leave
+/// a step out.
 fn repeated(alloc: Global, operation: Operation, input: &Input, steps: u32) -> Result<usize> {
     let mut sum = 0usize;
     for _ in 0..steps {

@@ -1,12 +1,12 @@
 //! Measurements of the libraries on messages of nine shapes.
 //! A fixed generator makes the messages.
 //!
-//! - Without a word: the digest of a little of each shape, and whether the operations agree on it.
-//! - `times`: the shortest times of each operation on each shape at four sizes, in nanoseconds a byte.
-//! - `count OPERATION SHAPE STEPS [BYTES]`: an operation on one shape, 1 MiB of it or `BYTES` bytes, done `STEPS`
-//!   times, for a tool that counts instructions: those of a step are the difference of two runs. It prints the bytes
-//!   by which the cost is given.
-//! - `write SHAPE BYTES`: about `BYTES` bytes of one shape to standard output, framed.
+//! - Without arguments: prints the digest of a small message of each shape, and whether the operations agree on it.
+//! - `times`: prints the shortest times of each operation on each shape at four sizes, in nanoseconds a byte.
+//! - `count OPERATION SHAPE STEPS [BYTES]`: does an operation `STEPS` times on about `BYTES` bytes of one shape, or on
+//!   1 MiB. It is for a tool that counts instructions: the difference of two runs gives those of one step. It prints
+//!   the number of bytes by which that cost is divided.
+//! - `write SHAPE BYTES`: writes about `BYTES` bytes of one shape to standard output, framed.
 #![tactic(auto)]
 
 mod agreeing;

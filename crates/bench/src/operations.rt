@@ -11,7 +11,7 @@ use std::alloc::Global;
 /// An operation on a message, a tree, canonical bytes or packed bytes.
 #[derive(Clone, Copy)]
 pub(crate) enum Operation {
-    /// A copy of the framed message's bytes, to compare with.
+    /// A copy of the framed message's bytes, whose cost the other operations are compared with.
     Copy,
     /// The message of the frame.
     First,
@@ -19,7 +19,7 @@ pub(crate) enum Operation {
     Framer,
     /// The price of reading the message.
     Survey,
-    /// A vector of one index entry for each word, to compare with.
+    /// A vector of one index entry for each word, whose cost `Index` is compared with.
     Room,
     /// The index of the message, with the vector for its entries.
     Index,
@@ -41,14 +41,14 @@ pub(crate) enum Operation {
     Unpack,
     /// The program's run of `check` over a stream.
     Check,
-    /// The comparison of the message with itself, surveyed once as each of the two.
+    /// The comparison of the message with itself. The message is surveyed once for each side.
     Same,
     /// The comparison with a message that differs in the root's first word.
     NotSame,
 }
 
 impl Operation {
-    /// The operations of one message.
+    /// The operations on one message that `times` measures.
     pub(crate) const ALL: [Operation; 14] = [
         Operation::Copy,
         Operation::First,
@@ -112,12 +112,13 @@ pub(crate) struct Input {
     tree: Option<Tree>,
     /// A second message if the operation takes two, else empty.
     other: Vec<u8>,
-    /// The number of bytes by which the cost is divided: those of the canonical bytes, else those of the framed message
-    /// or the stream.
+    /// The number of bytes by which the cost is divided. It is the size of the canonical bytes if the input begins with
+    /// them, and otherwise the size of the framed message or of the stream.
     pub size: usize,
 }
 
-/// Returns an input of `bytes`, whose cost is divided by `size`, or by the number of `bytes` if that is `None`.
+/// Returns an input of `bytes`, whose cost is divided by `size`. If `size` is `None`, it is divided by the number of
+/// `bytes`.
 fn of_bytes(alloc: Global, bytes: Result<Vec<u8>>, size: Option<usize>) -> Result<Input> {
     let bytes = bytes?;
     let size = size.unwrap_or(bytes.len());

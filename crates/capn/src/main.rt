@@ -1,9 +1,10 @@
 //! The entry point of the program `capn`.
 //!
 //! `capn_tool::program` states what the program does. This file calls `program` with the words of the command line,
-//! standard input, standard output and standard error, and ends with the exit status that `program` returns: 0 done, 1
-//! refused or different, 2 a mistake on the command line, 3 memory refused, an input or output that failed, or an input
-//! that is too long.
+//! standard input, standard output and standard error, and ends with the exit status that `program` returns. The status
+//! is 0 if the run has no fault and no message differs, 1 if the input is refused or a message differs, and 2 after a
+//! mistake on the command line. The status is 3 if memory is refused, if the input or the output fails, or if the input
+//! is too long.
 #![tactic(auto)]
 
 use capn_tool::{ToolFault, end, program};
@@ -15,8 +16,8 @@ use std::process::ExitCode;
 /// The exit status of a mistake on the command line.
 const MISTAKE: u8 = 2;
 
-/// Returns the words of the command line, or an error if an allocation is refused. `collect` would request room for all
-/// words first, and continue with less room if that request is refused.
+/// Returns the words of the command line. The error says that an allocation was refused, or that a word is no UTF-8
+/// text. `collect` would request memory for all words first, and continue with less memory if that request is refused.
 fn words_of(rt: &HostRuntime) -> io::Result<Vec<String>> {
     let mut words = Vec::new(rt.alloc());
     for word in env::args(rt)? {

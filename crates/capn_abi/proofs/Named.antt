@@ -1,4 +1,5 @@
--- Lemmas for `refuse` and `refuse_packed`: a status and a report stand for one refusal at most, unless the status is 8.
+-- Lemmas for `refuse` and `refuse_packed`: if a status is not 8, at most one refusal has this status and a given
+-- report.
 use Rattle.std.proofs.Common.{◌≡◌, ◌≢◌, ℕ, ◌==◌, if◌then◌else◌, refl, ap, sym, ◌∙◌}
 use Rattle.capn_words.specs.declared.bare.BareFault.TheVariants as bare
 use Rattle.capn_words.specs.declared.space.Place.{Place}
@@ -12,7 +13,7 @@ use Rattle.capn_canon.specs.declared.refusal.Refusal.TheVariants as refusals
 use Rattle.capn_abi.specs.declared.report.CapnReport.{CapnReport}
 use Rattle.capn_abi.specs.StatusCodes.{at_number, packed_code, packed_number, walk_code, code, report_of}
 
--- the fault of a walk with the given status
+-- The fault of a walk with the status `n`.
 fault_of : ℕ → Fault
 fault_of n =
     if n == 64 then walk.NoRoot else (
@@ -28,7 +29,7 @@ fault_of n =
     if n == 74 then walk.OverBudget else (
     walk.Memory)))))))))))
 
--- the refusal with the given status and report
+-- The refusal with the status `n` and the report `r`.
 refusal_of : ℕ → CapnReport → Refusal
 refusal_of n r =
     if n == 16 then refusals.Bare (bare.NotWhole r.at) else (
@@ -52,7 +53,7 @@ refusal_of n r =
           r.visits;
     })))))))))))))
 
--- the report of a walk that stopped
+-- The report of a walk that stopped at `p`, after it paid `n` words and made `k` visits.
 report_of_walk : Place → ℕ → ℕ → CapnReport
 report_of_walk p n k = record { length = 0; at = 0; segment = p.segment; word = p.word; paid = n; visits = k }
 
@@ -92,7 +93,7 @@ told (refusals.Capability k) h = refl
 told refusals.Memory h = absurd (h refl)
 told (refusals.Walk s) h = walk_told s.fault s.place s.paid s.visits h
 
--- two refusals with the same status, which isn't 8, and the same report are equal
+-- Two refusals with the same status and the same report are equal, if the status isn't 8.
 pub one_refusal : (status : ℕ) (report : CapnReport) (e f : Refusal) → status ≢ 8 → status ≡ code e
     → report ≡ report_of e
     → status ≡ code f → report ≡ report_of f → f ≡ e
@@ -103,7 +104,7 @@ one_refusal status report e f h c r d s =
     ∙ told f (λ x. h (d ∙ x)) in
     sym b ∙ a
 
--- the refusal of packed bytes with the given status and report
+-- The fault of packed bytes with the status `n` and the report `r`.
 packed_of : ℕ → CapnReport → UnpackFault
 packed_of n r = if n == 32 then packed.Cut r.at else (if n == 33 then packed.TooLong r.at else packed.Failed)
 
@@ -114,7 +115,7 @@ packed_told (packed.Cut at) h = refl
 packed_told (packed.TooLong at) h = refl
 packed_told packed.Failed h = refl
 
--- two refusals of packed bytes with the same status, which isn't 8, and the same report are equal
+-- Two faults of packed bytes with the same status and the same report are equal, if the status isn't 8.
 pub one_packed : (status : ℕ) (report : CapnReport) (e f : UnpackFault) → status ≢ 8 → status ≡ packed_code e
     → report ≡ at_number (packed_number e)
     → status ≡ packed_code f → report ≡ at_number (packed_number f) → f ≡ e

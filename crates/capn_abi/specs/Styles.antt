@@ -3,13 +3,13 @@ use Rattle.std.specs.Prelude.{ℕ, zero, suc, ◌≤◌}
 use Rattle.capn_show.specs.declared.style.Style.{Style}
 use Rattle.capn_show.specs.declared.style.Style.TheVariants as styles
 
--- the style that a number names
+-- The style that a number names.
 abbrev pub style_named : ℕ → Style
 style_named zero = styles.Lines
 style_named (suc zero) = styles.Quoted
 style_named (suc (suc zero)) = styles.Json
 style_named (suc (suc (suc n))) = styles.JsonText
 
--- a number names a style
+-- `n` names a style: 0, 1, 2 or 3.
 abbrev pub IsStyle : ℕ → Type 0
 IsStyle n = n ≤ 3

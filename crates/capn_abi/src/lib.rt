@@ -5,7 +5,7 @@
 //! - [`CapnReport`] is the report that a call fills in, in addition to its status. [`refuse`] and [`refuse_packed`]
 //!   give the status and the report of a refusal. Unless the status is [`MEMORY`], no other refusal has the same status
 //!   and the same report.
-//! - [`deliver`] writes an answer into the caller's buffer if the buffer has room.
+//! - [`deliver`] writes an answer into the caller's buffer if the answer fits.
 //!
 //! ```text
 //! match limits_of(limits) {

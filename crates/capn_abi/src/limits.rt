@@ -24,7 +24,7 @@ pub struct CapnLimits {
     pub tariff: u32,
 }
 
-/// Returns the tariff with the given `number`.
+/// Returns the tariff with the given `number`, or `None` if no tariff has that number.
 fn tariff_of(number: u32) -> Option<Tariff>
     ensures some { IsSome result ↔ IsTariff number }
     ensures value { IfSome result (λ t. t ≡ tariff_named number) }
@@ -36,7 +36,7 @@ fn tariff_of(number: u32) -> Option<Tariff>
     }
 }
 
-/// Returns the form with the given `number`, or `None` if there is none.
+/// Returns the form with the given `number`, or `None` if no form has that number.
 pub fn form_of(number: u32) -> Option<Form>
     ensures some { IsSome result ↔ IsForm number }
     ensures value { IfSome result (λ f. f ≡ form_named number) }
@@ -62,7 +62,8 @@ pub fn flat_form_of(number: u32) -> Option<Form>
     }
 }
 
-/// Returns the limits that `limits` gives, or `BAD_LIMITS` or `BAD_TARIFF` if a number is out of its range.
+/// Returns the limits that the numbers in `limits` give. Returns `BAD_LIMITS` or `BAD_TARIFF` if a number is out of its
+/// range.
 pub fn limits_of(limits: &CapnLimits) -> Result<Limits, u32>
     ensures value { IfOk result (λ l. l ≡ bounds_of limits.now) }
     ensures ok { IfOk result (λ l. GiveLimits limits.now × IsTariff limits.now.tariff) }

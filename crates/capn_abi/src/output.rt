@@ -5,7 +5,8 @@ ghost use Rattle.capn_abi.specs.Calls.{Delivers};
 
 use crate::status_codes::{DONE, NO_ROOM};
 
-/// Writes `answer` at the start of `out` and returns `DONE`, or `NO_ROOM` without a write if `out` is too short.
+/// Writes `answer` at the start of `out`, and returns `DONE`. If `out` is too short, writes nothing and returns
+/// `NO_ROOM`.
 pub fn deliver(answer: &[u8], out: &mut [u8]) -> u32
     ensures { Delivers answer.now result (length answer.now) out.old out.new }
 {

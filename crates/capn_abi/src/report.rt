@@ -3,13 +3,13 @@
 ghost use Rattle.std.specs.Prelude.{◌≡◌};
 ghost use Rattle.capn_abi.specs.StatusCodes.{at_number, answered};
 
-/// The report of a call, in addition to its status. A field without a meaning for the status is 0.
+/// The report that a call gives in addition to its status. A field without a meaning for the status is 0.
 #[derive(Clone, Copy)]
 #[repr(C)]
 pub struct CapnReport {
-    /// The number of bytes of the result, or, if the buffer has no room, a number of bytes that is enough.
+    /// The number of bytes of the result. If the buffer is too short, it is a number of bytes that is enough.
     pub length: u64,
-    /// The number in a refusal: an offset, a count or an index.
+    /// The number that a refusal has: an offset, a count or an index.
     pub at: u64,
     /// The number of words that the walk paid.
     pub paid: u32,
@@ -17,7 +17,7 @@ pub struct CapnReport {
     pub visits: u32,
     /// The segment of the slot at which the walk stopped.
     pub segment: u32,
-    /// The word in that segment of the slot at which the walk stopped.
+    /// The word of that slot, counted from the start of the segment.
     pub word: u32,
 }
 
@@ -35,7 +35,7 @@ pub fn report_at(at: u64) -> CapnReport
     }
 }
 
-/// Returns the report of a result of `length` bytes, for a walk that `paid` words and made `visits` visits.
+/// Returns the report of a result of `length` bytes. The walk `paid` words and made `visits` visits.
 pub fn answer_of(length: u64, paid: u32, visits: u32) -> CapnReport
     ensures { result ≡ answered length paid visits }
 {

@@ -15,7 +15,7 @@ use capn_words::BareFault;
 /// The status of success: the result is written.
 pub const DONE: u32 = 0;
 
-/// The status if the buffer has no room for the result.
+/// The status if the buffer is too short for the result.
 pub const NO_ROOM: u32 = 1;
 
 /// The status if no form has the number passed.
@@ -88,6 +88,7 @@ fn number_of_packed(fault: UnpackFault) -> u64
     }
 }
 
+/// Returns the status for `fault`.
 pub fn code_of_frame(fault: FrameFault) -> u32
     ensures { result ≡ frame_code fault }
 {
@@ -101,6 +102,8 @@ pub fn code_of_frame(fault: FrameFault) -> u32
     }
 }
 
+/// Returns the number that a report gives for `fault`. It is the number of segments or of words if there are too many
+/// of them, and otherwise 0.
 pub fn number_of_frame(fault: FrameFault) -> u64
     ensures { result ≡ frame_number fault }
 {
@@ -133,7 +136,6 @@ fn code_of_walk(fault: Fault) -> u32
     }
 }
 
-/// Returns the status of `refusal`.
 fn code_of(refusal: Refusal) -> u32
     ensures { result ≡ code refusal }
 {
@@ -148,7 +150,6 @@ fn code_of(refusal: Refusal) -> u32
     }
 }
 
-/// Returns the report of `refusal`.
 fn report_of_refusal(refusal: Refusal) -> CapnReport
     ensures { result ≡ report_of refusal }
 {
@@ -178,7 +179,7 @@ pub fn refuse(refusal: Refusal, report: &mut CapnReport) -> u32
     code_of(refusal)
 }
 
-/// Writes the number of `fault`, a refusal of a packed text, to `report`, and returns the status of `fault`.
+/// Writes the number of `fault`, a fault of a packed text, to `report`, and returns the status of `fault`.
 pub fn refuse_packed(fault: UnpackFault, report: &mut CapnReport) -> u32
     ensures { ReportsPacked result report.new fault }
 {

@@ -5,7 +5,7 @@ ghost use Rattle.capn_abi.specs.Styles.{IsStyle, style_named};
 
 use capn_show::Style;
 
-/// Returns the style with the given `number`, or `None` if there is none.
+/// Returns the style with the given `number`, or `None` if no style has that number.
 pub fn style_of(number: u32) -> Option<Style>
     ensures some { IsSome result ↔ IsStyle number }
     ensures value { IfSome result (λ s. s ≡ style_named number) }

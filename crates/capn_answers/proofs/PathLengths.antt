@@ -18,7 +18,6 @@ use Rattle.capn_mismatch.specs.declared.whose.Whose.{Whose}
 use Rattle.capn_mismatch.specs.declared.whose.Whose.TheVariants.{Pointer, Tag, LastWord}
 use Rattle.capn_answers.specs.Mismatches.{owner_path, path_of}
 
--- a step of a path has two numbers at most
 few : (found : Target) (k : ℕ) (numbers : List ℕ) → AreNumbersOf found k numbers → length numbers ≤ 2
 few (targets.Content s start (shapes.Rows n a b span) pads) k [] h = absurd h
 few (targets.Content s start (shapes.Rows n a b span) pads) k (row ∷ []) h = absurd h
@@ -37,7 +36,7 @@ few (targets.Cap index) k [] h = absurd h
 few (targets.Cap index) k (slot ∷ []) h = omega arith
 few (targets.Cap index) k (slot ∷ (x ∷ xs)) h = absurd h
 
--- each step of a path leads one level of depth down
+-- A path from a slot has at most two numbers for each level of `depth`.
 short : (m : List (List ℕ)) (b depth : ℕ) (from : Place) (path : List ℕ) (to : Place) (between : ℕ)
     → Leads m b depth from path to between → length path ≤ 2 * depth
 short m b zero from [] to between h = omega arith
@@ -48,7 +47,6 @@ short m b (suc depth) from (i ∷ path) to between h =
     let later = short m b depth h.slot h.rest to h.later h.onward in
     omega (arith, two, later, ap length h.is, length-append h.numbers h.rest)
 
--- the path to the slot at which a walk stopped has at most two numbers for each level of the depth limit
 pub stop_short : (m : List (List ℕ)) (limits : Bounds) (s : Stopped) (path : List ℕ) → IsRefusedAt m limits s path
     → length path ≤ 2 * limits.depth
 stop_short m limits s path h = elim (eq-zero-or-pos s.visits) [
@@ -57,7 +55,6 @@ stop_short m limits s path h = elim (eq-zero-or-pos s.visits) [
       short m (base limits.tariff) limits.depth root path s.place _ (h.leads p)
 ]
 
--- the path to the slot that owns a word has at most two numbers for each level of the depth limit
 owner_short : {A : Type 0} (canonical : List ℕ) (limits : Bounds) (w : ℕ) (whose : Whose A)
     → IsOwner canonical limits w whose → length (owner_path whose) ≤ 2 * limits.depth
 owner_short canonical limits w (Pointer path) (n, leads) =

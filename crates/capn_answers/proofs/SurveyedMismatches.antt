@@ -21,7 +21,6 @@ use Rattle.capn_answers.proofs.shared.Reading.{reading_unaccepted, reading_wante
 use Rattle.capn_answers.proofs.PathLengths.{mismatch_short}
 
 module _ {A : Type 0} (form : Form) (bs : List ℕ) (limits : Bounds) where
-  -- a result for the mismatch of the message that `bs` are read as
   abbrev AreTold : Result (SurveyedMismatch A) Refusal → Type 0
   AreTold r = IsAnswered form bs limits (λ m l x. IsMismatchSurveyed m l x) r
 

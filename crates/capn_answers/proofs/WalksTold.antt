@@ -22,7 +22,6 @@ use Rattle.capn_answers.proofs.shared.Reading.{misread, reading_wanted, unread_u
 use Rattle.capn_answers.proofs.PathLengths.{stop_short}
 
 module _ {A : Type 0} (form : Form) (bs : List ℕ) (limits : Bounds) where
-  -- a result for the walk of the message that `bs` are read as
   abbrev AreTold : Result (Walked A) Refusal → Type 0
   AreTold r = IsAnswered form bs limits (λ m l x. IsWalkTold m l x) r
 

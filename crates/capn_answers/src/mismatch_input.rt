@@ -25,7 +25,8 @@ pub struct SurveyedMismatch<A: Allocator = Global> {
     pub survey: Surveyed,
 }
 
-/// The task of `mismatch_and_survey_in`: surveys a message, and finds the first reason why it is not canonical.
+/// The task of `mismatch_and_survey_in`: surveys a message, and finds the first reason why the message is not
+/// canonical.
 #[derive(Clone, Copy)]
 struct MismatchTask;
 
@@ -50,12 +51,13 @@ impl<A: Allocator + Copy> MessageTask<A> for MismatchTask {
 
 /// Tests whether the message that `bytes` encode in `form` is canonical within `limits`. If the message is not
 /// canonical, finds the first reason: several segments, the first capability, or the first word that differs from the
-/// canonical bytes. Returns the mismatch with the survey of [`capn_canon::survey_bytes`]. A path has at most two
-/// numbers for each level of the depth limit. The bytes are read once.
+/// canonical bytes. Returns the mismatch, and the survey that [`capn_canon::survey_bytes`] returns. A path has at most
+/// two numbers for each level of the depth limit. The bytes are read once.
 ///
-/// The refusals are those of [`capn_canon::survey_bytes`]. `Memory` is returned only if an allocation on `alloc` was
-/// refused. Memory is taken for the ends of more than 64 segments and for the unpacked words. A message of one segment
-/// that is not canonical also takes memory for its canonical bytes and for the path. (Our own.)
+/// The errors are those of [`capn_canon::survey_bytes`]. `Memory` is returned only if an allocation on `alloc` was
+/// refused. Memory is allocated for a stream of more than 64 segments, and for the words that a packed text unpacks to.
+/// A message of one segment that is not canonical also needs memory for its canonical bytes and for the path.
+/// (Our own.)
 pub fn mismatch_and_survey_in<A: Allocator + Copy>(
     alloc: A,
     form: Form,
@@ -73,10 +75,11 @@ pub fn mismatch_and_survey_in<A: Allocator + Copy>(
     ensures short { IfOk result (λ d. length (path_of d.mismatch) ≤ 2 * limits.depth) }
     // If `result` is `Err(e)`, the reason that `e` gives is true.
     ensures refused { IfErr result (λ e. IsUnacceptedIn form bytes.now limits e) }
-    // `Memory` is returned only for the ends of more than 64 segments, for the words that a packed text unpacks to, or
+    // `Memory` is returned only for a stream of more than 64 segments, for the words that a packed text unpacks to, or
     // for a message of one segment that is not canonical.
     ensures memory { IsErrOf result refusals.Memory → MayNeedMismatch form bytes.now limits }
-    // The walk pays at most the budget, also if the message is refused.
+    // The price, in the survey or in a refusal by the walk, is at most the budget. The number of visits is at most the
+    // price plus 1.
     ensures bounded { MatchResult result (λ d. IsBounded limits.budget d.survey.paid d.survey.visits)
         (λ e. IsPaidWithin limits.budget e) }
 {

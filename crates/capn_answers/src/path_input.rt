@@ -41,20 +41,21 @@ impl<A: Allocator + Copy> MessageTask<A> for Walk {
     }
 }
 
-/// Walks the message that `bytes` encode in `form` within `limits`. Returns the survey of the message. If the walk is
-/// refused, returns the place, the reason and the path to the slot at which the walk stopped. A path has at most two
-/// numbers for each level of the depth limit. The bytes are read once.
+/// Walks the message that `bytes` encode in `form` within `limits`. If the message is accepted, returns its survey. If
+/// the walk is refused, returns the place and the reason of the stop, and the path to the slot at which the walk
+/// stopped. A path has at most two numbers for each level of the depth limit. The bytes are read once.
 ///
-/// An `Err` says why the bytes are no message, or is `Memory`. It is never a refusal of the walk or of a capability.
-/// `Memory` is returned only if an allocation on `alloc` was refused: for the ends of more than 64 segments, for the
-/// unpacked words, or for the path. A message is walked at most twice. (Our own.)
+/// An `Err` that is not `Memory` says why the bytes are no message. An `Err` is never `Walk` or `Capability`. `Memory`
+/// is returned only if an allocation on `alloc` was refused: for a stream of more than 64 segments, for the words that
+/// a packed text unpacks to, or for the path. A message is walked at most twice. (Our own.)
 pub fn walk_in<A: Allocator + Copy>(
     alloc: A,
     form: Form,
     bytes: &[u8],
     limits: Limits,
 ) -> Result<Walked<A>, Refusal>
-    // `Accepted` has the survey of the message. `Refused` has the stop of the walk, and the path to the stop.
+    // `Accepted` has the survey of the message. `Refused` has the stop of the walk, and the path to the slot of the
+    // stop.
     ensures found { IfOk result (λ w. IsWalkedIn form bytes.now limits w) }
     // If the bytes denote a value, `result` is `Accepted` or `Memory`.
     ensures only { (v : Value) → Denotes form bytes.now limits v
@@ -63,10 +64,10 @@ pub fn walk_in<A: Allocator + Copy>(
     ensures short { IfOk result (λ w. length (walked_path w) ≤ 2 * limits.depth) }
     // If `result` is `Err(e)`, and `e` is not `Memory`, the reason that `e` gives is true.
     ensures refused { IfErr result (λ e. IsUnread form bytes.now limits e) }
-    // `Memory` is returned only for the ends of more than 64 segments, for the words that a packed text unpacks to, or
+    // `Memory` is returned only for a stream of more than 64 segments, for the words that a packed text unpacks to, or
     // for the path of a message whose walk is refused.
     ensures memory { IsErrOf result refusals.Memory → MayNeedItsPath form bytes.now limits }
-    // The walk pays at most the budget, also if the message is refused.
+    // If `result` is `Ok`, the price is at most the budget, and the number of visits is at most the price plus 1.
     ensures bounded { IfOk result (λ w. IsWalkedWithin limits.budget w) }
 {
     run_task(alloc, &mut Walk, form, bytes, limits)

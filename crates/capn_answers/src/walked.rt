@@ -9,6 +9,6 @@ use std::alloc::{Allocator, Global};
 pub enum Walked<A: Allocator = Global> {
     /// The survey of an accepted message: the price, the number of visits, and the first capability.
     Accepted(Surveyed),
-    /// The place and the reason at which the walk of a refused message stopped, and the path to that place.
+    /// The place at which the walk of a refused message stopped, the reason, and the path to that place.
     Refused(Refused<A>),
 }

@@ -25,7 +25,7 @@ abbrev state : ArchiveOrder → Tally → ArchiveService
 state order tally = record { order = order; tally = tally }
 
 module _ (order : ArchiveOrder) (tally : Tally) (at : Position) (frame : List ℕ) (message : List (List ℕ)) where
-  -- Case: the message was served, or is refused and ends the run, or the call failed within the text of the message.
+  -- Case: the message was not skipped. Serving it gave `Ok`, or a fault that ends the run.
   pub served_does : (after : Tally) (a b : Outgoing) (failed : Bool) (r : Ending)
       → AddsServed order.task order.limits tally at frame message a b failed r after
       → ((e : Refusal) → r ≡ stopped (faults.Refused e) → order.keep_going ≡ false)

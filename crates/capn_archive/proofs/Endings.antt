@@ -33,7 +33,6 @@ told e = Err e
 
 -- ---- the faults
 
--- A refusal is reported as a refusal, with the count of skipped messages or without it.
 refused_is : (P : ArchiveFault → Type 0) → ((at : Position) (r : Refusal) → P (faults.Refused at r))
     → ((k : Skipped) (at : Position) (r : Refusal) → P (faults.RefusedAfterSkipped k at r))
     → (s : Option SkippedSoFar) (n : ℕ) (at : Position) (r : Refusal) → P (after_skipped s n at r)

@@ -60,14 +60,13 @@ module _ (order : FilterOrder) where
   abbrev f : Fold Filtering
   f = filters.filter_fold order
 
-  -- `text` consists of frames that are let through, and is no longer than `bytes`.
+  -- `text` is frames of messages that `filter` lets through, and is no longer than `bytes`.
   record Kept (text bytes : List ℕ) : Type 0 where
     pub parts : List Part
     pub each : AreLetThrough order parts
     pub is : text ≡ frames_of parts
     pub short : length text ≤ length bytes
 
-  -- `Kept` still holds after one more message that is let through.
   one_kept : (p : Part) (text bytes : List ℕ) → Frames p.frame p.message → total p.message ≤ order.limits.message_words
       → Passes order.canonical p.message order.limits → p.text ≡ p.frame → Kept text bytes
       → Kept (p.text ++ text) (p.frame ++ bytes)
@@ -84,7 +83,6 @@ module _ (order : FilterOrder) where
     );
   }
 
-  -- `Kept` still holds after one more message that is not let through.
   none_kept : (p : Part) (text bytes : List ℕ) → p.text ≡ [] → Kept text bytes
       → Kept (p.text ++ text) (p.frame ++ bytes)
   none_kept p text bytes none kept = record {
@@ -100,7 +98,6 @@ module _ (order : FilterOrder) where
     );
   }
 
-  -- `Kept` still holds after one more message, let through or not. The order of the service stays the same.
   more_kept : (s t : FilterService) (at : Position) (p : Part) (text bytes : List ℕ) → s.order ≡ order
       → Frames p.frame p.message → total p.message ≤ order.limits.message_words
       → serves s at p.frame p.message p.text t → (t.order ≡ order → Kept text bytes)
@@ -114,7 +111,6 @@ module _ (order : FilterOrder) where
   more_kept s t at p text bytes same framed room (inr (inr (ends, held, none, after))) next =
       none_kept p text bytes none (next (ap (λ (x : FilterService). x.order) after ∙ same))
 
-  -- The texts of the served messages are the frames of those let through.
   kept_of : (x y : Filtering) (ps : List Part) → x.service.order ≡ order → AreServed f x ps y
       → Kept (texts_of ps) (frames_of ps)
   kept_of x y [] same is = record { parts = []; each = tt; is = refl; short = omega arith }
@@ -140,7 +136,6 @@ module _ (order : FilterOrder) where
         );
       }
 
-  -- All output of a run over a stream, packed or not, is let through.
   of_messages : (form : Form) (input text : List ℕ) (r : Ending) (y : Filtering) → form ≢ forms.Bare
       → AreMessages f (filters.first_run order) form input text r y → IsLetThrough order text
   of_messages forms.Stream input text r y other due =
@@ -165,14 +160,13 @@ module _ (order : FilterOrder) where
   abbrev g : Fold Listing
   g = archives.archive_fold (listing limits)
 
-  -- The run ends with `Ok`, and skipped no message from the state `x` to the state `y`.
+  -- `r` is `Ok`, and no message was skipped from the state `x` to the state `y`.
   abbrev IsDone : Listing → Listing → Ending → Type 0
   IsDone x y r = (r ≡ Ok tt) × (y.service.tally.skipped ≡ x.service.tally.skipped)
 
   abbrev Open : Listing → List ℕ → Ending → Type 0
   Open y rest r = EndsUnframed g y rest None r ⊎ EndsRefused g y rest r
 
-  -- Bytes that begin with the frame of an accepted message have that frame as their first.
   first_whole : (p : Part) (more : List ℕ) → Frames p.frame p.message → total p.message ≤ limits.message_words
       → StandsFirst (p.frame ++ more) limits.message_words p.message (length p.frame)
   first_whole p more framed room =
@@ -193,7 +187,6 @@ module _ (order : FilterOrder) where
       (stands_alone frame limits.message_words message framed room) in
       let bad = refused_whole frame limits.message_words frame_faults.Empty whole is in cc
 
-  -- A run at the end of its bytes ends with `Ok`.
   ends_empty : (y : Listing) (r : Ending) → Open y [] r → r ≡ Ok tt
   ends_empty y r (inl (e, other, refused, is)) =
       let empty = one_refusal [] limits.message_words e frame_faults.Empty refused refl other (λ h. cc) in
@@ -201,7 +194,6 @@ module _ (order : FilterOrder) where
   ends_empty y r (inr (frame, more, message, refusal, is, framed, room, why, e)) =
       absurd (no_frame frame more message framed room is)
 
-  -- A run does not end before an accepted message.
   never_before : (y : Listing) (p : Part) (more : List ℕ) (r : Ending) → y.service.order ≡ listing limits
       → Frames p.frame p.message → total p.message ≤ limits.message_words → IsAccepted p.message limits
       → Open y (p.frame ++ more) r → ⊥
@@ -234,7 +226,7 @@ module _ (order : FilterOrder) where
         ⊎ IsSkippedBy o s.tally at frame message text t.tally) same does),
   )
 
-  -- A run over the frames of accepted messages ends with `Ok`, and skips none.
+  -- A run of `list` over frames of accepted messages ends with `Ok`, and skips no message.
   done_of : (x y : Listing) (ks qs : List Part) (rest : List ℕ) (r : Ending) → x.service.order ≡ listing limits
       → AreLetThrough order ks → AreServed g x qs y → frames_of ks ≡ frames_of qs ++ rest → Open y rest r → IsDone x y r
   done_of x y [] [] rest r same are is joined ends_so = (
@@ -254,7 +246,6 @@ module _ (order : FilterOrder) where
       let last = done_of mid y ks qs rest r next.0 are more split.1.1 ends_so in
       (last.0, last.1 ∙ next.1)
 
-  -- The whole run of `list` ends with `Ok`.
   closed : (messages lines : List ℕ) (served : Ending) (y : Listing) (s : Last) → IsDone (archives.first_run
       (listing limits)) y served → Closes g (archives.first_run (listing limits))
       (archives.archive_finish (listing limits)) messages served y lines s → s ≡ Ok tt

@@ -1,5 +1,4 @@
--- Lemmas for `run_archive`, `run_filter`, `run_uniq` and `serve_messages`: the end of a run that writes something
--- after its last message.
+-- Lemmas for `run_archive`, `run_filter`, `run_uniq` and `serve_messages`: the end of a run that writes a closing text.
 use Rattle.std.proofs.Common.{◌≡◌, ◌≢◌, inl, inr, ℕ, List, [], ◌++◌, length, take, Bool, true, false, Option}
 use Rattle.std.proofs.Common.{None, Some, IfSome, Result, Ok, Err, refl, ap, sym, subst, ◌∙◌}
 use Rattle.std.proofs.Math.Seq.{take-length}
@@ -23,8 +22,6 @@ use Rattle.capn_archive.proofs.ToldAlone.{TellsAlone}
 module _ {X : Type 0} (f : Fold X) (x : X) (finish : Finish X) (form : Form) where
   -- ---- a run that a fault ended
 
-  -- A run that a fault ended has the same result by the state before the fault and by the state after the fault. If the
-  -- states differ, a message was refused, and its refusal is reported without the count of skipped messages.
   left_same : TellsAlone f → (z y : X) (e : RunFault) → Leaves f z e y
       → stopped_by f x finish y e ≡ stopped_by f x finish z e
   left_same alone z y e (inl same) = ap (λ (w : X). stopped_by f x finish w e) (sym same)
@@ -84,7 +81,6 @@ module _ {X : Type 0} (f : Fold X) (x : X) (finish : Finish X) (form : Form) whe
   failed_exact (Some input) c d = inr (inl refl)
 
 module _ {X : Type 0} (f : Fold X) (x : X) (finish : Finish X) (form : Form) where
-  -- All messages were served, and the closing text is not empty.
   has_closing : (a b c m : Option (List ℕ)) (reader writer : Bool) (y : X)
       → ServesMessages f x form a b c m reader writer (Ok tt) y → finish.closing y ≢ []
       → HasClosing f x finish form a
@@ -92,7 +88,6 @@ module _ {X : Type 0} (f : Fold X) (x : X) (finish : Finish X) (form : Form) whe
   has_closing (Some input) b c m reader writer y run some =
       let (text, are, before) = run.exact in (y, (text, are), some)
 
-  -- The messages of the input were served, and a prefix of the closing text was written after their text.
   begins_closing : (a b c m d : Option (List ℕ)) (reader writer : Bool) (y : X)
       → ServesMessages f x form a b c m reader writer (Ok tt) y → HasBegun m d (finish.closing y)
       → HasBegunClosing f x finish form a c d
@@ -105,7 +100,7 @@ module _ {X : Type 0} (f : Fold X) (x : X) (finish : Finish X) (form : Form) whe
 
 module _ {X : Type 0} (f : Fold X) (x : X) (finish : Finish X) (form : Form) (a b c m : Option (List ℕ))
     (reader before : Bool) (y : X) (run : ServesMessages f x form a b c m reader before (Ok tt) y) where
-  -- Case: the whole closing text was written.
+  -- Case: the complete closing text was written.
   pub finished_closed : (d : Option (List ℕ)) (after : Bool) → Appends m d (finish.closing y) → after ≡ false
       → (r : Result (Unit {0}) ArchiveFault) → r ≡ outcome f x finish y
       → Finished f x finish form a b c d reader after r
@@ -130,7 +125,6 @@ module _ {X : Type 0} (f : Fold X) (x : X) (finish : Finish X) (form : Form) (a 
         memory = λ h. absurd (not_memory (finish.ended y) (finish.skipped y) (f.place y).index h);
       }
 
-  -- Case: the closing text is empty.
   pub finished_done : finish.closing y ≡ [] → (r : Result (Unit {0}) ArchiveFault) → r ≡ outcome f x finish y
       → Finished f x finish form a b c m reader before r
   finished_done none =

@@ -25,7 +25,6 @@ Ending = Result (Unit {0}) ServeFault
 abbrev stopped : ServeFault → Ending
 stopped fault = Err fault
 
--- `AddsBytes` of a text implies `AddsText` of that text.
 pub text_added : (text : List ℕ) (a b : Outgoing) (failed : Bool) (r : Ending) → AddsBytes text a b failed r
     → AddsText text a b failed r
 text_added text a b failed (Ok u) (adds, short, fine) = (adds, fine, λ h. short)
@@ -34,7 +33,7 @@ text_added text a b failed (Err faults.Io) (breaks, broken) = (breaks, broken)
 text_added text a b failed (Err (faults.Refused r)) none = absurd none
 
 module _ (front back : List ℕ) where
-  -- Case: the second part was added after the first, in whole or in part.
+  -- Case: `front` was added, and then `back` or a prefix of `back`.
   pub both_added : (a b c : Outgoing) (failed : Bool) (r : Ending) → Adds a b front → AddsBytes back b c failed r
       → AddsText (front ++ back) a c failed r
   both_added a b c failed (Ok u) first (second, short, fine) =
@@ -54,7 +53,7 @@ module _ (front back : List ℕ) where
       (broken_before a b front back count breaks, broken)
   front_stopped a b failed (faults.Refused r) none = absurd none
 
-  -- Case: the first part was not added in whole.
+  -- Case: `fault` ended the call before all of `front` was added.
   pub none_added : (a b : Outgoing) (failed : Bool) (fault : ServeFault) (r : Ending) → IsErrAnd r (λ e. e ≡ fault)
       → AddsBytes front a b failed (stopped fault) → AddsText (front ++ back) a b failed r
   none_added a b failed fault (Ok u) is put = absurd is
@@ -63,7 +62,6 @@ module _ (front back : List ℕ) where
       (front_stopped a b failed fault put)
 
 module _ (limits : Bounds) (tally : Tally) (at : Position) (frame : List ℕ) (message : List (List ℕ)) where
-  -- The frame of a message's canonical bytes was added, in whole or in part.
   pub frame_added : (answer : List ℕ) (price : ℕ) → AnswersMessage message limits answer price → (a b : Outgoing)
       (failed : Bool) (r : Ending) → AddsText (framed answer) a b failed r
       → AddsServed tasks.Canonical limits tally at frame message a b failed r tally
@@ -75,7 +73,6 @@ module _ (limits : Bounds) (tally : Tally) (at : Position) (frame : List ℕ) (m
       ((framed answer, tally, count, (answer, price, is, refl, refl), breaks), broken)
   frame_added answer price is a b failed (Err (faults.Refused r)) none = absurd none
 
-  -- The line of a message was appended, or an allocation was refused.
   pub line_added : (task : Task) (line : MessageHead → List ℕ) (head : MessageHead) → head ≡ head_of at frame message
       → IsServedBy task limits tally at frame message (line (head_of at frame message)) tally
       → (c : Option (List ℕ)) (old new : List ℕ) (r : Ending) → PutsText (line head) old new r

@@ -37,7 +37,6 @@ use Rattle.capn_archive.specs.declared.task.ArchiveOrder.{ArchiveOrder}
 use Rattle.capn_archive.specs.declared.task.Task.{Task}
 use Rattle.capn_archive.specs.declared.task.Task.TheVariants as tasks
 
--- Two tests of the same property agree.
 one_answer : (a b : Bool) (P : Type 0) → (IsTrue a ↔ P) → (IsTrue b ↔ P) → a ≡ b
 one_answer true true P h k = refl
 one_answer true false P h k = absurd (let bad : false ≡ true = k.1 (h.0 refl) in cc)
@@ -55,7 +54,6 @@ module _ (m : List (List ℕ)) (limits : Bounds) where
   unaccepted_message (refusals.Frame e) h other = absurd h
   unaccepted_message (refusals.Trailing at) h other = absurd h
 
-  -- A message that any task refuses has no digest.
   pub refused_message : (task : Task) (r : Refusal) → IsRefusedBy task m limits r → IsUndigested m limits r
   refused_message tasks.Canonical r h = h
   refused_message _ r (h, other) = (unaccepted_message r h other, other)
@@ -69,7 +67,6 @@ module _ (m : List (List ℕ)) (limits : Bounds) where
   not_accepted (refusals.Frame e) is h other = h
   not_accepted (refusals.Trailing at) is h other = h
 
-  -- A message with canonical bytes is not refused.
   pub not_answered : (bytes : List ℕ) (price : ℕ) (r : Refusal) → AnswersMessage m limits bytes price
       → IsRefusedMessage m limits r → (r ≡ refusals.Memory → ⊥) → ⊥
   not_answered bytes price r a h other = elim (message_part m limits r other h) [
@@ -183,7 +180,7 @@ module _ (s : ArchiveService) (at : Position) (frame : List ℕ) (m : List (List
   not_both t p r (o, inr (going, other, why, line, a)) (stays, refused) = let bad : true ≡ false = sym going
       ∙ stays in cc
 
--- The options and the input determine the text and the result of a run over an archive.
+-- In a run over an archive each message has one effect: one text and one next state, or one refusal.
 pub archive_one_way : (order : ArchiveOrder) → IsOneWay (archive_fold order)
 archive_one_way order = record {
   steps = λ x frame m t u y z h k.

@@ -17,12 +17,10 @@ use Rattle.capn_archive.specs.Tasks.{IsRefusedBy}
 use Rattle.capn_archive.proofs.OneArchive.{not_accepted, one_refused}
 
 module _ (m : List (List ℕ)) (limits : Bounds) where
-  -- A message that is let through is accepted.
   pub accepted_of : (canonical : Bool) → Passes canonical m limits → IsAccepted m limits
   accepted_of false passes = passes
   accepted_of true (v, is, own) = is.accepted
 
-  -- A message that is not let through because it is not canonical is accepted.
   uncanonical_accepted : (canonical : Bool) → IsUncanonical canonical m limits → IsAccepted m limits
   uncanonical_accepted false none = absurd none
   uncanonical_accepted true (v, is, other) = is.accepted
@@ -32,7 +30,6 @@ module _ (m : List (List ℕ)) (limits : Bounds) where
   not_canonical true (v, is, own) (w, also, other) =
       other (subst (λ (x : Tree). IsCanonicalOf m x) (unique m v w root is.is also.is) own)
 
-  -- An accepted message is not refused by its walk.
   pub not_refused : (r : Refusal) → IsAccepted m limits → IsRefusedBy tasks.List m limits r → ⊥
   not_refused r is (h, other) = not_accepted m limits r is h other
 
@@ -68,7 +65,7 @@ module _ (s : FilterService) (at : Position) (frame : List ℕ) (m : List (List 
   not_both t p r (inr (inr (too, uncanonical, e, a))) (stays, refused) =
       not_refused m s.order.limits r (uncanonical_accepted m s.order.limits s.order.canonical uncanonical) refused
 
--- The options and the input determine the text and the result of a run of `filter`.
+-- In a run of `filter` each message has one effect: one text and one next state, or one refusal.
 pub filter_one_way : (order : FilterOrder) → IsOneWay (filter_fold order)
 filter_one_way order = record {
   steps = λ x frame m t u y z h k.

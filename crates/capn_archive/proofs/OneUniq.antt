@@ -34,7 +34,7 @@ module _ (s : UniqState) (at : Position) (frame : List ℕ) (m : List (List ℕ)
   not_both t p r (inr (going, other, why, line, a)) (stays, undigested) = let bad : true ≡ false = sym going
       ∙ stays in cc
 
--- The options and the input determine the text and the result of a run of `uniq`.
+-- In a run of `uniq` each message has one effect: one text and one next state, or one refusal.
 pub uniq_one_way : (order : UniqOrder) → IsOneWay (uniq_fold order)
 uniq_one_way order = record {
   steps = λ x frame m t u y z h k.

@@ -1,4 +1,4 @@
--- Lemmas for `one_text`: the input determines the whole text, closing text included, and the result.
+-- Lemmas for `one_text`: the input determines the result and the complete text, which includes the closing text.
 use Rattle.std.proofs.Common.{◌≡◌, ℕ, List, ◌++◌, Result, Ok, Err, ap, sym, ◌∙◌}
 use Rattle.capn_canon.specs.declared.form.Form.{Form}
 use Rattle.capn_serve.specs.declared.fault.RunFault.{RunFault}
@@ -38,7 +38,7 @@ module _ {X : Type 0} (f : Fold X) (one : IsOneWay f) (x : X) (finish : Finish X
             ∙ ap (λ (a : RunFault). stopped_by f x finish z a) fault ∙ sym j,
       )
 
-  -- An input has at most one whole text and at most one result.
+  -- An `input` has at most one complete text and at most one result.
   pub one_whole : (t u : List ℕ) (r s : Last) → IsWholeText f x finish form input t r
       → IsWholeText f x finish form input u s → (t ≡ u) × (r ≡ s)
   one_whole t u r s (m, p, y, are, closes) (n, q, z, also, ends) =

@@ -1,5 +1,5 @@
--- Lemmas for `run_archive`, `run_filter` and `run_uniq`: a run reports a refused message or skipped ones, never both,
--- because with `--keep-going` messages are skipped, not refused.
+-- Lemmas for `run_archive`, `run_filter` and `run_uniq`. A run reports a refused message or the count of skipped
+-- messages, never both.
 use Rattle.std.proofs.Common.{◌≡◌, ℕ, List, Option, refl}
 use Rattle.capn_walk.specs.Limits.{Bounds}
 use Rattle.capn_canon.specs.Refusal.{IsRefusedMessage}
@@ -26,12 +26,12 @@ use Rattle.capn_archive.proofs.OneArchive.{refused_message}
 abbrev pub alone : Position → Refusal → ArchiveFault
 alone at r = faults.Refused at r
 
--- The refusal `r` is reported without a count, whatever was skipped before.
+-- The refusal `r` is reported without a count of skipped messages, even if messages were skipped.
 abbrev pub IsAlone : Refusal → Type 0
 IsAlone r = (s : Option SkippedSoFar) (n : ℕ) (at : Position) → refused_after s n at r ≡ alone at r
 
 module _ {X : Type 0} (f : Fold X) where
-  -- Every refusal of a message by the fold is reported without a count.
+  -- Every refusal of a message by the fold is reported without a count of skipped messages.
   abbrev pub TellsAlone : Type 0
   TellsAlone = (x : X) (frame : List ℕ) (message : List (List ℕ)) (r : Refusal) → f.refuses x frame message r
       → IsAlone r

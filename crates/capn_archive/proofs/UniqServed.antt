@@ -27,7 +27,6 @@ state order digests served skipped =
     record { order = order; digests = digests; served = served; skipped = skipped }
 
 module _ (order : UniqOrder) (digests : FinSet (slice_cmp nat_cmp)) (served : ℕ) (skipped : Option SkippedSoFar) where
-  -- A message whose digest was inserted is served.
   pub deduplicates : (s : UniqState) → state order digests served skipped ≡ s → (frame digest : List ℕ)
       (message : List (List ℕ)) → IsDigest message order.limits digest → (is_duplicate : Bool)
       → is_duplicate ≡ has digests digest → (inserted : FinSet (slice_cmp nat_cmp)) → inserted ≡ and_one digests digest
@@ -43,7 +42,6 @@ module _ (order : UniqOrder) (digests : FinSet (slice_cmp nat_cmp)) (served : �
             ∙ ap (λ (m : ℕ). state order (and_one digests digest) m skipped) one,
       )
 
-  -- A message that has no digest is skipped.
   pub is_skipped : (s : UniqState) → state order digests served skipped ≡ s → (at : Position) (message : List (List ℕ))
       (r : Refusal) → IsUndigested message order.limits r → order.keep_going ≡ true → (more : SkippedSoFar)
       → more ≡ one_more skipped at → IsSkipped s at message [] (state order digests served (Some more))
@@ -58,7 +56,6 @@ abbrev stopped : ServeFault → Ending
 stopped fault = Err fault
 
 module _ (s : UniqState) (frame : List ℕ) (message : List (List ℕ)) (a b : Outgoing) (failed : Bool) where
-  -- The text for a served message was added, in whole or in part.
   pub kept_added : (t : UniqState) (text : List ℕ) → Deduplicates s frame message text t → (r : Ending)
       → AddsText text a b failed r → TriesToDeduplicate s frame message a b failed r t
   kept_added t text is (Ok u) (adds, fine, short) = (text, is, adds, fine, short)
@@ -66,7 +63,7 @@ module _ (s : UniqState) (frame : List ℕ) (message : List (List ℕ)) (a b : O
   kept_added t text is (Err faults.Io) ((count, breaks), broken) = ((text, t, count, is, breaks), broken)
   kept_added t text is (Err (faults.Refused r)) none = absurd none
 
-  -- Case: the message was served, or is refused and ends the run, or the call failed within the text of the message.
+  -- Case: the message was not skipped. Serving it gave `Ok`, or a fault that ends the run.
   pub tried_does : (t : UniqState) (at : Position) (r : Ending) → TriesToDeduplicate s frame message a b failed r t
       → ((e : Refusal) → r ≡ stopped (faults.Refused e) → s.order.keep_going ≡ false)
       → DoesService serves refuses s at frame message a b failed r t
@@ -88,7 +85,6 @@ module _ (s : UniqState) (frame : List ℕ) (message : List (List ℕ)) (a b : O
       tried_does t at (stopped other)
       (subst (λ (e : ServeFault). TriesToDeduplicate s frame message a b failed (stopped e) t) same tried) ends
 
-  -- Facts about a message that was not served because it has no digest.
   pub undigested : (t : UniqState) (fault : ServeFault) (r : Refusal) → fault ≡ faults.Refused r
       → TriesToDeduplicate s frame message a b failed (stopped fault) t
       → IsUndigested message s.order.limits r × (b ≡ a) × (t ≡ s) × (failed ≡ false)

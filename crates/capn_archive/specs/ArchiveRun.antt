@@ -1,5 +1,5 @@
--- A whole run over an archive. Its closing text is defined here, and the rest by `Finish`, for every run that writes a
--- closing text. (Our own.)
+-- A run over an archive: its fold, its first state and its closing text. `Finish` defines the end of such a run. (Our
+-- own.)
 use Rattle.std.specs.Prelude.{ℕ, List, [], Bool, Option, None, Result}
 use Rattle.capn_serve.specs.declared.service.Run.{Run}
 use Rattle.capn_serve.specs.Fold.{Fold, fold_of}
@@ -15,7 +15,7 @@ use Rattle.capn_archive.specs.Lines.{limits_text}
 use Rattle.capn_archive.specs.Tally.{no_tally}
 use Rattle.capn_archive.specs.Tasks.{serves, refuses}
 
--- The fold over the messages of an archive.
+-- The fold of a run over an archive with the options `order`.
 abbrev pub archive_fold : ArchiveOrder → Fold (Run ArchiveService)
 archive_fold order = fold_of serves refuses order.limits.message_words
 
@@ -23,7 +23,7 @@ archive_fold order = fold_of serves refuses order.limits.message_words
 abbrev pub first_run : ArchiveOrder → Run ArchiveService
 first_run order = record { service = record { order = order; tally = no_tally }; at = start }
 
--- The figures of the messages of a run, as `limits` writes them.
+-- The figures that `limits` writes after the messages of `run`.
 abbrev pub needs_of : ArchiveOrder → Run ArchiveService → Needs
 needs_of order run = record {
   messages = run.at.index;
@@ -31,7 +31,7 @@ needs_of order run = record {
   tariff = order.limits.tariff;
 }
 
--- The closing text, which is the lines of `limits` for that task, and empty for the others.
+-- The closing text. For the task `Limits` it has the lines of `limits`, and for any other task it is empty.
 abbrev pub closing_by : Task → Needs → List ℕ
 closing_by tasks.Limits needs = limits_text needs
 closing_by _ needs = []
@@ -48,8 +48,8 @@ archive_finish order = record {
   ended = λ y. None;
 }
 
--- A run with the options `order` takes the reader from `a` to `b` and the writer from `c` to `d`, and returns `r`.
--- `reader_failed` and `writer_failed` say whether the reader and the writer failed.
+-- The effect of a run with the options `order` that ends with the result `r`. `a` and `b` are the reader before and
+-- after the run, and `c` and `d` the writer.
 abbrev pub Archived : ArchiveOrder → Option (List ℕ) → Option (List ℕ) → Option (List ℕ) → Option (List ℕ) → Bool → Bool
     → Result (Unit {0}) ArchiveFault → Type 0
 Archived order a b c d reader_failed writer_failed r =

@@ -7,7 +7,7 @@ use Rattle.capn_canon.specs.Refusal.{IsRefusedMessage}
 use Rattle.capn_canon.specs.declared.refusal.Refusal.{Refusal}
 use Rattle.capn_canon.specs.declared.refusal.Refusal.TheVariants as refusals
 
--- `digest` is the SHA-256 of the canonical bytes of `message`, which has such bytes within `limits`.
+-- `message` has canonical bytes within `limits`, and `digest` is the SHA-256 of these bytes.
 abbrev pub IsDigest : List (List ℕ) → Bounds → List ℕ → Type 0
 IsDigest message limits digest =
     (answer : List ℕ) × (price : ℕ) × AnswersMessage message limits answer price × (digest ≡ sha256 answer)
@@ -16,7 +16,7 @@ IsDigest message limits digest =
 abbrev pub IsUndigested : List (List ℕ) → Bounds → Refusal → Type 0
 IsUndigested message limits r = IsRefusedMessage message limits r × (r ≢ refusals.Memory)
 
--- The last argument is the digest of `message`, which is accepted within `limits`, or `None` if its value has a
+-- `message` is accepted within `limits`. The last argument is the digest of `message`, or `None` if its value has a
 -- capability.
 abbrev pub IsDigestIfAny : List (List ℕ) → Bounds → Option (List ℕ) → Type 0
 IsDigestIfAny message limits (Some digest) = IsDigest message limits digest

@@ -12,15 +12,15 @@ use Rattle.capn_serve.specs.declared.position.Position.{Position}
 use Rattle.capn_archive.specs.declared.fault.ArchiveFault.{ArchiveFault}
 use Rattle.capn_archive.specs.declared.fault.ArchiveFault.TheVariants as faults
 
--- The text for a message that `refusal` refuses at `at`, or for a position `at` where no message can begin.
+-- The text for a refusal at the position `at`: the position and the text of `refusal`.
 abbrev pub text_of_refused : Position → Refusal → List ℕ
 text_of_refused at refusal = codes "message " ++ (place_text at ++ (codes ": " ++ refusal_text refusal))
 
--- The text for a message at `at` that is not canonical.
+-- The text for a message that is not canonical, at the position `at`.
 abbrev pub text_of_uncanonical : Position → List ℕ
 text_of_uncanonical at = codes "message " ++ (place_text at ++ codes ": not canonical")
 
--- The text of a fault, which says why a run did not end with `Ok`.
+-- The text of a fault that ends a run over an archive.
 abbrev pub archive_text : ArchiveFault → List ℕ
 archive_text faults.Memory = out_of_memory
 archive_text faults.Io = codes "input or output failed"
@@ -31,7 +31,7 @@ archive_text (faults.Skipped skipped) = text_of_skipped skipped
 archive_text (faults.RefusedAfterSkipped skipped at refusal) =
     text_of_skipped skipped ++ (codes "\ncapn: " ++ text_of_refused at refusal)
 
--- The positions of the second message, at offset 24, and of the third, at offset 40.
+-- Two positions for the examples: the second message at offset 24, and the third message at offset 40.
 abbrev second : Position
 second = record { index = 1; offset = 24 }
 
@@ -57,8 +57,7 @@ after_skipped : archive_text (faults.RefusedAfterSkipped (record { refused = 1; 
 unfolding digits
 after_skipped = refl
 
--- The exit status: 1 if a message is refused, is not canonical or was skipped, and 3 if the run could not be carried
--- out.
+-- The exit status after a fault: 3 for `Memory`, `Io` and `InputTooLong`, and 1 for any other fault.
 abbrev pub status_of : ArchiveFault → ℕ
 status_of faults.Memory = 3
 status_of faults.Io = 3

@@ -1,4 +1,4 @@
--- A whole run of `filter`. (Our own.)
+-- A run of `filter`: its fold, its first state and its end. (Our own.)
 use Rattle.std.specs.Prelude.{ℕ, List, [], Bool, Option, Result}
 use Rattle.capn_serve.specs.declared.service.Run.{Run}
 use Rattle.capn_serve.specs.Fold.{Fold, fold_until}
@@ -9,7 +9,7 @@ use Rattle.capn_archive.specs.declared.filter_service.FilterService.{FilterServi
 use Rattle.capn_archive.specs.FilterMessages.{done, first_state, refuses, serves}
 use Rattle.capn_archive.specs.Finish.{Finish, Finished}
 
--- The fold over the messages of an archive, up to the one that ends the run.
+-- The fold of a run of `filter` with the options `order`. A state is `done` after a message that ended the run.
 abbrev pub filter_fold : FilterOrder → Fold (Run FilterService)
 filter_fold order = fold_until serves refuses done order.limits.message_words
 
@@ -17,7 +17,8 @@ filter_fold order = fold_until serves refuses done order.limits.message_words
 abbrev pub first_run : FilterOrder → Run FilterService
 first_run order = record { service = first_state order; at = start }
 
--- The end of a run after its last message, where no closing text is written.
+-- The end of a run of `filter`, without a closing text. It has the count of the skipped messages, and the position of a
+-- message that ended the run.
 abbrev pub filter_finish : Finish (Run FilterService)
 filter_finish = record {
   closing = λ y. [];
@@ -25,8 +26,8 @@ filter_finish = record {
   ended = λ y. y.service.ended;
 }
 
--- A run with the options `order` takes the reader from `a` to `b` and the writer from `c` to `d`, and returns `r`.
--- `reader_failed` and `writer_failed` say whether the reader and the writer failed.
+-- The effect of a run with the options `order` that ends with the result `r`. `a` and `b` are the reader before and
+-- after the run, and `c` and `d` the writer.
 abbrev pub Filtered : FilterOrder → Option (List ℕ) → Option (List ℕ) → Option (List ℕ) → Option (List ℕ) → Bool → Bool
     → Result (Unit {0}) ArchiveFault → Type 0
 Filtered order a b c d reader_failed writer_failed r =

@@ -1,5 +1,5 @@
--- Runs over an archive that write a closing text after the last message: their whole text, their result, and what every
--- run has read and written. (Our own.)
+-- Runs over an archive with a closing text after the last message: their text, their result, and their effect on a
+-- reader and a writer. (Our own.)
 use Rattle.std.specs.Prelude.{◌≡◌, ◌≢◌, ◌⊎◌, ◌↔◌, ℕ, List, [], ◌++◌, Bool, true, Option, Some, None, IfSome, Result}
 use Rattle.std.specs.Prelude.{Ok, Err}
 use Rattle.std.specs.Io.KnownBytes.{Consumes, Appends}
@@ -17,26 +17,26 @@ use Rattle.capn_serve.specs.declared.skipped.SkippedSoFar.{SkippedSoFar}
 use Rattle.capn_serve.specs.Fold.{Fold}
 use Rattle.capn_serve.specs.FormRun.{AreMessages, HasWritten, IsNeededSoFar, IsReadSoFar, KeepsUp, MayNeedMemory}
 
--- The result of a run that has read all of its input, which had `messages` messages. The result is `Ok`, or the count
--- of the skipped messages.
+-- The result of a run that served or skipped all `messages` messages of its input. The result is `Ok` if no message was
+-- skipped, and otherwise `Skipped`.
 abbrev pub outcome_by : Option SkippedSoFar → ℕ → Result (Unit {0}) ArchiveFault
 outcome_by None messages = Ok tt
 outcome_by (Some s) messages = Err (faults.Skipped (skipped_of s messages))
 
--- The result of a run whose loop ended without a fault. If a message that is not canonical ended the run, the result
--- has the position of that message. Otherwise `outcome_by` gives the result.
+-- The result of a run whose loop ended without a fault. If a message at the position `at` ended the loop, the result is
+-- `NotCanonical`. Otherwise `outcome_by` gives the result.
 abbrev pub outcome_unless : Option Position → Option SkippedSoFar → ℕ → Result (Unit {0}) ArchiveFault
 outcome_unless None skipped messages = outcome_by skipped messages
 outcome_unless (Some at) skipped messages = Err (faults.NotCanonical at)
 
--- The fault of an input that `r` refuses at `at`, after `messages` messages. If some of these messages were skipped,
--- the fault counts the skipped ones.
+-- The fault of a run whose input is refused with `r` at the position `at`, after `messages` messages. If messages were
+-- skipped, the fault also has their count.
 abbrev pub after_skipped : Option SkippedSoFar → ℕ → Position → Refusal → ArchiveFault
 after_skipped None messages at r = faults.Refused at r
 after_skipped (Some s) messages at r = faults.RefusedAfterSkipped (skipped_of s messages) at r
 
--- The fault of an input that a refusal ends at `at`. Messages can have been skipped only before a refused frame or
--- refused packed bytes.
+-- The fault of a run that a refusal ended at the position `at`. The fault has the count of the skipped messages only if
+-- a frame or packed bytes are refused.
 abbrev pub refused_after : Option SkippedSoFar → ℕ → Position → Refusal → ArchiveFault
 refused_after skipped messages at (refusals.Bare e) = faults.Refused at (refusals.Bare e)
 refused_after skipped messages at (refusals.Packed e) = after_skipped skipped messages at (refusals.Packed e)
@@ -46,16 +46,17 @@ refused_after skipped messages at (refusals.Walk stopped) = faults.Refused at (r
 refused_after skipped messages at (refusals.Capability index) = faults.Refused at (refusals.Capability index)
 refused_after skipped messages at refusals.Memory = faults.Refused at refusals.Memory
 
--- The fault of a run over an archive whose loop ended with a `RunFault`. The loop served or skipped `messages` messages
--- before, and `skipped` counts the skipped ones.
+-- The fault of a run over an archive whose loop ended with a `RunFault`, after `messages` messages were served or
+-- skipped. `skipped` has the count of the skipped messages.
 abbrev pub fault_after : Option SkippedSoFar → ℕ → RunFault → ArchiveFault
 fault_after skipped messages run_faults.Memory = faults.Memory
 fault_after skipped messages run_faults.Io = faults.Io
 fault_after skipped messages run_faults.InputTooLong = faults.InputTooLong
 fault_after skipped messages (run_faults.Refused at r) = refused_after skipped messages at r
 
--- The end of a run, as functions of the state after the last message. `closing` is the text that is written, `skipped`
--- the count of the skipped messages, and `ended` the position of a message that is not canonical, if one ended the run.
+-- The end of a run, as functions of the state after the last message. `closing` is the text that is written, and
+-- `skipped` is the count of the skipped messages. `ended` is the position of a message that is not canonical, if one
+-- ended the run.
 pub record Finish (X : Type 0) : Type 0 where
   pub closing : X → List ℕ
   pub skipped : X → Option SkippedSoFar
@@ -66,45 +67,45 @@ module _ {X : Type 0} (f : Fold X) (x : X) (finish : Finish X) where
   abbrev pub outcome : X → Result (Unit {0}) ArchiveFault
   outcome y = outcome_unless (finish.ended y) (finish.skipped y) (f.place y).index
 
-  -- The result of a run whose loop `fault` ended in the state `y`.
+  -- The result of a run after `fault` ended its loop in the state `y`.
   abbrev pub stopped_by : X → RunFault → Result (Unit {0}) ArchiveFault
   stopped_by y fault = Err (fault_after (finish.skipped y) (f.place y).index fault)
 
-  -- `text` is the text of the messages, followed by the closing text unless a fault ended the loop. `ending` is the
-  -- result of the run.
+  -- If the loop ended with `Ok`, `text` is `messages`, the text of the messages, followed by the closing text. If a
+  -- fault ended the loop, `text` is `messages`. `ending` is the result of the run.
   abbrev pub Closes : List ℕ → Result (Unit {0}) RunFault → X → List ℕ → Result (Unit {0}) ArchiveFault → Type 0
   Closes messages (Ok u) y text ending = (text ≡ messages ++ finish.closing y) × (ending ≡ outcome y)
   Closes messages (Err fault) y text ending = (text ≡ messages) × (ending ≡ stopped_by y fault)
 
-  -- `text` is the whole text of `input`, and `ending` is the result of a run over `input`.
+  -- `text` is the complete text that a run over `input` writes, and `ending` is the result of the run.
   abbrev pub IsWholeText : Form → List ℕ → List ℕ → Result (Unit {0}) ArchiveFault → Type 0
   IsWholeText form input text ending =
       (messages : List ℕ) × (served : Result (Unit {0}) RunFault) × (y : X)
       × AreMessages f x form input messages served y × Closes messages served y text ending
 
-  -- A run has written the whole text of `input`, and `r` is the result that belongs to that text. Or `r` is `Memory`,
-  -- or `r` is `Io`.
+  -- The result `r` is `Memory` or `Io`, or a run over `input` writes `text` and has the result `r`. In the last case
+  -- `text` was written.
   abbrev pub EndsAs : Form → Option (List ℕ) → Option (List ℕ) → Result (Unit {0}) ArchiveFault → List ℕ → Type 0
   EndsAs form old new r input =
       (r ≡ Err faults.Memory)
       ⊎ ((r ≡ Err faults.Io) ⊎ ((text : List ℕ) × IsWholeText form input text r × Appends old new text))
 
-  -- All messages of the input were served, and a prefix of their text and of the closing text was written. If the input
-  -- is not known, the messages and the state after them may be any.
+  -- `messages` is the text of all messages of `input`, which lead to the state `y`. A prefix of `messages` and the
+  -- closing text of `y` was written. If `input` is not known, `messages` and `y` are arbitrary.
   abbrev pub HasBegunClosing : Form → Option (List ℕ) → Option (List ℕ) → Option (List ℕ) → Type 0
   HasBegunClosing form input old new =
       (messages : List ℕ) × (y : X) × IfSome input (λ bytes. AreMessages f x form bytes messages (Ok tt) y)
       × HasBegun old new (messages ++ finish.closing y)
 
-  -- All messages of the input were served, and the closing text is not empty. If the input is not known, the state
-  -- after the messages may be any.
+  -- All messages of `input` lead to the state `y`, and the closing text of `y` is not empty. If `input` is not known,
+  -- `y` may be any state.
   abbrev pub HasClosing : Form → Option (List ℕ) → Type 0
   HasClosing form input = (y : X)
       × IfSome input (λ bytes. (messages : List ℕ) × AreMessages f x form bytes messages (Ok tt) y)
       × (finish.closing y ≢ [])
 
-  -- The reader gave `bytes`: not more than a run may read, and nothing after a chunk that ends the run. The writer took
-  -- a prefix of the text of `bytes`.
+  -- A reader returned `bytes`, no more than the run needs. A prefix of the text of `bytes` was written, or a prefix of
+  -- the text of the complete input and the closing text.
   pub record Begins (form : Form) (a b c d : Option (List ℕ)) : Type 0 where
     pub bytes : List ℕ
     pub read : Consumes a b bytes
@@ -112,8 +113,8 @@ module _ {X : Type 0} (f : Fold X) (x : X) (finish : Finish X) where
     pub needed : IsNeededSoFar f x form bytes
     pub written : HasWritten f x form bytes c d ⊎ HasBegunClosing form a c d
 
-  -- A run takes the reader from `a` to `b` and the writer from `c` to `d`, and returns `r`. `reader_failed` and
-  -- `writer_failed` say whether the reader and the writer failed.
+  -- The effect of a run that ends with the result `r`. `a` and `b` are the reader before and after the run, and `c` and
+  -- `d` the writer.
   pub record Finished (form : Form) (a b c d : Option (List ℕ)) (reader_failed writer_failed : Bool)
       (r : Result (Unit {0}) ArchiveFault) : Type 0 where
     pub exact : IfSome a (EndsAs form c d r)

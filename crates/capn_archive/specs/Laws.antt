@@ -1,4 +1,4 @@
--- The laws, which follow from the definitions whatever the code does. (Our own.)
+-- Laws of the definitions, without any function. (Our own.)
 use Rattle.std.specs.Prelude.{◌≡◌, ◌≢◌, ℕ, ◌≤◌, List, [], ◌∷◌, length, false, Result, Ok, ⊤}
 use Rattle.capn_words.specs.Message.{total}
 use Rattle.capn_walk.specs.Limits.{Bounds}
@@ -39,23 +39,23 @@ OneFilter = (order : FilterOrder) (input t u : List ℕ) (r s : Result (Unit {0}
     → IsWholeText (filters.filter_fold order) (filters.first_run order) filters.filter_finish order.form input u s
     → (t ≡ u) × (r ≡ s)
 
--- Each part has the frame of a message that `filter` with the options `order` lets through, with no more words than
--- `order.limits` allows.
+-- Each part has a frame, and the message of that frame has at most `order.limits.message_words` words. `filter` with
+-- the options `order` lets that message through.
 abbrev pub AreLetThrough : FilterOrder → List Part → Type 0
 AreLetThrough order [] = ⊤
 AreLetThrough order (p ∷ ps) = Frames p.frame p.message × (total p.message ≤ order.limits.message_words)
     × Passes order.canonical p.message order.limits × AreLetThrough order ps
 
--- `text` consists of frames of messages that `filter` with the options `order` lets through, and is no longer than a
--- stream may be.
+-- `text` is frames of messages that `filter` with the options `order` lets through. `text` has at most `most_stream`
+-- bytes.
 pub record IsLetThrough (order : FilterOrder) (text : List ℕ) : Type 0 where
   pub parts : List Part
   pub each : AreLetThrough order parts
   pub is : text ≡ frames_of parts
   pub short : length text ≤ most_stream
 
--- The output of `filter` over a stream, packed or not, consists of frames of messages that are let through, whatever
--- the input is and however the run ends.
+-- The text that `filter` writes for a stream, packed or not, is frames of messages that `filter` lets through. The law
+-- holds for every result `r`.
 abbrev pub FiltersAccepted : Type 0
 FiltersAccepted = (order : FilterOrder) (input text : List ℕ) (r : Result (Unit {0}) ArchiveFault)
     → order.form ≢ forms.Bare
@@ -66,7 +66,8 @@ FiltersAccepted = (order : FilterOrder) (input text : List ℕ) (r : Result (Uni
 abbrev pub listing : Bounds → ArchiveOrder
 listing limits = record { task = tasks.List; form = forms.Stream; limits = limits; keep_going = false }
 
--- `list` with the same limits accepts all of the output of `filter` over a stream, packed or not.
+-- If `filter` writes `text` for a stream, packed or not, then `list` with the same limits ends with `Ok` for the stream
+-- `text`.
 abbrev pub FilteredIsListed : Type 0
 FilteredIsListed = (order : FilterOrder) (input text lines : List ℕ) (r s : Result (Unit {0}) ArchiveFault)
     → order.form ≢ forms.Bare

@@ -13,14 +13,15 @@ use Rattle.capn_canon.specs.declared.surveyed_bare.MeasuredBare.{MeasuredBare}
 use Rattle.capn_archive.specs.declared.tally.Greatest.{Greatest}
 use Rattle.capn_archive.specs.declared.limits_report.Needs.{Needs}
 
--- The first part of a line: the number of the message, counted from 1, its position and its size.
+-- The beginning of a line: the number of the message, counted from 1, its offset, and its numbers of bytes, segments
+-- and words.
 abbrev pub head_text : MessageHead → List ℕ
 head_text head =
     decimal (head.at.index + 1) ++ (codes " at " ++ (decimal head.at.offset ++ (codes " bytes "
     ++ (decimal head.bytes ++ (codes " segments " ++ (decimal head.segments ++ (codes " words "
     ++ decimal head.words)))))))
 
--- The index of a capability, or `no`.
+-- The text for the index of a capability: its digits, or `no` for `None`.
 abbrev pub capability_text : Option ℕ → List ℕ
 capability_text (Some index) = decimal index
 capability_text None = codes "no"
@@ -30,7 +31,8 @@ abbrev pub answer_text : Bool → List ℕ
 answer_text true = codes "yes"
 answer_text false = codes "no"
 
--- The text of the figures of an accepted message.
+-- The text for the figures of an accepted message: price, visits, depth, capability, and whether the message is
+-- canonical.
 abbrev pub measured_text : MeasuredBare → List ℕ
 measured_text measured =
     codes "paid " ++ (decimal measured.survey.paid ++ (codes " visits " ++ (decimal measured.survey.visits
@@ -38,42 +40,42 @@ measured_text measured =
     ++ (capability_text measured.survey.capability ++ (codes " canonical "
     ++ answer_text measured.survey.is_canonical))))))))
 
--- The line of an accepted message.
+-- The line of `list` for an accepted message.
 abbrev pub list_line : MessageHead → MeasuredBare → List ℕ
 list_line head measured = head_text head ++ (codes " " ++ (measured_text measured ++ codes "\n"))
 
--- The digest of a message in 64 hexadecimal digits, or `-` if there is none.
+-- The text of a digest in 64 hexadecimal digits, or `-` for `None`.
 abbrev pub digest_text : Option (List ℕ) → List ℕ
 digest_text (Some digest) = encode_lower digest
 digest_text None = codes "-"
 
--- The line of an accepted message with its digest.
+-- The line of `list --digest` for an accepted message.
 abbrev pub digests_line : MessageHead → MeasuredBare → Option (List ℕ) → List ℕ
 digests_line head measured digest =
     head_text head ++ (codes " " ++ (measured_text measured ++ (codes " sha256 " ++ (digest_text digest
     ++ codes "\n"))))
 
--- The line of a skipped message.
+-- The line of `list` for a skipped message, which `refusal` refuses.
 abbrev pub refused_line : MessageHead → Refusal → List ℕ
 refused_line head refusal = head_text head ++ (codes " refused " ++ (refusal_text refusal ++ codes "\n"))
 
--- The greatest amount of a message, and the number of the first message that has it, counted from 1. If there is no
--- message, both are 0.
+-- The text for a greatest amount, with the number of its message, counted from 1. For `None` both numbers are 0.
 abbrev pub greatest_text : Option Greatest → List ℕ
 greatest_text None = codes "0 message 0"
 greatest_text (Some g) = decimal g.amount ++ (codes " message " ++ decimal (g.index + 1))
 
--- The greatest amount, or 0 if there is no message.
+-- The amount in a `Greatest`, or 0 for `None`.
 abbrev pub amount_of : Option Greatest → ℕ
 amount_of None = 0
 amount_of (Some g) = g.amount
 
--- The option that names a tariff, or nothing for the default.
+-- The text of the option `--tariff`, which is empty for the tariff `Strict`.
 abbrev pub tariff_text : Tariff → List ℕ
 tariff_text tariffs.Strict = codes ""
 tariff_text tariffs.Plain = codes " --tariff plain"
 
--- The number of messages, and the greatest number of words, price and depth of a message.
+-- The first four lines of `limits`: the number of messages, and the greatest number of words, price and depth of a
+-- message.
 abbrev pub needs_text : Needs → List ℕ
 needs_text needs =
     codes "messages " ++ (decimal needs.messages
@@ -81,8 +83,8 @@ needs_text needs =
     ++ (codes "\nbudget " ++ (greatest_text needs.tally.price
     ++ (codes "\ndepth " ++ greatest_text needs.tally.depth))))))
 
--- The advised options, whose limits leave room: four times the words and the price, and twice the depth, within the
--- ranges of these options.
+-- The last line of `limits`: options for four times the greatest words and price, and for twice the greatest depth.
+-- Each number stays within the range of its option.
 abbrev pub advice_text : Needs → List ℕ
 advice_text needs =
     codes "use --message-words " ++ (decimal (min (max (4 * amount_of needs.tally.words) 1) (2 ^ 28))
@@ -94,12 +96,13 @@ advice_text needs =
 abbrev pub limits_text : Needs → List ℕ
 limits_text needs = needs_text needs ++ (codes "\n" ++ (advice_text needs ++ codes "\n"))
 
--- Examples of each kind of line.
+-- ---- examples of each kind of line
 
--- The second message of a stream, whose root has one word.
+-- The head of the second message of a stream. The message has two words.
 abbrev second : MessageHead
 second = record { at = record { index = 1; offset = 16 }; bytes = 24; segments = 1; words = 2 }
 
+-- The figures of the message of `second`.
 abbrev its_measured : MeasuredBare
 its_measured = record {
   survey = record { paid = 2; visits = 1; capability = None; is_canonical = true };
@@ -125,7 +128,7 @@ a_refused_message : refused_line second (refusals.Capability 3)
 unfolding digits
 a_refused_message = refl
 
--- Three messages: the second has the most words and is the deepest, and the first costs the most.
+-- The figures of three messages: the second has the most words and is the deepest, and the first costs the most.
 abbrev three_messages : Needs
 three_messages = record {
   messages = 3;

@@ -1,4 +1,4 @@
--- The tally, which a run keeps of the messages that it has served or skipped. (Our own.)
+-- The tally of the messages that a run has served or skipped. (Our own.)
 use Rattle.std.specs.Prelude.{ℕ, nat_lt, if◌then◌else◌, Option, Some, None}
 use Rattle.capn_serve.specs.Skipped.{one_more}
 use Rattle.capn_serve.specs.declared.position.Position.{Position}
@@ -11,7 +11,7 @@ abbrev pub greater : Option Greatest → ℕ → ℕ → Greatest
 greater None amount index = record { amount = amount; index = index }
 greater (Some g) amount index = if nat_lt g.amount amount then record { amount = amount; index = index } else g
 
--- The tally after the message `index`, which has `words` words, costs `price` and needs `depth`, is counted.
+-- The tally after counting the message `index`, which has `words` words, costs `price` and needs `depth`.
 abbrev pub counted : Tally → ℕ → ℕ → ℕ → ℕ → Tally
 counted tally index words price depth = record {
   skipped = tally.skipped;
@@ -20,7 +20,7 @@ counted tally index words price depth = record {
   depth = Some (greater tally.depth depth index);
 }
 
--- The tally after the message at `at` is skipped.
+-- The tally after the message at the position `at` was skipped.
 abbrev pub skipped : Tally → Position → Tally
 skipped tally at = record {
   skipped = Some (one_more tally.skipped at);

@@ -26,22 +26,22 @@ use Rattle.capn_archive.specs.Digest.{IsDigestIfAny}
 use Rattle.capn_archive.specs.Lines.{digests_line, list_line, refused_line}
 use Rattle.capn_archive.specs.Tally.{counted, skipped}
 
--- The result of a call is a value for which `is` holds, a refusal for which `isn't` holds, or a refused allocation,
--- which is possible only if `needs` holds.
+-- After `Ok x`, `is x` holds. After `Refused r`, `isn't r` holds, and `r` is not `Memory`. After `Memory`, `needs`
+-- holds.
 abbrev pub Finds : {T : Type 0} → (T → Type 0) → (Refusal → Type 0) → Type 0 → Result T ServeFault → Type 0
 Finds is isn't needs (Ok x) = is x
 Finds is isn't needs (Err faults.Memory) = needs
 Finds is isn't needs (Err faults.Io) = ⊥
 Finds is isn't needs (Err (faults.Refused r)) = isn't r × (r ≢ refusals.Memory)
 
--- `r` refuses `message` within `limits`: by the walk, or, for the task `Canonical`, also for a capability.
+-- `r` refuses `message` within `limits`, by its walk. For the task `Canonical`, `r` may also refuse `message` for a
+-- capability.
 abbrev pub IsRefusedBy : Task → List (List ℕ) → Bounds → Refusal → Type 0
 IsRefusedBy tasks.Canonical message limits r = IsRefusedMessage message limits r × (r ≢ refusals.Memory)
 IsRefusedBy _ message limits r = IsUnaccepted message limits r × (r ≢ refusals.Memory)
 
--- The task writes `text` for `message`, which is not refused, and `tally_after` is the tally after it. `list` writes
--- the line of the message, `list --digest` the line with the digest, and `canonical` the frame of the canonical bytes.
--- `limits` writes nothing, but counts the message.
+-- `message` is not refused within `limits`. The task writes `text` for `message`, and `tally_after` is the tally after
+-- it. Only the task `Limits` changes the tally, and this task writes nothing.
 abbrev pub IsServedBy : Task → Bounds → Tally → Position → List ℕ → List (List ℕ) → List ℕ → Tally → Type 0
 IsServedBy tasks.List limits tally at frame message text tally_after =
     (measured : MeasuredBare) × IsMeasure message limits measured
@@ -57,31 +57,32 @@ IsServedBy tasks.Limits limits tally at frame message text tally_after =
     (depth : ℕ) × IsAccepted message limits × IsDepth message limits depth × (text ≡ [])
     × (tally_after ≡ counted tally at.index (total message) (paid message limits) depth)
 
--- The text for a skipped message, which is a line for `list` and empty for the other tasks.
+-- The text for a skipped message: a line for the tasks `List` and `Digests`, and nothing for any other task.
 abbrev pub skipped_text : Task → Position → List ℕ → List (List ℕ) → Refusal → List ℕ
 skipped_text tasks.List at frame message r = refused_line (head_of at frame message) r
 skipped_text tasks.Digests at frame message r = refused_line (head_of at frame message) r
 skipped_text _ at frame message r = []
 
--- `message` is skipped and counted: it is refused, and `keep_going` is set.
+-- `message` is skipped, because `order.task` refuses it and `keep_going` is set. `text` is written for `message`, and
+-- `tally_after` counts it as skipped.
 abbrev pub IsSkippedBy : ArchiveOrder → Tally → Position → List ℕ → List (List ℕ) → List ℕ → Tally → Type 0
 IsSkippedBy order tally at frame message text tally_after =
     (order.keep_going ≡ true) × (r : Refusal) × IsRefusedBy order.task message order.limits r
     × (text ≡ skipped_text order.task at frame message r) × (tally_after ≡ skipped tally at)
 
--- `message` takes the state `s` to `t` and writes `text`: the message is served or skipped.
+-- `message` leads from the state `s` to `t` and writes `text`. The message is served or skipped.
 abbrev pub serves : ArchiveService → Position → List ℕ → List (List ℕ) → List ℕ → ArchiveService → Type 0
 serves s at frame message text t =
     (t.order ≡ s.order)
     × (IsServedBy s.order.task s.order.limits s.tally at frame message text t.tally
     ⊎ IsSkippedBy s.order s.tally at frame message text t.tally)
 
--- `message` ends the run: `r` refuses it, and `keep_going` is not set.
+-- `r` refuses `message`. The refusal ends the run, because `keep_going` is not set.
 abbrev pub refuses : ArchiveService → Position → List ℕ → List (List ℕ) → Refusal → Type 0
 refuses s at frame message r = (s.order.keep_going ≡ false) × IsRefusedBy s.order.task message s.order.limits r
 
--- `message` was served, and its text was added to the output. Or the message is refused, and the output and the tally
--- are unchanged. Or an allocation was refused before or within the text. Or the writer failed within the text.
+-- After `Ok`, the `text` of `message` was added. After `Refused`, the output and the tally are unchanged. After
+-- `Memory`, nothing or a prefix of `text` was added, and after `Io`, a prefix of `old.kept ++ text` was written.
 abbrev pub AddsServed : Task → Bounds → Tally → Position → List ℕ → List (List ℕ) → Outgoing → Outgoing → Bool
     → Result (Unit {0}) ServeFault → Tally → Type 0
 AddsServed task limits tally at frame message old new failed (Ok u) tally_after =
@@ -94,7 +95,8 @@ AddsServed task limits tally at frame message old new failed (Err faults.Io) tal
 AddsServed task limits tally at frame message old new failed (Err (faults.Refused r)) tally_after =
     IsRefusedBy task message limits r × (new ≡ old) × (tally_after ≡ tally) × (failed ≡ false)
 
--- The message was skipped. Or an allocation was refused, and the text is unchanged.
+-- After `Ok`, the text for the skipped message was appended, and `tally_after` counts the message. After `Err`, `fault`
+-- is `Memory`, and `new` is `old`.
 abbrev pub Skips : Task → Tally → Position → List ℕ → List (List ℕ) → Refusal → List ℕ → List ℕ
     → Result (Unit {0}) ServeFault → Tally → Type 0
 Skips task tally at frame message r old new (Ok u) tally_after =

@@ -1,5 +1,5 @@
--- The messages that `uniq` keeps, whose canonical bytes no earlier message had. The bytes are compared by their
--- SHA-256. (Our own.)
+-- The messages that `uniq` keeps: those with canonical bytes that no earlier message had. The bytes are compared by
+-- their SHA-256. (Our own.)
 use Rattle.std.specs.Prelude.{◌≡◌, ◌⊎◌, ℕ, ◌+◌, ◌-◌, ◌^◌, ◌<◌, min, List, [], length, Bool, true, false, Option, None}
 use Rattle.std.specs.Prelude.{Some, Result, Ok, Err}
 use Rattle.std.specs.FinSet as set
@@ -15,8 +15,8 @@ use Rattle.capn_archive.specs.declared.uniq_order.UniqOrder.{UniqOrder}
 use Rattle.capn_archive.specs.Digest.{IsDigest, IsUndigested}
 use Rattle.capn_serve.specs.Skipped.{one_more}
 
--- The state of `uniq`: its options, the set of the digests of the messages kept, the number of messages served, and the
--- count of the messages skipped.
+-- The state of `uniq`: its options, the digests and the number of the served messages, and the count of the skipped
+-- messages.
 pub record UniqState : Type 0 where
   pub order : UniqOrder
   pub digests : set.FinSet (slice_cmp nat_cmp)
@@ -27,7 +27,7 @@ pub record UniqState : Type 0 where
 abbrev pub first_state : UniqOrder → UniqState
 first_state order = record { order = order; digests = set.empty; served = 0; skipped = None }
 
--- `digest` is among `digests`.
+-- Tests whether `digest` is in `digests`.
 abbrev pub has : set.FinSet (slice_cmp nat_cmp) → List ℕ → Bool
 has digests digest = set.contains digests digest
 
@@ -35,18 +35,18 @@ has digests digest = set.contains digests digest
 abbrev pub and_one : set.FinSet (slice_cmp nat_cmp) → List ℕ → set.FinSet (slice_cmp nat_cmp)
 and_one digests digest = set.insert digests digest
 
--- The number of served messages after one more message, or 2^64 - 1 if that is less.
+-- The number of served messages after one more message, but at most 2^64 - 1.
 abbrev pub one_served : ℕ → ℕ
 one_served served = min (served + 1) (2 ^ 64 - 1)
 
--- The text for a message: its frame, or nothing if messages are only counted or an earlier one had the same digest.
+-- The text for a message. The first argument says whether messages are only counted. The text is `frame` if both the
+-- first argument and `is_duplicate` are `false`, and is otherwise empty.
 abbrev pub kept_text : Bool → Bool → List ℕ → List ℕ
 kept_text true is_duplicate frame = []
 kept_text false true frame = []
 kept_text false false frame = frame
 
--- `message` is served: `frame` is written unless the message is a duplicate or messages are only counted, and the
--- digest of the message is inserted.
+-- `message` is served. `t` has the digest of `message` and one more served message. `kept_text` gives the `text`.
 abbrev pub Deduplicates : UniqState → List ℕ → List (List ℕ) → List ℕ → UniqState → Type 0
 Deduplicates s frame message text t =
     (digest : List ℕ) × IsDigest message s.order.limits digest
@@ -58,8 +58,8 @@ Deduplicates s frame message text t =
       skipped = s.skipped;
     })
 
--- `message` is skipped, because it has no digest and `keep_going` is set. Nothing is written, and the message is not
--- counted as served.
+-- The message at the position `at` is skipped, because it has no digest and `keep_going` is set. Nothing is written,
+-- and `t` counts one more skipped message.
 abbrev pub IsSkipped : UniqState → Position → List (List ℕ) → List ℕ → UniqState → Type 0
 IsSkipped s at message text t =
     (s.order.keep_going ≡ true) × (r : Refusal) × IsUndigested message s.order.limits r × (text ≡ [])
@@ -70,22 +70,24 @@ IsSkipped s at message text t =
       skipped = Some (one_more s.skipped at);
     })
 
--- `message` takes the state `s` to `t` and writes `text`: the message is served or skipped.
+-- `message` leads from the state `s` to `t` and writes `text`. The message is served or skipped.
 abbrev pub serves : UniqState → Position → List ℕ → List (List ℕ) → List ℕ → UniqState → Type 0
 serves s at frame message text t = Deduplicates s frame message text t ⊎ IsSkipped s at message text t
 
--- `message` ends the run: it has no digest, because `r` refuses it, and `keep_going` is not set.
+-- `message` has no digest, because `r` refuses it. The refusal ends the run, because `keep_going` is not set.
 abbrev pub refuses : UniqState → Position → List ℕ → List (List ℕ) → Refusal → Type 0
 refuses s at frame message r = (s.order.keep_going ≡ false) × IsUndigested message s.order.limits r
 
--- `digest` was inserted, and the result says whether the set `old` had it before. Or an allocation was refused.
+-- After `Ok`, `new` is `old` with `digest`, and `is_duplicate` says whether `old` had `digest`. After `Err`, `fault` is
+-- `Memory`.
 abbrev pub InsertsDigest : set.FinSet (slice_cmp nat_cmp) → set.FinSet (slice_cmp nat_cmp) → List ℕ
     → Result Bool ServeFault → Type 0
 InsertsDigest old new digest (Ok is_duplicate) = (is_duplicate ≡ has old digest) × (new ≡ and_one old digest)
 InsertsDigest old new digest (Err fault) = fault ≡ faults.Memory
 
--- `message` was served. Or the message has no digest, and the output and the state are unchanged. Or an allocation was
--- refused before or within the text of the message. Or the writer failed within that text.
+-- After `Ok`, `message` was served, and its `text` was added. After `Refused`, `message` has no digest, and the output
+-- and the state are unchanged. After `Memory`, nothing or a prefix of `text` was added, and after `Io`, a prefix of
+-- `old.kept ++ text` was written.
 abbrev pub TriesToDeduplicate : UniqState → List ℕ → List (List ℕ) → Outgoing → Outgoing → Bool
     → Result (Unit {0}) ServeFault → UniqState → Type 0
 TriesToDeduplicate s frame message old new failed (Ok u) t =

@@ -1,4 +1,4 @@
--- A whole run of `uniq`. (Our own.)
+-- A run of `uniq`: its fold, its first state and its end. (Our own.)
 use Rattle.std.specs.Prelude.{◌≡◌, ℕ, List, [], ◌++◌, codes, Bool, true, false, Option, None, Result, refl}
 use Rattle.std.specs.FinSet as set
 use Rattle.std.specs.Fmt.{decimal, digits}
@@ -10,7 +10,7 @@ use Rattle.capn_serve.specs.Fold.{Fold, fold_of}
 use Rattle.capn_archive.specs.UniqMessages.{UniqState, first_state, serves, refuses}
 use Rattle.capn_serve.specs.StreamRun.{start}
 
--- The fold over the messages of an archive.
+-- The fold of a run of `uniq` with the options `order`.
 abbrev pub uniq_fold : UniqOrder → Fold (Run UniqState)
 uniq_fold order = fold_of serves refuses order.limits.message_words
 
@@ -18,7 +18,7 @@ uniq_fold order = fold_of serves refuses order.limits.message_words
 abbrev pub first_run : UniqOrder → Run UniqState
 first_run order = record { service = first_state order; at = start }
 
--- The line that `uniq --count` writes, with the numbers of messages kept and served.
+-- The line that `uniq --count` writes, with the numbers `kept` and `served`.
 abbrev pub count_line : ℕ → ℕ → List ℕ
 count_line kept served = decimal kept ++ (codes " of " ++ (decimal served ++ codes "\n"))
 
@@ -26,7 +26,8 @@ two_of_five : count_line 2 5 ≡ codes "2 of 5\n"
 unfolding digits
 two_of_five = refl
 
--- The closing text, which is the counting line if messages are only counted, and empty otherwise.
+-- The closing text. If the first argument is `true`, messages are only counted, and the text is `count_line`. Otherwise
+-- the text is empty.
 abbrev pub closing_by : Bool → ℕ → ℕ → List ℕ
 closing_by true kept served = count_line kept served
 closing_by false kept served = []
@@ -39,8 +40,8 @@ closing s = closing_by s.order.count (set.len s.digests) s.served
 abbrev pub uniq_finish : Finish (Run UniqState)
 uniq_finish = record { closing = λ y. closing y.service; skipped = λ y. y.service.skipped; ended = λ y. None }
 
--- A run with the options `order` takes the reader from `a` to `b` and the writer from `c` to `d`, and returns `r`.
--- `reader_failed` and `writer_failed` say whether the reader and the writer failed.
+-- The effect of a run with the options `order` that ends with the result `r`. `a` and `b` are the reader before and
+-- after the run, and `c` and `d` the writer.
 abbrev pub Deduplicated : UniqOrder → Option (List ℕ) → Option (List ℕ) → Option (List ℕ) → Option (List ℕ) → Bool
     → Bool → Result (Unit {0}) ArchiveFault → Type 0
 Deduplicated order a b c d reader_failed writer_failed r =

@@ -1,5 +1,5 @@
-//! The call `run_archive`, which does a whole run of `list`, `limits` or `canonical --framed`, from the first message
-//! to the result.
+//! The call `run_archive`, which carries out `list`, `limits` or `canonical --framed`, from the first message to the
+//! result.
 
 ghost use Rattle.std.specs.Prelude.{◌≡◌, false};
 ghost use Rattle.capn_words.specs.Watched.{inner_of, has_failed};
@@ -53,7 +53,8 @@ pub(crate) fn serve_messages<S: Service, R: Read, W: Write, A: Allocator + Copy>
     serve_form(alloc, form, most, run, reader, writer)
 }
 
-/// Returns the fault with which `run` ends after `fault` stopped the loop over the messages, or the closing text.
+/// Returns the fault with which `run` ends. `fault` stopped the loop over the messages, or the writing of the closing
+/// text.
 fn fault_of(run: &Run<ArchiveService>, fault: RunFault) -> ArchiveFault
     ensures { result ≡ finish.fault_after run.now.service.tally.skipped run.now.at.index fault }
 {

@@ -1,4 +1,4 @@
-//! The service `ArchiveService`, which does a `Task` for the messages of an archive.
+//! The service `ArchiveService`, which carries out a `Task` for the messages of an archive.
 
 ghost use Rattle.std.specs.Prelude.{◌≡◌, ℕ, List, Option, false};
 ghost use Rattle.capn_words.specs.Watched.{inner_of, has_failed};
@@ -38,7 +38,7 @@ pub struct ArchiveService {
 }
 
 /// Adds a frame with the canonical bytes of `message` to the output. If one pass finds the message canonical, its own
-/// bytes are used, and none are made.
+/// bytes are used, and no canonical bytes are made.
 fn serve_canonical<S: Space, W: Write, A: Allocator + Copy>(
     alloc: A,
     limits: Limits,
@@ -119,7 +119,7 @@ fn serve_limits<S: Space, A: Allocator + Copy>(
     Ok(())
 }
 
-/// Does the task `order.task` for `message`.
+/// Carries out the task `order.task` for `message`.
 fn serve_task<S: Space, W: Write, A: Allocator + Copy>(
     alloc: A,
     order: &ArchiveOrder,
@@ -169,8 +169,8 @@ fn skip_message<S: Space, A: Allocator + Copy>(
 }
 
 impl ArchiveService {
-    /// Does the task of `self.order` for `message`. If the message is refused and `keep_going` is set, counts it as
-    /// skipped instead.
+    /// Carries out the task of `self.order` for `message`. If the message is refused and `keep_going` is set, counts it
+    /// as skipped instead.
     fn add_message<S: Space, W: Write, A: Allocator + Copy>(
         &mut self,
         alloc: A,

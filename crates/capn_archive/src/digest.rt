@@ -13,7 +13,7 @@ use sha2::{Digest, Sha256};
 use std::alloc::Allocator;
 
 /// Returns the SHA-256 of the canonical bytes of `message`. If one pass finds the message canonical, its own bytes are
-/// hashed, and none are made.
+/// hashed, and no canonical bytes are made.
 pub(crate) fn digest_of<S: Space, A: Allocator + Copy>(
     alloc: A,
     limits: Limits,

@@ -35,8 +35,8 @@ fn after_skipped(
     }
 }
 
-/// Returns the fault of a run that `refusal` ended at the position `at`. Only for a refused frame, or refused packed
-/// bytes, the fault also counts the messages skipped before.
+/// Returns the fault of a run that `refusal` ended at the position `at`. If a frame or packed bytes are refused, the
+/// fault also counts the messages skipped before.
 fn refused_after(
     skipped: Option<SkippedSoFar>,
     messages: u64,

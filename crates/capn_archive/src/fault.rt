@@ -16,7 +16,7 @@ pub enum ArchiveFault {
     Memory,
     /// The reader or the writer failed.
     Io,
-    /// The input has more bytes than a run takes.
+    /// The input has more bytes than a run may serve.
     InputTooLong,
     /// The message at this position is refused, or no message can begin there.
     Refused(Position, Refusal),
@@ -24,11 +24,12 @@ pub enum ArchiveFault {
     NotCanonical(Position),
     /// All of the input was served, except for messages that were skipped.
     Skipped(Skipped),
-    /// The frame or the packed bytes at this position are refused. The first field counts the messages skipped before.
+    /// The frame or the packed bytes at this position are refused. The first field counts the messages that were
+    /// skipped before this position.
     RefusedAfterSkipped(Skipped, Position, Refusal),
 }
 
-/// Says that the message at `at` is refused, or that no message can begin there.
+/// Appends the number and the offset of the message at `at`, and the text of `refusal`.
 fn say_refused<E: Write>(at: &Position, refusal: &Refusal, line: &mut Line, errors: &mut Watched<E>)
     ensures { Says (text_of_refused at.now refusal.now)
         (way line.old (E.contents (inner_of errors.old)) (has_failed errors.old))

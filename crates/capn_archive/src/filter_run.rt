@@ -1,4 +1,4 @@
-//! The call `run_filter`, which does a whole run of `filter`, from the first message to the result.
+//! The call `run_filter`, which carries out `filter`, from the first message to the result.
 
 ghost use Rattle.std.specs.Prelude.{◌≡◌, false};
 ghost use Rattle.capn_words.specs.Watched.{inner_of, has_failed};
@@ -51,8 +51,8 @@ fn fault_of(run: &Run<FilterService>, fault: RunFault) -> ArchiveFault
 /// `RefusedAfterSkipped` if messages were skipped before a refused frame or group. The fault is `NotCanonical`, with
 /// the position, if a message is accepted but not canonical, and nothing is read after that message. The other faults
 /// are `InputTooLong`, `Io` if and only if the reader or the writer failed, and `Memory` if an allocation was refused.
-/// If a message ends the run, or the input is refused or too long, the frames let through before have been written, and
-/// nothing else. A run holds in memory only what the loop over the messages holds.
+/// If a message ends the run, or the input is refused or too long, the frames that were let through before that end
+/// have been written, and nothing else. A run holds in memory only what the loop over the messages holds.
 pub fn run_filter<R: Read, W: Write, A: Allocator + Copy>(
     alloc: A,
     order: FilterOrder,

@@ -16,8 +16,8 @@ use std::io::Write;
 /// messages.
 ///
 /// Nothing is written for a message that is not let through. If `order.keep_going` is set, such a message is skipped
-/// and counted. Otherwise the message ends the run: with the refusal of its walk, or, if it is accepted but not
-/// canonical, by its position in `ended`. The service takes no memory.
+/// and counted. Otherwise the message ends the run. If its walk refuses the message, the run ends with that refusal. If
+/// the message is accepted but not canonical, its position is stored in `ended`. The service takes no memory.
 #[derive(Clone, Copy, Debug, PartialEq, Eq)]
 pub struct FilterService {
     /// The options of the run.
@@ -69,7 +69,7 @@ fn judge<S: Space, A: Allocator + Copy>(alloc: A, order: &FilterOrder, message: 
 }
 
 impl FilterService {
-    /// Returns a service that has let nothing through.
+    /// Returns a service that has not served a message.
     pub(crate) fn new(order: FilterOrder) -> FilterService
         ensures { result ≡ first_state order }
     {

@@ -1,4 +1,4 @@
-//! The laws of runs over an archive, as empty functions.
+//! Laws of runs over an archive, stated by the clauses of functions with empty bodies.
 
 ghost use Rattle.capn_archive.specs.Laws.{FilteredIsListed, FiltersAccepted, OneArchive, OneFilter, OneUniq};
 
@@ -10,8 +10,8 @@ pub fn one_text()
     ensures filter { OneFilter }
 {}
 
-/// States that over a stream, packed or not, `filter` writes only frames of messages that it lets through, and that
-/// `list` with the same limits accepts all messages of that output.
+/// States two laws of `filter` over a stream, packed or not. `filter` writes only frames of messages that it lets
+/// through. `list` with the same limits accepts all messages that `filter` writes.
 pub fn let_through()
     ensures accepted { FiltersAccepted }
     ensures listed { FilteredIsListed }

@@ -4,8 +4,8 @@
 //! [`run_archive`] carries out an [`ArchiveOrder`] with an [`ArchiveService`], which writes the text of the order's
 //! [`Task`] for each message and at the end. [`run_uniq`] carries out a [`UniqOrder`] with a [`UniqService`], which
 //! leaves out each message whose canonical bytes equal an earlier message's. [`run_filter`] carries out a
-//! [`FilterOrder`] with a [`FilterService`], which lets accepted messages through. The loops over the messages are
-//! those of [`capn_serve`].
+//! [`FilterOrder`] with a [`FilterService`], which lets accepted messages through. The loops over the messages are in
+//! [`capn_serve`].
 #![tactic(auto)]
 
 mod archive_run;

@@ -10,7 +10,7 @@ use capn_value::Tariff;
 use std::alloc::Allocator;
 use std::fmt;
 
-/// The figures of the messages of an archive, displayed as the limits that they need.
+/// The figures of the messages of an archive, displayed as the limits that the messages need.
 #[derive(Clone, Copy, Debug, PartialEq, Eq)]
 pub struct Needs {
     /// The number of messages.
@@ -60,8 +60,8 @@ impl fmt::Display for TariffOption {
     }
 }
 
-/// Displays a line with the number of messages, and a line each with the greatest number of words, price and depth of a
-/// message.
+/// Displays four lines: the number of messages, and the greatest number of words, the greatest price and the greatest
+/// depth of a message.
 impl fmt::Display for Needs {
     ghost use Rattle.std.specs.Prelude.{Some};
     ghost use Rattle.capn_archive.specs.Lines.{needs_text};
@@ -91,7 +91,8 @@ fn amount_of(greatest: Option<Greatest>) -> u64
     }
 }
 
-/// The last line, with options whose limits leave room above the greatest amounts.
+/// The last line of `limits`, with options for four times the greatest words and price, and for twice the greatest
+/// depth. Each number stays within the range of its option.
 #[derive(Drop)]
 struct Advice<'a>(&'a Needs);
 

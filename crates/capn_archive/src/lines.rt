@@ -1,4 +1,4 @@
-//! The lines that `list` writes: of accepted messages, with a digest or without, and of skipped ones.
+//! The lines that `list` and `list --digest` write for accepted messages and for skipped ones.
 
 ghost use Rattle.std.specs.Prelude.{◌≡◌, ◌++◌, codes, IfOk, IfErr, string_bytes};
 ghost use Rattle.capn_canon.specs.Display.{refusal_text};
@@ -41,7 +41,7 @@ fn digests_line(head: &MessageHead, measured: &MeasuredBare, digest: Option<[u8;
     line
 }
 
-/// Returns the first part of a message's line, which shows the position and the size of the message.
+/// Returns the beginning of a message's line, which shows the position and the size of the message.
 fn head_text(head: &MessageHead) -> Line
     ensures { result ≡ spec.head_text head.now }
 {
@@ -50,7 +50,7 @@ fn head_text(head: &MessageHead) -> Line
     line
 }
 
-/// Returns the last part of a skipped message's line, which shows why the message is refused.
+/// Returns the end of a skipped message's line, which shows why the message is refused.
 fn refusal_end<A: Allocator>(alloc: A, refusal: &Refusal) -> Result<String<A>, ServeFault>
     ensures found { IfOk result (λ text. string_bytes text ≡ codes " refused " ++ (refusal_text refusal.now
         ++ codes "\n")) }

@@ -1,4 +1,4 @@
-//! The place and the size of a message.
+//! The position and the size of a message.
 
 ghost use Rattle.std.specs.Prelude.{◌≡◌};
 ghost use Rattle.capn_archive.specs.MessageHead as spec;

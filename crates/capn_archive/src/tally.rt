@@ -14,7 +14,7 @@ pub struct Greatest {
     pub index: u64,
 }
 
-/// The greatest amounts of the messages that a run has served, and the count of those that it has skipped.
+/// The greatest amounts of the messages that a run has served, and the count of the messages that the run has skipped.
 #[derive(Clone, Copy, Debug, PartialEq, Eq)]
 pub struct Tally {
     /// The count of the skipped messages, if there are any.

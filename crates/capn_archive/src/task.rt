@@ -2,12 +2,12 @@
 
 use capn_canon::{Form, Limits};
 
-/// The work that is done with the messages of an archive.
+/// The work that a run carries out for the messages of an archive.
 #[derive(Clone, Copy, Debug, PartialEq, Eq)]
 pub enum Task {
     /// Writes a line for each message, with the position, size and cost of the message, and whether it is canonical.
     List,
-    /// Writes the lines of `List`, and in each also the SHA-256 of the canonical bytes, or `-` if the value has a
+    /// Writes the lines of `List`, each with the SHA-256 of the canonical bytes, or with `-` if the value has a
     /// capability.
     Digests,
     /// Writes the limits that all messages need, at the end.
@@ -19,7 +19,7 @@ pub enum Task {
 /// The task of a run over an archive, and its options.
 #[derive(Clone, Copy, Debug, PartialEq, Eq)]
 pub struct ArchiveOrder {
-    /// The work that is done with each message.
+    /// The work that the run carries out for each message.
     pub task: Task,
     /// The encoding of the input.
     pub form: Form,

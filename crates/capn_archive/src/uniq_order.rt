@@ -12,6 +12,6 @@ pub struct UniqOrder {
     pub limits: Limits,
     /// True if a refused message is skipped, so that the run continues with the next one.
     pub keep_going: bool,
-    /// True if messages are only counted, so that no frame is written, but one line at the end.
+    /// True if messages are only counted: no frame is written, and one line is written at the end.
     pub count: bool,
 }

@@ -1,4 +1,4 @@
-//! The call `run_uniq`, which does a whole run of `uniq`, from the first message to the result.
+//! The call `run_uniq`, which carries out `uniq`, from the first message to the result.
 
 ghost use Rattle.std.specs.Prelude.{◌≡◌, ◌≢◌, [], false, IfOk, IfErr, string_bytes};
 ghost use Rattle.capn_words.specs.Watched.{inner_of, has_failed};
@@ -24,7 +24,7 @@ fn first_run<A: Allocator + Copy>(alloc: A, order: UniqOrder) -> Run<UniqService
     Run::new(UniqService::new(alloc, order))
 }
 
-/// Returns the line that says how many messages were `kept`, and how many `served`.
+/// Returns the line of `uniq --count`, with the numbers `kept` and `served`.
 #[tactic(auto, using(crate::proofs::LineParts::some_after))]
 fn count_line<A: Allocator>(alloc: A, kept: usize, served: u64) -> Result<String<A>, RunFault>
     ensures found { IfOk result (λ line. string_bytes line ≡ spec.count_line kept served) }
@@ -36,7 +36,7 @@ fn count_line<A: Allocator>(alloc: A, kept: usize, served: u64) -> Result<String
     }
 }
 
-/// Writes the counting line after the last message, if `count` is set in the order of `run`.
+/// Writes the line of `uniq --count` after the last message, if `count` is set in the options of `run`.
 fn write_count<W: Write, A: Allocator + Copy>(
     alloc: A,
     run: &Run<UniqService<A>>,
@@ -61,7 +61,8 @@ fn outcome_of<A: Allocator>(run: &Run<UniqService<A>>) -> Result<(), ArchiveFaul
     outcome(run.service.skipped(), run.at.index)
 }
 
-/// Returns the fault with which `run` ends after `fault` stopped the loop over the messages, or the closing line.
+/// Returns the fault with which `run` ends. `fault` stopped the loop over the messages, or the writing of the closing
+/// line.
 fn fault_of<A: Allocator>(run: &Run<UniqService<A>>, fault: RunFault) -> ArchiveFault
     ensures { result ≡ finish.fault_after run.now.service.skipped run.now.at.index fault }
 {
@@ -71,16 +72,16 @@ fn fault_of<A: Allocator>(run: &Run<UniqService<A>>, fault: RunFault) -> Archive
 /// Reads the messages of an archive from `reader`, and writes to `writer` each one whose canonical bytes no earlier
 /// message had. Canonical bytes are compared by their SHA-256. The frame of a message is written unchanged. If the
 /// input is packed, the unpacked bytes of the frame are written. If the input is bare, all of it is written. If
-/// `order.count` is true, only a line `U of N` is written at the end, with the number `U` of messages kept and the
+/// `order.count` is true, only a line `U of N` is written at the end, with the number `U` of different digests and the
 /// number `N` of messages served.
 ///
 /// Input is read as [`serve_form`] reads it. The run ends with `Ok`, with `Skipped` if all of the input was read and
 /// messages were skipped, or with the first fault. The fault is `Refused`, with the position, if a frame, a group or a
 /// message is refused. The fault is `RefusedAfterSkipped` if messages were skipped before a refused frame or group. The
 /// other faults are `InputTooLong`, `Io` if and only if the reader or the writer failed, and `Memory` if an allocation
-/// was refused. If the input is refused or too long, the frames kept before the fault have been written, and nothing
-/// else. A run holds in memory what the loop over the messages holds, the canonical bytes of one message, and the
-/// digests of the messages kept.
+/// was refused. If the input is refused or too long, the texts of the messages before the fault have been written, and
+/// nothing else. A run holds in memory what the loop over the messages holds, the canonical bytes of one message, and
+/// the digests of the messages served.
 pub fn run_uniq<R: Read, W: Write, A: Allocator + Copy>(
     alloc: A,
     order: UniqOrder,

@@ -18,12 +18,12 @@ use std::alloc::Allocator;
 use std::io::Write;
 use std::marker::Model;
 
-/// The service of `uniq`, which writes the frame of a message, unchanged, unless an earlier message had the same
+/// The service of `uniq`. It writes the frame of each message unchanged, unless an earlier message had the same
 /// canonical bytes. Canonical bytes are compared by their SHA-256.
 ///
-/// A message that is refused, by its walk or for a capability, ends the run, or is skipped if `keep_going` is set in
-/// the order. Nothing is written for a skipped message, and later messages are not compared with it. The service holds
-/// the digests of the messages kept.
+/// A message is refused by its walk or for a capability. A refused message ends the run, or is skipped if `keep_going`
+/// is set in the order. Nothing is written for a skipped message, and later messages are not compared with it. The
+/// service holds the digests of the messages served.
 #[derive(Drop)]
 pub struct UniqService<A: Allocator> {
     order: UniqOrder,
@@ -93,7 +93,7 @@ impl<B: Allocator> UniqService<B> {
         self.digests.len()
     }
 
-    /// Returns the number of messages served so far, without those skipped.
+    /// Returns the number of messages served so far. Skipped messages are not counted.
     pub(crate) fn served(&self) -> u64
         ensures { result ≡ self.now.served }
     {
@@ -109,7 +109,7 @@ impl<B: Allocator> UniqService<B> {
 }
 
 impl<B: Allocator + Copy> UniqService<B> {
-    /// Returns a service that has kept no message. The call takes no memory.
+    /// Returns a service that has served no message. The call takes no memory.
     pub(crate) fn new(alloc: B, order: UniqOrder) -> UniqService<B>
         ensures { result ≡ spec.first_state order }
     {
@@ -121,7 +121,7 @@ impl<B: Allocator + Copy> UniqService<B> {
         }
     }
 
-    /// Keeps the digest of `message`, and writes `frame` unless the message is a duplicate or messages are only
+    /// Stores the digest of `message`, and writes `frame` unless the message is a duplicate or messages are only
     /// counted.
     fn deduplicate<S: Space, W: Write, A: Allocator + Copy>(
         &mut self,

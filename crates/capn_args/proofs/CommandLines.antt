@@ -8,7 +8,6 @@ use Rattle.capn_args.specs.CommandLine.{HasLine}
 abbrev top_of : App → Shape
 top_of a = a.top
 
--- A call that adds a subcommand returns a program whose line has one more subcommand.
 pub answers_command : {E : Type 0} (old sub : Command) (top line : App) (r : Result Command E) → app_of old ≡ top
     → HasLine sub line → IfOk r (AddsSubcommand old sub) → IfOk r (λ new. app_of new ≡ with_subcommand top line.top)
 answers_command old sub top line r same (is, free) adds =

@@ -19,14 +19,13 @@ use Rattle.capn_args.specs.declared.invocation.Invocation.{Invocation}
 use Rattle.capn_args.proofs.ByName.{differ}
 use Rattle.capn_args.proofs.OneInvocation.{by_name}
 
--- If the command is `list`, `--digest` is known to be given or not.
 digest_given : (rows : List Row) (t : Task) → task_name t ≡ codes "list" → TaskIs rows t
     → (given : Bool) × FlagIs rows (codes "digest") given
 digest_given rows tasks.List e is = (false, is)
 digest_given rows tasks.Digests e is = (true, is)
 digest_given rows t e is = absurd (differ e refl)
 
--- `list` means a run over an archive, with or without digests.
+-- `rows` have the options of a run over an archive, and a value of `--digest`.
 abbrev pub ListMeans : List Row → Type 0
 ListMeans rows = (a : ArchiveOrder) × ((digest : Bool) × FlagIs rows (codes "digest") digest) × AreOptions rows a
 
@@ -34,7 +33,7 @@ pub list_means : (rows : List Row) (o : Invocation) → MeansInvocation (Some (c
 list_means rows o m =
     let (a, is, are, named, also) = by_name (codes "list") rows o m in (a, digest_given rows a.task named is, are)
 
--- `check` and `hash` mean a form, limits, and whether the input must be exactly one message.
+-- `rows` have a form, limits and a value of `--one`.
 abbrev pub SurveyMeans : List Row → Type 0
 SurveyMeans rows = (form : Form) × (limits : Bounds) × (one : Bool) × InputIs rows form limits one
 
@@ -46,7 +45,6 @@ pub hash_means : (rows : List Row) (o : Invocation) → MeansInvocation (Some (c
 hash_means rows o m =
     let (c, (form, limits, one, are, is), any, also) = by_name (codes "hash") rows o m in (form, limits, one, are)
 
--- If the command is `pack`, `--streaming` is known to be given or not.
 pub pack_means : (rows : List Row) (o : Invocation) → MeansInvocation (Some (codes "pack", rows)) o
     → (given : Bool) × FlagIs rows (codes "streaming") given
 pack_means rows o m = elim (by_name (codes "pack") rows o m) [
@@ -54,7 +52,7 @@ pack_means rows o m = elim (by_name (codes "pack") rows o m) [
   | inr (x, streaming, is) ↦ (true, streaming)
 ]
 
--- `show` means a form, limits, a style, marks, and a path or none.
+-- `rows` have a form, limits, a style, marks, a value of `--one`, and a path or none.
 pub record ShowMeans (rows : List Row) : Type 0 where
   pub form : Form
   pub limits : Bounds
@@ -108,7 +106,6 @@ show_means rows o m = elim (by_name (codes "show") rows o m) [
   })
 ]
 
--- The options of `explain` have a value of `--keep-going`.
 pub explained_flag : (rows : List Row) (x : Explanation) → ExplanationIs rows x
     → (given : Bool) × FlagIs rows (codes "keep-going") given
 explained_flag rows (explanations.One x) is = (false, is.1)

@@ -42,7 +42,6 @@ use Rattle.capn_args.specs.declared.invocation.Invocation.TheVariants as invocat
 
 -- ---- two invocations of one kind
 
--- Tasks with the same subcommand and the same flags are equal.
 task_one : (rows : List Row) (s t : Task) → task_name s ≡ task_name t → TaskIs rows s → TaskIs rows t → s ≡ t
 task_one rows tasks.List tasks.Digests e is also = absurd (not_both rows (codes "digest") is also)
 task_one rows tasks.Digests tasks.List e is also = absurd (not_both rows (codes "digest") also is)
@@ -97,7 +96,6 @@ cmp_one rows u v (f, l) (g, m) =
     let limits : u.limits ≡ v.limits = limits_one rows u.limits v.limits l m in
     λ i. invocations.Cmp (record { form = form i; limits = limits i })
 
--- Default limits are equal if the limits on the words of a message are.
 words_one : (rows : List Row) (l k : Bounds) → NumberIs rows (codes "message-words") l.message_words
     → NumberIs rows (codes "message-words") k.message_words → l ≡ usual_with l.message_words
     → k ≡ usual_with k.message_words
@@ -115,7 +113,6 @@ pick_one rows p q (f, w, usual, a, b, none) (g, v, usually, c, d, also) =
     let to : p.to ≡ q.to = number_one rows (codes "to") p.to q.to b.0 d.0 in
     λ i. invocations.Pick (record { form = form i; limits = limits i; from = from i; to = to i })
 
--- Two runs of `pick --only` with the same options are the same.
 pub only_one : (rows : List Row) (p q : Only) → OnlyIs rows p → OnlyIs rows q
     → AreSame (invocations.Only p) (invocations.Only q)
 only_one rows p q (f, w, usual, list) (g, v, usually, other) = (
@@ -124,11 +121,9 @@ only_one rows p q (f, w, usual, list) (g, v, usually, other) = (
   ap (λ (o : Option Text). unwrap_or o (codes "")) (sym list.0 ∙ other.0),
 )
 
--- The flags determine the style.
 pub style_one : (rows : List Row) (s t : Style) → StyleIs rows s → StyleIs rows t → s ≡ t
 style_one rows s t is also = let same : Some s ≡ Some t = sym is ∙ also in cc
 
--- The value of `--at` determines the path.
 path_one : (rows : List Row) (f g : Bool) (v w : Option (Bor Text)) → PathIs rows f v → PathIs rows g w → IsSamePath v w
 path_one rows f g None None is also = tt
 path_one rows f g None (Some w) is also = let bad : None ≡ Some w.now = sym is.0 ∙ also.0 in absurd cc
@@ -148,7 +143,6 @@ show_one rows s t (f, l, style, (offsets, ways, fit), path, one) (g, m, other, (
   flag_one rows (codes "one") s.one t.one one single,
 )
 
--- The value of `--number` determines the message number.
 number_given : (rows : List Row) (a b : Option ℕ) → IsNumbered rows a → IsNumbered rows b → a ≡ b
 number_given rows None None is also = refl
 number_given rows None (Some m) is (text, there, reads) = let bad : None ≡ Some text = sym is ∙ there in absurd cc
@@ -171,7 +165,6 @@ refused_one rows x y (f, l, none) (g, m, also) =
     let limits : x.limits ≡ y.limits = limits_one rows x.limits y.limits l m in
     λ i. record { form = form i; limits = limits i }
 
--- The options of `explain` determine the explanation.
 pub explanation_one : (rows : List Row) (x y : Explanation) → ExplanationIs rows x → ExplanationIs rows y
     → invocations.Explain x ≡ invocations.Explain y
 explanation_one rows (explanations.One x) (explanations.One y) is also =
@@ -185,12 +178,11 @@ explanation_one rows (explanations.Refused x) (explanations.Refused y) is also =
 
 -- ---- the invocations of each name
 
--- If `o` equals `x`, `p` equals `y`, and `x` and `y` are the same invocation, so are `o` and `p`.
 pub same_as : {o p x y : Invocation} → o ≡ x → p ≡ y → AreSame x y → AreSame o p
 same_as {o} {p} {x} {y} is also same =
     subst (λ (a : Invocation). AreSame a p) (sym is) (subst (λ (b : Invocation). AreSame x b) (sym also) same)
 
--- `o` is an invocation made by `name` from an order with these values.
+-- `o` is `name x`, the invocation of some order `x`, and the options in `rows` have the values in `x`.
 abbrev OrderIs : {A : Type 0} → (A → Invocation) → List Row → Invocation → Type 0
 OrderIs {A} name rows o = (x : A) × HasOptions rows (name x) × (o ≡ name x)
 
@@ -201,7 +193,8 @@ orders name one = record {
   one = λ rows o p is also. same_as is.2 also.2 (one rows is.0 also.0 is.1 also.1);
 }
 
--- `o` is a run over an archive for a task of the subcommand `name`.
+-- `o` is a run over the archive `a` for a task of the subcommand `name`, and the options in `rows` have the values in
+-- `a`.
 abbrev pub ArchiveIs : Text → List Row → Invocation → Type 0
 ArchiveIs name rows o = (a : ArchiveOrder) × TaskIs rows a.task × AreOptions rows a × (task_name a.task ≡ name)
     × (o ≡ invocations.Archive a)
@@ -213,7 +206,7 @@ archives name = record {
       same_as is.4 also.4 (archive_one rows is.0 also.0 (is.3 ∙ sym also.3) is.1 is.2 also.1 also.2);
 }
 
--- `o` is the invocation of a command that satisfies `Is`, and the options satisfy `IsBare`.
+-- `o` is the invocation of a command `c`. `Is` holds for `rows` and `c`, and `IsBare` for `rows`.
 abbrev MessageIs : (List Row → Command → Type 0) → (List Row → Type 0) → List Row → Invocation → Type 0
 MessageIs Is IsBare rows o = (c : Command) × Is rows c × IsBare rows × (o ≡ invocations.Message c)
 
@@ -224,7 +217,7 @@ messages kind IsBare = record {
       same_as is.3 also.3 (ap (λ (c : Command). invocations.Message c) (kind.one rows is.0 also.0 is.1 also.1));
 }
 
--- Options mean at most one invocation of two kinds, if they never mean one of each.
+-- If no options are of both kinds `k` and `l`, options mean at most one invocation of these two kinds.
 pub one_of_two : (k l : Kind AreSame) → ((rows : List Row) (o p : Invocation) → k.Is rows o → l.Is rows p → ⊥)
     → (rows : List Row) (o p : Invocation) → k.Is rows o ⊎ l.Is rows o → k.Is rows p ⊎ l.Is rows p → AreSame o p
 one_of_two k l clash rows o p (inl is) (inl also) = k.one rows o p is also
@@ -239,7 +232,7 @@ either k l clash = record { Is = λ rows o. k.Is rows o ⊎ l.Is rows o; one = o
 abbrev IsAny : List Row → Type 0
 IsAny rows = ⊤
 
--- No flag of `show` is given but `--one`.
+-- `--at` is not given, and no flag of `show` is given except `--one`.
 abbrev IsPlain : List Row → Type 0
 IsPlain rows = (first_of (codes "at") rows ≡ None) × StyleIs rows styles.Lines × MarksAre rows styles.Lines false false
 
@@ -249,13 +242,11 @@ plain_shows = messages (writes pieces.Text) IsPlain
 abbrev shows : Kind AreSame
 shows = orders (λ (s : Show). invocations.Show s) show_one
 
--- The options of a plain `show` do not satisfy `PathIs`.
 no_show : (rows : List Row) (plain : Bool) (path : Option (Bor Text)) → first_of (codes "at") rows ≡ None
     → plain ≡ true → PathIs rows plain path → ⊥
 no_show rows plain None none is other = let bad : true ≡ false = sym is ∙ other.1 in absurd cc
 no_show rows plain (Some path) none is other = let bad : None ≡ Some path.now = sym none ∙ other.0 in absurd cc
 
--- With the style and marks of a plain `show`, `is_plain` is true.
 plainly : (rows : List Row) (s : Show) → StyleIs rows styles.Lines → MarksAre rows styles.Lines false false
     → ShowIs rows s → is_plain s.style s.offsets s.ways ≡ true
 plainly rows s lines (bare, still, fit) (f, l, style, (offsets, ways, fits), path, one) =
@@ -308,7 +299,7 @@ pub not_unpacking : (rows : List Row) (o p : Invocation) → MessageIs unpacks.I
 not_unpacking rows o p (c, are, whole, is) (x, (streaming, usual), also) =
     not_both rows (codes "streaming") whole streaming
 
--- The kinds of invocations, by name, without the names that have one task of an archive whatever their flags.
+-- The kinds of invocations, by the name of the subcommand. A name that is not listed is of the kind `archives`.
 abbrev pub kinds : List (Text × Kind AreSame)
 kinds = (codes "show", either plain_shows shows not_plain)
     ∷ (codes "check", messages (writes pieces.Price) IsAny)
@@ -325,7 +316,6 @@ kinds = (codes "show", either plain_shows shows not_plain)
     ∷ (codes "make", orders (λ (m : Make). invocations.Make m) make_one)
     ∷ []
 
--- A run over an archive is of the kind of its subcommand's name.
 sorted_archive : (rows : List Row) (a : ArchiveOrder) (t : Task) → a.task ≡ t → TaskIs rows a.task → AreOptions rows a
     → Named kinds archives (task_name t) rows (invocations.Archive a)
 sorted_archive rows a tasks.Canonical e is are = inr (a, is, are, ap task_name e, refl)
@@ -360,7 +350,7 @@ sorted rows (invocations.Flow flows.Pack) is = inr (tt, is, refl)
 sorted rows (invocations.Flow flows.Unpack) is = inr (tt, is, refl)
 sorted rows (invocations.Make m) is = (m, is, refl)
 
--- An invocation that a subcommand means is of the kind of its name.
+-- If `name` and `rows` mean `o`, they mean it by the kind of `name` in `kinds`, or by `archives`.
 pub by_name : (name : Text) (rows : List Row) (o : Invocation) → MeansInvocation (Some (name, rows)) o
     → Named kinds archives name rows o
 by_name name rows o m = subst (λ (n : Text). Named kinds archives n rows o) (sym m.0) (sorted rows o m.1)
@@ -370,7 +360,6 @@ means_one_invocation None o p m n = absurd m
 means_one_invocation (Some s) o p m n =
     named_one kinds archives s.0 s.1 o p (by_name s.0 s.1 o m) (by_name s.0 s.1 p n)
 
--- An invocation that is the same as that of `command` is equal to it.
 pub same_command : (o : Invocation) (command : Command) → AreSame o (invocations.Message command)
     → o ≡ invocations.Message command
 same_command (invocations.Show show) command is = is

@@ -56,17 +56,16 @@ text_one true true e = refl
 text_one false false e = refl
 text_one a b e = absurd (differ (ap text_in e) refl)
 
--- A flag has at most one value.
 pub flag_one : (rows : List Row) (option : Text) (a b : Bool) → FlagIs rows option a → FlagIs rows option b → a ≡ b
 flag_one rows option a b x y = text_one a b (sym x ∙ y)
 
--- A flag is not both given and not given.
 pub not_both : (rows : List Row) (option : Text) → FlagIs rows option false → FlagIs rows option true → ⊥
 not_both rows option x y = let bad : false ≡ true = flag_one rows option false true x y in absurd (cc)
 
 -- ---- the commands of each name
 
--- The command that writes `piece` for each message, or for exactly one.
+-- The command that writes the text of the kind `piece` for each message. If the second argument is `true`, the input
+-- must be exactly one message.
 abbrev pub command_for : MessageText → Bool → Form → Bounds → Command
 command_for piece true form limits = commands.One piece form limits
 command_for pieces.Text false form limits = commands.Show form limits
@@ -76,7 +75,8 @@ command_for pieces.Digest false form limits = commands.Hash form limits
 abbrev pub Equal : Command → Command → Type 0
 Equal c d = c ≡ d
 
--- `c` is a command that writes `piece` for messages.
+-- `c` is the command that writes the text of the kind `piece`, for the form, the limits and the value of `--one` in
+-- `rows`.
 abbrev WritesIs : MessageText → List Row → Command → Type 0
 WritesIs piece rows c =
     (form : Form) × (limits : Bounds) × (one : Bool) × InputIs rows form limits one
@@ -130,7 +130,6 @@ kinds = (codes "show", writes pieces.Text)
     ∷ (codes "canonical", canonicals)
     ∷ []
 
--- A command is of the kind of its subcommand's name.
 sorted : (rows : List Row) (c : Command) → CommandIs rows c → Named kinds nothing (command_name c) rows c
 sorted rows (commands.Show f l) is = (f, l, false, is, refl)
 sorted rows (commands.Check f l) is = (f, l, false, is, refl)

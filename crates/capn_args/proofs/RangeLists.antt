@@ -8,7 +8,7 @@ use Rattle.capn_args.specs.declared.range_list.Begun.{Begun}
 use Rattle.capn_serve.specs.declared.pick.Range.{Range}
 use Rattle.capn_serve.specs.Pick.{AreAbove}
 
--- The ranges that were read, followed by those still to be read.
+-- `ranges`, which were read, and then the ranges of `more`, which are still to be read.
 abbrev pub after : List Range → Option (List Range) → Option (List Range)
 after ranges more = option_map (λ rs. ranges ++ rs) more
 
@@ -21,19 +21,17 @@ pub so_far_above : (before last : ℕ) (rs : List Range) → AreSoFar before rs 
 so_far_above before last [] h = tt
 so_far_above before last (r ∷ rs) (low, some, more) = (low, some, so_far_above r.to last rs more)
 
--- The ranges with one more at the end still ascend.
+-- `AreSoFar` stays true if a range `r` above `last` is added at the end of `rs`.
 pub one_more : (before last : ℕ) (rs : List Range) (r : Range) → AreSoFar before rs last → last < r.from
     → r.from ≤ r.to → AreSoFar before (rs ++ r ∷ []) r.to
 one_more before last [] r h low some = (subst (λ (n : ℕ). n < r.from) h low, some, refl)
 one_more before last (q ∷ rs) r (first, also, more) low some = (first, also, one_more q.to last rs r more low some)
 
--- A range that was read moves from the ranges still to be read to those read.
 pub pushed : (ranges : List Range) (r : Range) (more : Option (List Range))
     → after ranges (option_map (λ rs. r ∷ rs) more) ≡ after (ranges ++ r ∷ []) more
 pushed ranges r None = refl
 pushed ranges r (Some rs) = ap (λ (xs : List Range). Some xs) (sym (append_assoc ranges (r ∷ []) rs))
 
--- A comma ends a range.
 comma : (b : Begun) (r : Range) (rest : Text) (ranges are : List Range) → range_of b ≡ Some r
     → after ranges (ranges_from b (44 ∷ rest)) ≡ Some are
     → after (ranges ++ r ∷ []) (ranges_from (fresh r.to) rest) ≡ Some are
@@ -43,7 +41,6 @@ comma b r rest ranges are one h =
     (option_and_then (λ q. option_map (λ rs. q ∷ rs) (ranges_from (fresh q.to) rest)) o)) (sym one)
     ∙ h
 
--- A comma at the start of `text` ends a range.
 pub behind_comma : (b : Begun) (r : Range) (text : Text) (ranges are : List Range) → 1 ≤ length text
     → get_or text 0 0 ≡ 44 → range_of b ≡ Some r → after ranges (ranges_from b text) ≡ Some are
     → after (ranges ++ r ∷ []) (ranges_from (fresh r.to) (take (length text - 1) (drop 1 text))) ≡ Some are

@@ -38,7 +38,7 @@ form_rule = usual_rule (codes "form") (codes "stream")
 abbrev pub tariff_rule : Rule
 tariff_rule = usual_rule (codes "tariff") (codes "strict")
 
--- The option `name` that takes a value, without a default.
+-- The option `name`, which takes a value and has no default.
 abbrev pub asked_rule : Text → Rule
 asked_rule name = record (new_rule name) { long = Some name; value_names = 1 }
 
@@ -54,7 +54,7 @@ most_number = 2 ^ 64 - 1
 abbrev pub place_rule : Text → Text → Rule
 place_rule name usual = record (usual_rule name usual) { parser = Some (parsers.Unsigned 1 most_number) }
 
--- `command` has the parser `line`, and hands no option down to its subcommands.
+-- `line` is the parser of `command`, and `command` has no global options.
 abbrev pub HasLine : Command → App → Type 0
 HasLine command line = (app_of command ≡ line) × ((out-Command command).has_globals ≡ false)
 
@@ -68,8 +68,8 @@ abbrev pub unframed : List Text
 unframed = codes "show" ∷ codes "check" ∷ codes "explain" ∷ codes "list" ∷ codes "limits" ∷ codes "canonical"
     ∷ codes "hash" ∷ codes "uniq" ∷ codes "filter" ∷ []
 
--- The options, each with the commands that take it. An option that is listed several times has several texts in the
--- help.
+-- The options, each listed with the commands that take it. An option that is listed several times has several texts in
+-- the help.
 abbrev pub options : List (Rule × List Text)
 options = (
   form_rule,
@@ -113,7 +113,7 @@ commands = codes "show" ∷ codes "check" ∷ codes "explain" ∷ codes "list" �
     ∷ codes "hash" ∷ codes "uniq" ∷ codes "filter" ∷ codes "cmp" ∷ codes "pick" ∷ codes "pack" ∷ codes "unpack"
     ∷ codes "make" ∷ []
 
--- The parser `line`, with the options added that the command `name` takes.
+-- The parser `line` with those options of the list that the command `name` takes.
 abbrev pub with_options : Text → App → List (Rule × List Text) → App
 with_options name line [] = line
 with_options name line (option ∷ rest) =
@@ -123,7 +123,7 @@ with_options name line (option ∷ rest) =
 abbrev pub line_of : Text → App
 line_of name = with_options name (new_app name) options
 
--- The parser of the program without its subcommands, one of which must be given. The program has a version.
+-- The parser of the program `capn` before any subcommand is added. It requires a subcommand, and has a version.
 abbrev pub top_line : App
 top_line =
     let a = new_app (codes "capn") in
@@ -134,6 +134,6 @@ abbrev pub with_commands : App → List Text → App
 with_commands top [] = top
 with_commands top (name ∷ rest) = with_commands (with_subcommand top (line_of name).top) rest
 
--- The parser of the whole command line.
+-- The parser of the complete command line.
 abbrev pub program_line : App
 program_line = with_commands top_line commands

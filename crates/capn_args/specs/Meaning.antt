@@ -40,22 +40,22 @@ use Rattle.capn_args.specs.declared.invocation.Show.{Show}
 use Rattle.capn_args.specs.declared.invocation.Invocation.{Invocation}
 use Rattle.capn_args.specs.declared.invocation.Invocation.TheVariants as invocations
 
--- The options of a run over an archive have the values in `archive`.
+-- In `rows`, `--form`, the limits and `--keep-going` have the values in `archive`.
 abbrev pub AreOptions : List Row → ArchiveOrder → Type 0
 AreOptions rows archive = FormIs rows archive.form × LimitsAre rows archive.limits
     × FlagIs rows (codes "keep-going") archive.keep_going
 
--- The options of `uniq` have the values in `uniq`.
+-- In `rows`, the options of `uniq` have the values in `uniq`.
 abbrev pub UniqIs : List Row → UniqOrder → Type 0
 UniqIs rows uniq = FormIs rows uniq.form × LimitsAre rows uniq.limits
     × FlagIs rows (codes "keep-going") uniq.keep_going × FlagIs rows (codes "count") uniq.count
 
--- The options of `filter` have the values in `filter`.
+-- In `rows`, the options of `filter` have the values in `filter`.
 abbrev pub FilterIs : List Row → FilterOrder → Type 0
 FilterIs rows filter = FormIs rows filter.form × LimitsAre rows filter.limits
     × FlagIs rows (codes "keep-going") filter.keep_going × FlagIs rows (codes "canonical") filter.canonical
 
--- The options of `cmp`, which takes no bare input, have the values in `cmp`.
+-- In `rows`, the options of `cmp` have the values in `cmp`, whose form is not `bare`.
 abbrev pub CmpIs : List Row → CmpOrder → Type 0
 CmpIs rows cmp = FormIs rows (form_of cmp.form) × LimitsAre rows cmp.limits
 
@@ -63,8 +63,8 @@ CmpIs rows cmp = FormIs rows (form_of cmp.form) × LimitsAre rows cmp.limits
 abbrev pub usual_with : ℕ → Bounds
 usual_with words = record { message_words = words; budget = 8388608; depth = 64; tariff = tariffs.Strict }
 
--- The options of `pick`, which takes no bare input, have the values in `pick`. `--only` is not given, and the other
--- limits are the defaults.
+-- In `rows`, the options of `pick` have the values in `pick`, whose form is not `bare`. `--only` is not given, and all
+-- limits but `--message-words` are the defaults.
 abbrev pub PickIs : List Row → Pick → Type 0
 PickIs rows pick = FormIs rows (form_of pick.form)
     × NumberIn rows (codes "message-words") 1 most_message_words pick.limits.message_words
@@ -80,21 +80,22 @@ task_name tasks.Digests = codes "list"
 task_name tasks.Limits = codes "limits"
 task_name tasks.Canonical = codes "canonical"
 
--- The flags belong to the task: `--digest` is given for `Digests` and not for `List`, and `--framed` is given for
--- `Canonical`.
+-- In `rows`, `--digest` is given for `Digests` and not given for `List`, and `--framed` is given for `Canonical`.
+-- `Limits` depends on no flag.
 abbrev pub TaskIs : List Row → Task → Type 0
 TaskIs rows tasks.List = FlagIs rows (codes "digest") false
 TaskIs rows tasks.Digests = FlagIs rows (codes "digest") true
 TaskIs rows tasks.Limits = ⊤
 TaskIs rows tasks.Canonical = FlagIs rows (codes "framed") true
 
--- `--only` is given with the value `list`, which is a list of ascending numbers and ranges. Neither `--from` nor `--to`
--- is given.
+-- In `rows`, `--only` has the value `list`, which is a list of ascending numbers and ranges. Neither `--from` nor
+-- `--to` is given.
 abbrev pub ListIs : List Row → Text → Type 0
 ListIs rows list = (first_of (codes "only") rows ≡ Some list) × IsSome (ranges_in list)
     × IsUsual rows (codes "from") × IsUsual rows (codes "to")
 
--- The options of `pick` have the values in `only`, and `--only` is given.
+-- In `rows`, the options of `pick` have the values in `only`, and `--only` is given. All limits but `--message-words`
+-- are the defaults.
 abbrev pub OnlyIs : List Row → Only → Type 0
 OnlyIs rows only = FormIs rows (form_of only.form)
     × NumberIn rows (codes "message-words") 1 most_message_words only.limits.message_words
@@ -106,23 +107,22 @@ abbrev pub IsNumbered : List Row → Option ℕ → Type 0
 IsNumbered rows None = first_of (codes "number") rows ≡ None
 IsNumbered rows (Some n) = (text : Text) × (first_of (codes "number") rows ≡ Some text) × (number_of text ≡ Some n)
 
--- The options of `explain` have the values in `explain`.
+-- In `rows`, the options of `explain` have the values in `explain`.
 abbrev pub ExplainIs : List Row → Explain → Type 0
 ExplainIs rows explain = FormIs rows explain.form × LimitsAre rows explain.limits × IsNumbered rows explain.number
 
--- The options of `explain` have the values in `refused`, and `--number` is not given. Every refused message is
--- explained.
+-- In `rows`, `--form` and the limits have the values in `refused`, and `--number` is not given.
 abbrev pub RefusedIs : List Row → ExplainRefused → Type 0
 RefusedIs rows refused =
     FormIs rows refused.form × LimitsAre rows refused.limits × (first_of (codes "number") rows ≡ None)
 
--- The options of `explain` have the values in the explanation. With `--keep-going` every refused message is explained,
--- and without it one message.
+-- In `rows`, the options of `explain` have the values in the explanation. `--keep-going` is given for `Refused`, and
+-- not given for `One`.
 abbrev pub ExplanationIs : List Row → Explanation → Type 0
 ExplanationIs rows (explanations.One explain) = ExplainIs rows explain × FlagIs rows (codes "keep-going") false
 ExplanationIs rows (explanations.Refused refused) = RefusedIs rows refused × FlagIs rows (codes "keep-going") true
 
--- The options of `make` have the values in `make`.
+-- In `rows`, the options of `make` have the values in `make`.
 abbrev pub MakeIs : List Row → Make → Type 0
 MakeIs rows make = FormIs rows make.form × FlagIs rows (codes "text") make.quoted
 
@@ -131,7 +131,7 @@ abbrev pub flow_name : Flow → Text
 flow_name flows.Pack = codes "pack"
 flow_name flows.Unpack = codes "unpack"
 
--- `--streaming` is given. For `unpack`, `--message-words` is not given.
+-- In `rows`, `--streaming` is given. For `Unpack`, `--message-words` is not given.
 abbrev pub FlowIs : List Row → Flow → Type 0
 FlowIs rows flows.Pack = FlagIs rows (codes "streaming") true
 FlowIs rows flows.Unpack = FlagIs rows (codes "streaming") true × IsUsual rows (codes "message-words")
@@ -143,32 +143,33 @@ style_for true false = styles.Quoted
 style_for false true = styles.Json
 style_for true true = styles.JsonText
 
--- The style that `--text` and `--json` mean, if the command has these flags.
+-- The style that the flags `--text` and `--json` in `rows` mean, if the command has these flags.
 abbrev pub style_in : List Row → Option Style
 style_in rows =
     option_and_then (λ text. option_map (style_for text) (flag_in rows (codes "json"))) (flag_in rows (codes "text"))
 
--- `style` is the one that the flags for a style mean.
+-- `style` is the style that the flags in `rows` mean.
 abbrev pub StyleIs : List Row → Style → Type 0
 StyleIs rows style = style_in rows ≡ Some style
 
--- `offsets` and `ways` say whether the flags of these names are given. In a style without lines, neither is given.
+-- `offsets` and `ways` say whether the flags of these names are given in `rows`. If `style` has no lines, neither is
+-- given.
 abbrev pub MarksAre : List Row → Style → Bool → Bool → Type 0
 MarksAre rows style offsets ways = FlagIs rows (codes "offsets") offsets × FlagIs rows (codes "ways") ways
     × (has_lines style || not (offsets || ways) ≡ true)
 
--- True if `style`, `offsets` and `ways` are those of a plain `show`, which writes lines without quotes or marks.
+-- True if `style` has lines and no quotes, and neither `offsets` nor `ways` is true.
 abbrev pub is_plain : Style → Bool → Bool → Bool
 is_plain style offsets ways = has_lines style && (not (is_quoted style) && not (offsets || ways))
 
--- The last argument is the value of `--at`, which is a path. Or `--at` is not given, and `plain` is false, so that the
--- text is not that of a plain `show`.
+-- If the last argument is `path`, it is the value of `--at` in `rows`, and `path_of` gives its numbers. If it is
+-- `None`, `--at` is not given, and `plain` is false.
 abbrev pub PathIs : List Row → Bool → Option (Bor Text) → Type 0
 PathIs rows plain None = (first_of (codes "at") rows ≡ None) × (plain ≡ false)
 PathIs rows plain (Some path) = (first_of (codes "at") rows ≡ Some path.now) × IsSome (path_of path.now)
 
--- The options of `show` have the values in `show`, and at least one of `--at`, `--text`, `--json`, `--offsets` and
--- `--ways` is given.
+-- In `rows`, the options of `show` have the values in `show`, and at least one of `--at`, `--text`, `--json`,
+-- `--offsets` and `--ways` is given.
 abbrev pub ShowIs : List Row → Show → Type 0
 ShowIs rows show = FormIs rows show.form × LimitsAre rows show.limits × StyleIs rows show.style
     × MarksAre rows show.style show.offsets show.ways
@@ -191,12 +192,11 @@ command_name (commands.Canonical form limits) = codes "canonical"
 command_name (commands.Hash form limits) = codes "hash"
 command_name (commands.One piece form limits) = text_name piece
 
--- The options of an input have the values `form`, `limits` and `one`, which says whether the input must be exactly one
--- message.
+-- In `rows`, the form and the limits are `form` and `limits`, and `one` says whether `--one` is given.
 abbrev pub InputIs : List Row → Form → Bounds → Bool → Type 0
 InputIs rows form limits one = FormIs rows form × LimitsAre rows limits × FlagIs rows (codes "one") one
 
--- The options that a command shares with other commands have the values in the command.
+-- In `rows`, the form, the limits and `--one` have the values in the command, as far as the command has them.
 abbrev pub CommandIs : List Row → Command → Type 0
 CommandIs rows (commands.Show form limits) = InputIs rows form limits false
 CommandIs rows (commands.Check form limits) = InputIs rows form limits false
@@ -206,15 +206,13 @@ CommandIs rows (commands.Canonical form limits) = FormIs rows form × LimitsAre 
 CommandIs rows (commands.Hash form limits) = InputIs rows form limits false
 CommandIs rows (commands.One piece form limits) = InputIs rows form limits true
 
--- The subcommand is that of `command`, and the options that it shares with other subcommands have the values in
--- `command`.
+-- The subcommand is that of `command`, and `CommandIs` holds for the options.
 abbrev pub Means : Option (Text × List Row) → Command → Type 0
 Means None command = ⊥
 Means (Some s) command = (s.0 ≡ command_name command) × CommandIs s.1 command
 
--- No option is given that makes another invocation of the command. For `canonical`, `pack` and `unpack`, no flag of
--- another invocation is given. For `show`, neither `--at` nor any flag but `--one` is given. The other commands over
--- messages have no such option.
+-- No option in `rows` turns the command into another invocation. For `show`, such options are `--at` and each flag but
+-- `--one`. For `pack` and `unpack` it is `--streaming`, and for `canonical` they are `--framed` and `--keep-going`.
 abbrev pub HasNoFlag : List Row → Command → Type 0
 HasNoFlag rows (commands.Show form limits) = (first_of (codes "at") rows ≡ None) × StyleIs rows styles.Lines
     × MarksAre rows styles.Lines false false
@@ -243,7 +241,7 @@ name_of (invocations.Only only) = codes "pick"
 name_of (invocations.Flow flow) = flow_name flow
 name_of (invocations.Make make) = codes "make"
 
--- The options of the subcommand have the values in the invocation.
+-- In `rows`, the options of the subcommand have the values in the invocation.
 abbrev pub HasOptions : List Row → Invocation → Type 0
 HasOptions rows (invocations.Message command) = CommandIs rows command × HasNoFlag rows command
 HasOptions rows (invocations.Show show) = ShowIs rows show
@@ -257,23 +255,23 @@ HasOptions rows (invocations.Only only) = OnlyIs rows only
 HasOptions rows (invocations.Flow flow) = FlowIs rows flow
 HasOptions rows (invocations.Make make) = MakeIs rows make
 
--- The subcommand and the values of its options mean `invocation`.
+-- The subcommand is that of `invocation`, and `HasOptions` holds for the options.
 abbrev pub MeansInvocation : Option (Text × List Row) → Invocation → Type 0
 MeansInvocation None invocation = ⊥
 MeansInvocation (Some s) invocation = (s.0 ≡ name_of invocation) × HasOptions s.1 invocation
 
--- A subcommand with the values of its options means at most one command.
+-- If a subcommand and its options mean the command `c` and also mean `d`, then `c` is `d`.
 abbrev pub MeansOne : Type 0
 MeansOne = (said : Option (Text × List Row)) (c d : Command) → Means said c → Means said d → c ≡ d
 
--- Both arguments are no path, or both are paths with equal texts, which may lie in different places in memory.
+-- Both arguments are `None`, or both are paths with equal texts.
 abbrev pub IsSamePath : Option (Bor Text) → Option (Bor Text) → Type 0
 IsSamePath None None = ⊤
 IsSamePath None (Some path) = ⊥
 IsSamePath (Some path) None = ⊥
 IsSamePath (Some path) (Some other) = path.now ≡ other.now
 
--- Two invocations are the same. Paths of `show` and lists of `pick --only` are compared by their texts.
+-- Two invocations are equal. Of a path of `show` and of a list of `pick --only`, only the texts are compared.
 abbrev pub AreSame : Invocation → Invocation → Type 0
 AreSame (invocations.Show s) (invocations.Show t) =
     (s.form ≡ t.form) × (s.limits ≡ t.limits) × (s.style ≡ t.style) × (s.offsets ≡ t.offsets) × (s.ways ≡ t.ways)
@@ -282,7 +280,7 @@ AreSame (invocations.Only s) (invocations.Only t) =
     (s.form ≡ t.form) × (s.limits ≡ t.limits) × (s.list.now ≡ t.list.now)
 AreSame o p = o ≡ p
 
--- A subcommand with the values of its options means at most one invocation.
+-- If a subcommand and its options mean the invocation `o` and also mean `p`, then `AreSame o p` holds.
 abbrev pub MeansOneInvocation : Type 0
 MeansOneInvocation =
     (said : Option (Text × List Row)) (o p : Invocation) → MeansInvocation said o → MeansInvocation said p → AreSame o p

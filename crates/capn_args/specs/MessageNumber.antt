@@ -3,14 +3,14 @@ use Rattle.std.specs.Prelude.{◌≡◌, ℕ, ◌==◌, [], ◌∷◌, Option, S
 use Rattle.clap.specs.Words.{Text}
 use Rattle.capn_args.specs.Path.{with_digit}
 
--- The number `begun`, or none yet, with the digits of a text appended. The number must not begin with a zero, and stays
--- below 2^64.
+-- The number whose digits are those of `begun`, if it is given, and then those of a text. It is `None` if a character
+-- is no digit, if the number is 2^64 or more, or if it begins with a zero.
 abbrev pub number_from : Option ℕ → Text → Option ℕ
 number_from begun [] = begun
 number_from begun (c ∷ rest) =
     option_and_then (λ n. cond (n == 0) None (number_from (Some n) rest)) (with_digit begun c)
 
--- The number of a text, from 1 to 2^64 - 1, in digits.
+-- The number from 1 to 2^64 - 1 that `text` shows in digits, or `None` if `text` shows no such number.
 abbrev pub number_of : Text → Option ℕ
 number_of text = number_from None text
 

@@ -4,20 +4,21 @@ use Rattle.std.specs.Prelude.{codes, cond, option_and_then, option_map, unwrap_o
 use Rattle.std.specs.Borrow.{Bor}
 use Rattle.clap.specs.Words.{Text}
 
--- The number `begun`, or none yet, with the digit `c` appended, if `c` is a digit and the number stays below 2^64.
+-- The number `begun`, or 0 if there is none, with the digit `c` appended. It is `None` if `c` is no digit, or if the
+-- number is 2^64 or more.
 abbrev pub with_digit : Option ℕ → ℕ → Option ℕ
 with_digit begun c = cond (nat_le 48 c && nat_le c 57)
     (cond (nat_lt (unwrap_or begun 0 * 10 + (c - 48)) (2 ^ 64)) (Some (unwrap_or begun 0 * 10 + (c - 48))) None) None
 
--- The numbers of a text whose first digits are appended to the number `begun`, or begin a number if there is none yet.
--- A dot ends a number, and so does the end of the text.
+-- The numbers of a text, which are separated by dots. If `begun` is given, the first digits of the text are appended to
+-- it.
 abbrev pub path_from : Option ℕ → Text → Option (List ℕ)
 path_from begun [] = option_map (λ n. n ∷ []) begun
 path_from begun (c ∷ rest) = cond (c == 46)
     (option_and_then (λ n. option_map (λ path. n ∷ path) (path_from None rest)) begun)
     (option_and_then (λ n. path_from (Some n) rest) (with_digit begun c))
 
--- The numbers of a text, which are below 2^64 and separated by single dots.
+-- The numbers of `text`, which are below 2^64 and separated by single dots. The result is `None` if `text` is no path.
 abbrev pub path_of : Text → Option (List ℕ)
 path_of text = path_from None text
 

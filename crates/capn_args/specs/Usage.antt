@@ -15,15 +15,15 @@ use Rattle.capn_args.specs.declared.usage.Usage.{Usage}
 abbrev pub error_of : Usage → Error
 error_of usage = usage.error
 
--- The reason is a refused allocation, which says nothing about the words.
+-- The kind of `usage` is a refused allocation.
 abbrev pub NeedsMemory : Usage → Type 0
 NeedsMemory usage = kind_of (error_of usage) ≡ kinds.OutOfMemory
 
--- The words ask for help.
+-- The kind of `usage` is a request for help.
 abbrev pub WishesHelp : Usage → Type 0
 WishesHelp usage = kind_of (error_of usage) ≡ kinds.DisplayHelp
 
--- The words ask for the version.
+-- The kind of `usage` is a request for the version.
 abbrev pub WishesVersion : Usage → Type 0
 WishesVersion usage = kind_of (error_of usage) ≡ kinds.DisplayVersion
 
@@ -36,32 +36,31 @@ abbrev pub help_title : List ℕ
 help_title =
     codes "capn 1.0.0: Cap'n Proto messages without a schema, standard input to output\n\n"
 
--- `text` begins with the title of a help page; what follows it is not specified.
+-- `text` begins with the title of a help page.
 abbrev pub IsHelp : List ℕ → Type 0
 IsHelp text = (said : List ℕ) × (text ≡ help_title ++ said)
 
--- `kind` is a reason why `words` mean no invocation. Either an allocation was refused. Or a step of the parser fails,
--- and `kind` is among the kinds of the first such step, such as a request for help or for the version. Or no step
--- fails, but the options together mean nothing.
+-- `kind` is a reason why `words` mean no invocation: a refused allocation, a fault of the first step of the parser that
+-- fails, or `InvalidValue`. In the last case no step fails, and the options mean no invocation.
 abbrev pub IsReason : List Text → ErrorKind → Type 0
 IsReason words kind = (kind ≡ kinds.OutOfMemory) ⊎ (IsAmong kind (fault_of program_line words)
     ⊎ ((fault_of program_line words ≡ []) × (kind ≡ kinds.InvalidValue)
     × ((invocation : Invocation) → MeansInvocation (subcommand_of program_line words) invocation → ⊥)))
 
--- `kind` is a reason why `words` name none of the six commands over messages and bytes. Either `kind` is a reason why
--- the words mean no invocation. Or no step of the parser fails, but the words mean another invocation.
+-- `kind` is a reason why `words` mean no command: a reason why they mean no invocation, or `InvalidSubcommand`. In the
+-- last case no step of the parser fails, and the words mean an invocation that is no command.
 abbrev pub IsNoCommand : List Text → ErrorKind → Type 0
 IsNoCommand words kind = IsReason words kind
     ⊎ ((fault_of program_line words ≡ []) × (kind ≡ kinds.InvalidSubcommand)
     × ((invocation : Invocation) × MeansInvocation (subcommand_of program_line words) invocation)
     × ((command : Command) → MeansInvocation (subcommand_of program_line words) (invocations.Message command) → ⊥))
 
--- A call returned `invocation`, or reported that an allocation was refused.
+-- If the result is `Ok given`, `AreSame given invocation` holds. If it is an error, an allocation was refused.
 abbrev pub GivesInvocation : Invocation → Result Invocation Usage → Type 0
 GivesInvocation invocation (Ok given) = AreSame given invocation
 GivesInvocation invocation (Err usage) = NeedsMemory usage
 
--- A call returned `command`, or reported that an allocation was refused.
+-- If the result is `Ok`, it is `command`. If it is an error, an allocation was refused.
 abbrev pub Names : Command → Result Command Usage → Type 0
 Names command (Ok given) = given ≡ command
 Names command (Err usage) = NeedsMemory usage

@@ -16,9 +16,9 @@ use capn_commands::Command;
 use std::alloc::Global;
 use std::convert::AsStr;
 
-/// Returns the command over messages or bytes that `words` mean. The first word is the program's name.
-/// [`invocation_of`] reads the words, and its `Usage` is returned if they mean no invocation. If they mean another
-/// invocation, that is refused as an unknown subcommand.
+/// Returns the command over messages or bytes that `words` mean. The first word is the program's name. If the words
+/// mean no invocation, the `Usage` of [`invocation_of`] is returned. If they mean another invocation, the `Usage` has
+/// the kind `InvalidSubcommand`. If an allocation is refused, the `Usage` says so.
 pub fn command_of<'a, S: AsStr>(alloc: Global, words: &'a [S]) -> Result<Command, Usage>
     // If `result` is `Ok`, the words mean the returned command.
     ensures means { IfOk result (λ command.

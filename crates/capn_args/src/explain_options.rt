@@ -29,7 +29,7 @@ fn numbered(matches: &ArgMatches) -> Option<Option<u64>>
     }
 }
 
-/// Returns the order to explain one message that the options in `matches` mean, if they mean one.
+/// Returns the order to explain one message, as the options in `matches` mean, or `None` if they mean no such order.
 fn one_of(matches: &ArgMatches) -> Option<Explain>
     ensures are { IfSome result (ExplainIs (rows_of (found_of matches.now))) }
     ensures served { (explain : Explain) → ExplainIs (rows_of (found_of matches.now)) explain → IsSome result }
@@ -44,8 +44,8 @@ fn one_of(matches: &ArgMatches) -> Option<Explain>
     })
 }
 
-/// Returns the order to explain every refused message that the options in `matches` mean, if they mean one. `--number`
-/// must not be given.
+/// Returns the order to explain every refused message, as the options in `matches` mean, or `None` if they mean no such
+/// order. `--number` must not be given.
 fn refused_of(matches: &ArgMatches) -> Option<ExplainRefused>
     ensures are { IfSome result (RefusedIs (rows_of (found_of matches.now))) }
     ensures served { (refused : ExplainRefused) → RefusedIs (rows_of (found_of matches.now)) refused → IsSome result }

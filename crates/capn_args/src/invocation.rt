@@ -1,5 +1,4 @@
-//! The types of the invocations, one variant for each run. `command_line.rt` makes them; the definitions name them, so
-//! a variant is a promise.
+//! The types of the invocations, with one variant for each run. `Meaning.antt` states which words mean each variant.
 
 use capn_archive::{ArchiveOrder, FilterOrder, UniqOrder};
 use capn_canon::Form;
@@ -10,12 +9,12 @@ use capn_serve::{Pick, StreamForm};
 use capn_show::Style;
 use capn_walk::Limits;
 
-/// The choice of `pack` or `unpack` with `--streaming`. Output is written before more input is read.
+/// The choice of `pack` or `unpack` with `--streaming`. Output is written while the input is read.
 #[derive(Clone, Copy, Debug, PartialEq, Eq)]
 pub enum Flow {
-    /// Packs the input.
+    /// Packs the input. Before each read, fewer than 4,096 of the bytes read so far are not packed yet.
     Pack,
-    /// Unpacks the input.
+    /// Unpacks the input. Before each read, the words of all complete groups have been written.
     Unpack,
 }
 
@@ -42,7 +41,7 @@ pub struct Show<'a> {
 /// The messages that `explain` explains.
 #[derive(Clone, Copy, Debug, PartialEq, Eq)]
 pub enum Explanation {
-    /// One message: the first refused one, or one by its number.
+    /// One message: the first refused one, or the one with a given number.
     One(Explain),
     /// Every refused message.
     Refused(ExplainRefused),
@@ -59,7 +58,7 @@ pub struct Only<'a> {
     pub list: &'a str,
 }
 
-/// The invocation of `make`, which makes messages from the texts of their values.
+/// The invocation of `make`, which parses texts of values and writes their messages.
 #[derive(Clone, Copy, Debug, PartialEq, Eq)]
 pub struct Make {
     /// The encoding of the messages.
@@ -91,6 +90,6 @@ pub enum Invocation<'a> {
     Only(Only<'a>),
     /// Packs or unpacks the input while it is read, in bounded memory.
     Flow(Flow),
-    /// Makes messages from the texts of an input, and writes them in a form.
+    /// Parses the texts of an input, and writes their messages in a form.
     Make(Make),
 }

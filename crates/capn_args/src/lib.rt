@@ -1,6 +1,6 @@
 //! The command line of the program `capn`: its commands and options, and the invocation that words mean.
 //!
-//! [`invocation_of`] reads the words, which mean a command of [`capn_commands`], or a run over an input of any length.
+//! [`invocation_of`] reads words that mean a command of [`capn_commands`] or a run over an input of any length.
 //! [`command_of`] reads only words that mean a command of [`capn_commands`]. Words that mean no invocation are refused
 //! with a [`Usage`]: a request for help or the version, a mistake, or a refused allocation.
 //!

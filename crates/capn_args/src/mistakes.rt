@@ -18,7 +18,8 @@ use clap::ArgMatches;
 use clap::error::ErrorKind;
 use std::alloc::Global;
 
-/// Returns the message of the first row of `EXCLUSIONS` that the options given to the command `name` break, if any.
+/// Returns the message of the first row of `EXCLUSIONS` that forbids the options given to the command `name`, if there
+/// is such a row.
 fn excluded(name: &str, matches: &ArgMatches) -> Option<&'static str> {
     for row in &EXCLUSIONS {
         if row.command == name
@@ -66,9 +67,9 @@ fn wrong_input(name: &str, matches: &ArgMatches) -> Option<&'static str> {
     }
 }
 
-/// Returns the message for options of the command `name` that mean nothing: about `--form`, else about `--tariff`, else
-/// about the value of another option, else about options that exclude each other, else about `--keep-going` without
-/// `--framed`.
+/// Returns the message for options of the command `name` that mean nothing. The first message that applies is returned:
+/// about `--form`, about `--tariff`, about the value of another option, about options that exclude each other, or about
+/// `--keep-going` without `--framed`.
 fn said_of(name: &str, matches: &ArgMatches) -> &'static str {
     if let Some(said) = wrong_input(name, matches) {
         return said;

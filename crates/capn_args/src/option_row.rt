@@ -9,8 +9,8 @@ pub enum Taken {
     Flag,
     /// A text, with its name in the help. An option of this kind has no value if it is not given.
     Asked(&'static str),
-    /// A text, with its name in the help and its default. The parser takes any text, and [`crate::input_options`] reads
-    /// it, because the definition of the command line cannot say that a value is one of a list of names.
+    /// A text, with its name in the help and its default. The parser takes any text, because the definition of the
+    /// command line cannot list the texts that are allowed. [`crate::input_options`] reads the text.
     Usual(&'static str, &'static str),
     /// A number, with its default, and the least and the greatest number allowed.
     Number(&'static str, i64, i64),

@@ -14,7 +14,7 @@ use capn_serve::Pick;
 use capn_words::MOST_MESSAGE_WORDS;
 use clap::ArgMatches;
 
-/// Returns the order of `pick` without `--only` that the options in `matches` mean, if they mean one.
+/// Returns the order that the options in `matches` mean for `pick` without `--only`, if they mean one.
 fn pick_of(matches: &ArgMatches) -> Option<Pick>
     ensures are { IfSome result (PickIs (rows_of (found_of matches.now))) }
     ensures served { (pick : Pick) → PickIs (rows_of (found_of matches.now)) pick → IsSome result }
@@ -46,7 +46,7 @@ fn list_of_only<'a>(matches: &ArgMatches<'a>) -> Option<&'a str>
     None
 }
 
-/// Returns the order of `pick` with `--only` that the options in `matches` mean, if they mean one.
+/// Returns the order that the options in `matches` mean for `pick` with `--only`, if they mean one.
 fn only_of<'a>(matches: &ArgMatches<'a>) -> Option<Only<'a>>
     ensures are { IfSome result (OnlyIs (rows_of (found_of matches.now))) }
     ensures served { (only : Only) → OnlyIs (rows_of (found_of matches.now)) only → IsSome result }
@@ -62,7 +62,7 @@ fn only_of<'a>(matches: &ArgMatches<'a>) -> Option<Only<'a>>
 }
 
 /// Returns the invocation of `pick` that the options in `matches` mean, if they mean one. With `--only` the invocation
-/// picks the messages of a list, and otherwise the messages from one number to another.
+/// picks the messages of a list. Otherwise it picks the messages from one number to another.
 pub(crate) fn pick_invocation<'a>(matches: &ArgMatches<'a>) -> Option<Invocation<'a>>
     ensures means { IfSome result (MeansInvocation (Some (codes "pick", rows_of (found_of matches.now)))) }
     ensures served { (invocation : Invocation)

@@ -12,7 +12,7 @@ use std::alloc::{AllocError, Allocator};
 /// The part of a range that has been read.
 #[derive(Clone, Copy, Debug, PartialEq, Eq)]
 pub struct Begun {
-    /// The last number of the range before, or 0 if this is the first range.
+    /// The last number of the previous range, or 0 if this is the first range.
     pub last: u64,
     /// The first number of the range, if a hyphen has been read after it.
     pub first: Option<u64>,
@@ -20,7 +20,7 @@ pub struct Begun {
     pub digits: Option<u64>,
 }
 
-/// Returns the state before any character of a range is read, where `last` is the last number of the range before.
+/// Returns the state before any character of a range is read. `last` is the last number of the previous range, or 0.
 fn fresh(last: u64) -> Begun
     ensures { result ≡ spec.fresh last }
 {
@@ -62,8 +62,8 @@ fn with_hyphen(begun: Begun) -> Option<Begun>
     }
 }
 
-/// Returns the state after `begun` and the character `c`, if `c` is a hyphen after the first number of the range, or a
-/// digit that is not a leading zero and keeps the number below 2^64.
+/// Returns the state after `begun` and the character `c`, if `c` may follow. A hyphen must follow the first number of
+/// the range. A digit must not be a leading zero, and must keep the number below 2^64.
 fn longer(begun: Begun, c: u8) -> Option<Begun>
     ensures is { result ≡ spec.longer begun c }
     ensures same { IfSome result (λ next. next.last ≡ begun.last) }

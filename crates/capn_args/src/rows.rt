@@ -299,7 +299,7 @@ stays written. It goes without `--message-words`",
     },
 ];
 
-/// The options that exclude each other. If several rows are broken, the first one here is reported.
+/// The options that exclude each other. If several rows forbid the given options, the message of the first is reported.
 pub const EXCLUSIONS: [Exclusion; 5] = [
     Exclusion {
         command: "show",

@@ -91,10 +91,10 @@ fn whole_invocation<'a>(
     }
 }
 
-/// Returns the invocation of `show` that the options in `matches` mean, if they mean one. With `--at`, whose value must
-/// be a path, the invocation shows a part of each message. `--text` and `--json` choose another style. With `--offsets`
-/// or `--ways`, which JSON does not allow, marks stand before the lines. With `--one` the input must be exactly one
-/// message.
+/// Returns the invocation of `show` that the options in `matches` mean, if they mean one. With `--at` the invocation
+/// shows a part of each message, and the value of `--at` must be a path. `--text` and `--json` choose another style.
+/// With `--offsets` or `--ways` marks stand before the lines. JSON does not allow marks. With `--one` the input must be
+/// exactly one message.
 pub(crate) fn show_of<'a>(matches: &ArgMatches<'a>) -> Option<Invocation<'a>>
     ensures means { IfSome result (MeansInvocation (Some (codes "show", rows_of (found_of matches.now)))) }
     ensures served { (invocation : Invocation)

@@ -15,7 +15,7 @@ use clap::Command;
 use clap::error::ErrorKind;
 use std::alloc::{AllocError, Global};
 
-/// Returns the command `name` without options, with its page of help.
+/// Returns the command `name` with the help in `page`, but without options.
 fn plain_command<'a>(alloc: Global, name: &'a str, page: Page) -> Command<'a>
     ensures app { app_of result ≡ new_app name.now }
     ensures local { (out-Command result).has_globals ≡ false }
@@ -101,7 +101,7 @@ fn top_command<'a>(alloc: Global) -> Command<'a>
         .version(help::VERSION)
 }
 
-/// Returns the parser of the whole command line. An `Err` means that an allocation was refused.
+/// Returns the parser of the complete command line. An `Err` means that an allocation was refused.
 pub fn program_command<'a>(alloc: Global) -> Result<Command<'a>, AllocError>
     ensures { IfOk result (λ c. app_of c ≡ program_line) }
 {

@@ -35,7 +35,6 @@ module _ (bs stream : List ℕ) (limits : Bounds) (u : Unpacks bs limits.message
 -- ---- a first message, in each form
 
 module _ (form : Form) (bs ds : List ℕ) (limits : Bounds) where
-  -- a result for the comparison of `ds` with the message that `bs` are read as
   abbrev AreTold : Result (Result Bool Refusal) Refusal → Type 0
   AreTold r = IsAnswered form bs limits (λ m l x. IsComparedTo form ds m l x) r
 
@@ -73,7 +72,6 @@ module _ (form : Form) (bs ds : List ℕ) (limits : Bounds) where
 
   -- ---- both values
 
-  -- a comparison of the values that bytes denote is also a comparison of their canonical bytes
   pub compares_in : DenotedHaveForms → EqualExactlySame → AreLimits limits.message_words limits.budget limits.depth
       → (told : Bool) → IsCompared form bs ds limits (Ok told) → ComparesIn form bs ds limits told
   compares_in have law are told h =
@@ -94,7 +92,6 @@ module _ (form : Form) (bs ds : List ℕ) (limits : Bounds) where
         equal = ((λ t. e.1 (s.0 t)), (λ q. s.1 (e.0 q)));
       }
 
-  -- a result that is a comparison of the bytes compares the values
   pub told_in : DenotedHaveForms → EqualExactlySame → AreLimits limits.message_words limits.budget limits.depth
       → (r : Result Bool Refusal) (b told : Bool) → IsCompared form bs ds limits r → r ≡ Ok b → b ≡ told
       → ComparesIn form bs ds limits told
@@ -103,7 +100,6 @@ module _ (form : Form) (bs ds : List ℕ) (limits : Bounds) where
       (subst (λ (x : Bool). IsCompared form bs ds limits (Ok x)) test
       (subst (λ (x : Result Bool Refusal). IsCompared form bs ds limits x) is h))
 
-  -- the comparison holds for any values that the bytes denote
   pub same_only : (told : Bool) → ComparesIn form bs ds limits told → (v w : Tree) → DenoteBoth form bs ds limits v w
       → IsTrue told ↔ Same v w
   same_only told h v w b =

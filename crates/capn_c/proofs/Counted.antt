@@ -38,14 +38,13 @@ entries_of_survey law form bs limits s h = record {
   each = many_entries law h.message limits s h.survey;
 }
 
--- the number of visits in the report of an accepted message is the number of entries of its index
+-- The number of visits in the report of an accepted message is the number of entries of its index.
 pub entries_told : IndexesFollowVisits → (form : Form) (bs : List ℕ) (limits : Bounds) (s : Surveyed)
     → Surveys form bs limits s → (r : CapnReport) → r ≡ answered (24 * s.visits) s.paid s.visits
     → HasEntries form bs limits r.visits
 entries_told law form bs limits s h r e =
     subst (λ (x : CapnReport). HasEntries form bs limits x.visits) (sym e) (entries_of_survey law form bs limits s h)
 
--- a frame that comes first and takes all bytes is read as the message of the frame
 pub framed_whole : (bs : List ℕ) (most : ℕ) (m : List (List ℕ)) (taken : ℕ) → StandsFirst bs most m taken
     → length bs ≤ taken → IsFramed bs most m
 framed_whole bs most m taken s h = record {

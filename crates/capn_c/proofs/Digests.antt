@@ -17,7 +17,6 @@ use Rattle.capn_c.specs.inner.Told.{IsDigestTold}
 use Rattle.capn_c.proofs.OutOfMemory.{unaccepted_refused}
 
 module _ (form : Form) (bs : List ℕ) (limits : Bounds) where
-  -- a result for the digest of the message that `bs` are read as
   abbrev AreTold : Result Digested Refusal → Type 0
   AreTold r = IsAnswered form bs limits (λ m l x. IsDigestTold m l x) r
 

@@ -7,7 +7,6 @@ use Rattle.std.proofs.lemmas.List.Sums.{sum_by-cons}
 use Rattle.capn_walk.specs.Index.{filled}
 use Rattle.capn_c.specs.Entries.{starts_from}
 
--- after one more entry is written, the list begins with one more of `xs`
 pub one_more : {A : Type 0} (xs old : List A) (i : ℕ) (none : A) → i < length xs → length xs ≤ length old
     → set (take i xs ++ drop i old) i (get_or xs i none) ≡ take (suc i) xs ++ drop (suc i) old
 one_more [] old i none h room = absurd (omega (arith, h))
@@ -16,14 +15,12 @@ one_more (x ∷ xs) (o ∷ old) zero none h room = refl
 one_more (x ∷ xs) (o ∷ old) (suc i) none h room =
     ap (λ ys. x ∷ ys) (one_more xs old i none (omega (arith, h)) (omega (arith, room)))
 
--- the statement of `one_more`, with the next index written `i + 1`
 pub one_further : {A : Type 0} (xs old : List A) (i : ℕ) (none : A) → i < length xs → length xs ≤ length old
     → set (take i xs ++ drop i old) i (get_or xs i none) ≡ take (i + 1) xs ++ drop (i + 1) old
 one_further xs old i none h room =
     let on : suc i ≡ i + 1 = omega arith in
     one_more xs old i none h room ∙ ap (λ (n : ℕ). take n xs ++ drop n old) on
 
--- a segment starts after the words of the segments before it
 pub start_at : (n i : ℕ) (m : List (List ℕ)) (none : ℕ) → i < length m
     → get_or (starts_from n m) i none ≡ n + sum_by length (take i m)
 start_at n i [] none h = absurd (omega (arith, h))
@@ -32,17 +29,14 @@ start_at n (suc i) (ws ∷ m) none h =
     let cons = sum_by-cons length ws (take i m) in
     start_at (n + length ws) i m none (omega (arith, h)) ∙ omega (arith, cons)
 
--- there are as many starts as segments
 pub starts_length : (n : ℕ) (m : List (List ℕ)) → length (starts_from n m) ≡ length m
 starts_length n [] = refl
 starts_length n (ws ∷ m) = ap suc (starts_length (n + length ws) m)
 
--- the starts at the front of a longer buffer are all starts
 pub starts_first : (m : List (List ℕ)) (rest : List ℕ)
     → take (length m) (starts_from 0 m ++ rest) ≡ starts_from 0 m
 starts_first m rest = take_at (starts_from 0 m) rest (length m) (starts_length 0 m)
 
--- a buffer that has room for the entries has all of the entries
 pub filled_whole : {A B : Type 0} (f : A → B) (es : List A) (room : List B) → length es ≤ length room
     → filled (map f es) room ≡ map f es ++ drop (length es) room
 filled_whole f es room h =

@@ -10,7 +10,7 @@ use Rattle.capn_c.specs.Figures.{AreFigures, reported_cap}
 use Rattle.capn_c.specs.declared.figures.CapnFigures.{CapnFigures}
 use Rattle.capn_c.proofs.OneBare.{canonical-message}
 
--- the figures are those that were measured
+-- `f` has the numbers of words and segments of `message`, and otherwise the figures of the measure `told`.
 pub record AreOf (message : List (List ℕ)) (told : MeasuredBare) (f : CapnFigures) : Type 0 where
   pub words : f.words ≡ total message
   pub segments : f.segments ≡ length message

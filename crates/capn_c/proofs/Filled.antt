@@ -1,5 +1,5 @@
--- The results of calls that write canonical bytes. (For `canonical_fill.rt`, `canonical_segments_call.rt` and
--- `write_message`.)
+-- Lemmas on `IsFilled`, the results of calls that write canonical bytes. (For `canonical_fill.rt`,
+-- `canonical_segments_call.rt` and `write_message`.)
 use Rattle.std.proofs.Common.{rules, ◌≡◌, ◌≤◌, ◌+◌, ◌*◌, ℕ, List, None, length, take, refl, ap, subst}
 use Rattle.capn_value.specs.FirstCap.{first_cap}
 use Rattle.capn_value.specs.Tree.{Tree}
@@ -23,7 +23,7 @@ use Rattle.capn_c.specs.inner.Reported.{IsFilled, IsFilledIn}
 use Rattle.capn_c.proofs.OfMessage.{held_refused_message, value_of}
 use Rattle.capn_c.proofs.Reported.{reported_for}
 
--- a call that delivers the canonical bytes has a result as `IsFilled` says
+-- If a call delivers the canonical bytes `text`, `IsFilled` holds of its status and its report.
 pub filled : {value : Tree → Type 0} {answer : List ℕ → ℕ → Type 0} {reason : Refusal → Type 0} {needed : Type 0}
     (limits : Bounds) (old new text : List ℕ) (price status : ℕ) (report : CapnReport)
     → report ≡ answered (length text) price 0 → Delivers text status (length text) old new → answer text price
@@ -36,7 +36,6 @@ filled {value} limits old new text price status report told d a within short onl
     λ v h n. subst (λ (b : List ℕ). Delivers b status (length text) old new) (only v h n) d in
     search rules
 
--- the result of a call also holds for other values, answers and reasons that follow
 pub filled_for : {V W : Tree → Type 0} {A B : List ℕ → ℕ → Type 0} {P Q : Refusal → Type 0} {M N : Type 0}
     {limits : Bounds} {old new : List ℕ} {status : ℕ} {report : CapnReport} → ((v : Tree) → W v → V v)
     → ((text : List ℕ) (price : ℕ) → A text price → B text price) → ((e : Refusal) → P e → Q e) → (M → N)
@@ -46,7 +45,7 @@ filled_for value answer reason needed h = let reported = reported_for reason nee
 -- ---- a message
 
 module _ (m : List (List ℕ)) (limits : Bounds) (old new : List ℕ) where
-  -- the result of writing the canonical bytes of the message
+  -- `IsFilled` for the message `n`.
   abbrev IsOf : List (List ℕ) → ℕ → CapnReport → Type 0
   IsOf n status report =
       IsFilled (IsValueOf n limits) (AnswersMessage n limits) (IsRefusedMessage n limits) ⊥ limits old new status report
@@ -62,7 +61,6 @@ module _ (m : List (List ℕ)) (limits : Bounds) (old new : List ℕ) where
       (record { value = v; is = is; free = free; canonical = refl; priced = pays }) within short
       (λ w h n. ap canon (unique m v w root is.is h.is)) form
 
-  -- the result for a message is also the result for the bytes that are read as that message
   pub filled_in : (form : Form) (bs : List ℕ) {needed : Type 0} (status : ℕ) (report : CapnReport)
       → Reads form bs limits.message_words m → IsOf m status report
       → IsFilledIn form bs limits needed old new status report
@@ -71,7 +69,6 @@ module _ (m : List (List ℕ)) (limits : Bounds) (old new : List ℕ) where
       (λ text price a. record { message = m; reads = reads; answer = a })
       (λ e r. refused_message form bs limits m e reads r) (λ k. absurd k) h
 
-  -- the result for a message is also the result for the segments that hold that message
   pub filled_held : (n : List (List ℕ)) (status : ℕ) (report : CapnReport) → n ≡ m → IsHeld m limits.message_words
       → IsOf n status report
       → IsFilled (DenotesHeld m limits) (AnswersHeld m limits) (IsRefusedHeld m limits) ⊥ limits old new status report

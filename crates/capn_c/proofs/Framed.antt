@@ -1,4 +1,5 @@
--- A message that is held in segments, and a frame of the same segments. (For `segments`.)
+-- A message that is held in segments has the canonical bytes and the refusals of a frame of the same segments. (For
+-- `segments`.)
 use Rattle.std.proofs.Common.{◌≡◌, ℕ, suc, [], ◌∷◌, ◌-◌, ◌*◌, ◌^◌, ◌<◌, ◌≤◌, List, length, subst, sym, ◌∙◌, arith}
 use Rattle.std.proofs.Math.Nat.{min-eq_left}
 use Rattle.std.proofs.lemmas.List.Sums.{sum_by-cons}
@@ -15,16 +16,13 @@ use Rattle.capn_canon.specs.declared.refusal.Refusal.TheVariants as refusals
 use Rattle.capn_c.specs.AsFramed.{HeldAreAnsweredAsFramed, HeldAreRefusedAsFramed}
 use Rattle.capn_c.specs.Held.{IsMisheld}
 
--- the segments of a frame of at most `most` words are held
 framed_held : (bs : List ℕ) (message : List (List ℕ)) (most : ℕ) → IsFramed bs most message → IsHeld message most
 framed_held bs message most h = record { some = h.frame.fits.some; few = h.frame.fits.few; room = h.room }
 
--- the frame of segments that are held has at most `most` words
 held_framed : (bs : List ℕ) (message : List (List ℕ)) (most : ℕ) → Frames bs message → IsHeld message most
     → IsFramed bs most message
 held_framed bs message most f h = record { frame = f; room = h.room }
 
--- bytes are the frame of one message only
 one_held : (bs : List ℕ) (m n : List (List ℕ)) → Frames bs m → Frames bs n → m ≡ n
 one_held bs m n f g =
     (one_frame bs (total m) (total n) m n (length bs) (length bs) (stands_alone bs (total m) m f (omega arith))
@@ -46,7 +44,6 @@ answered_as_framed bs message limits f text price = (
       }),
 )
 
--- a message whose segments have fewer than 2^32 words each has at most 2^32 words for each segment
 few_words : (message : List (List ℕ)) → ((s : ℕ) → length (segment_at message s) < 2 ^ 32)
     → total message ≤ length message * 2 ^ 32
 few_words [] h = omega arith

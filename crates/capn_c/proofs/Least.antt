@@ -1,4 +1,4 @@
--- The least number of bytes of a frame of which only the first bytes are known. (For `frame`.)
+-- A lower bound for the length of a frame whose first bytes are known. (For `frame`.)
 use Rattle.std.proofs.Common.{◌≡◌, ◌≢◌, ◌⊎◌, ◌∙◌, inl, inr, ℕ, ◌<◌, ◌≤◌, List, ◌++◌, length, ap}
 use Rattle.std.proofs.Common.{sym, subst, arith}
 use Rattle.std.proofs.lemmas.Bool.Decides.{nat_tests}
@@ -18,7 +18,7 @@ use Rattle.capn_c.specs.FrameNeed.{IsNeeded, needed}
 padding_le : (count : ℕ) → padding count ≤ 4
 padding_le count = grind (arith, nat_tests)
 
--- the number of bytes that a frame needs as long as the number of segments is missing
+-- Case: `bs` lack the number of segments.
 pub count_needed : (bs : List ℕ) (most : ℕ) → length bs < 4 → IsNeeded bs most 8
 count_needed bs most short = record {
   least = λ more f. (let w = frame_whole (bs ++ more) most f in omega (arith, w.0.1));
@@ -26,7 +26,7 @@ count_needed bs most short = record {
   bounded = omega arith;
 }
 
--- the number of bytes that a frame needs once the number of segments is there
+-- Case: `bs` have the number of segments, but not the complete table.
 pub table_needed : (bs : List ℕ) (most : ℕ) → HasCount bs → length bs < head_length (announced_segments bs)
     → IsNeeded bs most (head_length (announced_segments bs))
 table_needed bs most count short = record {
@@ -36,7 +36,7 @@ table_needed bs most count short = record {
   bounded = omega (arith, count.1, padding_le (announced_segments bs));
 }
 
--- the number of bytes that a frame needs once the whole table is there
+-- Case: `bs` have the complete table.
 pub words_needed : (bs : List ℕ) (most : ℕ) → HasHead bs → announced_words bs ≤ most → length bs < frame_length bs
     → IsNeeded bs most (frame_length bs)
 words_needed bs most head room short = record {
@@ -46,7 +46,7 @@ words_needed bs most head room short = record {
   bounded = omega (arith, head.0.1, room, padding_le (announced_segments bs));
 }
 
--- the number of bytes that an unfinished frame needs
+-- If the frame `bs` is unfinished, every complete frame that begins with `bs` has at least `needed bs` bytes.
 pub is_needed : (bs : List ℕ) (most : ℕ) → IsUnfinished bs most → IsNeeded bs most (needed bs)
 is_needed bs most (inl none) =
     let e : needed bs ≡ 8 = grind (arith, nat_tests, none) in
@@ -61,12 +61,11 @@ is_needed bs most (inr (inr (inr contents))) =
     let e : needed bs ≡ frame_length bs = grind (arith, nat_tests, contents.0.0.0, contents.0.1) in
     subst (IsNeeded bs most) (sym e) (words_needed bs most contents.0 contents.1 contents.2)
 
--- a status that equals `n` is not 48 or 51, if `n` is neither
 neither : (n status : ℕ) → status ≡ n → (status ≡ 48) ⊎ (status ≡ 51) → n ≢ 48 → n ≢ 51 → ⊥
 neither n status e (inl h) a b = a (sym e ∙ h)
 neither n status e (inr h) a b = b (sym e ∙ h)
 
--- the length reported for a frame that is not whole is the number of bytes that it needs
+-- If `status` is 48 or 51, the reported length is the number of bytes that the frame needs (`IsNeeded`).
 pub needed_told : (bs : List ℕ) (most status : ℕ) (report : CapnReport) (e : FrameFault)
     → ReportsFrame bs status report e → IsFrameRefused bs most e → (status ≡ 48) ⊎ (status ≡ 51)
     → IsNeeded bs most report.length

@@ -1,4 +1,4 @@
--- The clauses of `capn_canonical_with_scratch` follow from the result of the inner call. (For `write_lent`.)
+-- The contract of `capn_canonical_with_scratch` follows from the result of the inner call. (For `write_lent`.)
 use Rattle.std.proofs.Common.{◌≡◌, ◌≢◌, inl, inr, ℕ, ◌+◌, ◌*◌, ◌<◌, ◌≤◌, IsTrue, List, length, take}
 use Rattle.std.specs.Prelude.{MatchResult}
 use Rattle.std.proofs.Common.{Result, Ok, Err, refl, ap, sym, subst, ◌∙◌, arith}
@@ -39,14 +39,12 @@ lent_status n h listed = rw (le-ltb n 10 h) listed
 module _ (decided : FormIsDecided) (most : ScratchIsBounded) (never : LackingIsNotHaving) (have : DenotedHaveForms)
     (form : Form) (bs : List ℕ) (limits : Bounds) (are : AreLimits limits.message_words limits.budget limits.depth)
     (scratch : ℕ) (old new : List ℕ) where
-  -- the clauses hold of a status and a report that equal those returned
   at_told : (status n : ℕ) (report r : CapnReport) → status ≡ n → report ≡ r
       → IsLent form bs limits scratch old new n r → IsLent form bs limits scratch old new status report
   at_told status n report r e f h =
       subst (λ (x : CapnReport). IsLent form bs limits scratch old new status x) (sym f)
       (subst (λ (x : ℕ). IsLent form bs limits scratch old new x r) (sym e) h)
 
-  -- if the scratch lacks words, the result is `NoScratch`
   only_lacking : (r : Result CanonicalLength FormRefusal) → IsFormWrittenOrRefused form bs limits scratch old new r
       → (n : ℕ) → LacksScratch form bs limits.message_words scratch n → r ≡ Err (told.NoScratch n)
   only_lacking r h n k =
@@ -118,7 +116,7 @@ module _ (decided : FormIsDecided) (most : ScratchIsBounded) (never : LackingIsN
 
   -- ---- a refusal
 
-  -- the clauses hold after a refusal of the bytes
+  -- Case: the bytes are refused.
   of_bytes : (e : FormRefusal) → IsFormRefused form bs limits scratch (length old) e → new ≡ old
       → ((n : ℕ) → e ≢ told.NoScratch n) → (r : Refusal) → r ≢ refusals.Memory → IsRefused form bs limits r
       → IsBounded limits.budget (report_of r).paid (report_of r).visits
@@ -150,7 +148,7 @@ module _ (decided : FormIsDecided) (most : ScratchIsBounded) (never : LackingIsN
   nothing_paid : IsBounded limits.budget 0 0
   nothing_paid = record { within = omega arith; few = omega arith }
 
-  -- the clauses hold if the scratch has too few words
+  -- Case: the scratch has too few words.
   without_scratch : (n : ℕ) → IsFormRefused form bs limits scratch (length old) (told.NoScratch n) → new ≡ old
       → IsLent form bs limits scratch old new 9 (at_number n)
   without_scratch n h same = record {
@@ -178,7 +176,7 @@ module _ (decided : FormIsDecided) (most : ScratchIsBounded) (never : LackingIsN
       let one = ap (λ (x : Tree). length (canon x)) (one_value form bs limits v w denotes d) in
       record { length_is = long ∙ one; either = inr (refl, (omega (arith, less, long, one), same)) }
 
-  -- the clauses hold if the buffer has no room
+  -- Case: the buffer is too short.
   without_room : (n p : ℕ) → IsFormRefused form bs limits scratch (length old) (told.NoRoom n p) → new ≡ old
       → p ≤ limits.budget → IsLent form bs limits scratch old new 1 (answered n p 0)
   without_room n p (m, is, has, (v, at_root, free, long, less, pays)) same within =
@@ -216,7 +214,7 @@ module _ (decided : FormIsDecided) (most : ScratchIsBounded) (never : LackingIsN
         canonical = (λ k. absurd (omega (arith, k)));
       }
 
-  -- the clauses hold after each refusal
+  -- Case: the result is a refusal `e` of any kind.
   each : (e : FormRefusal) → IsFormRefused form bs limits scratch (length old) e → new ≡ old
       → IsFormPaidWithin limits.budget e → (status : ℕ) (report : CapnReport) → IsRefusalTold e status report
       → IsLent form bs limits scratch old new status report
@@ -243,7 +241,7 @@ module _ (decided : FormIsDecided) (most : ScratchIsBounded) (never : LackingIsN
   each (told.NoRoom n p) h same within status report (is_1, is_n) =
       at_told status 1 report (answered n p 0) is_1 is_n (without_room n p h same within)
 
-  -- the clauses hold after each result
+  -- The contract holds for each result `r` of the inner call.
   pub lent : (r : Result CanonicalLength FormRefusal) → IsFormWrittenOrRefused form bs limits scratch old new r
       → MatchResult r (λ c. IsBounded limits.budget c.paid c.visits) (λ e. IsFormPaidWithin limits.budget e)
       → (status : ℕ) (report : CapnReport) → IsResultTold r status report

@@ -1,5 +1,5 @@
--- Each refusal has a status of the list, which is 16 or more unless the refusal is `Memory`. (For `Lent`, `Reported`,
--- `refusal_way` and `write_message`.)
+-- `is_status` is true of the status of each refusal. The status is 16 or more, unless the refusal is `Memory`. (For
+-- `Lent`, `Reported`, `refusal_way` and `write_message`.)
 use Rattle.std.proofs.Common.{rules, ◌≡◌, ◌≢◌, ◌≤◌, ℕ, List, IsTrue, false, refl}
 use Rattle.capn_target.specs.declared.target.Fault.{Fault}
 use Rattle.capn_walk.specs.Limits.{Bounds}
@@ -25,6 +25,5 @@ held_listed m l r h = search rules
 pub above : (r : Refusal) → code r ≢ 8 → 16 ≤ code r
 above r h = search rules
 
--- the statuses of the refusals that are never returned are not in the list
 never : (is_status 254 ≡ false) × (is_status 255 ≡ false)
 never = (refl, refl)

@@ -15,14 +15,13 @@ use Rattle.capn_stream.specs.Segments.{IsHeld}
 use Rattle.capn_c.specs.Held.{IsHeldOr, IsRefusedHeld}
 use Rattle.capn_c.proofs.OutOfMemory.{held_memory}
 
--- the value that bytes denote is the value of the message that the bytes are read as
+-- If `bs` are read as `m` and denote the value `v`, `v` is the value of `m`.
 pub value_of : (form : Form) (bs : List ℕ) (limits : Bounds) (m : List (List ℕ)) → Reads form bs limits.message_words m
     → (v : Tree) → Denotes form bs limits v → IsValueOf m limits v
 value_of form bs limits m reads v d =
     let same = one_message form bs limits.message_words d.message m d.reads reads in
     subst (λ (x : List (List ℕ)). IsValueOf x limits v) same d.value
 
--- a value that bytes denote in one form within limits is denoted in an equal form within equal limits
 pub denoted : {f g : Form} {k l : Bounds} {bs : List ℕ} {v : Tree} → f ≡ g → k ≡ l → Denotes g bs l v
     → Denotes f bs k v
 denoted {f} {g} {k} {l} {bs} {v} e h d =
@@ -30,18 +29,15 @@ denoted {f} {g} {k} {l} {bs} {v} e h d =
 
 -- ---- segments
 
--- the reason why segments hold no message is a reason why they have no canonical bytes
 pub held_refused : (m : List (List ℕ)) (limits : Bounds) (r : Refusal) → IsHeldOr m limits (Err r)
     → IsRefusedHeld m limits r
 held_refused m limits r h = search rules
 
--- the refusal of segments that hold no message is not for memory
 pub held_asks : (m : List (List ℕ)) (limits : Bounds) (r : Refusal) → IsHeldOr m limits (Err r) → code r ≡ 8 → ⊥
 held_asks m limits r h e =
     let memory = held_memory m limits r (held_refused m limits r h) e in
     subst (λ (x : Refusal). IsHeldOr m limits (Err x)) memory h
 
--- the reason why a message that is held is refused is a reason why its segments are
 pub held_refused_message : (m : List (List ℕ)) (limits : Bounds) (r : Refusal) → IsHeld m limits.message_words
     → IsRefusedMessage m limits r → IsRefusedHeld m limits r
 held_refused_message m limits r h e = search rules

@@ -1,4 +1,5 @@
--- The words of a segment, and whether a message of one segment is canonical. (For `words_at`.)
+-- The number of words of a segment, and the survey that says whether a message of one segment is canonical. (For
+-- `words_at`.)
 use Rattle.std.proofs.Common.{◌≡◌, ◌↔◌, ℕ, List, length, ap, sym, ◌∙◌}
 use Rattle.std.proofs.Common.{Option, Some, None}
 use Rattle.std.specs.Option.{unwrap_or}
@@ -15,13 +16,12 @@ use Rattle.capn_canon.specs.Layout.{canon}
 use Rattle.capn_canon.specs.declared.surveyed_bare.SurveyedBare.{SurveyedBare}
 use Rattle.capn_c.specs.Figures.{IsCanonicalMessage}
 
--- the number of words of a segment, which is 0 if there is no such segment
 pub words-at : (m : List (List ℕ)) (s : ℕ) (r : Option ℕ) (n : ℕ) → r ≡ words_of m s → n ≡ unwrap_or r 0
     → n ≡ length (segment_at m s)
 words-at m s None n e f = f ∙ sym (length_of_none m s (sym e))
 words-at m s (Some k) n e f = f ∙ sym (length_of_some m s k (sym e))
 
--- a message is canonical if and only if its survey says so, since the message has only one value
+-- A message is canonical if and only if its survey `c` says so, since the message has only one value.
 pub canonical-message : (m : List (List ℕ)) (limits : Bounds) (c : SurveyedBare) → IsChecked m limits c
     → IsTrue c.is_canonical ↔ IsCanonicalMessage m limits
 canonical-message m limits c k = (

@@ -26,7 +26,6 @@ use Rattle.capn_canon.proofs.shared.MemoryNeeds.{starts_within}
 use Rattle.capn_c.specs.Held.{IsMisheld, IsRefusedHeld, IsUnacceptedHeld}
 use Rattle.capn_abi.specs.StatusCodes.{bare_code, packed_code, frame_code, walk_code, code}
 
--- a refusal of packed bytes with the status 8 is for memory
 pub packed_memory : (e : UnpackFault) → packed_code e ≡ 8 → e ≡ packed.Memory
 packed_memory e h = search rules
 
@@ -39,7 +38,6 @@ walk_memory e h = search rules
 never_bare : (e : BareFault) → bare_code e ≡ 8 → ⊥
 never_bare e h = search rules
 
--- a refusal of bytes with the status 8 is `Memory`
 pub refused_memory : (form : Form) (bs : List ℕ) (l : Bounds) (r : Refusal) → IsRefused form bs l r → code r ≡ 8
     → r ≡ refusals.Memory
 refused_memory form bs l refusals.Memory h c = refl
@@ -55,7 +53,6 @@ refused_memory forms.Bare bs l (refusals.Frame e) h c = absurd h
 refused_memory forms.Stream bs l (refusals.Frame e) h c = absurd (h.0 (frame_memory e c))
 refused_memory forms.Packed bs l (refusals.Frame e) h c = absurd (h.2.0 (frame_memory e c))
 
--- a reason why bytes are not accepted is also a reason why they have no canonical bytes
 pub unaccepted_refused : (form : Form) (bs : List ℕ) (limits : Bounds) (e : Refusal) → IsUnacceptedIn form bs limits e
     → IsRefused form bs limits e
 unaccepted_refused form bs limits e h = search rules
@@ -67,7 +64,6 @@ unaccepted_memory form bs l r h c = refused_memory form bs l r (unaccepted_refus
 misheld_memory : (m : List (List ℕ)) (most : ℕ) (e : FrameFault) → IsMisheld m most e → frame_code e ≡ 8 → ⊥
 misheld_memory m most e h c = search rules
 
--- a refusal of a message that is held in segments, with the status 8, is `Memory`
 pub held_memory : (m : List (List ℕ)) (l : Bounds) (r : Refusal) → IsRefusedHeld m l r → code r ≡ 8
     → r ≡ refusals.Memory
 held_memory m l refusals.Memory h c = refl
@@ -79,7 +75,6 @@ held_memory m l (refusals.Trailing at) h c = absurd h
 held_memory m l (refusals.Bare e) h c = absurd h
 held_memory m l (refusals.Packed e) h c = absurd h
 
--- a reason why a message that is held is not accepted is also a reason why it has no canonical bytes
 pub unaccepted_held_refused : (m : List (List ℕ)) (l : Bounds) (r : Refusal) → IsUnacceptedHeld m l r
     → IsRefusedHeld m l r
 unaccepted_held_refused m l r h = search rules
@@ -88,12 +83,10 @@ pub unaccepted_held_memory : (m : List (List ℕ)) (l : Bounds) (r : Refusal) �
     → r ≡ refusals.Memory
 unaccepted_held_memory m l r h c = held_memory m l r (unaccepted_held_refused m l r h) c
 
--- the stop of a walk never has the status 8
 pub stopped_memory : (m : List (List ℕ)) (l : Bounds) (s : Stopped)
     → IsWalkRefused m l s.fault s.place s.paid s.visits → code (refusals.Walk s) ≡ 8 → ⊥
 stopped_memory m l s h c = plain-refusal m l s.fault s.place s.paid s.visits h (walk_memory s.fault c)
 
--- the reason why a message is not accepted has the status 8 only if it is `Memory`
 pub message_memory : (m : List (List ℕ)) (l : Bounds) (r : Refusal) → IsUnaccepted m l r → code r ≡ 8
     → r ≡ refusals.Memory
 message_memory m l refusals.Memory h c = refl
@@ -106,12 +99,10 @@ message_memory m l (refusals.Packed e) h c = absurd h
 
 -- ---- memory that may be needed
 
--- the form of bare words or of a stream is not packed
 pub flat_packed : (f : Form) → (f ≡ forms.Stream) ⊎ (f ≡ forms.Bare) → f ≡ forms.Packed → ⊥
 flat_packed f (inl a) b = cc
 flat_packed f (inr a) b = cc
 
--- reading a frame of more than 64 segments may need memory
 pub many_need : (bs : List ℕ) (limits : Bounds) (m : List (List ℕ)) → Reads forms.Stream bs limits.message_words m
     → most_few < length m → MayNeedMemory forms.Stream bs limits
 many_need bs limits m reads many =
@@ -119,7 +110,6 @@ many_need bs limits m reads many =
     let count = (announces bs limits.message_words m (length bs) first).count in
     (whole_of bs limits.message_words m (length bs) first, omega (arith, count, many))
 
--- canonicalising a packed text may need memory only if reading the text may
 pub packed_need : (f : Form) (bs : List ℕ) (limits : Bounds) → f ≡ forms.Packed → MayNeedBytesIn f bs limits
     → MayNeedMemory f bs limits
 packed_need forms.Packed bs limits is (inl h) = h

@@ -13,7 +13,6 @@ use Rattle.capn_canon.proofs.shared.MemoryNeeds.{packed_wanted}
 use Rattle.capn_c.specs.Figures.{FiguresIn}
 use Rattle.capn_c.specs.declared.figures.CapnFigures.{CapnFigures}
 
--- bytes that unpack to a stream within the maximum are read as that stream
 pub unpacks : (bs text stream : List ℕ) (most max : ℕ) → Packs bs text → length text ≤ 8 * max
     → max ≡ most + most_table_words → stream ≡ text → Unpacks bs most stream
 unpacks bs text stream most max packs within is same =
@@ -21,15 +20,12 @@ unpacks bs text stream most max packs within is same =
     (record { packs = packs; room = subst (λ (n : ℕ). length text ≤ 8 * n) is within })
 
 module _ (bs stream : List ℕ) (limits : Bounds) (u : Unpacks bs limits.message_words stream) where
-  -- the figures of the stream are those of the packed text
   pub packed_figures : (f : CapnFigures) → FiguresIn forms.Stream stream limits f → FiguresIn forms.Packed bs limits f
   packed_figures f h = record { message = h.message; reads = (stream, u, h.reads); are = h.are }
 
-  -- the reason why the stream is not accepted is a reason why the packed text is not
   pub packed_unaccepted : (e : Refusal) → IsUnacceptedIn forms.Stream stream limits e
       → IsUnacceptedIn forms.Packed bs limits e
   packed_unaccepted e h = search rules
 
-  -- if memory may be needed for the stream, it may be needed for the packed text
   pub packed_needs : MayNeedMemory forms.Stream stream limits → MayNeedMemory forms.Packed bs limits
   packed_needs h = packed_wanted bs stream limits u h

@@ -1,5 +1,5 @@
--- The statuses of refusals, and the report of the stop of a walk with the length of a path. (For `refusal_way` and
--- `tell_path`.)
+-- The statuses of refusals, and the report of a stopped walk, in which the length is set to that of a path. (For
+-- `refusal_way` and `tell_path`.)
 use Rattle.std.proofs.Common.{rules, ◌≡◌, ◌<◌, ◌≤◌, ℕ, List, refl, sym, subst, arith}
 use Rattle.capn_pack.specs.declared.fault.UnpackFault.{UnpackFault}
 use Rattle.capn_pack.specs.UnpackRefusal as packs

@@ -28,7 +28,6 @@ use Rattle.capn_c.proofs.Entered.{start_at}
 
 -- ---- the contents of all segments
 
--- a segment and those before it are within all words
 within_all : (m : List (List ℕ)) (s : ℕ) → s < length m → sum_by length (take s m) + length (segment_at m s) ≤ total m
 within_all [] s h = absurd (omega (arith, h))
 within_all (ws ∷ m) zero h = omega (arith, sum_by-cons length ws m)
@@ -40,7 +39,6 @@ within_all (ws ∷ m) (suc s) h =
       sum_by-cons length ws m,
     )
 
--- the words of a segment come after those of the segments before it
 in_contents : (m : List (List ℕ)) (s w n : ℕ) → s < length m → w + n ≤ length (segment_at m s)
     → take (8 * n) (drop (8 * (sum_by length (take s m) + w)) (segment_bytes m))
     ≡ take (8 * n) (drop (8 * w) (bytes (segment_at m s)))
@@ -62,7 +60,7 @@ in_contents (ws ∷ m) (suc s) w n h k =
     ap (λ (i : ℕ). take (8 * n) (drop i (bytes ws ++ segment_bytes m))) e
     ∙ (ap (λ (xs : List ℕ). take (8 * n) xs) past ∙ in_contents m s w n (omega (arith, h)) k)
 
--- ---- bytes that have these contents after a table
+-- ---- bytes that have the contents of all segments after a table
 
 record HasContents (table : ℕ) (bs : List ℕ) (m : List (List ℕ)) : Type 0 where
   after : drop table bs ≡ segment_bytes m
@@ -82,7 +80,7 @@ stand table bs m c at n h =
           ∙ in_contents m at.segment at.word n h.exists h.within);
     }
 
--- a frame has the words of its segments after the table
+-- Case: the bytes are a frame, with the contents after its table.
 frame_contents : (bs : List ℕ) (most : ℕ) (m : List (List ℕ)) → IsFramed bs most m
     → HasContents (head_length (length m)) bs m
 frame_contents bs most m h =
@@ -96,7 +94,7 @@ frame_contents bs most m h =
       long = omega (arith, heads, a.words, a.length_is);
     }
 
--- bare bytes have the words of the segment, without a table before them
+-- Case: the bytes are bare words, with no table before the contents.
 bare_contents : (bs ws : List ℕ) (m : List (List ℕ)) → IsBare bs ws → m ≡ ws ∷ [] → HasContents 0 bs m
 bare_contents bs ws m h e = record {
   after = h.same ∙ (sym (append-nil (bytes ws)) ∙ ap (λ (x : List (List ℕ)). segment_bytes x) (sym e));
@@ -118,14 +116,12 @@ placed forms.Packed bs most m other r e n h = absurd (other refl)
 
 -- ---- the entries of an index
 
--- the entry at index `i` of a list that begins with mapped entries is the mapped entry
 written : {A B : Type 0} (f : A → B) (es : List A) (rest : List B) (i : ℕ) (x : A) (none : B) → i < length es
     → get_or (map f es ++ rest) i none ≡ f (get_or es i x)
 written f [] rest i x none h = absurd (omega (arith, h))
 written f (e ∷ es) rest zero x none h = refl
 written f (e ∷ es) rest (suc i) x none h = written f es rest i x none (omega (arith, h))
 
--- the target of an entry is at an offset in the bytes, if all words of the entry's place are
 stands : (bs : List ℕ) (offset : ℕ) (m : List (List ℕ)) (e : Entry) (k : Kind)
     → ((n : ℕ) → IsContent m (entry_place e) n → StandAt bs offset m (entry_place e) n)
     → IsInMessage m (by_kind k e) → StandsAt bs offset m (by_kind k e)

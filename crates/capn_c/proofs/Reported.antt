@@ -1,4 +1,5 @@
--- The results of calls that report a refusal. (For `check`, `fill_frame`, `index_frame` and other calls.)
+-- Lemmas on `IsReported`, the results of calls that report a refusal. (For `check`, `fill_frame`, `index_frame` and
+-- other calls.)
 use Rattle.std.proofs.Common.{rules, ◌≡◌, ◌≢◌, ◌≤◌, ℕ, List, None, IsTrue, refl, ap, sym, subst, ◌∙◌}
 use Rattle.capn_value.specs.FirstCap.{first_cap}
 use Rattle.capn_value.specs.Tree.{Tree}
@@ -23,12 +24,10 @@ use Rattle.capn_c.proofs.OutOfMemory.{unaccepted_memory, unaccepted_refused}
 
 -- ---- reports
 
--- the price in the report of a refusal is within the budget
 pub refusal_bounded : (budget : ℕ) (e : Refusal) → IsPaidWithin budget e
     → IsBounded budget (report_of e).paid (report_of e).visits
 refusal_bounded budget e within = search rules
 
--- a refusal for which the reason holds is reported (`IsReported`)
 pub reported : {reason : Refusal → Type 0} {needed : Type 0} (budget status : ℕ) (report : CapnReport) (e : Refusal)
     → Reports status report e → reason e → IsTrue (is_status (code e)) → (code e ≡ 8 → needed)
     → IsPaidWithin budget e → IsReported reason needed budget status report
@@ -40,7 +39,6 @@ reported budget status report e r h listed memory within = record {
       (refusal_bounded budget e within);
 }
 
--- a refusal that is reported with a reason is also reported with any reason that follows
 pub reported_for : {P Q : Refusal → Type 0} {M N : Type 0} {budget status : ℕ} {report : CapnReport}
     → ((e : Refusal) → P e → Q e) → (M → N) → IsReported P M budget status report → IsReported Q N budget status report
 reported_for f g h = record {
@@ -50,11 +48,10 @@ reported_for f g h = record {
   bounded = h.bounded;
 }
 
--- the status of a refusal is 8 or more
 high : (status : ℕ) (report : CapnReport) (e : Refusal) → Reports status report e → 8 ≤ status
 high status report e r = search rules
 
--- ---- calls that report a refusal, which has no accepted value unless memory ran out
+-- ---- calls that report a refusal, which is `Memory` if there is a value
 
 module _ {value : Tree → Type 0} {reason : Refusal → Type 0} {needed : Type 0} (status : ℕ) (report : CapnReport)
     (e : Refusal) (r : Reports status report e) where
@@ -95,7 +92,6 @@ module _ (form : Form) (bs : List ℕ) (limits : Bounds) {needed : Type 0} (stat
       reported limits.budget status report e r h (refused_listed form bs limits e h)
       (λ k. memory (refused_memory form bs limits e h k)) within
 
-  -- the refusal of bytes that are not accepted
   pub unaccepted_bytes : IsUnacceptedIn form bs limits e
       → IsReported (IsUnacceptedIn form bs limits) needed limits.budget status report
   unaccepted_bytes h =
@@ -115,7 +111,6 @@ module _ (form : Form) (bs : List ℕ) (limits : Bounds) {needed : Type 0} (stat
       not_indexed status report e r limits.budget old old (unaccepted_bytes h) refl
       (λ v d. not_unaccepted form bs limits v e d h)
 
-  -- the refusal of bytes that have no canonical bytes
   pub refused_filled : (old : List ℕ) → IsRefused form bs limits e
       → IsFilledIn form bs limits needed old old status report
   refused_filled old h =

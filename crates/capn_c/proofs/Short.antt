@@ -1,4 +1,4 @@
--- The canonical bytes of the value of an accepted message are at most 8 for each word paid, and 8 more. (For
+-- There are at most 8 canonical bytes for each word that the walk of an accepted message pays, and 8 more. (For
 -- `survey_held` and `write_message`.)
 use Rattle.std.proofs.Common.{ℕ, ◌+◌, ◌*◌, ◌^◌, ◌≤◌, List, length, Result, IfOk, arith}
 use Rattle.std.proofs.lemmas.Result.{IfOk-weaker}
@@ -27,7 +27,6 @@ short m limits v is small shallow h =
     let x = c.0 in
     omega arith
 
--- the bound also holds with the price that a survey reports
 pub surveyed_short : (m : List (List ℕ)) (limits : Bounds) (r : Result Surveyed Refusal) → IsMessage m
     → limits.budget ≤ 2 ^ 28 → limits.depth ≤ 256 → IfOk r (λ s. IsSurvey m limits s)
     → IfOk r (λ s. (v : Tree) → IsValueOf m limits v → length (canon v) ≤ 8 * (s.paid + 1))

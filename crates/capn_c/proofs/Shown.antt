@@ -20,14 +20,12 @@ use Rattle.capn_c.specs.Shown.{MayNeedText, ShowsIn, message_text}
 use Rattle.capn_c.specs.declared.message_text.ShownText.{ShownText}
 use Rattle.capn_c.specs.inner.Told.{IsTextTold}
 
--- the text of bytes is the text of any value that the bytes denote
 pub text_only : (form : Form) (bs : List ℕ) (limits : Bounds) (style : Style) (text : List ℕ)
     → ShowsIn form bs limits style text → (v : Tree) → Denotes form bs limits v → text ≡ message_text style v
 text_only form bs limits style text h v d =
     h.same ∙ ap (message_text style) (one_value form bs limits h.value v h.denotes d)
 
 module _ (form : Form) (bs : List ℕ) (limits : Bounds) (style : Style) where
-  -- a result for the text of the message that `bs` are read as
   abbrev AreTold : Result ShownText Refusal → Type 0
   AreTold r = IsAnswered form bs limits (λ m l x. IsTextTold m l style x) r
 

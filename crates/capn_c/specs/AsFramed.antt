@@ -1,5 +1,5 @@
--- Laws: a message that is held in segments has the result and the refusals that a frame of the same segments has. (Our
--- own.)
+-- Laws: a message that is held in segments has the result and the refusals that a frame of the same segments has.
+-- (Our own.)
 use Rattle.std.specs.Prelude.{◌↔◌, ℕ, List}
 use Rattle.capn_stream.specs.Frames.{Frames}
 use Rattle.capn_walk.specs.Limits.{Bounds}
@@ -9,13 +9,14 @@ use Rattle.capn_canon.specs.declared.form.Form.TheVariants as forms
 use Rattle.capn_canon.specs.declared.refusal.Refusal.{Refusal}
 use Rattle.capn_c.specs.Held.{AnswersHeld, IsRefusedHeld}
 
--- segments have the same canonical bytes and the same price as their frame
+-- `text` and `price` are the canonical bytes and the price of the segments of `message` if and only if they are those
+-- of its frame `bs`.
 abbrev pub HeldAreAnsweredAsFramed : Type 0
 HeldAreAnsweredAsFramed = (bs : List ℕ) (message : List (List ℕ)) (limits : Bounds) → Frames bs message
     → (text : List ℕ) (price : ℕ)
     → AnswersHeld message limits text price ↔ Answers forms.Stream bs limits text price
 
--- each refusal of segments is a refusal of their frame
+-- Each refusal `e` of the segments of `message` is a refusal of its frame `bs`.
 abbrev pub HeldAreRefusedAsFramed : Type 0
 HeldAreRefusedAsFramed = (bs : List ℕ) (message : List (List ℕ)) (limits : Bounds) → Frames bs message
     → (e : Refusal) → IsRefusedHeld message limits e → IsRefused forms.Stream bs limits e

@@ -8,15 +8,15 @@ use Rattle.capn_canon.specs.Denotes.{Denotes}
 use Rattle.capn_canon.specs.Layout.{canon}
 use Rattle.capn_canon.specs.declared.form.Form.{Form}
 
--- `first` denotes the value `v`, `second` denotes the value `w`, and neither value has capabilities
+-- `first` denotes the value `v`, `second` denotes the value `w`, and neither value has capabilities.
 pub record DenoteBoth (form : Form) (first second : List ℕ) (limits : Bounds) (v w : Tree) : Type 0 where
   pub one : Denotes form first limits v
   pub one_free : first_cap v ≡ None
   pub other : Denotes form second limits w
   pub other_free : first_cap w ≡ None
 
--- `first` and `second` denote values without capabilities; `told` is true if and only if the values are the same, and
--- if and only if their canonical bytes are equal
+-- `first` and `second` denote values without capabilities. `told` is true exactly if the values are the same. `told` is
+-- also true exactly if their canonical bytes are equal.
 pub record ComparesIn (form : Form) (first second : List ℕ) (limits : Bounds) (told : Bool) : Type 0 where
   pub value : Tree
   pub other : Tree
@@ -24,7 +24,7 @@ pub record ComparesIn (form : Form) (first second : List ℕ) (limits : Bounds) 
   pub same : IsTrue told ↔ Same value other
   pub equal : IsTrue told ↔ (canon value ≡ canon other)
 
--- the bytes that the number `which` names: the first if it is 0, else the second
+-- The bytes that a number names: `first` if the number is 0, else `second`.
 abbrev pub named : ℕ → List ℕ → List ℕ → List ℕ
 named zero first second = first
 named (suc n) first second = second

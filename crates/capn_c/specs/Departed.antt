@@ -16,13 +16,13 @@ use Rattle.capn_c.specs.declared.departed.CapnDeparted.{CapnDeparted}
 use Rattle.capn_abi.specs.declared.report.CapnReport.{CapnReport}
 
 module _ {A : Type 0} where
-  -- the number for the role of a word that differs: a pointer, the tag word or the last word of a list
+  -- The number for the role of a word that differs: a pointer, the tag word or the last word of a list.
   abbrev pub owner_number : Whose A → ℕ
   owner_number (Pointer path) = 1
   owner_number (Tag path) = 2
   owner_number (LastWord path) = 3
 
-  -- a mismatch as C reads it; a field without a meaning for the kind is 0
+  -- A mismatch in the layout that C reads. A field without a meaning for the kind is 0.
   abbrev pub departed_of : Mismatch A → CapnDeparted
   departed_of Canonical =
       record { is = 0; canonical = 0; kind = 0; owner = 0; word = 0; count = 0; numbers = 0; zero = 0 }
@@ -51,9 +51,9 @@ module _ {A : Type 0} where
   departed_of (After w is) =
       record { is = is; canonical = 0; kind = 4; owner = 0; word = w; count = 0; numbers = 0; zero = 0 }
 
--- `bs` are read as a message, and `departed` is the mismatch of that message with its canonical bytes; the path is in
--- the caller's buffer if the path fits; the report has the length of the path in bytes, the price and the number of
--- visits
+-- `bs` are read as a message, and `departed` is the mismatch of that message with its canonical bytes. The path is at
+-- the start of `new` if the path fits. The report has the length of the path in bytes, the price and the number of
+-- visits.
 pub record TellsMismatch (form : Form) (bs : List ℕ) (limits : Bounds) (departed : CapnDeparted)
     (report : CapnReport) (old new : List ℕ) : Type 0 where
   pub mismatch : Mismatch Global

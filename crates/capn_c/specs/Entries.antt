@@ -12,7 +12,7 @@ use Rattle.capn_canon.specs.declared.form.Form.{Form}
 use Rattle.capn_canon.specs.declared.form.Form.TheVariants as forms
 use Rattle.capn_c.specs.declared.entries.CapnEntry.{CapnEntry}
 
--- the number that C has for the kind of a target
+-- The number that C has for the kind of a target.
 abbrev pub kind_number : Kind → ℕ
 kind_number kinds.Nil = 0
 kind_number kinds.Node = 1
@@ -26,13 +26,13 @@ kind_number kinds.Links = 8
 kind_number kinds.Rows = 9
 kind_number kinds.Cap = 10
 
--- the word at which each segment begins, if the first begins at word `n`
+-- The word at which each segment begins, if the first begins at word `n`.
 abbrev pub starts_from : ℕ → List (List ℕ) → List ℕ
 starts_from n [] = []
 starts_from n (ws ∷ message) = n ∷ starts_from (n + length ws) message
 
--- an entry as C reads it: the place is an offset in bytes, counted from the start of a table of `table` bytes, and the
--- segments begin at the words `starts` after the table
+-- An entry in the layout that C reads. Its offset counts the bytes from the start of a segment table of `table` bytes.
+-- The segments begin at the words `starts` after the table.
 abbrev pub c_entry : ℕ → List ℕ → Entry → CapnEntry
 c_entry table starts e = record {
   offset = table + 8 * (get_or starts e.segment 0 + e.start);
@@ -43,17 +43,18 @@ c_entry table starts e = record {
   kind = kind_number e.kind;
 }
 
--- the index of a message as C reads it, if the message comes after a table of `table` bytes
+-- The index of a message in the layout that C reads, if the message comes after a table of `table` bytes.
 abbrev pub c_index : ℕ → List (List ℕ) → Bounds → List CapnEntry
 c_index table message limits = map (c_entry table (starts_from 0 message)) (index_of message limits)
 
--- the number of bytes that a form has before the words of a message
+-- The number of bytes before the words of a message: the length of the segment table for a stream, else 0.
 abbrev pub table_length : Form → List (List ℕ) → ℕ
 table_length forms.Stream message = head_length (length message)
 table_length forms.Packed message = 0
 table_length forms.Bare message = 0
 
--- `bs` are read as an accepted message, whose index is at the start of the buffer; the rest of the buffer is as it was
+-- `bs` are read as an accepted message. `new` begins with the index of that message, and is the same as `old` after the
+-- index.
 pub record IndexedIn (form : Form) (bs : List ℕ) (limits : Bounds) (old new : List CapnEntry) : Type 0 where
   pub message : List (List ℕ)
   pub reads : Reads form bs limits.message_words message
@@ -61,7 +62,7 @@ pub record IndexedIn (form : Form) (bs : List ℕ) (limits : Bounds) (old new : 
   pub entries : new ≡ c_index (table_length form message) message limits
       ++ drop (length (index_of message limits)) old
 
--- `bs` are read as an accepted message, whose index has `count` entries
+-- `bs` are read as an accepted message, whose index has `count` entries.
 pub record HasEntries (form : Form) (bs : List ℕ) (limits : Bounds) (count : ℕ) : Type 0 where
   pub message : List (List ℕ)
   pub reads : Reads form bs limits.message_words message

@@ -11,7 +11,7 @@ use Rattle.capn_canon.specs.Reads.{Reads}
 use Rattle.capn_canon.specs.declared.form.Form.{Form}
 use Rattle.capn_c.specs.declared.figures.CapnFigures.{CapnFigures}
 
--- `message` is accepted within `limits` and has one segment, whose bytes are the canonical bytes of the value
+-- `message` is accepted within `limits` and has one segment, whose bytes are the canonical bytes of the value.
 pub record IsCanonicalMessage (message : List (List ℕ)) (limits : Bounds) : Type 0 where
   pub one : length message ≡ 1
   pub value : Tree
@@ -19,14 +19,13 @@ pub record IsCanonicalMessage (message : List (List ℕ)) (limits : Bounds) : Ty
   pub free : first_cap value ≡ None
   pub same : canon value ≡ bytes (segment_at message 0)
 
--- the capability that two numbers stand for: none if the first is 0, otherwise the second is the index
+-- `None` if the first number is 0, else the capability with the index `k`.
 abbrev pub reported_cap : ℕ → ℕ → Option ℕ
 reported_cap zero k = None
 reported_cap (suc n) k = Some k
 
--- `f` has the figures of an accepted message: the numbers of words and segments, the price, the number of visits, the
--- least depth limit under which it is accepted, 1 and the index of the first capability (or 0), and 1 if it is
--- canonical (or 0)
+-- `f` has the figures of `message`, which is accepted within `limits`. `depth` is the least depth limit under which
+-- `message` is accepted. `has_capability` and `canonical` are 1 for yes and 0 for no.
 pub record AreFigures (message : List (List ℕ)) (limits : Bounds) (f : CapnFigures) : Type 0 where
   pub value : Tree
   pub is : IsValueOf message limits value
@@ -39,7 +38,7 @@ pub record AreFigures (message : List (List ℕ)) (limits : Bounds) (f : CapnFig
   pub canonical : (f.canonical ≡ 1) ↔ IsCanonicalMessage message limits
   pub flags : (f.has_capability ≤ 1) × (f.canonical ≤ 1)
 
--- `bs` are read as a message with the figures `f`
+-- `bs` are read as a message with the figures `f`.
 pub record FiguresIn (form : Form) (bs : List ℕ) (limits : Bounds) (f : CapnFigures) : Type 0 where
   pub message : List (List ℕ)
   pub reads : Reads form bs limits.message_words message

@@ -4,12 +4,12 @@ use Rattle.capn_canon.specs.declared.form.Form.{Form}
 use Rattle.capn_abi.specs.StatusCodes.{is_status}
 use Rattle.capn_scratch.specs.FormRefusal.{LacksTable, LacksText}
 
--- `n` is a status of the call: at most 4 for the call itself, 9 if the scratch is too short, otherwise that of a
--- refusal, but never 8, which stands for memory
+-- True if `n` is a status that the call can return: 0 to 4, 9 if the scratch is too short, or the status of a refusal.
+-- The status 8, which is that of `Memory`, is excluded.
 abbrev pub is_lent_status : ℕ → Bool
 is_lent_status n = if nat_lt n 10 then nat_lt n 5 || nat_eq n 9 else is_status n
 
--- `bs` take `n` words of scratch, which are more than the scratch has: for the text that `bs` unpack to, or for that
--- text and the ends of the segments
+-- `n` words are needed, and the scratch has only `scratch` words. The `n` words are those of the text that `bs` unpack
+-- to (`LacksText`), or all words that `bs` need (`LacksTable`).
 abbrev pub LacksScratch : Form → List ℕ → ℕ → ℕ → ℕ → Type 0
 LacksScratch form bs most scratch n = LacksText form bs most scratch n ⊎ LacksTable form bs most scratch n

@@ -1,4 +1,4 @@
--- Messages that aren't canonical, so that a digest needs memory for the canonical bytes. (Our own.)
+-- Messages that aren't canonical. Their digest needs memory for the canonical bytes. (Our own.)
 use Rattle.std.specs.Prelude.{◌≡◌, ◌⊎◌, ℕ, List, None}
 use Rattle.capn_value.specs.Tree.{Tree}
 use Rattle.capn_value.specs.FirstCap.{first_cap}
@@ -9,7 +9,7 @@ use Rattle.capn_canon.specs.MemoryNeed.{MayNeedMemory}
 use Rattle.capn_canon.specs.Reads.{Reads}
 use Rattle.capn_canon.specs.declared.form.Form.{Form}
 
--- `bs` are read as an accepted message that has canonical bytes, but isn't canonical
+-- `bs` are read as an accepted message that has canonical bytes, but isn't canonical.
 pub record MustMake (form : Form) (bs : List ℕ) (limits : Bounds) : Type 0 where
   pub message : List (List ℕ)
   pub reads : Reads form bs limits.message_words message
@@ -18,6 +18,6 @@ pub record MustMake (form : Form) (bs : List ℕ) (limits : Bounds) : Type 0 whe
   pub free : first_cap value ≡ None
   pub not : IsCanonicalOf message value → ⊥
 
--- finding the digest of `bs` may need memory: to read `bs`, or for canonical bytes that have to be made
+-- Finding the digest of `bs` may need memory, to read `bs` or to make canonical bytes (`MustMake`).
 abbrev pub MayNeedToMake : Form → List ℕ → Bounds → Type 0
 MayNeedToMake form bs limits = MayNeedMemory form bs limits ⊎ MustMake form bs limits

@@ -14,29 +14,30 @@ use Rattle.capn_canon.specs.declared.form.Form.TheVariants as forms
 use Rattle.capn_c.specs.Entries.{IndexedIn, c_entry, starts_from, table_length}
 use Rattle.capn_c.specs.declared.entries.CapnEntry.{CapnEntry}
 
--- `bs` have at `offset` the bytes of the `words` words of `message` at the place `at`
+-- The bytes of `bs` from `offset` on begin with the bytes of the `words` words of `message` from the place `at` on.
 pub record StandAt (bs : List ℕ) (offset : ℕ) (message : List (List ℕ)) (at : Place) (words : ℕ) : Type 0 where
   pub inside : offset + 8 * words ≤ length bs
   pub same : take (8 * words) (drop offset bs) ≡ bytes_at message at (8 * words)
 
--- if the target has content, `bs` have the bytes of that content at `offset`
+-- If the target has content, the bytes of that content in `message` are in `bs` at `offset`.
 abbrev pub StandsAt : List ℕ → ℕ → List (List ℕ) → Target → Type 0
 StandsAt bs offset message (targets.Content s start shape pads) =
     StandAt bs offset message (record { segment = s; word = start }) (extent shape)
 StandsAt bs offset message _ = ⊤
 
--- the segment and the word at which the target of an entry begins
+-- The segment and the word at which the target of an entry begins.
 abbrev pub entry_place : Entry → Place
 entry_place e = record { segment = e.segment; word = e.start }
 
--- if `bs` are read as a message, in a stream or bare, the words at the place of any entry are in `bs`, at the offset
--- that C reads in the entry
+-- If `bs` are read as a message, in a stream or bare, the words at the place of any entry are in `bs`. They are at the
+-- offset that C reads in the entry.
 abbrev pub OffsetsAreOfPlaces : Type 0
 OffsetsAreOfPlaces = (form : Form) (bs : List ℕ) (most : ℕ) (message : List (List ℕ)) → form ≢ forms.Packed
     → Reads form bs most message → (e : Entry) (words : ℕ) → IsContent message (entry_place e) words
     → StandAt bs (c_entry (table_length form message) (starts_from 0 message) e).offset message (entry_place e) words
 
--- if the caller's buffer has the index of `bs`, the target of each slot is in `bs`, at the offset of the slot's entry
+-- If `bs` are a stream or bare words, and `new` has the index of `bs`, the content of each slot's target is in `bs`. It
+-- is at the offset of the slot's entry.
 abbrev pub OffsetsAreOfContents : Type 0
 OffsetsAreOfContents = (form : Form) (bs : List ℕ) (limits : Bounds) (old new : List CapnEntry) → form ≢ forms.Packed
     → (h : IndexedIn form bs limits old new) → (i : ℕ) → i < length (index_of h.message limits) → (none : CapnEntry)

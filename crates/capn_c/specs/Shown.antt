@@ -14,23 +14,23 @@ use Rattle.capn_canon.specs.Denotes.{Denotes}
 use Rattle.capn_canon.specs.MemoryNeed.{MayNeedMemory}
 use Rattle.capn_canon.specs.declared.form.Form.{Form}
 
--- the text in `style` of a message with the value `v`: the text of the whole value, and the end that the style has
+-- The complete text of a message with the value `v` in `style`: the text of `v`, and then the end of the style.
 abbrev pub message_text : Style → Tree → List ℕ
 message_text style v = styled style [] v ++ end_of style
 
--- `message` is accepted, and `text` is the text of its value in `style`
+-- `message` is accepted, and `text` is its complete text in `style`.
 pub record ShowsMessage (message : List (List ℕ)) (limits : Bounds) (style : Style) (text : List ℕ) : Type 0 where
   pub value : Tree
   pub is : IsValueOf message limits value
   pub same : text ≡ message_text style value
 
--- `bs` are read as an accepted message, and `text` is the text of its value in `style`
+-- `bs` are read as an accepted message, and `text` is its complete text in `style`.
 pub record ShowsIn (form : Form) (bs : List ℕ) (limits : Bounds) (style : Style) (text : List ℕ) : Type 0 where
   pub value : Tree
   pub denotes : Denotes form bs limits value
   pub same : text ≡ message_text style value
 
--- making the text of `bs` may need memory: to read `bs`, or since `bs` denote a value, which has a text
+-- Making the text of `bs` may need memory, to read `bs` or for the text of the value that `bs` denote.
 abbrev pub MayNeedText : Form → List ℕ → Bounds → Type 0
 MayNeedText form bs limits = MayNeedMemory form bs limits ⊎ ((v : Tree) × Denotes form bs limits v)
 

@@ -23,8 +23,8 @@ use capn_canon::{Form, Refusal, survey_bytes};
 use capn_walk::Limits;
 use std::alloc::Global;
 
-/// Surveys the message that `bytes` encode in `form`. Reports a length that is enough for the canonical bytes, with the
-/// status `NO_ROOM`, or the refusal.
+/// Surveys the message that `bytes` encode in `form`. Reports the refusal, or the status `NO_ROOM` with a length that
+/// is enough for the canonical bytes.
 fn survey_length(
     alloc: Global,
     form: Form,
@@ -56,12 +56,12 @@ fn survey_length(
 
 /// Writes the canonical bytes of the message that `bytes` encode in `form` to `out`, within `limits`.
 ///
-/// The status is 0 if the answer is at the start of `out`, and 1 if `out` has no room. It is 2, 3 or 4 if the form, a
-/// limit or the tariff is out of its range, 8 if memory was refused, and otherwise that of the refusal. After 1, `out`
-/// is as it was, and `length` is exactly the length of the answer. If `out` is empty, the message is only surveyed, and
-/// `length` is 8 for each word paid and 8 more, which is enough.
+/// The status is 0 if the answer is at the start of `out`, and 1 if `out` is too short. If it is 1, `out` is unchanged,
+/// and `length` is exactly the length of the answer in bytes. An empty `out` is an exception: the message is only
+/// surveyed, and `length` is 8 bytes for each word paid and 8 more, which is enough.
 ///
-/// Bare words, and a stream of at most 64 segments, take no memory.
+/// The status is 2, 3 or 4 if the form, a limit or the tariff is out of its range, and 8 if memory was refused.
+/// Otherwise it is the status of the refusal. Bare words, and a stream of at most 64 segments, need no memory.
 #[unsafe(no_mangle)]
 pub extern "C" fn capn_canonical(
     alloc: Global,
@@ -71,7 +71,9 @@ pub extern "C" fn capn_canonical(
     out: &mut [u8],
     report: &mut CapnReport,
 ) -> u32
-    // The form, then the limits, then the tariff are tested before the bytes are read.
+    // `result` is 2 if and only if the form is out of its range. If the form is in its range, `result` is 3 if and only
+    // if a limit is out of its range. If the limits are in their ranges too, `result` is 4 if and only if the tariff is
+    // out of its range.
     ensures form { (result ≡ 2) ↔ (IsForm form → ⊥) }
     ensures limits { (result ≡ 3) ↔ (IsForm form × (GiveLimits limits.now → ⊥)) }
     ensures tariff { (result ≡ 4) ↔ (IsForm form × GiveLimits limits.now × (IsTariff limits.now.tariff → ⊥)) }
@@ -84,21 +86,22 @@ pub extern "C" fn capn_canonical(
     ensures only { IsForm form → GiveLimits limits.now → IsTariff limits.now.tariff → (v : Value)
         → Denotes (form_named form) bytes.now (bounds_of limits.now) v → first_cap v ≡ None
         → (result ≡ 8) ⊎ Serves (canon v) result report.new out.old out.new }
-    // After 0 or 1 the report has the length of the answer and the price. All other fields are 0.
+    // If `result` is 0 or 1, all fields of the report other than `length` and `paid` are 0.
     ensures rest { result ≤ 1 → report.new ≡ answered report.new.length report.new.paid 0 }
     ensures blank { 2 ≤ result → result ≤ 4 → report.new ≡ at_number 0 }
     ensures listed { IsTrue (is_status result) }
-    // Any other status and the report stand for a true refusal `e`, and only for `e` unless the status is 8.
+    // If `result` is at least 5, `result` and `report` are those of a refusal `e`, whose reason is true. If `result` is
+    // not 8, they are those of no other refusal.
     ensures refused { 5 ≤ result → (e : Refusals) × Reports result report.new e
         × IsRefused (form_named form) bytes.now (bounds_of limits.now) e }
-    // Memory is refused only for the ends of more than 64 segments, or for the words that a packed text unpacks to.
+    // `result` is 8 only for a stream of more than 64 segments, or for the words that a packed text unpacks to.
     ensures memory { result ≡ 8 → MayNeedMemory (form_named form) bytes.now (bounds_of limits.now) }
-    // The walk pays at most the budget, also if the message is refused.
+    // For any `result`, the reported price is at most the budget, and the number of visits at most the price plus 1.
     ensures bounded { IsBounded limits.now.budget report.new.paid report.new.visits }
     ensures short { result ≤ 1 → report.new.length ≤ 8 * (report.new.paid + 1) }
-    // If `result` is not 0, the buffer is as it was.
+    // If `result` is not 0, `out` is unchanged.
     ensures kept { result ≢ 0 → out.new ≡ out.old }
-    // The answer has the four properties of the canonical bytes of `v` (`IsCanonicalForm`).
+    // If `result` is 0, the bytes written have the four properties of the canonical form of `v` (`IsCanonicalForm`).
     ensures canonical { result ≡ 0 → (v : Value) → Denotes (form_named form) bytes.now (bounds_of limits.now) v
         → IsCanonicalForm (take report.new.length out.new) (bounds_of limits.now) v }
 {

@@ -1,4 +1,4 @@
-//! Writes the canonical bytes of a message into the caller's buffer, for each of the three forms.
+//! Functions that write the canonical bytes of a message in any form into the caller's buffer.
 
 ghost use Rattle.capn_canon.specs.MemoryNeed.{MayNeedBytesIn, MayNeedMemory};
 ghost use Rattle.capn_canon.specs.declared.form.Form.TheVariants as forms;
@@ -44,8 +44,8 @@ fn fill_bare(bytes: &[u8], limits: Limits, out: &mut [u8], report: &mut CapnRepo
     }
 }
 
-/// Writes the canonical bytes of the frame `bytes` straight to `out`. This is a function of its own so that only frames
-/// take stack for the ends of the segments.
+/// Writes the canonical bytes of the frame `bytes` straight to `out`. This is a separate function, so that only frames
+/// use stack for the ends of the segments.
 #[inline(never)]
 fn fill_frame(
     alloc: Global,
@@ -63,7 +63,8 @@ fn fill_frame(
     }
 }
 
-/// Writes the canonical bytes of the message that `bytes` encode in `form` to `out`, and reports the result.
+/// Writes the canonical bytes of the message that `bytes` encode in `form` to `out`. Fills in `report`, and returns the
+/// status.
 pub fn fill(
     alloc: Global,
     form: Form,

@@ -75,7 +75,7 @@ fn write_lent(
 ) -> u32
     ensures { IsLent form bytes.now limits (length scratch.old) out.old out.new result report.new }
 {
-    // The proof of the clauses needs the laws of canonical bytes, and the ranges that limits promise.
+    // The proof of the contract needs the laws of canonical bytes, and the ranges that limits promise.
     decision();
     enough();
     denotation();
@@ -86,18 +86,21 @@ fn write_lent(
     tell(written, report)
 }
 
-/// Writes the canonical bytes of the message that `bytes` encode in `form` to `out`, within `limits`. No memory is
-/// taken: what is needed on the way is kept in `scratch`. The contents of `scratch` afterwards are not specified.
+/// Writes the canonical bytes of the message that `bytes` encode in `form` to `out`, within `limits`. The call
+/// allocates no memory, and works in the words of `scratch` instead. The contents of `scratch` after the call are not
+/// specified.
 ///
-/// The status is 0 if the answer is at the start of `out`, and 1 if `out` has no room. It is 2, 3 or 4 if the form, a
-/// limit or the tariff is out of its range, 9 if `scratch` has too few words, and otherwise that of the refusal, but
-/// never 8. After 1, `out` is as it was, and `length` is exactly the length of the answer. After 9, `at` is the number
-/// of words needed.
+/// The status is 0 if the answer is at the start of `out`, and 1 if `out` is too short. If it is 1, `out` is unchanged,
+/// and `length` is exactly the length of the answer in bytes. The status is 2, 3 or 4 if the form, a limit or the
+/// tariff is out of its range. It is 9 if `scratch` has too few words. Then `at` is the number of words needed.
+/// Otherwise the status is that of the refusal, but never 8.
 ///
-/// Bare words, and a stream of at most 64 segments, take no scratch. Another stream takes a word for each segment but
-/// the last, so 4,095 words are always enough. A packed text takes the words that it unpacks to, and then the words of
-/// that stream. The limit on message words and 6,144 more are always enough. The scratch for the unpacked words is
-/// tested first, and the scratch for the stream after unpacking.
+/// Bare words, and a stream of at most 64 segments, need no scratch. A stream of more segments needs one word for each
+/// segment but the last, so 4,095 words are always enough. A packed text needs the words of the stream that it unpacks
+/// to, and then the words that this stream needs. For a packed text, 6,144 words more than the limit on message words
+/// are always enough.
+///
+/// If `scratch` is too short for the unpacked words of a packed text, `at` counts these words only.
 #[unsafe(no_mangle)]
 pub extern "C" fn capn_canonical_with_scratch(
     form: u32,
@@ -107,23 +110,26 @@ pub extern "C" fn capn_canonical_with_scratch(
     out: &mut [u8],
     report: &mut CapnReport,
 ) -> u32
-    // The form, then the limits, then the tariff are tested before the bytes are read.
+    // `result` is 2 if and only if the form is out of its range. If the form is in its range, `result` is 3 if and only
+    // if a limit is out of its range. If the limits are in their ranges too, `result` is 4 if and only if the tariff is
+    // out of its range.
     ensures form { (result ≡ 2) ↔ (IsForm form → ⊥) }
     ensures limits { (result ≡ 3) ↔ (IsForm form × (GiveLimits limits.now → ⊥)) }
     ensures tariff { (result ≡ 4) ↔ (IsForm form × GiveLimits limits.now × (IsTariff limits.now.tariff → ⊥)) }
-    // If `result` is 0 or 1, the answer is the canonical bytes of the one value that the bytes denote, `paid` is the
-    // number of words that the walk pays, and `scratch` has as many words as the bytes take.
+    // If `result` is 0 or 1, the answer is the canonical bytes of the one value that the bytes denote. `paid` is the
+    // number of words that the walk pays. `scratch` has as many words as the bytes need.
     ensures found { result ≤ 1 → (text : List ℕ)
         × Answers (form_named form) bytes.now (bounds_of limits.now) text report.new.paid
         × HasScratch (form_named form) bytes.now (length scratch.old)
         × Delivers text result report.new.length out.old out.new }
-    // If the bytes denote a value without capabilities, and `scratch` has as many words as the bytes take, the answer
+    // If the bytes denote a value without capabilities, and `scratch` has as many words as the bytes need, the answer
     // is the canonical bytes of that value.
     ensures only { IsForm form → GiveLimits limits.now → IsTariff limits.now.tariff → (v : Value)
         → Denotes (form_named form) bytes.now (bounds_of limits.now) v → first_cap v ≡ None
         → HasScratch (form_named form) bytes.now (length scratch.old)
         → Delivers (canon v) result report.new.length out.old out.new }
-    // After 0 or 1 the report has the length of the answer and the price. All other fields are 0.
+    // If `result` is 0 or 1, the report has the length of the answer and the price. All other fields of the report are
+    // 0.
     ensures rest { result ≤ 1 → report.new ≡ answered report.new.length report.new.paid 0 }
     ensures blank { 2 ≤ result → result ≤ 4 → report.new ≡ at_number 0 }
     ensures listed { IsTrue (is_lent_status result) }
@@ -133,18 +139,19 @@ pub extern "C" fn capn_canonical_with_scratch(
     ensures lacked { IsForm form → GiveLimits limits.now → IsTariff limits.now.tariff → (n : ℕ)
         → LacksScratch (form_named form) bytes.now limits.now.message_words (length scratch.old) n
         → (result ≡ 9) × (report.new ≡ at_number n) }
-    // The number of words needed is at most what is enough for every input in the form.
+    // If `result` is 9, `at` is at most the number of words that is enough for every input in the form.
     ensures enough { result ≡ 9 → report.new.at ≤ most_scratch (form_named form) limits.now.message_words }
-    // Any other status and the report stand for one refusal `e`, which is true. Memory is never refused.
+    // If `result` is at least 10, `result` and `report` are those of a refusal `e`, whose reason is true, and of no
+    // other refusal. `result` is never 8.
     ensures refused { 10 ≤ result → (e : Refusals) × Reports result report.new e
         × IsRefused (form_named form) bytes.now (bounds_of limits.now) e }
     ensures no_memory { result ≢ 8 }
-    // The walk pays at most the budget, also if the message is refused.
+    // For any `result`, the reported price is at most the budget, and the number of visits at most the price plus 1.
     ensures bounded { IsBounded limits.now.budget report.new.paid report.new.visits }
     ensures short { result ≤ 1 → report.new.length ≤ 8 * (report.new.paid + 1) }
-    // If `result` is not 0, the buffer is as it was.
+    // If `result` is not 0, `out` is unchanged.
     ensures kept { result ≢ 0 → out.new ≡ out.old }
-    // The answer has the four properties of the canonical bytes of `v` (`IsCanonicalForm`).
+    // If `result` is 0, the bytes written have the four properties of the canonical form of `v` (`IsCanonicalForm`).
     ensures canonical { result ≡ 0 → (v : Value) → Denotes (form_named form) bytes.now (bounds_of limits.now) v
         → IsCanonicalForm (take report.new.length out.new) (bounds_of limits.now) v }
 {

@@ -20,8 +20,8 @@ use capn_canon::Refusal;
 use capn_walk::Limits;
 use std::alloc::Global;
 
-/// Surveys the message that is held in `segments`. Reports a length that is enough for the canonical bytes, with the
-/// status `NO_ROOM`, or the refusal.
+/// Surveys the message that is held in `segments`. Reports the refusal, or the status `NO_ROOM` with a length that is
+/// enough for the canonical bytes.
 fn held_length(
     alloc: Global,
     segments: &[&[[u8; 8]]],
@@ -67,11 +67,12 @@ fn fill_held(
 
 /// Writes the canonical bytes of the message that is held in `segments` to `out`, within `limits`.
 ///
-/// The status is 0 if the answer is at the start of `out`, and 1 if `out` has no room. It is 3 or 4 if a limit or the
-/// tariff is out of its range, 48 if there are no segments, and otherwise that of the refusal that a frame of the same
-/// segments would get. After 1, `out` is as it was, and `length` is exactly the length of the answer. If `out` is
-/// empty, the message is only surveyed, and `length` is 8 for each word paid and 8 more, which is enough. No memory is
-/// taken.
+/// The status is 0 if the answer is at the start of `out`, and 1 if `out` is too short. If it is 1, `out` is unchanged,
+/// and `length` is exactly the length of the answer in bytes. An empty `out` is an exception: the message is only
+/// surveyed, and `length` is 8 bytes for each word paid and 8 more, which is enough.
+///
+/// The status is 3 or 4 if a limit or the tariff is out of its range, and 48 if there are no segments. Otherwise it is
+/// the status of the refusal that a frame of the same segments gets. No memory is allocated.
 #[unsafe(no_mangle)]
 pub extern "C" fn capn_canonical_segments(
     alloc: Global,
@@ -80,7 +81,8 @@ pub extern "C" fn capn_canonical_segments(
     out: &mut [u8],
     report: &mut CapnReport,
 ) -> u32
-    // The limits, then the tariff are tested before anything is read.
+    // `result` is 3 if and only if a limit is out of its range. If the limits are in their ranges, `result` is 4 if and
+    // only if the tariff is out of its range.
     ensures limits { (result ≡ 3) ↔ (GiveLimits limits.now → ⊥) }
     ensures tariff { (result ≡ 4) ↔ (GiveLimits limits.now × (IsTariff limits.now.tariff → ⊥)) }
     // If `result` is 0 or 1, the answer is the canonical bytes of the one value that the message denotes, and `paid` is
@@ -92,21 +94,22 @@ pub extern "C" fn capn_canonical_segments(
     ensures only { GiveLimits limits.now → IsTariff limits.now.tariff → (v : Value)
         → DenotesHeld (message_of segments.now) (bounds_of limits.now) v → first_cap v ≡ None
         → Serves (canon v) result report.new out.old out.new }
-    // After 0 or 1 the report has the length of the answer and the price. All other fields are 0.
+    // If `result` is 0 or 1, all fields of the report other than `length` and `paid` are 0.
     ensures rest { result ≤ 1 → report.new ≡ answered report.new.length report.new.paid 0 }
     ensures blank { 2 ≤ result → result ≤ 4 → report.new ≡ at_number 0 }
     ensures listed { IsTrue (is_status result) }
-    // Any other status and the report stand for a true refusal `e`, and only for `e` unless the status is 8.
+    // If `result` is at least 5, `result` and `report` are those of a refusal `e`, whose reason is true. If `result` is
+    // not 8, they are those of no other refusal.
     ensures refused { 5 ≤ result → (e : Refusals) × Reports result report.new e
         × IsRefusedHeld (message_of segments.now) (bounds_of limits.now) e }
-    // Memory is never refused, since nothing is allocated.
+    // `result` is never 8, since nothing is allocated.
     ensures no_memory { result ≢ 8 }
-    // The walk pays at most the budget, also if the message is refused.
+    // For any `result`, the reported price is at most the budget, and the number of visits at most the price plus 1.
     ensures bounded { IsBounded limits.now.budget report.new.paid report.new.visits }
     ensures short { result ≤ 1 → report.new.length ≤ 8 * (report.new.paid + 1) }
-    // If `result` is not 0, the buffer is as it was.
+    // If `result` is not 0, `out` is unchanged.
     ensures kept { result ≢ 0 → out.new ≡ out.old }
-    // The answer has the four properties of the canonical bytes of `v` (`IsCanonicalForm`).
+    // If `result` is 0, the bytes written have the four properties of the canonical form of `v` (`IsCanonicalForm`).
     ensures canonical { result ≡ 0 → (v : Value) → DenotesHeld (message_of segments.now) (bounds_of limits.now) v
         → IsCanonicalForm (take report.new.length out.new) (bounds_of limits.now) v }
 {

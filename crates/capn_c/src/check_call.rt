@@ -38,8 +38,9 @@ fn check(alloc: Global, form: Form, bytes: &[u8], limits: Limits, report: &mut C
 /// Tests whether the message that `bytes` encode in `form` is accepted within `limits`, and reports the price.
 ///
 /// The status is 0 if the message is accepted. Then `paid` and `visits` are those of the walk. The status is 2, 3 or 4
-/// if the form, a limit or the tariff is out of its range. It is 8 if memory was refused, for the ends of more than 64
-/// segments or for the unpacked words. Otherwise it is that of the refusal, which is never that of a capability.
+/// if the form, a limit or the tariff is out of its range. It is 8 if memory was refused: for a stream of more than 64
+/// segments, or for the unpacked words. Otherwise it is the status of the refusal. A capability is no reason for a
+/// refusal.
 #[unsafe(no_mangle)]
 pub extern "C" fn capn_check(
     alloc: Global,
@@ -48,7 +49,9 @@ pub extern "C" fn capn_check(
     limits: &CapnLimits,
     report: &mut CapnReport,
 ) -> u32
-    // The form, then the limits, then the tariff are tested before the bytes are read.
+    // `result` is 2 if and only if the form is out of its range. If the form is in its range, `result` is 3 if and only
+    // if a limit is out of its range. If the limits are in their ranges too, `result` is 4 if and only if the tariff is
+    // out of its range.
     ensures form { (result ≡ 2) ↔ (IsForm form → ⊥) }
     ensures limits { (result ≡ 3) ↔ (IsForm form × (GiveLimits limits.now → ⊥)) }
     ensures tariff { (result ≡ 4) ↔ (IsForm form × GiveLimits limits.now × (IsTariff limits.now.tariff → ⊥)) }
@@ -61,12 +64,13 @@ pub extern "C" fn capn_check(
         → Denotes (form_named form) bytes.now (bounds_of limits.now) v → (result ≡ 0) ⊎ (result ≡ 8) }
     ensures blank { 1 ≤ result → result ≤ 4 → report.new ≡ at_number 0 }
     ensures listed { IsTrue (is_status result) }
-    // Any other status and the report stand for a true refusal `e`, and only for `e` unless the status is 8.
+    // If `result` is at least 5, `result` and `report` are those of a refusal `e`, whose reason is true. If `result` is
+    // not 8, they are those of no other refusal.
     ensures refused { 5 ≤ result → (e : Refusals) × Reports result report.new e
         × IsUnacceptedIn (form_named form) bytes.now (bounds_of limits.now) e }
-    // Memory is refused only for the ends of more than 64 segments, or for the words that a packed text unpacks to.
+    // `result` is 8 only for a stream of more than 64 segments, or for the words that a packed text unpacks to.
     ensures memory { result ≡ 8 → MayNeedMemory (form_named form) bytes.now (bounds_of limits.now) }
-    // The walk pays at most the budget, also if the message is refused.
+    // For any `result`, the reported price is at most the budget, and the number of visits at most the price plus 1.
     ensures bounded { IsBounded limits.now.budget report.new.paid report.new.visits }
 {
     *report = report_at(0);

@@ -42,8 +42,8 @@ fn same_message<A: Space, B: Space>(
     Ok(same_surveyed(first, second, limits))
 }
 
-/// Tests whether the message in the frame `bytes` has the value of `first`. Refuses bytes that are no frame or that go
-/// on after it. Memory is taken only for a frame of more than 64 segments.
+/// Tests whether the message in the frame `bytes` has the value of `first`. Refuses bytes that are no frame, and bytes
+/// that go on after the frame. Memory is allocated only for a frame of more than 64 segments.
 fn same_frame<A: Space>(
     alloc: Global,
     first: &A,
@@ -57,7 +57,7 @@ fn same_frame<A: Space>(
     same_message(alloc, first, &second, limits)
 }
 
-/// Tests whether the message in the frame that the packed text `bytes` unpacks to has the value of `first`.
+/// Unpacks the packed text `bytes` to a frame, and tests whether the message in that frame has the value of `first`.
 fn same_packed<A: Space>(
     alloc: Global,
     first: &A,
@@ -89,8 +89,8 @@ fn same_in<A: Space>(
     }
 }
 
-/// The task of `compared_in`: compares a message with the one that `second` encodes in `form`. `second` isn't read if
-/// the first message has no canonical bytes.
+/// The task of `compared_in`: compares a first message with the message that `second` encodes in `form`. `second` isn't
+/// read if the first message has no canonical bytes.
 #[derive(Clone, Copy)]
 struct Compare<'a> {
     form: Form,
@@ -117,7 +117,7 @@ impl<'a> MessageTask<Global> for Compare<'a> {
 /// Tests whether the messages that `first` and `second` encode in `form` have the same value within `limits`. An inner
 /// `Err` is the refusal of `second`. An outer `Err` is the refusal of `first`, and `second` is then not read.
 ///
-/// Each input is read once. Only packed texts, and frames of more than 64 segments, take memory from `alloc`.
+/// Each input is read once. Only packed texts, and frames of more than 64 segments, need memory of `alloc`.
 pub fn compared_in(
     alloc: Global,
     form: Form,

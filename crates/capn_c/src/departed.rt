@@ -1,4 +1,4 @@
-//! The type `CapnDeparted`, the mismatch of a message with its canonical bytes as C reads it.
+//! The type `CapnDeparted`: the mismatch of a message with its canonical bytes, in the layout that C reads.
 
 ghost use Rattle.std.specs.Prelude.{◌≡◌, ◌≤◌, length};
 ghost use Rattle.capn_answers.specs.Mismatches as mismatches;
@@ -11,9 +11,9 @@ use std::alloc::Global;
 #[derive(Clone, Copy)]
 #[repr(C)]
 pub struct CapnDeparted {
-    /// The word in the message that differs, or that follows the canonical bytes.
+    /// The message's word that differs, or the message's first word after the canonical bytes.
     pub is: u64,
-    /// The word of the canonical bytes in the place of the one that differs.
+    /// The word of the canonical bytes at the same place, if a word differs.
     pub canonical: u64,
     /// The number of the kind. 0: the message is canonical. 1: it has several segments. 2: the value has a capability.
     /// 3: a word differs. 4: words follow the canonical bytes.
@@ -24,13 +24,13 @@ pub struct CapnDeparted {
     pub word: u32,
     /// The number of segments for kind 1, or the index of the capability for kind 2.
     pub count: u32,
-    /// The number of numbers in the path.
+    /// The length of the path, in numbers.
     pub numbers: u32,
     /// Always 0.
     pub zero: u32,
 }
 
-/// Returns the number for the role of the word: a pointer, a tag word, or the last word of a list.
+/// Returns the number for the role `whose`: 1 for a pointer, 2 for a tag word, 3 for the last word of a list.
 fn number_of_owner(whose: &Whose<Global>) -> u32
     ensures { result ≡ told.owner_number whose.now }
 {
@@ -41,7 +41,7 @@ fn number_of_owner(whose: &Whose<Global>) -> u32
     }
 }
 
-/// Returns the path to the slot of the pointer, or to the slot that points to the list.
+/// Returns the path in `whose`, which leads to the slot that owns the word.
 fn path_of_owner(whose: &Whose<Global>) -> &[u32]
     ensures { result.now ≡ mismatches.owner_path whose.now }
 {
@@ -65,7 +65,7 @@ pub fn path_of(mismatch: &Mismatch<Global>) -> &[u32]
     }
 }
 
-/// Returns a mismatch of the given `kind` whose path has `numbers` numbers, with 0 in all other fields.
+/// Returns a mismatch of the given `kind`. The path has `numbers` numbers, and all other fields are 0.
 fn of_kind(kind: u32, numbers: u32) -> CapnDeparted
     ensures { result ≡ record {
       is = 0;
@@ -90,7 +90,7 @@ fn of_kind(kind: u32, numbers: u32) -> CapnDeparted
     }
 }
 
-/// Returns `mismatch`, whose path has `numbers` numbers, as C reads it.
+/// Returns `mismatch` in the layout that C reads. The path of `mismatch` has `numbers` numbers.
 pub fn departed_of(mismatch: &Mismatch<Global>, numbers: u32) -> CapnDeparted
     requires numbers { numbers ≡ length (mismatches.path_of mismatch.now) }
     ensures { result ≡ told.departed_of mismatch.now }

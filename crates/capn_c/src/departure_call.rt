@@ -74,17 +74,19 @@ fn find_mismatch(
     }
 }
 
-/// Tests whether the message that `bytes` encode in `form` is canonical, if it is accepted within `limits`. Reports the
-/// first reason why it is not in `departed`, and writes the path to the slot concerned to `way`.
+/// Tests whether the message that `bytes` encode in `form` is canonical. The message must be accepted within `limits`.
+/// The first reason why the message is not canonical is written to `departed`. For a capability, `way` gets the path to
+/// its slot. For a word that differs, `way` gets the path to the slot that owns the word.
 ///
-/// The status is 0 if the message is accepted. Then `length` is 4 bytes for each number of the path, and `paid` and
-/// `visits` are those of the walk. The numbers are at the start of `way` if all of them fit. Otherwise `way` is as it
-/// was. A `way` of two numbers for each level of the depth limit always has room. The status is 2, 3 or 4 if the form,
-/// a limit or the tariff is out of its range. It is 8 if memory was refused: for the ends of more than 64 segments, for
-/// the unpacked words, or for the canonical bytes and the path of a message of one segment that is not canonical.
-/// Otherwise it is that of the refusal, which is never that of a capability.
+/// The status is 0 if the message is accepted. Then `paid` and `visits` are those of the walk, and `length` is 4 bytes
+/// for each number of the path. The numbers are at the start of `way` if all of them fit. Otherwise `way` is unchanged.
+/// A `way` of two numbers for each level of the depth limit is always long enough.
 ///
-/// A `way` of two numbers for each level of the depth limit always has room.
+/// The status is 2, 3 or 4 if the form, a limit or the tariff is out of its range. It is 8 if memory was refused.
+/// Otherwise it is the status of the refusal. A capability is no reason for a refusal.
+///
+/// Memory is needed for a stream of more than 64 segments and for the unpacked words. A message of one segment that is
+/// not canonical also needs memory, for its canonical bytes and the path.
 #[unsafe(no_mangle)]
 pub extern "C" fn capn_departure(
     alloc: Global,
@@ -95,13 +97,15 @@ pub extern "C" fn capn_departure(
     way: &mut [u32],
     report: &mut CapnReport,
 ) -> u32
-    // The form, then the limits, then the tariff are tested before the bytes are read.
+    // `result` is 2 if and only if the form is out of its range. If the form is in its range, `result` is 3 if and only
+    // if a limit is out of its range. If the limits are in their ranges too, `result` is 4 if and only if the tariff is
+    // out of its range.
     ensures form { (result ≡ 2) ↔ (IsForm form → ⊥) }
     ensures limits { (result ≡ 3) ↔ (IsForm form × (GiveLimits limits.now → ⊥)) }
     ensures tariff { (result ≡ 4) ↔ (IsForm form × GiveLimits limits.now × (IsTariff limits.now.tariff → ⊥)) }
     // If `result` is 0, the bytes are an accepted message, and `departed` is the mismatch of the message with its
-    // canonical bytes. The path is in `way` if it fits. The report has the length of the path, the price and the
-    // visits.
+    // canonical bytes. The path is in `way` if it fits. The report has the length of the path, the price and the number
+    // of visits.
     ensures found { result ≡ 0 → TellsMismatch (form_named form) bytes.now (bounds_of limits.now)
         departed.new report.new way.old way.new }
     // If the bytes are an accepted message, `result` is 0, unless memory was refused.
@@ -111,15 +115,16 @@ pub extern "C" fn capn_departure(
     ensures short { result ≡ 0 → report.new.length ≤ 8 * limits.now.depth }
     ensures blank { 1 ≤ result → result ≤ 4 → report.new ≡ at_number 0 }
     ensures listed { IsTrue (is_status result) }
-    // Any other status and the report stand for a true refusal `e`, and only for `e` unless the status is 8.
+    // If `result` is at least 5, `result` and `report` are those of a refusal `e`, whose reason is true. If `result` is
+    // not 8, they are those of no other refusal.
     ensures refused { 5 ≤ result → (e : Refusals) × Reports result report.new e
         × IsUnacceptedIn (form_named form) bytes.now (bounds_of limits.now) e }
-    // Memory is refused only for the ends of more than 64 segments, for the words that a packed text unpacks to, or for
-    // a message of one segment that is not canonical.
+    // `result` is 8 only for a stream of more than 64 segments, for the words that a packed text unpacks to, or for a
+    // message of one segment that is not canonical.
     ensures memory { result ≡ 8 → MayNeedMismatch (form_named form) bytes.now (bounds_of limits.now) }
-    // The walk pays at most the budget, also if the message is refused.
+    // For any `result`, the reported price is at most the budget, and the number of visits at most the price plus 1.
     ensures bounded { IsBounded limits.now.budget report.new.paid report.new.visits }
-    // If `result` is not 0, `departed` and `way` are as they were.
+    // If `result` is not 0, `departed` and `way` are unchanged.
     ensures kept { result ≢ 0 → (departed.new ≡ departed.old) × (way.new ≡ way.old) }
 {
     *report = report_at(0);

@@ -7,7 +7,7 @@ ghost use Rattle.capn_c.specs.Entries.{c_entry, kind_number, starts_from};
 use capn_walk::{Entry, EntryForm, Kind};
 use capn_words::Space;
 
-/// An entry of an index, for one slot: the target of the pointer in the slot.
+/// An entry of an index. It describes the target of the pointer in one slot.
 #[derive(Clone, Copy)]
 #[repr(C)]
 pub struct CapnEntry {
@@ -45,7 +45,8 @@ fn number_of_kind(kind: Kind) -> u32
     }
 }
 
-/// Returns the word at which `segment` begins, counted from the end of the table, by `starts`.
+/// Returns the word at which `segment` begins, counted from the end of the table. `starts` has these words for all
+/// segments.
 #[inline(always)]
 fn start_of(starts: &[u32], segment: u32) -> u32
     ensures { result ≡ get_or starts.now segment 0 }
@@ -58,8 +59,8 @@ fn start_of(starts: &[u32], segment: u32) -> u32
     }
 }
 
-/// Returns `entry` as C reads it, with an offset in bytes. The segment table has `table` bytes, and the segments begin
-/// at the words `starts` after the table.
+/// Returns `entry` in the layout that C reads, with an offset in bytes. The segment table has `table` bytes. The
+/// segments begin at the words `starts` after the table.
 #[inline(always)]
 fn entry_of(entry: Entry, table: u32, starts: &[u32]) -> CapnEntry
     ensures { result ≡ c_entry table starts.now entry }
@@ -113,7 +114,8 @@ fn words_at<S: Space>(space: &S, segment: u32) -> u32
     space.words(segment).unwrap_or(0)
 }
 
-/// Writes the start of each segment of `space`, counted in words from the end of the table, to the front of `starts`.
+/// Writes to `starts` the word at which each segment of `space` begins, counted from the end of the table. The
+/// numbers of `starts` after these are unchanged.
 #[tactic(auto, using(std::proofs::lemmas::List::Sums::sum_by_more_le))]
 pub fn put_starts<S: Space>(space: &S, starts: &mut [u32])
     requires { length (S.message space.now) ≤ length starts.old }

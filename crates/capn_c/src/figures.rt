@@ -1,4 +1,4 @@
-//! The type `CapnFigures`, the figures of a message that a survey finds, and the function that finds them.
+//! The type `CapnFigures`, which has the figures of a message, and the function `figures_of`, which finds them.
 
 ghost use Rattle.std.specs.Prelude.{IsTrue, ◌≡◌, ◌≢◌, ◌↔◌, ◌≤◌, length};
 ghost use Rattle.std.specs.Prelude.{IfOk, IfErr, IsOk, MatchResult};
@@ -36,7 +36,7 @@ pub struct CapnFigures {
     pub canonical: u32,
 }
 
-/// Returns the figures of the message `space`, which was `measured`.
+/// Returns the figures of the message `space`, for which `measured` is the measure.
 fn figures_by<S: Space>(space: &S, measured: MeasuredBare) -> CapnFigures
     ensures words { result.words ≡ total (S.message space.now) }
     ensures segments { result.segments ≡ length (S.message space.now) }
@@ -64,9 +64,10 @@ fn figures_by<S: Space>(space: &S, measured: MeasuredBare) -> CapnFigures
     }
 }
 
-/// Returns the figures of the message `space` within `limits`, or the reason why it is not accepted.
+/// Returns the figures of the message `space` within `limits`, or the reason why the message is not accepted.
 ///
-/// A message of one segment that is not canonical is walked at most twice, any other once. No memory is taken.
+/// A message of one segment that is not canonical is walked at most twice. Any other message is walked once. No memory
+/// is allocated.
 pub fn figures_of<S: Space>(
     alloc: Global,
     space: &S,

@@ -18,8 +18,8 @@ use capn_abi::{
 use capn_stream::{FrameFault, first};
 use std::alloc::Global;
 
-/// Returns the report of the refusal `fault` of the frame in `bytes`. For a frame that is not whole, the report has the
-/// number of bytes that the frame needs, otherwise the number of the fault.
+/// Returns the report of the refusal `fault` of the frame in `bytes`. If the frame is incomplete, the report has the
+/// number of bytes that the frame needs. Otherwise it has the number of the fault.
 fn report_of_frame(fault: FrameFault, bytes: &[u8], most: u32) -> CapnReport
     requires small { most ≤ most_message_words }
     requires refused { IsFrameRefused bytes.now most fault }
@@ -81,9 +81,9 @@ fn frame(alloc: Global, bytes: &[u8], most: u32, report: &mut CapnReport) -> u32
 /// Reports the length of the first frame in `bytes`, or the number of bytes that the frame needs, within `limits`.
 ///
 /// The status is 0 if the first `length` bytes are the frame. It is 3 or 4 if a limit or the tariff is out of its
-/// range, and 8 if memory was refused. It is 48 or 51 if there are no bytes or the frame is cut. The whole frame has at
-/// least `length` bytes then. It is 49 or 50 if the table announces too many segments or words, and `at` is the number
-/// announced. Memory is taken only for the ends of more than 64 segments, if the whole frame is in `bytes`.
+/// range, and 8 if memory was refused. It is 48 if there are no bytes, and 51 if the frame is incomplete. Then the
+/// complete frame has at least `length` bytes. The status is 49 or 50 if the table announces too many segments or
+/// words. Then `at` is the number announced. Memory is allocated only for a complete frame of more than 64 segments.
 #[unsafe(no_mangle)]
 pub extern "C" fn capn_first(
     alloc: Global,
@@ -91,28 +91,31 @@ pub extern "C" fn capn_first(
     limits: &CapnLimits,
     report: &mut CapnReport,
 ) -> u32
-    // The limits, then the tariff are tested before anything is read.
+    // `result` is 3 if and only if a limit is out of its range. If the limits are in their ranges, `result` is 4 if and
+    // only if the tariff is out of its range.
     ensures limits { (result ≡ 3) ↔ (GiveLimits limits.now → ⊥) }
     ensures tariff { (result ≡ 4) ↔ (GiveLimits limits.now × (IsTariff limits.now.tariff → ⊥)) }
     // If `result` is 0, the first `length` bytes are the frame of a message of at most `message_words` words.
     ensures found { result ≡ 0 → (message : List (List ℕ))
         × StandsFirst bytes.now limits.now.message_words message report.new.length }
-    // If a frame of at most `message_words` words comes first, `length` is that of the frame, unless `result` is 8.
+    // If a frame of at most `message_words` words comes first, `length` is the length of that frame, unless `result` is
+    // 8.
     ensures only { GiveLimits limits.now → IsTariff limits.now.tariff → (message : List (List ℕ)) (taken : ℕ)
         → StandsFirst bytes.now limits.now.message_words message taken
         → (result ≡ 8) ⊎ ((result ≡ 0) × (report.new.length ≡ taken)) }
-    // After 0 the report has the length of the frame. All other fields are 0.
+    // If `result` is 0, the report has the length of the frame. All other fields of the report are 0.
     ensures rest { result ≡ 0 → report.new ≡ answered report.new.length 0 0 }
     ensures blank { 1 ≤ result → result ≤ 4 → report.new ≡ at_number 0 }
     ensures listed { IsTrue (is_status result) }
-    // Any other status and the report stand for a true refusal `e`, and only for `e` unless the status is 8.
+    // If `result` is at least 5, `result` and `report` are those of a fault `e` of the frame, whose reason is true. If
+    // `result` is not 8, they are those of no other fault.
     ensures refused { 5 ≤ result → (e : Faults) × ReportsFrame bytes.now result report.new e
         × IsFrameRefused bytes.now limits.now.message_words e }
-    // If the frame is not whole, every whole frame that begins with these bytes has at least `length` bytes. `length`
-    // is more than the number of bytes passed, and at most what a frame can have.
+    // If `result` is 48 or 51, every complete frame that begins with `bytes` has at least `length` bytes. `length` is
+    // more than the number of bytes passed, and at most the greatest length of a frame.
     ensures needed { (result ≡ 48) ⊎ (result ≡ 51)
         → IsNeeded bytes.now limits.now.message_words report.new.length }
-    // Memory is refused only if a whole frame of more than 64 segments comes first.
+    // `result` is 8 only if a complete frame of more than 64 segments comes first.
     ensures memory { result ≡ 8 → HasTable bytes.now limits.now.message_words }
 {
     *report = report_at(0);

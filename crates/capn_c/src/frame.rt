@@ -13,7 +13,7 @@ use capn_walk::Limits;
 use std::alloc::Global;
 
 /// Reads `bytes` as the frame of a message within `limits`. Refuses bytes that are no frame, and bytes that go on after
-/// the frame. Memory is taken from `alloc` only for the ends of more than 64 segments.
+/// the frame. Memory is allocated on `alloc` only for a frame of more than 64 segments.
 pub fn read_frame<'a>(alloc: Global, bytes: &'a [u8], limits: Limits) -> Result<Framed<'a>, Refusal>
     ensures read { IfOk result (λ m. Reads forms.Stream bytes.now limits.message_words m) }
     ensures refused { IfErr result (λ e. IsUnacceptedIn forms.Stream bytes.now limits e) }

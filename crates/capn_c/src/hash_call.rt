@@ -22,7 +22,8 @@ use capn_canon::Form;
 use capn_walk::Limits;
 use std::alloc::Global;
 
-/// Writes the SHA-256 of the canonical bytes of the message to `digest`, and reports the result.
+/// Writes the SHA-256 of the canonical bytes of the message that `bytes` encode in `form` to `digest`, and reports the
+/// result.
 fn hash(
     alloc: Global,
     form: Form,
@@ -55,8 +56,8 @@ fn hash(
 /// Writes to `digest` the SHA-256 of the canonical bytes of the message that `bytes` encode in `form`, within `limits`.
 ///
 /// The status is 0 if the digest is written, and 2, 3 or 4 if the form, a limit or the tariff is out of its range. It
-/// is 8 if memory was refused: for the ends of more than 64 segments, for the unpacked words, or for the canonical
-/// bytes of a message that is not canonical. Otherwise it is that of the refusal.
+/// is 8 if memory was refused: for a stream of more than 64 segments, for the unpacked words, or for the canonical
+/// bytes of a message that is not canonical. Otherwise it is the status of the refusal.
 #[unsafe(no_mangle)]
 pub extern "C" fn capn_hash(
     alloc: Global,
@@ -66,7 +67,9 @@ pub extern "C" fn capn_hash(
     digest: &mut [u8; 32],
     report: &mut CapnReport,
 ) -> u32
-    // The form, then the limits, then the tariff are tested before the bytes are read.
+    // `result` is 2 if and only if the form is out of its range. If the form is in its range, `result` is 3 if and only
+    // if a limit is out of its range. If the limits are in their ranges too, `result` is 4 if and only if the tariff is
+    // out of its range.
     ensures form { (result ≡ 2) ↔ (IsForm form → ⊥) }
     ensures limits { (result ≡ 3) ↔ (IsForm form × (GiveLimits limits.now → ⊥)) }
     ensures tariff { (result ≡ 4) ↔ (IsForm form × GiveLimits limits.now × (IsTariff limits.now.tariff → ⊥)) }
@@ -78,19 +81,20 @@ pub extern "C" fn capn_hash(
     ensures only { IsForm form → GiveLimits limits.now → IsTariff limits.now.tariff → (v : Value)
         → Denotes (form_named form) bytes.now (bounds_of limits.now) v → first_cap v ≡ None
         → (result ≡ 8) ⊎ ((result ≡ 0) × (digest.new ≡ sha256 (canon v))) }
-    // After 0 the report has the price. All other fields are 0.
+    // If `result` is 0, the report has the price. All other fields of the report are 0.
     ensures rest { result ≡ 0 → report.new ≡ answered 0 report.new.paid 0 }
     ensures blank { 1 ≤ result → result ≤ 4 → report.new ≡ at_number 0 }
     ensures listed { IsTrue (is_status result) }
-    // Any other status and the report stand for a true refusal `e`, and only for `e` unless the status is 8.
+    // If `result` is at least 5, `result` and `report` are those of a refusal `e`, whose reason is true. If `result` is
+    // not 8, they are those of no other refusal.
     ensures refused { 5 ≤ result → (e : Refusals) × Reports result report.new e
         × IsRefused (form_named form) bytes.now (bounds_of limits.now) e }
-    // Memory is refused only for the ends of more than 64 segments, for the words that a packed text unpacks to, or for
-    // the canonical bytes of a message that is not canonical.
+    // `result` is 8 only for a stream of more than 64 segments, for the words that a packed text unpacks to, or for the
+    // canonical bytes of a message that is not canonical.
     ensures memory { result ≡ 8 → MayNeedToMake (form_named form) bytes.now (bounds_of limits.now) }
-    // The walk pays at most the budget, also if the message is refused.
+    // For any `result`, the reported price is at most the budget, and the number of visits at most the price plus 1.
     ensures bounded { IsBounded limits.now.budget report.new.paid report.new.visits }
-    // If `result` is not 0, `digest` is as it was.
+    // If `result` is not 0, `digest` is unchanged.
     ensures kept { result ≢ 0 → digest.new ≡ digest.old }
 {
     *report = report_at(0);

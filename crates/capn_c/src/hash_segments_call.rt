@@ -20,7 +20,8 @@ use capn_walk::Limits;
 use sha2::{Digest, Sha256};
 use std::alloc::Global;
 
-/// Writes the SHA-256 of the canonical bytes of the message to `digest`, and reports the result.
+/// Writes the SHA-256 of the canonical bytes of the message that is held in `segments` to `digest`, and reports the
+/// result.
 fn hash_held(
     alloc: Global,
     segments: &[&[[u8; 8]]],
@@ -52,8 +53,8 @@ fn hash_held(
 /// Each segment is a list of words of 8 bytes.
 ///
 /// The status is 0 if the digest is written, 3 or 4 if a limit or the tariff is out of its range, and 8 if memory was
-/// refused for the canonical bytes. It is 48 if there are no segments, and otherwise that of the refusal that a frame
-/// of the same segments would get.
+/// refused for the canonical bytes. It is 48 if there are no segments. Otherwise it is the status of the refusal that a
+/// frame of the same segments gets.
 #[unsafe(no_mangle)]
 pub extern "C" fn capn_hash_segments(
     alloc: Global,
@@ -62,7 +63,8 @@ pub extern "C" fn capn_hash_segments(
     digest: &mut [u8; 32],
     report: &mut CapnReport,
 ) -> u32
-    // The limits, then the tariff are tested before anything is read.
+    // `result` is 3 if and only if a limit is out of its range. If the limits are in their ranges, `result` is 4 if and
+    // only if the tariff is out of its range.
     ensures limits { (result ≡ 3) ↔ (GiveLimits limits.now → ⊥) }
     ensures tariff { (result ≡ 4) ↔ (GiveLimits limits.now × (IsTariff limits.now.tariff → ⊥)) }
     // If `result` is 0, `digest` is the SHA-256 of the canonical bytes of the one value that the message denotes.
@@ -73,18 +75,19 @@ pub extern "C" fn capn_hash_segments(
     ensures only { GiveLimits limits.now → IsTariff limits.now.tariff → (v : Value)
         → DenotesHeld (message_of segments.now) (bounds_of limits.now) v → first_cap v ≡ None
         → (result ≡ 8) ⊎ ((result ≡ 0) × (digest.new ≡ sha256 (canon v))) }
-    // After 0 the report has the price. All other fields are 0.
+    // If `result` is 0, the report has the price. All other fields of the report are 0.
     ensures rest { result ≡ 0 → report.new ≡ answered 0 report.new.paid 0 }
     ensures blank { 1 ≤ result → result ≤ 4 → report.new ≡ at_number 0 }
     ensures listed { IsTrue (is_status result) }
-    // Any other status and the report stand for a true refusal `e`, and only for `e` unless the status is 8.
+    // If `result` is at least 5, `result` and `report` are those of a refusal `e`, whose reason is true. If `result` is
+    // not 8, they are those of no other refusal.
     ensures refused { 5 ≤ result → (e : Refusals) × Reports result report.new e
         × IsRefusedHeld (message_of segments.now) (bounds_of limits.now) e }
-    // Memory is refused only if the message has canonical bytes.
+    // `result` is 8 only if the message has canonical bytes.
     ensures memory { result ≡ 8 → MayNeedBytes (message_of segments.now) (bounds_of limits.now) }
-    // The walk pays at most the budget, also if the message is refused.
+    // For any `result`, the reported price is at most the budget, and the number of visits at most the price plus 1.
     ensures bounded { IsBounded limits.now.budget report.new.paid report.new.visits }
-    // If `result` is not 0, `digest` is as it was.
+    // If `result` is not 0, `digest` is unchanged.
     ensures kept { result ≢ 0 → digest.new ≡ digest.old }
 {
     *report = report_at(0);

@@ -1,4 +1,4 @@
-//! Messages that are held in segments: how they are read, canonicalised and surveyed, and their figures.
+//! Functions that read, canonicalise and survey a message that is held in segments.
 
 ghost use Rattle.std.specs.Prelude.{◌≡◌, ◌≢◌, ◌≤◌, ◌+◌, ◌*◌, Ok, None, length};
 ghost use Rattle.std.specs.Prelude.{IfOk, IfErr, IsErrOf, IsOk, MatchResult};
@@ -77,7 +77,7 @@ pub fn survey_held(
         → length (canon v) ≤ 8 * (s.paid + 1)) }
 {
     let message = held(segments, limits)?;
-    // The proof of the clauses needs the bounds that these calls promise.
+    // The proof of the contract needs the bounds that these calls promise.
     let _segments = message.segments();
     let _budget = limits.budget();
     let _depth = limits.depth();

@@ -24,7 +24,8 @@ use capn_walk::Limits;
 use capn_walk::laws::indexes;
 use std::alloc::Global;
 
-/// Writes the index of the message that `bytes` encode in `form`, which isn't packed, to `out`, and reports the result.
+/// Writes the index of the message that `bytes` encode in `form` to `out`, and reports the result. The form is not
+/// packed.
 fn index_in(
     alloc: Global,
     form: Form,
@@ -46,16 +47,16 @@ fn index_in(
     }
 }
 
-/// Writes the index of the message that `bytes` encode in `form`, a stream or bare words, to `out`, within `limits`.
-/// The index has an entry for each slot that the walk visits, in preorder.
+/// Writes the index of the message that `bytes` encode in `form` to `out`, within `limits`. The form is a stream or
+/// bare words. The index has an entry for each slot that the walk visits, in preorder.
 ///
-/// The status is 0 if the entries are at the start of `out`, and 1 if `out` has no room and is as it was. In both cases
-/// `visits` is the number of entries, and `length` is 24 bytes for each. The status is 2 if the form is neither a
-/// stream nor bare words, 3 or 4 if a limit or the tariff is out of its range, and 8 if memory was refused. Otherwise
-/// it is that of the refusal, which is never that of a capability.
+/// The status is 0 if the entries are at the start of `out`. It is 1 if `out` is too short, and then `out` is
+/// unchanged. If it is 0 or 1, `visits` is the number of entries, and `length` is 24 bytes for each entry. The status
+/// is 2 if the form is neither a stream nor bare words, 3 or 4 if a limit or the tariff is out of its range, and 8 if
+/// memory was refused. Otherwise it is the status of the refusal. A capability is no reason for a refusal.
 ///
-/// Bare words, and a stream of at most 64 segments, take no memory: the entries are written straight into `out`. A
-/// stream of more segments takes memory for the table of its segments.
+/// Bare words, and a stream of at most 64 segments, need no memory, since the entries are written straight into `out`.
+/// A stream of more segments needs memory for the table of its segments.
 #[unsafe(no_mangle)]
 pub extern "C" fn capn_index(
     alloc: Global,
@@ -65,7 +66,9 @@ pub extern "C" fn capn_index(
     out: &mut [CapnEntry],
     report: &mut CapnReport,
 ) -> u32
-    // The form, then the limits, then the tariff are tested before the bytes are read.
+    // `result` is 2 if and only if the form is neither a stream nor bare words. If it is one of them, `result` is 3 if
+    // and only if a limit is out of its range. If the limits are in their ranges, `result` is 4 if and only if the
+    // tariff is out of its range.
     ensures form { (result ≡ 2) ↔ (IsFlat form → ⊥) }
     ensures limits { (result ≡ 3) ↔ (IsFlat form × (GiveLimits limits.now → ⊥)) }
     ensures tariff { (result ≡ 4) ↔ (IsFlat form × GiveLimits limits.now × (IsTariff limits.now.tariff → ⊥)) }
@@ -73,7 +76,7 @@ pub extern "C" fn capn_index(
     // `paid` is the price.
     ensures counted { result ≤ 1 → (s : Survey) × Surveys (form_named form) bytes.now (bounds_of limits.now) s
         × (report.new ≡ answered (24 * s.visits) s.paid s.visits) }
-    // `visits` counts all entries of the index, also if `out` has no room for them.
+    // `visits` counts all entries of the index, also if `out` is too short for them.
     ensures entries { result ≤ 1
         → HasEntries (form_named form) bytes.now (bounds_of limits.now) report.new.visits }
     // If `result` is 0, the index is in `out`. If `result` is 1, `out` has fewer entries than the index.
@@ -85,14 +88,15 @@ pub extern "C" fn capn_index(
         → Denotes (form_named form) bytes.now (bounds_of limits.now) v → (result ≤ 1) ⊎ (result ≡ 8) }
     ensures blank { 2 ≤ result → result ≤ 4 → report.new ≡ at_number 0 }
     ensures listed { IsTrue (is_status result) }
-    // Any other status and the report stand for a true refusal `e`, and only for `e` unless the status is 8.
+    // If `result` is at least 5, `result` and `report` are those of a refusal `e`, whose reason is true. If `result` is
+    // not 8, they are those of no other refusal.
     ensures refused { 5 ≤ result → (e : Refusals) × Reports result report.new e
         × IsUnacceptedIn (form_named form) bytes.now (bounds_of limits.now) e }
-    // Memory is refused only if reading the bytes may need it.
+    // `result` is 8 only if reading the bytes may need memory.
     ensures memory { result ≡ 8 → MayNeedMemory (form_named form) bytes.now (bounds_of limits.now) }
-    // The walk pays at most the budget, also if the message is refused.
+    // For any `result`, the reported price is at most the budget, and the number of visits at most the price plus 1.
     ensures bounded { IsBounded limits.now.budget report.new.paid report.new.visits }
-    // If `result` is not 0, `out` is as it was.
+    // If `result` is not 0, `out` is unchanged.
     ensures kept { result ≢ 0 → out.new ≡ out.old }
 {
     *report = report_at(0);

@@ -40,7 +40,7 @@ fn test(alloc: Global, bytes: &[u8], limits: Limits, report: &mut CapnReport) ->
 /// Tests whether `bytes`, read bare within `limits`, are the canonical bytes of the value that `bytes` denote.
 ///
 /// The status is 0 if the bytes are canonical, and 5 if they are not. It is 3 or 4 if a limit or the tariff is out of
-/// its range, and otherwise that of the refusal, but never 8.
+/// its range. Otherwise it is the status of the refusal, but never 8.
 #[unsafe(no_mangle)]
 pub extern "C" fn capn_is_canonical(
     alloc: Global,
@@ -48,7 +48,8 @@ pub extern "C" fn capn_is_canonical(
     limits: &CapnLimits,
     report: &mut CapnReport,
 ) -> u32
-    // The limits, then the tariff are tested before anything is read.
+    // `result` is 3 if and only if a limit is out of its range. If the limits are in their ranges, `result` is 4 if and
+    // only if the tariff is out of its range.
     ensures limits { (result ≡ 3) ↔ (GiveLimits limits.now → ⊥) }
     ensures tariff { (result ≡ 4) ↔ (GiveLimits limits.now × (IsTariff limits.now.tariff → ⊥)) }
     // If `result` is 0 or 5, the bytes denote one value, which has no capability. `result` is 0 if the bytes are the
@@ -62,12 +63,13 @@ pub extern "C" fn capn_is_canonical(
     // If `result` is 0 or 5, all fields of the report are 0.
     ensures blank { result ≤ 5 → report.new ≡ at_number 0 }
     ensures listed { IsTrue (is_status result) }
-    // Any other status and the report stand for a true refusal `e`, and only for `e` unless the status is 8.
+    // If `result` is at least 6, `result` and `report` are those of a refusal `e`, whose reason is true. If `result` is
+    // not 8, they are those of no other refusal.
     ensures refused { 6 ≤ result → (e : Refusals) × Reports result report.new e
         × IsRefused forms.Bare bytes.now (bounds_of limits.now) e }
-    // Memory is never refused, since nothing is allocated, whatever the depth.
+    // `result` is never 8, since nothing is allocated, whatever the depth.
     ensures no_memory { result ≢ 8 }
-    // The walk pays at most the budget, also if the message is refused.
+    // For any `result`, the reported price is at most the budget, and the number of visits at most the price plus 1.
     ensures bounded { IsBounded limits.now.budget report.new.paid report.new.visits }
 {
     *report = report_at(0);

@@ -5,8 +5,8 @@ ghost use Rattle.capn_c.specs.Offsets.{OffsetsAreOfContents, OffsetsAreOfPlaces}
 
 use capn_walk::laws::indexes;
 
-/// States that for streams and bare words the offset of an entry leads to the words of the entry's place. So the target
-/// of a slot, if it has content, is in the bytes at the offset of the slot's entry.
+/// States a law for streams and bare words: the words at the place of an entry are in the bytes, at the entry's offset.
+/// So the content of a slot's target is in the bytes, at the offset of the slot's entry.
 pub fn offsets()
     ensures places { OffsetsAreOfPlaces }
     ensures contents { OffsetsAreOfContents }

@@ -2,14 +2,14 @@
 //!
 //! Each export returns a status and fills in a [`CapnReport`]. The statuses up to 7 concern the call.
 //! - 0: the result is written.
-//! - 1: the buffer has no room for the result.
+//! - 1: the buffer is too short for the result.
 //! - 2, 3, 4 and 6: the form, a limit, the tariff or the style is out of its range.
 //! - 5: the bytes are not canonical.
 //! - 7: two messages differ.
 //!
 //! Status 9 says that the scratch is too short. Status 8, and those from 16 on, stand for a refusal. The report has the
-//! numbers of the status, and 0 in all other fields. Only what the types say is required of a caller: that the memory
-//! exists, and that no written memory overlaps other arguments.
+//! numbers of the status, and 0 in all other fields. A caller must ensure only what the types say: the memory of the
+//! arguments exists, and no written memory overlaps another argument.
 #![tactic(auto)]
 
 mod canonical_call;

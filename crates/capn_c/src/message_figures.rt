@@ -15,7 +15,7 @@ use capn_walk::Limits;
 use capn_words::Bare;
 use std::alloc::Global;
 
-/// Returns the figures of the message in the frame `bytes`. Only a frame of more than 64 segments takes memory.
+/// Returns the figures of the message in the frame `bytes`. Only a frame of more than 64 segments needs memory.
 fn figures_of_frame(alloc: Global, bytes: &[u8], limits: Limits) -> Result<CapnFigures, Refusal>
     ensures { AreFiguresTold (FiguresIn forms.Stream bytes.now limits) (IsUnacceptedIn forms.Stream bytes.now limits)
         (MayNeedMemory forms.Stream bytes.now limits) limits.budget result }
@@ -36,7 +36,7 @@ fn figures_of_packed(alloc: Global, bytes: &[u8], limits: Limits) -> Result<Capn
 /// Returns the figures of the message that `bytes` encode in `form`, within `limits`. Bytes that are no message, and a
 /// message that is not accepted, are refused.
 ///
-/// The bytes are read once, and the message is walked as by [`figures_of`]. Memory is taken from `alloc` only for a
+/// The bytes are read once, and the message is walked as by [`figures_of`]. Memory is allocated on `alloc` only for a
 /// packed text, and for a frame of more than 64 segments.
 pub fn figures_in(
     alloc: Global,

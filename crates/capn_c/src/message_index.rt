@@ -21,8 +21,8 @@ use capn_walk::{Limits, Surveyed, index_into_form};
 use capn_words::{Bare, Space};
 use std::alloc::Global;
 
-/// Writes the index of the accepted message `space` to `out`, which has room for the index. The offsets count from the
-/// start of a segment table of `table` bytes. The segments begin at the words `starts` after the table.
+/// Writes the index of the accepted message `space` to `out`, which is long enough for the index. The offsets count
+/// from the start of a segment table of `table` bytes. The segments begin at the words `starts` after the table.
 fn write_index<S: Space>(
     space: &S,
     limits: Limits,
@@ -40,7 +40,8 @@ fn write_index<S: Space>(
     }
 }
 
-/// Writes the index of the accepted message `space` to `out`. Returns `false` if memory for the starts is refused.
+/// Writes the index of the accepted message `space` to `out`. Returns `false` if memory for the starts of the segments
+/// is refused.
 fn write_many<S: Space>(
     alloc: Global,
     space: &S,
@@ -60,8 +61,8 @@ fn write_many<S: Space>(
     true
 }
 
-/// Writes the index of the accepted message `space` to `out`. Memory is taken only for more than 64 segments. Returns
-/// `false` if that memory is refused.
+/// Writes the index of the accepted message `space` to `out`. Memory is allocated only for more than 64 segments.
+/// Returns `false` if that memory is refused.
 fn write_entries<S: Space>(
     alloc: Global,
     space: &S,
@@ -90,8 +91,8 @@ fn report_of_index(surveyed: Surveyed) -> CapnReport
     answer_of(24 * surveyed.visits as u64, surveyed.paid, surveyed.visits)
 }
 
-/// Writes the index of the message `space`, which follows a segment table of `table` bytes, to `out`, and reports the
-/// result. Memory is taken only for more than 64 segments.
+/// Writes the index of the message `space` to `out`, and reports the result. The message follows a segment table of
+/// `table` bytes. Memory is allocated only for more than 64 segments.
 fn index_message<S: Space>(
     alloc: Global,
     space: &S,
@@ -129,7 +130,7 @@ fn table_of<S: Space>(space: &S) -> u32
 }
 
 /// Writes the index of the message in the frame `bytes` to `out`, within `limits`. Fills in `report`, and returns the
-/// status. Memory is taken from `alloc` only for a frame of more than 64 segments.
+/// status. Memory is allocated on `alloc` only for a frame of more than 64 segments.
 pub fn index_frame(
     alloc: Global,
     bytes: &[u8],

@@ -14,7 +14,7 @@ use capn_walk::{Limits, Surveyed};
 use capn_words::{Space, Watched};
 use std::alloc::Global;
 
-/// Returns the bytes of `first` and then `second`, or `None` if memory was refused.
+/// Returns the bytes of `first` followed by those of `second`, or `None` if memory was refused.
 fn joined(mut first: Vec<u8>, second: Vec<u8>) -> Option<Vec<u8>>
     ensures { IfSome result (λ all. all.items ≡ first.items ++ second.items) }
 {

@@ -1,4 +1,4 @@
-//! The calls `capn_pack` and `capn_unpack`, which pack whole words and unpack a whole text.
+//! The calls `capn_pack` and `capn_unpack`, which pack words and unpack a complete packed text.
 
 ghost use Rattle.std.specs.Prelude.{◌↔◌, IsTrue, ◌≡◌, ◌≢◌, ◌⊎◌, ◌≤◌, ◌<◌, ◌%◌, ◌*◌, ℕ, List, length};
 ghost use Rattle.capn_pack.specs.Packed.{Packs};
@@ -13,11 +13,11 @@ use capn_abi::{CapnReport, MEMORY, NOT_WHOLE, answer_of, deliver, refuse_packed,
 use capn_pack::{PackFault, pack, unpack};
 use std::alloc::Global;
 
-/// Writes the packed text of the whole words `bytes` to `out`.
+/// Writes the packed text of the words in `bytes` to `out`.
 ///
-/// The status is 0 if the text is at the start of `out`, and 1 if `out` has no room. After 1, `out` is as it was, and
-/// `length` is the length of the text. The status is 8 if memory was refused, and 16 if the bytes are not whole words.
-/// After 16, `at` is the number of bytes.
+/// The status is 0 if the text is at the start of `out`, and 1 if `out` is too short. If it is 1, `out` is unchanged,
+/// and `length` is the length of the text in bytes. The status is 8 if memory was refused, and 16 if the number of
+/// bytes is not a multiple of 8. If it is 16, `at` is the number of bytes.
 #[unsafe(no_mangle)]
 pub extern "C" fn capn_pack(
     alloc: Global,
@@ -25,7 +25,8 @@ pub extern "C" fn capn_pack(
     out: &mut [u8],
     report: &mut CapnReport,
 ) -> u32
-    // If `result` is 0 or 1, the answer is the text that the packer chooses for the words, which unpacks to them.
+    // If `result` is 0 or 1, the answer is the text that the packer chooses for the words. The text unpacks to the
+    // words.
     ensures found { result ≤ 1 → (text : List ℕ) × Chosen text bytes.now × Packs text bytes.now
         × Delivers text result report.new.length out.old out.new }
     // The text that the packer chooses for the words is the answer, unless memory was refused.
@@ -34,12 +35,13 @@ pub extern "C" fn capn_pack(
     // Two texts that the packer chooses are equal if and only if their words are equal.
     ensures unique { (a b vs ws : List ℕ) → Chosen a vs → Chosen b ws
         → ((a ≡ b) ↔ (vs ≡ ws)) }
-    // Whole words are refused only for memory. Other bytes are refused by 16, with the number of bytes in `at`.
+    // If the number of bytes is a multiple of 8, `result` is 0, 1 or 8. Otherwise `result` is 16, with the number of
+    // bytes in `at`.
     ensures whole { length bytes.now % 8 ≡ 0 → (result ≤ 1) ⊎ (result ≡ 8) }
     ensures not_whole { length bytes.now % 8 ≢ 0 → (result ≡ 16) × (report.new ≡ at_number (length bytes.now)) }
-    // Memory is refused only if there are bytes.
+    // `result` is 8 only if there are bytes.
     ensures memory { result ≡ 8 → 0 < length bytes.now }
-    // After 0 or 1 the report has the length of the text. All other fields are 0.
+    // If `result` is 0 or 1, the report has the length of the text. All other fields of the report are 0.
     ensures rest { result ≤ 1 → report.new ≡ answered report.new.length 0 0 }
     ensures blank { result ≡ 8 → report.new ≡ at_number 0 }
     ensures kept { result ≢ 0 → out.new ≡ out.old }
@@ -62,9 +64,9 @@ pub extern "C" fn capn_pack(
 
 /// Unpacks the packed text `bytes` to `out`, if the text unpacks to at most `max_words` words.
 ///
-/// The status is 0 if the words are at the start of `out`, and 1 if `out` has no room. After 1, `out` is as it was, and
-/// `length` is the length of the words in bytes. The status is 8 if memory was refused. After 32 the text ends within
-/// the group whose tag is at `at`. After 33 that group exceeds `max_words`.
+/// The status is 0 if the words are at the start of `out`, and 1 if `out` is too short. If it is 1, `out` is unchanged,
+/// and `length` is the length of the words in bytes. The status is 8 if memory was refused. It is 32 if the text ends
+/// within a group, and 33 if a group takes the words over `max_words`. Then `at` is the offset of that group's tag.
 #[unsafe(no_mangle)]
 pub extern "C" fn capn_unpack(
     alloc: Global,
@@ -81,12 +83,13 @@ pub extern "C" fn capn_unpack(
     ensures only { (words : List ℕ) → Packs bytes.now words → length words ≤ 8 * max_words
         → (result ≡ 8) ⊎ Delivers words result report.new.length out.old out.new }
     ensures listed { IsTrue (is_status result) }
-    // Any other status and the report stand for a true refusal `e` of the text. `at` is the offset of the group.
+    // If `result` is at least 2, `result` and `report` are those of a fault `e` of the text, whose reason is true. If
+    // `result` is not 8, they are those of no other fault.
     ensures refused { 2 ≤ result → (e : Faults) × ReportsPacked result report.new e
         × IsUnpackRefused bytes.now max_words e }
-    // Memory is refused only if a whole group of at most `max_words` words comes first.
+    // `result` is 8 only if a complete group of at most `max_words` words comes first.
     ensures memory { result ≡ 8 → StartsWithin bytes.now max_words }
-    // After 0 or 1 the report has the length of the words in bytes. All other fields are 0.
+    // If `result` is 0 or 1, the report has the length of the words in bytes. All other fields of the report are 0.
     ensures rest { result ≤ 1 → report.new ≡ answered report.new.length 0 0 }
     ensures kept { result ≢ 0 → out.new ≡ out.old }
 {

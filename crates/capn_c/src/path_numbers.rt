@@ -1,4 +1,4 @@
-//! The numbers of a path: how they are written into the caller's buffer, and reported.
+//! Functions that write the numbers of a path into the caller's buffer and report them.
 
 ghost use Rattle.std.specs.Prelude.{◌≡◌, ◌≤◌, ◌*◌, length};
 ghost use Rattle.capn_c.specs.PathNumbers.{ArePlaced, TellsPath};

@@ -62,15 +62,17 @@ fn refusal_way(
     }
 }
 
-/// Tests whether the message that `bytes` encode in `form` is accepted within `limits`. If the walk is refused, writes
-/// the path to the slot at which the walk stopped to `way`: the numbers that lead there from the root.
+/// Tests whether the message that `bytes` encode in `form` is accepted within `limits`. If the walk is refused, the
+/// path from the root to the slot at which the walk stopped is written to `way`.
 ///
 /// The status is 0 if the message is accepted. Then `paid` and `visits` are those of the walk. The status is 2, 3 or 4
-/// if the form, a limit or the tariff is out of its range. It is 8 if memory was refused: for the ends of more than 64
-/// segments, for the unpacked words, or for the path. Otherwise it is that of the refusal, which is never that of a
-/// capability. A status from 64 to 74 is a refusal of the walk. Then `length` is 4 bytes for each number of the path.
-/// The numbers are at the start of `way` if all of them fit. Otherwise `way` is as it was. A `way` of two numbers for
-/// each level of the depth limit always has room. A message that is refused is walked at most twice.
+/// if the form, a limit or the tariff is out of its range. It is 8 if memory was refused: for a stream of more than 64
+/// segments, for the unpacked words, or for the path. Otherwise it is the status of the refusal. A capability is no
+/// reason for a refusal.
+///
+/// A status from 64 to 74 is a refusal of the walk. Then `length` is 4 bytes for each number of the path. The numbers
+/// are at the start of `way` if all of them fit. Otherwise `way` is unchanged. A `way` of two numbers for each level of
+/// the depth limit is always long enough. A message that is refused is walked at most twice.
 #[unsafe(no_mangle)]
 pub extern "C" fn capn_refusal_way(
     alloc: Global,
@@ -80,7 +82,9 @@ pub extern "C" fn capn_refusal_way(
     way: &mut [u32],
     report: &mut CapnReport,
 ) -> u32
-    // The form, then the limits, then the tariff are tested before the bytes are read.
+    // `result` is 2 if and only if the form is out of its range. If the form is in its range, `result` is 3 if and only
+    // if a limit is out of its range. If the limits are in their ranges too, `result` is 4 if and only if the tariff is
+    // out of its range.
     ensures form { (result ≡ 2) ↔ (IsForm form → ⊥) }
     ensures limits { (result ≡ 3) ↔ (IsForm form × (GiveLimits limits.now → ⊥)) }
     ensures tariff { (result ≡ 4) ↔ (IsForm form × GiveLimits limits.now × (IsTariff limits.now.tariff → ⊥)) }
@@ -93,22 +97,22 @@ pub extern "C" fn capn_refusal_way(
         → Denotes (form_named form) bytes.now (bounds_of limits.now) v → (result ≡ 0) ⊎ (result ≡ 8) }
     ensures blank { 1 ≤ result → result ≤ 4 → report.new ≡ at_number 0 }
     ensures listed { IsTrue (is_status result) }
-    // A status from 5 to 63 and the report stand for a refusal `e` that is true and not one of the walk, and, unless
-    // the status is 8, for no other refusal.
+    // If `result` is from 5 to 63, `result` and `report` are those of a refusal `e`, whose reason is true. If `result`
+    // is not 8, they are those of no other refusal.
     ensures refused { 5 ≤ result → result < 64 → (e : Refusals) × Reports result report.new e
         × IsUnacceptedIn (form_named form) bytes.now (bounds_of limits.now) e }
-    // A status from 64 on is a refusal of the walk. The report has the place of the stop and the length of the path to
-    // that place. The path is in `way` if the path fits.
+    // If `result` is at least 64, it is the status of a refused walk. The report has the place at which the walk
+    // stopped, and the length of the path to that place. The path is in `way` if the path fits.
     ensures told { 64 ≤ result → (s : Stop) × (numbers : List ℕ)
         × IsStoppedIn (form_named form) bytes.now (bounds_of limits.now) s numbers
         × TellsPath result report.new s numbers way.old way.new }
     // A path has at most two numbers for each level of the depth limit.
     ensures short { 64 ≤ result → report.new.length ≤ 8 * limits.now.depth }
-    // Memory is refused only if reading the bytes may need it, or if the walk of the message is refused.
+    // `result` is 8 only if reading the bytes may need memory, or if the walk of the message is refused.
     ensures memory { result ≡ 8 → MayNeedItsPath (form_named form) bytes.now (bounds_of limits.now) }
-    // The walk pays at most the budget, also if the message is refused.
+    // For any `result`, the reported price is at most the budget, and the number of visits at most the price plus 1.
     ensures bounded { IsBounded limits.now.budget report.new.paid report.new.visits }
-    // If the walk is not refused, `way` is as it was.
+    // If the walk is not refused, `way` is unchanged.
     ensures kept { result < 64 → way.new ≡ way.old }
 {
     *report = report_at(0);

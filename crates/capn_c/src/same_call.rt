@@ -47,7 +47,7 @@ fn compare(
     ensures memory { result ≡ 8 → MayNeedMemory form (named which.new first.now second.now) limits }
     ensures bounded { IsBounded limits.budget report.new.paid report.new.visits }
 {
-    // The proof of the clauses needs the laws of canonical bytes, and the ranges that limits promise.
+    // The proof of the contract needs the laws of canonical bytes, and the ranges that limits promise.
     canonicity();
     denotation();
     let _words = limits.message_words();
@@ -70,10 +70,10 @@ fn compare(
 /// No canonical bytes are made.
 ///
 /// The status is 0 if the canonical bytes of the two messages are equal, and 7 if they differ. It is 2, 3 or 4 if the
-/// form, a limit or the tariff is out of its range. It is 8 if memory was refused, for the ends of more than 64
-/// segments or for the unpacked words. Otherwise it is that of the refusal of `first`, or else of `second`. If `first`
-/// is refused, `second` isn't read. `which` is 1 if `second` is refused, or if memory was refused for `second`, and
-/// otherwise 0.
+/// form, a limit or the tariff is out of its range. It is 8 if memory was refused: for a stream of more than 64
+/// segments, or for the unpacked words. Otherwise it is the status of the refusal of `first`, or else of `second`. If
+/// `first` is refused, `second` isn't read. `which` is 1 if `second` is refused, or if memory was refused for `second`,
+/// and otherwise 0.
 #[unsafe(no_mangle)]
 pub extern "C" fn capn_same(
     alloc: Global,
@@ -84,7 +84,9 @@ pub extern "C" fn capn_same(
     which: &mut u32,
     report: &mut CapnReport,
 ) -> u32
-    // The form, then the limits, then the tariff are tested before the bytes are read.
+    // `result` is 2 if and only if the form is out of its range. If the form is in its range, `result` is 3 if and only
+    // if a limit is out of its range. If the limits are in their ranges too, `result` is 4 if and only if the tariff is
+    // out of its range.
     ensures form { (result ≡ 2) ↔ (IsForm form → ⊥) }
     ensures limits { (result ≡ 3) ↔ (IsForm form × (GiveLimits limits.now → ⊥)) }
     ensures tariff { (result ≡ 4) ↔ (IsForm form × GiveLimits limits.now × (IsTariff limits.now.tariff → ⊥)) }
@@ -100,17 +102,17 @@ pub extern "C" fn capn_same(
     // If `result` is at most 7, `which` and all fields of the report are 0.
     ensures blank { result ≤ 7 → (which.new ≡ 0) × (report.new ≡ at_number 0) }
     ensures listed { IsTrue (is_status result) }
-    // Any other status and the report stand for a refusal `e`, which is true of the message that `which` names. Unless
-    // the status is 8, they stand for no other refusal of that message.
+    // If `result` is 1, or at least 5 but not 7, `result` and `report` are those of a refusal `e`. The reason of `e` is
+    // true of the message that `which` names. If `result` is not 8, they are those of no other refusal.
     ensures refused { (result ≡ 1) ⊎ (5 ≤ result) → result ≢ 7 → (e : Refusals) × Reports result report.new e
         × IsRefused (form_named form) (named which.new first.now second.now) (bounds_of limits.now) e }
     // `second` is refused only if `first` has canonical bytes.
     ensures second { which.new ≢ 0 → (which.new ≡ 1)
         × ((v : Value) × Denotes (form_named form) first.now (bounds_of limits.now) v × (first_cap v ≡ None)) }
-    // Memory is refused only for the ends of more than 64 segments, or for the words that a packed text unpacks to.
+    // `result` is 8 only for a stream of more than 64 segments, or for the words that a packed text unpacks to.
     ensures memory { result ≡ 8
         → MayNeedMemory (form_named form) (named which.new first.now second.now) (bounds_of limits.now) }
-    // The walk pays at most the budget, also if the message is refused.
+    // For any `result`, the reported price is at most the budget, and the number of visits at most the price plus 1.
     ensures bounded { IsBounded limits.now.budget report.new.paid report.new.visits }
 {
     *which = 0;

@@ -1,4 +1,4 @@
-//! The comparison of two surveyed messages, whose values are walked in step.
+//! The comparison of two surveyed messages, which walks both values at the same time.
 
 ghost use Rattle.std.specs.Prelude.{IsTrue, ◌≡◌, ◌↔◌, ◌<◌};
 ghost use Rattle.capn_value.specs.Tree.{Tree as Value};
@@ -16,8 +16,8 @@ use capn_words::Space;
 use std::marker::Brand;
 use std::sync::ledger::{Blank, Ledger};
 
-/// Tests whether the values of `first` and `second`, two messages that have canonical bytes within `limits`, are the
-/// same. The test ends at the first difference. Only the stack is used.
+/// Tests whether `first` and `second` have the same value. Both messages must have canonical bytes within `limits`. The
+/// test ends at the first difference. Only the stack is used.
 pub fn same_surveyed<A: Space, B: Space>(first: &A, second: &B, limits: Limits) -> bool
     requires one { HasBytes (A.message first.now) limits }
     requires other { HasBytes (B.message second.now) limits }
@@ -37,8 +37,8 @@ pub fn same_surveyed<A: Space, B: Space>(first: &A, second: &B, limits: Limits) 
     )
 }
 
-/// Compares the values of `first` and `second`, at most `depth` objects deep, for [`same_surveyed`], with counts in the
-/// new ledgers `one` and `other`.
+/// Compares the values of `first` and `second`, at most `depth` objects deep. The reads are counted in the new ledgers
+/// `one` and `other`.
 fn same_with_ledgers<A: Space, B: Space, L: Ledger, M: Ledger>(
     first: &A,
     second: &B,

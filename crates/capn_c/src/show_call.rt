@@ -23,7 +23,8 @@ use capn_canon::Form;
 use capn_walk::Limits;
 use std::alloc::Global;
 
-/// Writes the text of the message to `out`, in the style with the number `style`, and reports the result.
+/// Writes the text of the message that `bytes` encode in `form` to `out`, and reports the result. `style` is the number
+/// of the style.
 fn show_in(
     alloc: Global,
     form: Form,
@@ -63,11 +64,11 @@ fn show_in(
 /// Writes the text of the message that `bytes` encode in `form` to `out`, within `limits`. The `style` 0 is lines, 1 is
 /// lines with texts between quotes, 2 is a line of JSON, and 3 is a line of JSON with texts as strings.
 ///
-/// The status is 0 if the text is at the start of `out`, and 1 if `out` has no room. In both cases `paid` and `visits`
-/// are those of the walk. After 1, `out` is as it was, and `length` is exactly the length of the text. The status is 2,
-/// 3, 4 or 6 if the form, a limit, the tariff or the style is out of its range. It is 8 if memory was refused: for the
-/// ends of more than 64 segments, for the unpacked words, or for the text. Otherwise it is that of the refusal, which
-/// is never that of a capability.
+/// The status is 0 if the text is at the start of `out`, and 1 if `out` is too short. If it is 0 or 1, `paid` and
+/// `visits` are those of the walk. If it is 1, `out` is unchanged, and `length` is exactly the length of the text in
+/// bytes. The status is 2, 3, 4 or 6 if the form, a limit, the tariff or the style is out of its range. It is 8 if
+/// memory was refused: for a stream of more than 64 segments, for the unpacked words, or for the text. Otherwise it is
+/// the status of the refusal. A capability is no reason for a refusal.
 #[unsafe(no_mangle)]
 pub extern "C" fn capn_show(
     alloc: Global,
@@ -78,7 +79,9 @@ pub extern "C" fn capn_show(
     out: &mut [u8],
     report: &mut CapnReport,
 ) -> u32
-    // The form, the limits, the tariff and the style are tested in this order, before the bytes are read.
+    // `result` is 2 if and only if the form is out of its range. If the form is in its range, `result` is 3 if and only
+    // if a limit is out of its range. The tariff (4) and then the style (6) are tested in the same way, after the
+    // limits.
     ensures form { (result ≡ 2) ↔ (IsForm form → ⊥) }
     ensures limits { (result ≡ 3) ↔ (IsForm form × (GiveLimits limits.now → ⊥)) }
     ensures tariff { (result ≡ 4) ↔ (IsForm form × GiveLimits limits.now × (IsTariff limits.now.tariff → ⊥)) }
@@ -92,19 +95,22 @@ pub extern "C" fn capn_show(
     ensures only { IsForm form → GiveLimits limits.now → IsTariff limits.now.tariff → IsStyle style → (v : Value)
         → Denotes (form_named form) bytes.now (bounds_of limits.now) v
         → (result ≡ 8) ⊎ Delivers (message_text (style_named style) v) result report.new.length out.old out.new }
-    // After 0 or 1 the report has the length of the text, the price and the number of visits. All other fields are 0.
+    // If `result` is 0 or 1, the report has the length of the text, the price and the number of visits. All other
+    // fields of the report are 0.
     ensures rest { result ≤ 1 → (s : Survey) × Surveys (form_named form) bytes.now (bounds_of limits.now) s
         × (report.new ≡ answered report.new.length s.paid s.visits) }
     ensures blank { 2 ≤ result → result ≤ 6 → report.new ≡ at_number 0 }
     ensures listed { IsTrue (is_status result) }
-    // Any other status and the report stand for a true refusal `e`, and only for `e` unless the status is 8.
+    // If `result` is at least 5 and not 6, `result` and `report` are those of a refusal `e`, whose reason is true. If
+    // `result` is not 8, they are those of no other refusal.
     ensures refused { 5 ≤ result → result ≢ 6 → (e : Refusals) × Reports result report.new e
         × IsUnacceptedIn (form_named form) bytes.now (bounds_of limits.now) e }
-    // Memory is refused only for the ends of more than 64 segments, for unpacked words, or for the text.
+    // `result` is 8 only for a stream of more than 64 segments, for the words that a packed text unpacks to, or for the
+    // text of an accepted message.
     ensures memory { result ≡ 8 → MayNeedText (form_named form) bytes.now (bounds_of limits.now) }
-    // The walk pays at most the budget, also if the message is refused.
+    // For any `result`, the reported price is at most the budget, and the number of visits at most the price plus 1.
     ensures bounded { IsBounded limits.now.budget report.new.paid report.new.visits }
-    // If `result` is not 0, the buffer is as it was.
+    // If `result` is not 0, `out` is unchanged.
     ensures kept { result ≢ 0 → out.new ≡ out.old }
 {
     *report = report_at(0);

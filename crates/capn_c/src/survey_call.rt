@@ -45,12 +45,12 @@ fn survey_in(
     }
 }
 
-/// Writes the figures of the message that `bytes` encode in `form`, within `limits`, to `figures`: words, segments,
-/// price, visits, depth, the first capability, and whether the message is canonical.
+/// Writes the figures of the message that `bytes` encode in `form` to `figures`, within `limits`. The figures are the
+/// words, the segments, the price, the visits, the depth, the first capability, and whether the message is canonical.
 ///
 /// The status is 0 if the figures are written, and 2, 3 or 4 if the form, a limit or the tariff is out of its range. It
-/// is 8 if memory was refused, for the ends of more than 64 segments or for the unpacked words. Otherwise it is that of
-/// the refusal, which is never that of a capability.
+/// is 8 if memory was refused: for a stream of more than 64 segments, or for the unpacked words. Otherwise it is the
+/// status of the refusal. A capability is no reason for a refusal.
 ///
 /// The bytes are read once. A message of one segment that is not canonical is walked at most twice, any other once.
 #[unsafe(no_mangle)]
@@ -62,11 +62,14 @@ pub extern "C" fn capn_survey(
     figures: &mut CapnFigures,
     report: &mut CapnReport,
 ) -> u32
-    // The form, then the limits, then the tariff are tested before the bytes are read.
+    // `result` is 2 if and only if the form is out of its range. If the form is in its range, `result` is 3 if and only
+    // if a limit is out of its range. If the limits are in their ranges too, `result` is 4 if and only if the tariff is
+    // out of its range.
     ensures form { (result ≡ 2) ↔ (IsForm form → ⊥) }
     ensures limits { (result ≡ 3) ↔ (IsForm form × (GiveLimits limits.now → ⊥)) }
     ensures tariff { (result ≡ 4) ↔ (IsForm form × GiveLimits limits.now × (IsTariff limits.now.tariff → ⊥)) }
-    // If `result` is 0, the bytes are an accepted message with the `figures`. The report has the price and the visits.
+    // If `result` is 0, the bytes are an accepted message with the `figures`. The report has the price and the number
+    // of visits.
     ensures found { result ≡ 0 → FiguresIn (form_named form) bytes.now (bounds_of limits.now) figures.new
         × (report.new ≡ answered 0 figures.new.paid figures.new.visits) }
     // If the bytes are an accepted message, `result` is 0, unless memory was refused.
@@ -74,14 +77,15 @@ pub extern "C" fn capn_survey(
         → Denotes (form_named form) bytes.now (bounds_of limits.now) v → (result ≡ 0) ⊎ (result ≡ 8) }
     ensures blank { 1 ≤ result → result ≤ 4 → report.new ≡ at_number 0 }
     ensures listed { IsTrue (is_status result) }
-    // Any other status and the report stand for a true refusal `e`, and only for `e` unless the status is 8.
+    // If `result` is at least 5, `result` and `report` are those of a refusal `e`, whose reason is true. If `result` is
+    // not 8, they are those of no other refusal.
     ensures refused { 5 ≤ result → (e : Refusals) × Reports result report.new e
         × IsUnacceptedIn (form_named form) bytes.now (bounds_of limits.now) e }
-    // Memory is refused only for the ends of more than 64 segments, or for the words that a packed text unpacks to.
+    // `result` is 8 only for a stream of more than 64 segments, or for the words that a packed text unpacks to.
     ensures memory { result ≡ 8 → MayNeedMemory (form_named form) bytes.now (bounds_of limits.now) }
-    // The walk pays at most the budget, also if the message is refused.
+    // For any `result`, the reported price is at most the budget, and the number of visits at most the price plus 1.
     ensures bounded { IsBounded limits.now.budget report.new.paid report.new.visits }
-    // If `result` is not 0, `figures` is as it was.
+    // If `result` is not 0, `figures` is unchanged.
     ensures kept { result ≢ 0 → figures.new ≡ figures.old }
 {
     *report = report_at(0);

@@ -38,12 +38,12 @@ fn tell_figures(
     }
 }
 
-/// Writes the figures of the message that is held in `segments`, within `limits`, to `figures`: words, segments, price,
-/// visits, depth, the first capability, and whether the message is canonical.
+/// Writes the figures of the message that is held in `segments` to `figures`, within `limits`. The figures are the
+/// words, the segments, the price, the visits, the depth, the first capability, and whether the message is canonical.
 ///
-/// The status is 0 if the figures are written, 3 or 4 if a limit or the tariff is out of its range, 48 if there are no
-/// segments, and otherwise that of the refusal that a frame of the same segments would get. No memory is taken. A
-/// message of one segment that is not canonical is walked at most twice, any other once.
+/// The status is 0 if the figures are written, 3 or 4 if a limit or the tariff is out of its range, and 48 if there are
+/// no segments. Otherwise it is the status of the refusal that a frame of the same segments gets. No memory is
+/// allocated. A message of one segment that is not canonical is walked at most twice, any other once.
 #[unsafe(no_mangle)]
 pub extern "C" fn capn_survey_segments(
     alloc: Global,
@@ -52,11 +52,12 @@ pub extern "C" fn capn_survey_segments(
     figures: &mut CapnFigures,
     report: &mut CapnReport,
 ) -> u32
-    // The limits, then the tariff are tested before anything is read.
+    // `result` is 3 if and only if a limit is out of its range. If the limits are in their ranges, `result` is 4 if and
+    // only if the tariff is out of its range.
     ensures limits { (result ≡ 3) ↔ (GiveLimits limits.now → ⊥) }
     ensures tariff { (result ≡ 4) ↔ (GiveLimits limits.now × (IsTariff limits.now.tariff → ⊥)) }
     // If `result` is 0, the segments are an accepted message with the `figures`. The report has the price and the
-    // visits.
+    // number of visits.
     ensures found { result ≡ 0 → FiguresHeld (message_of segments.now) (bounds_of limits.now) figures.new
         × (report.new ≡ answered 0 figures.new.paid figures.new.visits) }
     // If the segments are an accepted message, `result` is 0.
@@ -64,14 +65,15 @@ pub extern "C" fn capn_survey_segments(
         → DenotesHeld (message_of segments.now) (bounds_of limits.now) v → result ≡ 0 }
     ensures blank { 1 ≤ result → result ≤ 4 → report.new ≡ at_number 0 }
     ensures listed { IsTrue (is_status result) }
-    // Any other status and the report stand for a true refusal `e`, and only for `e` unless the status is 8.
+    // If `result` is at least 5, `result` and `report` are those of a refusal `e`, whose reason is true. If `result` is
+    // not 8, they are those of no other refusal.
     ensures refused { 5 ≤ result → (e : Refusals) × Reports result report.new e
         × IsUnacceptedHeld (message_of segments.now) (bounds_of limits.now) e }
-    // Memory is never refused, since nothing is allocated.
+    // `result` is never 8, since nothing is allocated.
     ensures no_memory { result ≢ 8 }
-    // The walk pays at most the budget, also if the message is refused.
+    // For any `result`, the reported price is at most the budget, and the number of visits at most the price plus 1.
     ensures bounded { IsBounded limits.now.budget report.new.paid report.new.visits }
-    // If `result` is not 0, `figures` is as it was.
+    // If `result` is not 0, `figures` is unchanged.
     ensures kept { result ≢ 0 → figures.new ≡ figures.old }
 {
     *report = report_at(0);

@@ -1,4 +1,4 @@
-//! The call `capn_unpack_some`, which unpacks a packed text in pieces.
+//! The call `capn_unpack_some`, which unpacks the first groups of a packed text.
 
 ghost use Rattle.std.specs.Prelude.{IsTrue, ◌≡◌, ◌≢◌, ◌≤◌, ◌*◌, length};
 ghost use Rattle.capn_pack.specs.UnpackRefusal.{StartsWithin};
@@ -10,7 +10,8 @@ use capn_abi::{CapnReport, DONE, MEMORY, PACKED_CUT, PACKED_TOO_LONG, report_at}
 use capn_pack::{Next, Progress, unpack_some};
 use std::alloc::Global;
 
-/// Returns the status for what is `next` in the packed text: the end, a group that is cut, or a group that has no room.
+/// Returns the status for `next`, which follows the unpacked groups: 0 for the end, 32 for an incomplete group, or 33
+/// for a group that doesn't fit.
 fn code_of_next(next: Next) -> u32
     ensures { result ≡ next_code next }
 {
@@ -21,7 +22,7 @@ fn code_of_next(next: Next) -> u32
     }
 }
 
-/// Returns `progress` as a report, with the number of bytes written in `length` and the number of bytes taken in `at`.
+/// Returns `progress` as a report. `length` is the number of bytes written, and `at` is the number of bytes read.
 fn report_of_progress(progress: Progress) -> CapnReport
     ensures { result ≡ progressed (8 * progress.words) progress.bytes }
 {
@@ -31,7 +32,7 @@ fn report_of_progress(progress: Progress) -> CapnReport
     }
 }
 
-/// Returns the number of words for which a buffer of `bytes` bytes has room.
+/// Returns the number of complete words that fit into a buffer of `bytes` bytes, at most 2^32 - 1.
 fn room_of(bytes: usize) -> u32
     ensures { result ≡ words_in bytes }
 {
@@ -46,11 +47,11 @@ fn put(bytes: &[u8], out: &mut [u8])
     out[..bytes.len()].copy_from_slice(bytes);
 }
 
-/// Unpacks whole groups from the front of the packed text `bytes` to `out`, as many as have room.
+/// Unpacks the first complete groups of the packed text `bytes` into `out`, as many as fit.
 ///
-/// The status is 0 if all bytes are whole groups and were taken, and 8 if memory was refused. It is 32 if the next
-/// group is cut, and 33 if that group has no room. After 0, 32 or 33, `length` bytes were written and `at` bytes were
-/// taken, so `at` is the offset of the next group's tag. Memory is taken for the words that are written.
+/// The status is 0 if `bytes` end after these groups, and 8 if memory was refused. It is 32 if the next group is
+/// incomplete, and 33 if the next group doesn't fit. If it is 0, 32 or 33, `length` bytes were written and `at` bytes
+/// were read. So `at` is the offset of the next group's tag. Memory is allocated for the words that are written.
 #[unsafe(no_mangle)]
 pub extern "C" fn capn_unpack_some(
     alloc: Global,
@@ -58,12 +59,12 @@ pub extern "C" fn capn_unpack_some(
     out: &mut [u8],
     report: &mut CapnReport,
 ) -> u32
-    // If memory is not refused, the words are in the buffer, and the report has the numbers of bytes written and taken.
+    // If `result` is not 8, the words are in `out`, and the report has the numbers of bytes written and read.
     ensures some { result ≢ 8 → UnpacksInto bytes.now result report.new out.old out.new }
-    // Memory is refused only if a whole group that has room comes first.
+    // `result` is 8 only if a complete group that fits comes first.
     ensures memory { result ≡ 8 → StartsWithin bytes.now (words_in (length out.old)) }
     ensures listed { IsTrue (is_status result) }
-    // If memory is refused, all fields of the report are 0, and the buffer is as it was.
+    // If `result` is 8, all fields of the report are 0, and `out` is unchanged.
     ensures blank { result ≡ 8 → report.new ≡ at_number 0 }
     ensures kept { result ≡ 8 → out.new ≡ out.old }
 {

@@ -10,8 +10,8 @@ use capn_canon::{IntoRefusal, Refusal, canonical_into};
 use capn_walk::Limits;
 use capn_words::Space;
 
-/// Writes the canonical bytes of the message `space` at the start of `out`, if `out` has room for them. Fills in
-/// `report`, and returns the status. No memory is taken.
+/// Writes the canonical bytes of the message `space` at the start of `out`, if they fit. Fills in `report`, and returns
+/// the status. No memory is allocated.
 pub fn write_message<S: Space>(
     space: &S,
     limits: Limits,
@@ -21,7 +21,7 @@ pub fn write_message<S: Space>(
     ensures { IsFilled (IsValueOf (S.message space.now) limits) (AnswersMessage (S.message space.now) limits)
         (IsRefusedMessage (S.message space.now) limits) ⊥ limits out.old out.new result report.new }
 {
-    // The proof of the clauses needs the bounds that these calls promise.
+    // The proof of the contract needs the bounds that these calls promise.
     let _segments = space.segments();
     let _budget = limits.budget();
     let _depth = limits.depth();

@@ -1,4 +1,4 @@
--- Lemmas on the results and refusals of the calls, for a message and for bytes in each form.
+-- Lemmas on the results of the calls, for a message and for bytes in each form.
 pub mod AtRoot
 pub mod OfMessages
 pub mod Answered

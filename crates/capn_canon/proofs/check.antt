@@ -1,4 +1,4 @@
--- Lemmas on the check that makes no copy: what it must find at each slot, and what the pass over the words finds.
+-- Lemmas on the one pass over the words: what it must find at each slot, and what it finds.
 pub mod DueWords
 pub mod DueSlots
 pub mod DueObjects

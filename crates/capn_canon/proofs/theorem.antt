@@ -1,4 +1,4 @@
--- Canonical bytes are a canonical form, equal if and only if the values are the same; and worked messages.
+-- Lemmas on canonical bytes as a canonical form of values, and worked messages.
 pub mod CanonOfTrimmed
 pub mod CapOfTrimmed
 pub mod EqualExactlySame

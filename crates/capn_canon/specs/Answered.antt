@@ -9,20 +9,22 @@ use Rattle.capn_canon.specs.MemoryNeed.{MayNeedMemory}
 use Rattle.capn_canon.specs.Reads.{Reads}
 use Rattle.capn_canon.specs.Refusal.{IsMisread}
 
--- `bs` are no message in `form` for the reason given; or reading `bs` may need the memory refused (Our own.)
+-- The refusal is a correct result of reading `bs` in `form`. If it is `Memory`, reading `bs` may need memory. Any other
+-- refusal says why `bs` are not read as a message (`IsMisread`). (Our own.)
 abbrev pub IsRefusedReading : Form → List ℕ → Bounds → Refusal → Type 0
 IsRefusedReading form bs limits refusals.Memory = MayNeedMemory form bs limits
 IsRefusedReading form bs limits e = IsMisread form bs limits.message_words e
 
--- `bs` are read as a message for which `answers` allows `r`; or `r` says why `bs` are no message in `form` (Our own.)
+-- Either `bs` are read as a message for which `answers` allows `r`, or `r` is an `Err` with the refusal of reading `bs`
+-- (`IsRefusedReading`). (Our own.)
 abbrev pub IsAnswered : {T : Type 0} → Form → List ℕ → Bounds
     → (List (List ℕ) → Bounds → Result T Refusal → Type 0) → Result T Refusal → Type 0
 IsAnswered form bs limits answers r =
     ((message : List (List ℕ)) × Reads form bs limits.message_words message × answers message limits r)
     ⊎ ((e : Refusal) × (r ≡ Err e) × IsRefusedReading form bs limits e)
 
--- `bs` are read as a message, and a task on it has the result `r` and takes the task from `old` to `new`; or `r` says
--- why `bs` are no message in `form`, and the task is as before (Our own.)
+-- Either `bs` are read as a message for which `answers` allows `r`, and the task changes from `old` to `new` as
+-- `answers` says. Or `r` is an `Err` with the refusal of reading `bs`, and `new` equals `old`. (Our own.)
 abbrev pub IsRun : {T S : Type 0} → Form → List ℕ → Bounds
     → (S → List (List ℕ) → Bounds → Result T Refusal → S → Type 0) → S → Result T Refusal → S → Type 0
 IsRun form bs limits answers old r new =

@@ -11,17 +11,16 @@ use Rattle.capn_canon.specs.declared.form.Form.TheVariants as forms
 use Rattle.capn_canon.specs.Denotes.{Denotes}
 use Rattle.capn_layout.specs.Layout.{canon}
 
--- `bs`, read bare, denote a value without capabilities, and `yes` is true if and only if `bs` are the canonical bytes
--- of that value
+-- Read bare, `bs` denote a value without capabilities. `yes` is true if and only if `bs` are the canonical bytes of
+-- that value.
 pub record SaysCanonical (bs : List ℕ) (limits : Bounds) (yes : Bool) : Type 0 where
   pub value : Tree
   pub is : Denotes forms.Bare bs limits value
   pub free : first_cap value ≡ None
   pub answer : IsTrue yes ↔ (canon value ≡ bs)
 
--- `words` are an accepted message; `c.paid` is the number of words that the walk pays, `c.visits` the number of visits,
--- and `c.capability` the first capability; `c.is_canonical` says whether the value has none and `words` spell its
--- canonical bytes
+-- The message of the one segment `words` is accepted. `c` has its price, its number of visits and its first capability.
+-- `c.is_canonical` is true if and only if there is no capability and the bytes of `words` are canonical.
 pub record IsBareSurvey (words : List ℕ) (limits : Bounds) (c : SurveyedBare) : Type 0 where
   pub value : Tree
   pub is : IsValueOf (words ∷ []) limits value

@@ -7,8 +7,8 @@ use Rattle.capn_walk.specs.Limits.{Bounds}
 use Rattle.capn_layout.specs.Layout.{canon}
 use Rattle.capn_canon.specs.declared.length.CanonicalLength.{CanonicalLength}
 
--- `message` is accepted with the value `v`, which has no capability; `c.length` is the length of the canonical bytes of
--- `v`, `c.paid` the number of words that the walk pays, and `c.visits` the number of visits
+-- `message` is accepted with the value `v`, which has no capability. `c` has the length of the canonical bytes of `v`,
+-- the number of words that the walk pays, and the number of visits.
 pub record IsCanonicalLength (message : List (List ℕ)) (limits : Bounds) (v : Tree) (c : CanonicalLength)
     : Type 0 where
   pub is : IsValueOf message limits v
@@ -19,6 +19,6 @@ pub record IsCanonicalLength (message : List (List ℕ)) (limits : Bounds) (v : 
 
 -- ---- read to here for the theorem
 
--- `message` is accepted with a value that has no capability, and so has canonical bytes
+-- `message` has canonical bytes: it is accepted, and its value has no capability.
 abbrev pub HasBytes : List (List ℕ) → Bounds → Type 0
 HasBytes message limits = (v : Tree) × IsValueOf message limits v × (first_cap v ≡ None)

@@ -13,26 +13,26 @@ use Rattle.capn_canon.specs.Reads.{Reads}
 use Rattle.capn_canon.specs.Denotes.{Denotes}
 use Rattle.capn_layout.specs.Layout.{canon}
 
--- read bare under the limits, the bytes `bs` denote the trimmed value of `v`, which is the same value
+-- Read bare under `limits`, `bs` denote the trimmed value of `v`. That value is the same as `v` (`Same`).
 pub record ReadsBack (bs : List ℕ) (limits : Bounds) (v : Tree) : Type 0 where
   pub denotes : Denotes forms.Bare bs limits (trimmed v)
   pub same : Same (trimmed v) v
 
--- a walk of the bytes `bs`, read bare under the limits, pays exactly the cost of the trimmed value of `v`
+-- A walk of `bs`, read bare under `limits`, pays exactly the cost of the trimmed value of `v`.
 abbrev pub PaysItsCost : List ℕ → Bounds → Tree → Type 0
 PaysItsCost bs limits v =
     (message : List (List ℕ)) → Reads forms.Bare bs limits.message_words message
     → paid message limits ≡ cost (base limits.tariff) (trimmed v)
 
--- the canonical bytes of the trimmed value of `v` are `bs`
+-- `bs` are the canonical bytes of the trimmed value of `v`.
 abbrev pub IsItsOwnForm : List ℕ → Tree → Type 0
 IsItsOwnForm bs v = canon (trimmed v) ≡ bs
 
--- among the values that fit and are in range, exactly those that are the same as `v` have the canonical bytes `bs`
+-- A value `w` that fits and is in range has the canonical bytes `bs` if and only if `w` is the same as `v` (`Same`).
 abbrev pub IsFormExactlyOf : List ℕ → Tree → Type 0
 IsFormExactlyOf bs v = (w : Tree) → Fits w → InRange w → (canon w ≡ bs) ↔ Same v w
 
--- `bs` have the four properties of the canonical bytes of `v`
+-- `bs` have the four properties of the canonical bytes of `v`.
 pub record IsCanonicalForm (bs : List ℕ) (limits : Bounds) (v : Tree) : Type 0 where
   pub reads_back : ReadsBack bs limits v
   pub pays : PaysItsCost bs limits v

@@ -1,4 +1,4 @@
--- The text of a refusal, as it is displayed. (Our own.)
+-- The texts that display refusals. (Our own.)
 use Rattle.std.specs.Prelude.{ℕ, List, ◌++◌, codes}
 use Rattle.std.specs.Fmt.{decimal}
 use Rattle.capn_words.specs.Display.{bare_text}
@@ -12,7 +12,7 @@ use Rattle.capn_canon.specs.declared.message_refusal.MessageRefusal.TheVariants 
 use Rattle.capn_canon.specs.declared.message_refusal.IntoRefusal.{IntoRefusal}
 use Rattle.capn_canon.specs.declared.message_refusal.IntoRefusal.TheVariants as intos
 
--- the text of the reason why an input has no canonical bytes
+-- The text that displays the given `Refusal`.
 abbrev pub refusal_text : Refusal → List ℕ
 refusal_text (refusals.Bare fault) = codes "bare: " ++ bare_text fault
 refusal_text (refusals.Packed fault) = codes "packed: " ++ unpack_text fault
@@ -22,12 +22,12 @@ refusal_text (refusals.Walk stopped) = stopped_text stopped
 refusal_text (refusals.Capability index) = codes "capability " ++ decimal index
 refusal_text refusals.Memory = codes "out of memory"
 
--- the text of the reason why a message has no canonical bytes
+-- The text that displays the given `MessageRefusal`.
 abbrev pub message_refusal_text : MessageRefusal → List ℕ
 message_refusal_text (messages.Walk stopped) = stopped_text stopped
 message_refusal_text (messages.Capability index) = codes "capability " ++ decimal index
 
--- the text of the reason why canonical bytes are not written into a buffer
+-- The text that displays the given `IntoRefusal`.
 abbrev pub into_refusal_text : IntoRefusal → List ℕ
 into_refusal_text (intos.Walk stopped) = stopped_text stopped
 into_refusal_text (intos.Capability index) = codes "capability " ++ decimal index

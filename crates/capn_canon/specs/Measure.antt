@@ -11,13 +11,13 @@ use Rattle.capn_layout.specs.Layout.{canon}
 use Rattle.capn_canon.specs.declared.surveyed_bare.MeasuredBare.{MeasuredBare}
 use Rattle.capn_canon.specs.declared.surveyed_bare.SurveyedBare.{SurveyedBare}
 
--- `message` has one segment, whose bytes are the canonical bytes of the value `v`, and `v` has no capability
+-- `message` has only one segment. Its bytes are the canonical bytes of `v`, which has no capability.
 abbrev pub IsCanonicalOf : List (List ℕ) → Tree → Type 0
 IsCanonicalOf message v =
     (words : List ℕ) × (message ≡ words ∷ []) × (first_cap v ≡ None) × (canon v ≡ bytes words)
 
--- `message` is accepted; `c.paid` is the number of words that the walk pays, `c.visits` the number of visits, and
--- `c.capability` the first capability; `c.is_canonical` says whether `message` is canonical
+-- `message` is accepted. `c` has its price, its number of visits and its first capability. `c.is_canonical` is true if
+-- and only if `message` is canonical (`IsCanonicalOf`).
 pub record IsChecked (message : List (List ℕ)) (limits : Bounds) (c : SurveyedBare) : Type 0 where
   pub value : Tree
   pub is : IsValueOf message limits value
@@ -26,7 +26,8 @@ pub record IsChecked (message : List (List ℕ)) (limits : Bounds) (c : Surveyed
   pub capability : c.capability ≡ first_cap value
   pub answer : IsTrue c.is_canonical ↔ IsCanonicalOf message value
 
--- `m.survey` is the survey of `message`, and `m.depth` the least depth limit under which `message` is accepted
+-- `m.survey` is the survey of `message` (`IsChecked`). `m.depth` is the least depth limit under which `message` is
+-- accepted.
 pub record IsMeasure (message : List (List ℕ)) (limits : Bounds) (m : MeasuredBare) : Type 0 where
   pub checked : IsChecked message limits m.survey
   pub depth : IsDepth message limits m.depth

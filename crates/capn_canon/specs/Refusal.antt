@@ -17,14 +17,14 @@ use Rattle.capn_canon.specs.declared.refusal.Refusal.{Refusal}
 use Rattle.capn_canon.specs.declared.refusal.Refusal.TheVariants as refusals
 use Rattle.capn_canon.specs.Reads.{Reads, Trails, Unpacks}
 
--- the refusal says why `bs` are not exactly one frame of at most `most` words: `bs` begin with no such frame, or bytes
--- follow it
+-- The refusal says why `bs` are not exactly one frame of at most `most` words. `Frame` says why `bs` begin with no such
+-- frame, and `Trailing` says that more bytes follow the frame.
 abbrev pub IsMisframed : List ℕ → (most : ℕ) → Refusal → Type 0
 IsMisframed bs most (refusals.Frame e) = (e ≢ frame_faults.Memory) × frames.IsFrameRefused bs most e
 IsMisframed bs most (refusals.Trailing at) = Trails bs most at
 IsMisframed bs most _ = ⊥
 
--- the refusal says why `bs` are not read as a message in the given form
+-- The refusal says why `bs` are not read as a message in the given form.
 abbrev pub IsMisread : Form → List ℕ → (most : ℕ) → Refusal → Type 0
 IsMisread forms.Bare bs most (refusals.Bare e) = ReadsBare bs (Err e)
 IsMisread forms.Bare bs most _ = ⊥
@@ -33,8 +33,8 @@ IsMisread forms.Packed bs most (refusals.Packed e) = (e ≢ unpack_faults.Memory
     × packs.IsUnpackRefused bs (most + most_table_words) e
 IsMisread forms.Packed bs most r = (text : List ℕ) × Unpacks bs most text × IsMisframed text most r
 
--- the refusal is true of `message`: `message` is not accepted, or its value has a capability, whose index is given;
--- `Memory` is always allowed
+-- The refusal is `Memory`, or it says why `message` has no canonical bytes. `Walk` says where and why the walk stops.
+-- `Capability` has the index of the first capability of the value.
 abbrev pub IsRefusedMessage : List (List ℕ) → Bounds → Refusal → Type 0
 IsRefusedMessage message limits (refusals.Walk s) = walks.IsWalkRefused message limits s.fault s.place s.paid s.visits
 IsRefusedMessage message limits (refusals.Capability k) = (v : Tree) × walks.IsValueOf message limits v
@@ -42,8 +42,8 @@ IsRefusedMessage message limits (refusals.Capability k) = (v : Tree) × walks.Is
 IsRefusedMessage message limits refusals.Memory = ⊤
 IsRefusedMessage message limits _ = ⊥
 
--- the refusal is true of `bs` in `form`: `bs` are not read, or the message that they are read as is refused; `Memory`
--- is always allowed
+-- The refusal is `Memory`, or it says why `bs` have no canonical bytes in `form`. `Walk` and `Capability` are true of
+-- the message that `bs` are read as. Any other refusal says why `bs` are not read.
 abbrev pub IsRefused : Form → List ℕ → Bounds → Refusal → Type 0
 IsRefused form bs limits (refusals.Walk s) =
     (message : List (List ℕ)) × Reads form bs limits.message_words message
@@ -54,19 +54,19 @@ IsRefused form bs limits (refusals.Capability k) =
 IsRefused form bs limits refusals.Memory = ⊤
 IsRefused form bs limits r = IsMisread form bs limits.message_words r
 
--- the number of words that a refusal reports as paid is at most `budget`, and the number of visits is at most one more
+-- If the refusal is `Walk`, its `paid` is at most `budget`, and its `visits` are at most `paid + 1`.
 abbrev pub IsPaidWithin : ℕ → Refusal → Type 0
 IsPaidWithin budget (refusals.Walk s) = walks.IsBounded budget s.paid s.visits
 IsPaidWithin budget _ = ⊤
 
--- the refusal says why `message` is not accepted; `Memory` is always allowed
+-- The refusal is `Memory`, or it is `Walk` and says why `message` is not accepted.
 abbrev pub IsUnaccepted : List (List ℕ) → Bounds → Refusal → Type 0
 IsUnaccepted message limits (refusals.Walk s) = walks.IsWalkRefused message limits s.fault s.place s.paid s.visits
 IsUnaccepted message limits refusals.Memory = ⊤
 IsUnaccepted message limits _ = ⊥
 
--- the refusal says why `bs` are not read, or why the message that they are read as is not accepted; `Memory` is always
--- allowed
+-- The refusal is true of `bs` (`IsRefused`), and is not `Capability`. So it is `Memory`, or it says why `bs` are not
+-- read as a message that is accepted.
 abbrev pub IsUnacceptedIn : Form → List ℕ → Bounds → Refusal → Type 0
 IsUnacceptedIn form bs limits (refusals.Capability k) = ⊥
 IsUnacceptedIn form bs limits r = IsRefused form bs limits r

@@ -13,8 +13,8 @@ use Rattle.capn_canon.specs.declared.same_refusal.SameRefusal.{SameRefusal}
 use Rattle.capn_canon.specs.declared.same_refusal.Side.{Side}
 use Rattle.capn_canon.specs.declared.same_refusal.Side.TheVariants.{First, Second}
 
--- `a` and `b` are accepted with values that have no capability, and `same` is true if and only if the values are the
--- same, up to trailing zero words and trailing null slots of structs
+-- `a` and `b` are accepted with the values `one` and `two`, which have no capability. `same` is true if and only if
+-- these values are the same (`Same`).
 pub record SaysSame (a b : List (List ℕ)) (limits : Bounds) (same : Bool) : Type 0 where
   pub one : Tree
   pub two : Tree
@@ -24,20 +24,22 @@ pub record SaysSame (a b : List (List ℕ)) (limits : Bounds) (same : Bool) : Ty
   pub second_free : first_cap two ≡ None
   pub answer : IsTrue same ↔ Same one two
 
--- `message` has no canonical bytes for the reason `e`: the walk stops, or the value has a capability
+-- `e` says why `message` has no canonical bytes, and `e` is not `Memory`.
 abbrev pub IsUnfit : List (List ℕ) → Bounds → Refusal → Type 0
 IsUnfit message limits e = IsRefusedMessage message limits e × (e ≢ refusals.Memory)
 
--- the refusal is true of the message on the given side; if that is the second message, the first is not refused
+-- On the side `First`, `e` says why `a` has no canonical bytes. On the side `Second`, `a` has canonical bytes, and `e`
+-- says why `b` has none.
 abbrev pub IsRefusedOn : List (List ℕ) → List (List ℕ) → Bounds → Side → Refusal → Type 0
 IsRefusedOn a b limits First e = IsUnfit a limits e
 IsRefusedOn a b limits Second e = HasBytes a limits × IsUnfit b limits e
 
--- `e` says which of `a` and `b` is refused first, and why
+-- `e.side` is the first of `a` and `b` that has no canonical bytes, and `e.refusal` says why.
 abbrev pub IsNotCompared : List (List ℕ) → List (List ℕ) → Bounds → SameRefusal → Type 0
 IsNotCompared a b limits e = IsRefusedOn a b limits e.side e.refusal
 
--- `r` says whether `a` and `b` have the same value, or why they are not compared; no walk pays more than the budget
+-- If `r` is `Ok`, it says whether `a` and `b` have the same value. If `r` is an `Err`, it says why they are not
+-- compared, and a stopped walk pays at most the budget.
 pub record IsSameTold (a b : List (List ℕ)) (limits : Bounds) (r : Result Bool SameRefusal) : Type 0 where
   pub found : IfOk r (λ same. SaysSame a b limits same)
   pub refused : IfErr r (λ e. IsNotCompared a b limits e)

@@ -1,4 +1,5 @@
--- The theorem: each sentence of the README is a definition, of what one call gives, and a clause of that call.
+-- The theorem of the README, in definitions for its sentences. Each is a clause of `canonical_into` or of
+-- `canonicalise`.
 use Rattle.std.specs.Prelude.{◌≡◌, ◌≢◌, ◌↔◌, ℕ, ◌<◌, ◌≤◌, List, ◌++◌, length, drop, Some, None, Result, Err, IsOk}
 use Rattle.std.specs.Prelude.{IfOk, MatchResult}
 use Rattle.capn_value.specs.Tree.{Tree}
@@ -19,15 +20,16 @@ use Rattle.capn_layout.specs.Layout.{canon}
 use Rattle.capn_canon.specs.Denotes.{Denotes, Answers}
 use Rattle.capn_canon.specs.CanonicalLength.{IsCanonicalLength}
 
--- ---- the theorem of `canonical_into`, of what it gives for a message, limits and a buffer
+-- ---- the theorem of `canonical_into`, on what it returns for a message, limits and a buffer
 
--- For every message, limits and buffer, `canonical_into` answers if and only if the message denotes a value without
--- capabilities within the limits, and the buffer has room for its canonical bytes.
+-- `r` is `Ok` if and only if `message` denotes a value without capabilities within `limits`, and that value has at most
+-- `room` canonical bytes.
 abbrev pub AnsweredInto : List (List ℕ) → Bounds → (room : ℕ) → Result CanonicalLength IntoRefusal → Type 0
 AnsweredInto message limits room r =
     IsOk r ↔ ((v : Tree) × IsValueOf message limits v × (first_cap v ≡ None) × (length (canon v) ≤ room))
 
--- It writes exactly these bytes, at the beginning of the buffer; the bytes after them are as they were.
+-- `new` is `old` with the canonical bytes of `message` at the beginning. `c` has their length, the number of words paid
+-- and the number of visits.
 pub record WrittenInto (message : List (List ℕ)) (limits : Bounds) (old new : List ℕ) (c : CanonicalLength)
     : Type 0 where
   pub value : Tree
@@ -35,8 +37,9 @@ pub record WrittenInto (message : List (List ℕ)) (limits : Bounds) (old new : 
   pub room : length (canon value) ≤ length old
   pub written : new ≡ canon value ++ drop (length (canon value)) old
 
--- Else it refuses with the first of these: the walk of the message stops; its value has a capability, of which the
--- first is named; its canonical bytes, whose length is given with the words that the walk pays, have no room.
+-- The refusal is true of `message`, and no earlier test refuses it. `Walk` says where and why the walk stops, and
+-- `Capability` has the index of the first capability. `NoRoom` has the length of the canonical bytes, which is above
+-- `room`, and the number of words paid.
 abbrev pub RefusedInto : List (List ℕ) → Bounds → (room : ℕ) → IntoRefusal → Type 0
 RefusedInto message limits room (intos.Walk s) = IsWalkRefused message limits s.fault s.place s.paid s.visits
 RefusedInto message limits room (intos.Capability k) =
@@ -47,22 +50,22 @@ RefusedInto message limits room (intos.NoRoom n p) =
 
 -- ---- read to here for the theorem
 
--- For any bytes, form and limits, unless it answers that memory ran out, `canonicalise` succeeds if and only if the
--- bytes denote a value without capabilities within the limits.
+-- If `r` is not `Memory`, it is `Ok` if and only if `bs` denote a value without capabilities, in `form` and within
+-- `limits`.
 abbrev pub Answered : {A : Type 0} → Form → List ℕ → Bounds → Result (Canonical A) Refusal → Type 0
 Answered form bs limits r =
     (r ≢ Err refusals.Memory) → IsOk r ↔ ((v : Tree) × Denotes form bs limits v × (first_cap v ≡ None))
 
--- Two answers, from any two forms, inputs and limits, are byte for byte equal if and only if the values denoted are the
--- same up to trailing zero words and trailing null pointers of structs.
+-- Let `other` be an answer for any input `ds`, in any form and under any valid limits. Then `answer` equals `other` if
+-- and only if `bs` and `ds` denote the same value, up to trailing zero words and trailing null pointers of structs.
 abbrev pub EqualExactly : Form → List ℕ → Bounds → List ℕ → Type 0
 EqualExactly form bs limits answer = (g : Form) (ds : List ℕ) (other_limits : Bounds) (other : List ℕ) (price : ℕ)
     (v w : Tree) → AreLimits other_limits.message_words other_limits.budget other_limits.depth
     → Answers g ds other_limits other price → Denotes form bs limits v → Denotes g ds other_limits w
     → (answer ≡ other) ↔ Same v w
 
--- Each answer, read bare under the same limits, denotes a value that is the same in this sense, and canonicalises to
--- itself: the second call answers those bytes, or that memory ran out.
+-- Read bare under the same limits, the bytes of `c` denote a value that is the same as the value that `bs` denote
+-- (`Same`). A second call on these bytes returns the same bytes, or `Memory`.
 pub record OwnForm {A : Type 0} (form : Form) (bs : List ℕ) (limits : Bounds) (c : Canonical A) : Type 0 where
   pub denoted : Tree
   pub is : Denotes form bs limits denoted
@@ -75,7 +78,7 @@ pub record OwnForm {A : Type 0} (form : Form) (bs : List ℕ) (limits : Bounds) 
       → Answered forms.Bare c.bytes.items limits r
       → MatchResult r (λ d. d.bytes.items ≡ c.bytes.items) (λ e. e ≡ refusals.Memory)
 
--- No walk reports more paid than its budget.
+-- The number of words paid, in an `Ok` or in a `Walk`, is at most `limits.budget`.
 abbrev pub WithinBudget : {A : Type 0} → Bounds → Result (Canonical A) Refusal → Type 0
 WithinBudget limits r = MatchResult r (λ c. c.paid ≤ limits.budget)
     (λ e. (s : Stopped) → e ≡ refusals.Walk s → s.paid ≤ limits.budget)

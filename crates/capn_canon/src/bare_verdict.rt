@@ -1,4 +1,4 @@
-//! Tests whether bare bytes are canonical, with or without a survey. No canonical bytes are made to compare with.
+//! Tests whether bare bytes are canonical, with or without a survey. The tests make no canonical bytes.
 
 ghost use Rattle.std.specs.Prelude.{◌≡◌, ◌↔◌, ◌≢◌, ◌+◌, ◌*◌, ◌<◌, ◌≤◌, [], ◌∷◌, ◌⊎◌, None, IsTrue, IfOk, IfErr};
 ghost use Rattle.std.specs.Prelude.{MatchResult, length};
@@ -59,7 +59,7 @@ impl CountedTask for BareTask {
 }
 
 /// Surveys the message `space` of one segment within `limits`. Returns the result of [`survey_bare`]. `space` is read
-/// only through a counter. There is no allocator, so no memory is taken.
+/// only through a counter. There is no allocator, so no memory is allocated.
 pub fn survey_bare_of<M: Asked>(space: M, limits: Limits) -> Result<SurveyedBare, Stopped>
     requires one { length (M.message space) ≡ 1 }
     // `space` must allow 24 * (budget + 1) + 1 reads and turns of loops, and one more to start the count. A reference
@@ -112,7 +112,7 @@ pub fn survey_bare<A: Allocator + Copy>(
 }
 
 /// Surveys the message `space` of one segment within `limits`, and counts reads and loop turns in `reads`. Returns the
-/// result of [`survey_bare`]. No memory is taken.
+/// result of [`survey_bare`]. No memory is allocated.
 pub fn survey_bare_counted<S: Space, L: Ledger>(
     space: &CountedSpace<'_, S, L>,
     limits: Limits,
@@ -150,7 +150,7 @@ pub fn survey_bare_counted<S: Space, L: Ledger>(
 }
 
 /// Tests whether `bytes`, read bare within `limits`, are the canonical bytes of the value that `bytes` denote. There is
-/// no allocator, so no memory is taken.
+/// no allocator, so no memory is allocated.
 pub fn are_canonical(bytes: &[u8], limits: Limits) -> Result<bool, Refusal>
     // If `result` is `Ok`, the bytes denote one value, which has no capability, and `result` says whether the bytes are
     // the canonical bytes of that value.

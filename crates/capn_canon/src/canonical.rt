@@ -21,7 +21,7 @@ use capn_words::Space;
 use std::alloc::{Allocator, Global};
 use std::sync::ledger::Ledger;
 
-/// Canonical bytes, and the number of words that the walk of the message paid.
+/// The canonical bytes of a message, and the number of words that the walk of the message paid.
 #[derive(Debug, Drop, PartialEq, Eq)]
 pub struct Canonical<A: Allocator = Global> {
     /// The canonical bytes, at most 8 for each word paid, and 8 more.
@@ -122,16 +122,18 @@ pub fn canonical_of<A: Allocator + Copy, M: Asked>(
     // The walk pays at most the budget, also if the message is refused.
     ensures bounded { MatchResult result (λ c. c.paid ≤ limits.budget) (λ e. IsPaidWithin limits.budget e) }
     ensures short { IfOk result (λ c. length c.bytes.items ≤ 8 * (c.paid + 1)) }
-    // Read bare under the same limits, the canonical bytes denote the trimmed value of `v`, which is the same as `v`.
+    // Read bare under the same limits, the canonical bytes denote the trimmed value of `v`. The two values differ at
+    // most in trailing zero words and trailing null slots of structs.
     ensures reads_back { IfOk result (λ c. (v : Value) → IsValueOf (M.message space) limits v
         → ReadsBack c.bytes.items limits v) }
     // A walk of the canonical bytes, read bare, pays exactly the cost of the trimmed value of `v`.
     ensures pays { IfOk result (λ c. (v : Value) → IsValueOf (M.message space) limits v
         → PaysItsCost c.bytes.items limits v) }
-    // The trimmed value of `v` has the same canonical bytes.
+    // The canonical bytes of `v` are also those of the trimmed value of `v`.
     ensures own { IfOk result (λ c. (v : Value) → IsValueOf (M.message space) limits v
         → IsItsOwnForm c.bytes.items v) }
-    // Among the values that fit and are in range, exactly those that are the same as `v` have the same canonical bytes.
+    // A value that fits and is in range has the same canonical bytes as `v` if and only if it is the same as `v`
+    // (`Same`).
     ensures exactly { IfOk result (λ c. (v : Value) → IsValueOf (M.message space) limits v
         → IsFormExactlyOf c.bytes.items v) }
 {
@@ -144,9 +146,9 @@ pub fn canonical_of<A: Allocator + Copy, M: Asked>(
 /// Makes the canonical bytes of the message `space` within `limits`, and counts reads and loop turns in `reads`.
 /// Returns the result of [`canonical_of`].
 ///
-/// There are at most 56 reads and turns for each word paid, and 56 more. The walk takes 14 of the 56, the search for
-/// the lengths of the segments 2, the measuring 20 if it is needed, and the writing 20. A refusal costs at most 56 for
-/// each word of the budget, and 56 more. So the budget bounds the work, whatever the message is.
+/// There are at most 56 reads and turns for each word paid, and 56 more. Of the 56, the walk takes 14, finding the
+/// lengths of the segments takes 2, measuring takes 20 if it is needed, and writing takes 20. A refusal costs at most
+/// 56 for each word of the budget, and 56 more. So the budget bounds the work, whatever the message is.
 pub fn canonical_of_counted<A: Allocator + Copy, S: Space, L: Ledger>(
     alloc: A,
     space: &CountedSpace<'_, S, L>,
@@ -166,16 +168,18 @@ pub fn canonical_of_counted<A: Allocator + Copy, S: Space, L: Ledger>(
     // The walk pays at most the budget, also if the message is refused.
     ensures bounded { MatchResult result (λ c. c.paid ≤ limits.budget) (λ e. IsPaidWithin limits.budget e) }
     ensures short { IfOk result (λ c. length c.bytes.items ≤ 8 * (c.paid + 1)) }
-    // Read bare under the same limits, the canonical bytes denote the trimmed value of `v`, which is the same as `v`.
+    // Read bare under the same limits, the canonical bytes denote the trimmed value of `v`. The two values differ at
+    // most in trailing zero words and trailing null slots of structs.
     ensures reads_back { IfOk result (λ c. (v : Value) → IsValueOf space.now limits v
         → ReadsBack c.bytes.items limits v) }
     // A walk of the canonical bytes, read bare, pays exactly the cost of the trimmed value of `v`.
     ensures pays { IfOk result (λ c. (v : Value) → IsValueOf space.now limits v
         → PaysItsCost c.bytes.items limits v) }
-    // The trimmed value of `v` has the same canonical bytes.
+    // The canonical bytes of `v` are also those of the trimmed value of `v`.
     ensures own { IfOk result (λ c. (v : Value) → IsValueOf space.now limits v
         → IsItsOwnForm c.bytes.items v) }
-    // Among the values that fit and are in range, exactly those that are the same as `v` have the same canonical bytes.
+    // A value that fits and is in range has the same canonical bytes as `v` if and only if it is the same as `v`
+    // (`Same`).
     ensures exactly { IfOk result (λ c. (v : Value) → IsValueOf space.now limits v
         → IsFormExactlyOf c.bytes.items v) }
     // All passes together do at most 56 reads and turns of loops for each word paid, and 56 more.

@@ -42,12 +42,13 @@ impl<A: Allocator + Copy> MessageTask<A> for CanonicalBytes {
 /// Makes the canonical bytes of the value that `bytes` denote in `form`, within `limits`. Returns them with the number
 /// of words that the walk paid.
 ///
-/// The refusals are tested in three steps. First the bytes are read. Bytes that are no bare words are refused by
-/// `Bare`. Bytes that are no packed text, or unpack to more words than `limits.message_words` and the longest table,
-/// are refused by `Packed`. A fault of a frame is refused by `Frame`, and bytes after the frame by `Trailing`. Then the
-/// message is walked, and refused by `Walk`, with a fault that is never `Memory`. Last the value is laid out, and
-/// refused by `Capability`, with the index of the first in preorder. `Memory` is returned only if an allocation on
-/// `alloc` was refused, which no clause can say.
+/// The refusals are tested in three steps. First the bytes are read. `Bare` refuses bytes that are not bare words.
+/// `Packed` refuses bytes that are not a packed text, or that unpack to more words than `limits.message_words` and the
+/// longest table allow. `Frame` refuses bytes that begin with no frame of at most `limits.message_words` words, and
+/// `Trailing` refuses bytes after the frame. Then the message is walked. `Walk` refuses a message that is not accepted,
+/// with a fault that is never `Memory`. Last the value is laid out. `Capability` refuses a value with capabilities,
+/// with the index of the first in preorder. `Memory` is returned only if an allocation on `alloc` was refused. No
+/// clause can say that.
 pub fn canonicalise<A: Allocator + Copy>(
     alloc: A,
     form: Form,
@@ -62,31 +63,35 @@ pub fn canonicalise<A: Allocator + Copy>(
         → MatchResult result (λ c. c.bytes.items ≡ canon v) (λ e. e ≡ refusals.Memory) }
     // If `result` is `Err(e)`, the reason that `e` gives is true.
     ensures refused { IfErr result (λ e. IsRefused form bytes.now limits e) }
-    // `Memory` is returned only if reading the bytes may need memory, or if they have canonical bytes.
+    // `Memory` is returned only if reading the bytes may need memory, or if the bytes denote a value without
+    // capabilities.
     ensures memory { IsErrOf result refusals.Memory → MayNeedBytesIn form bytes.now limits }
     // The walk pays at most the budget, also if the message is refused.
     ensures bounded { MatchResult result (λ c. c.paid ≤ limits.budget) (λ e. IsPaidWithin limits.budget e) }
     ensures short { IfOk result (λ c. length c.bytes.items ≤ 8 * (c.paid + 1)) }
-    // Read bare under the same limits, the canonical bytes denote the trimmed value of `v`, which is the same as `v`.
+    // Read bare under the same limits, the canonical bytes denote the trimmed value of `v`. The two values differ at
+    // most in trailing zero words and trailing null slots of structs.
     ensures reads_back { IfOk result (λ c. (v : Value) → Denotes form bytes.now limits v
         → ReadsBack c.bytes.items limits v) }
     // A walk of the canonical bytes, read bare, pays exactly the cost of the trimmed value of `v`.
     ensures pays { IfOk result (λ c. (v : Value) → Denotes form bytes.now limits v
         → PaysItsCost c.bytes.items limits v) }
-    // The trimmed value of `v` has the same canonical bytes.
+    // The canonical bytes of `v` are also those of the trimmed value of `v`.
     ensures own { IfOk result (λ c. (v : Value) → Denotes form bytes.now limits v → IsItsOwnForm c.bytes.items v) }
-    // Among the values that fit and are in range, exactly those that are the same as `v` have the same canonical bytes.
+    // A value that fits and is in range has the same canonical bytes as `v` if and only if it is the same as `v`
+    // (`Same`).
     ensures exactly { IfOk result (λ c. (v : Value) → Denotes form bytes.now limits v
         → IsFormExactlyOf c.bytes.items v) }
-    // The four sentences of the README's theorem follow. Unless `result` is `Memory`, it is `Ok` if and only if the
-    // bytes denote a value without capabilities.
+    // This clause and the next three are the sentences of the README's theorem. Unless `result` is `Memory`, it is `Ok`
+    // if and only if the bytes denote a value without capabilities.
     ensures answered { Answered form bytes.now limits result }
-    // Any two results are equal if and only if the values denoted are the same.
+    // If `result` is `Ok`, its bytes equal the canonical bytes of another input if and only if the values of both
+    // inputs are the same (`Same`).
     ensures equal { IfOk result (λ c. EqualExactly form bytes.now limits c.bytes.items) }
-    // The canonical bytes denote the same value. A second call on the canonical bytes, bare and under the same limits,
-    // returns them again or `Memory`.
+    // The canonical bytes denote a value that is the same as the value of the input (`Same`). A second call on the
+    // canonical bytes, bare and under the same limits, returns the same bytes or `Memory`.
     ensures second { IfOk result (λ c. OwnForm form bytes.now limits c) }
-    // The number of words paid, also in a refusal, is at most the budget.
+    // The number of words paid, in an `Ok` or in a `Walk`, is at most the budget.
     ensures within { WithinBudget limits result }
 {
     let _words = limits.message_words();

@@ -22,7 +22,7 @@ use std::sync::ledger::{Blank, Ledger};
 /// Surveys the bare message `space` within `limits`. Returns `None` if the message is not accepted, the value has a
 /// capability, or the bytes are not canonical. (Our own.)
 ///
-/// No memory is taken. [`survey_bare`](crate::survey_bare) gives the reason for a `None`.
+/// No memory is allocated. [`survey_bare`](crate::survey_bare) gives the reason for a `None`.
 pub fn survey_canonical(space: &Bare<'_>, limits: Limits) -> Option<SurveyedBare>
     requires { IsMessage (space.now ∷ []) }
     ensures found { IfSome result (λ c. IsBareSurvey space.now limits c) }
@@ -55,7 +55,7 @@ fn survey_with_ledger<L: Ledger>(
 /// result of [`survey_canonical`].
 ///
 /// There are at most ten reads and turns for each word paid, and eight more. A `None` costs at most ten for each word
-/// of the budget, and eight more. So the budget bounds the work, whatever the words are. No memory is taken.
+/// of the budget, and eight more. So the budget bounds the work, whatever the words are. No memory is allocated.
 pub fn survey_canonical_counted<S: Space, L: Ledger>(
     space: &CountedSpace<'_, S, L>,
     limits: Limits,
@@ -83,11 +83,11 @@ pub fn survey_canonical_counted<S: Space, L: Ledger>(
     }
 }
 
-/// Surveys the bare message `space` within `limits` if its bytes are canonical, and finds the depth. The depth is the
-/// least limit on depth under which the message is accepted, which is the greatest number of objects one below another,
-/// with the root. (Our own.)
+/// Surveys the bare message `space` within `limits`, and finds its depth. Returns `None` if [`survey_canonical`] does.
+/// The depth is the least limit on depth under which the message is accepted. It is the greatest number of objects on a
+/// path from the root, including the root. (Our own.)
 ///
-/// No memory is taken. After a `None`, [`survey_bare`](crate::survey_bare) and
+/// No memory is allocated. If the result is `None`, [`survey_bare`](crate::survey_bare) and
 /// [`survey_depth`](capn_walk::survey_depth) report more.
 pub fn measure_canonical(space: &Bare<'_>, limits: Limits) -> Option<MeasuredBare>
     requires { IsMessage (space.now ∷ []) }
@@ -124,7 +124,8 @@ fn measure_with_ledger<L: Ledger>(
 }
 
 /// Surveys the message `space` of one segment within `limits` and finds the depth. Returns the result of
-/// [`measure_canonical`]. The counts in `reads` have the bounds of [`survey_canonical_counted`]. No memory is taken.
+/// [`measure_canonical`]. The counts in `reads` have the bounds of [`survey_canonical_counted`]. No memory is
+/// allocated.
 pub fn measure_canonical_counted<S: Space, L: Ledger>(
     space: &CountedSpace<'_, S, L>,
     limits: Limits,
@@ -155,9 +156,10 @@ pub fn measure_canonical_counted<S: Space, L: Ledger>(
     }
 }
 
-/// Makes the one pass over the words of `space` within `limits`, and counts the reads in `reads`. The pass also accepts
-/// canonical bytes that other words follow. Those words cost nothing, and `is_canonical` is then `false`. If `DEEP` is
-/// set, the pass also finds the depth of the objects, from the least depth that was left below one of them.
+/// Makes the one pass over the words of `space` within `limits`, and counts the reads in `reads`. Returns `None` if the
+/// words do not begin with canonical bytes. If other words follow the canonical bytes, they cost nothing, and
+/// `is_canonical` is `false`. If `DEEP` is set, the pass also finds the depth of the objects. Otherwise the depth
+/// returned is 0.
 #[inline(always)]
 pub fn measure_root<S: Space, L: Ledger, const DEEP: bool>(
     space: &CountedWords<'_, S, L>,

@@ -40,7 +40,8 @@ fn survey_side<S: Space, L: Ledger>(
     }
 }
 
-/// Surveys the message `b` within `limits`, and compares its value with the value of `a`, which was surveyed before.
+/// Surveys the message `b` within `limits`, and compares the values of `a` and `b`. The message `a` was surveyed
+/// before.
 fn same_beside<S: Space, T: Space, L: Ledger, M: Ledger>(
     a: &CountedSpace<'_, S, L>,
     b: &CountedSpace<'_, T, M>,
@@ -149,7 +150,7 @@ pub fn same_messages_counted<S: Space, T: Space, L: Ledger, M: Ledger>(
     // For each message there are at most 34 reads and turns of loops for each word that its walk pays, and 34 more.
     ensures first_paid { IfOk result (λ _. first.new ≤ first.old + 34 * (price a.now limits + 1)) }
     ensures second_paid { IfOk result (λ _. second.new ≤ second.old + 34 * (price b.now limits + 1)) }
-    // The budget bounds the number of reads of each message and of turns, whatever the messages and the result are.
+    // The budget bounds the numbers that `first` and `second` count, whatever the messages and the result are.
     ensures first { first.new ≤ first.old + 34 * (limits.budget + 1) }
     ensures second { second.new ≤ second.old + 34 * (limits.budget + 1) }
 {

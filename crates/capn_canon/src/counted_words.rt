@@ -41,7 +41,8 @@ impl<'s, S: Space, L: Ledger> CountedWords<'s, S, L> {
         }
     }
 
-    /// Returns the same words, for a function that takes them by value, to avoid a reference to a reference.
+    /// Returns a copy of this reference to the words. A function that takes the copy by value needs no reference to a
+    /// reference.
     #[inline(always)]
     pub fn again(&self) -> CountedWords<'s, S, L>
         ensures { result ≡ self.now }

@@ -21,7 +21,7 @@ pub trait MessageTask<A: Allocator + Copy> {
     /// The type of the task's answer.
     type Answer;
 
-    /// The relation of the task, the message, the limits, the result, and the task after the run.
+    /// The relation between the task before the run, the message, the limits, the result, and the task after the run.
     ghost answers: { Self → List (List ℕ) → Bounds → Result Self.Answer Refusals → Self → Type 0 };
 
     /// Does the task on `message` within `limits`. Returns the answer, or the refusal.
@@ -34,7 +34,7 @@ pub trait MessageTask<A: Allocator + Copy> {
         ensures { answers self.old (S.message message.now) limits result self.new };
 }
 
-/// Refuses `bytes` by `Trailing` if more bytes follow the frame at the front, which has `taken` bytes.
+/// Refuses `bytes` by `Trailing` if more bytes follow the frame. The frame is the first `taken` bytes.
 fn refuse_trailing(taken: usize, bytes: &[u8]) -> Result<(), Refusal>
     ensures ends { OnOk result (length bytes.now ≤ taken) }
     ensures refused { IfErr result (λ e. (taken < length bytes.now) × (e ≡ Refusals.Trailing taken)) }
@@ -45,8 +45,8 @@ fn refuse_trailing(taken: usize, bytes: &[u8]) -> Result<(), Refusal>
     Ok(())
 }
 
-/// Reads `bytes` in `form`, which is bare words or a frame but not packed, as a message of one segment. Returns `None`
-/// for a frame that is incomplete, too long, or of more segments.
+/// Reads `bytes` in `form` as a message of one segment. `form` is not `Packed`. Returns `None` if the bytes begin with
+/// no frame within the limit, or with a frame of several segments.
 fn one_segment<'b>(form: Form, bytes: &'b [u8], limits: Limits) -> Result<Option<Bare<'b>>, Refusal>
     requires plain { form ≡ forms.Packed → ⊥ }
     ensures read { IfOk result (λ o. IfSome o (λ w. Reads form bytes.now limits.message_words (w ∷ []))) }
@@ -77,8 +77,9 @@ fn of_frame<T: MessageTask<A>, A: Allocator + Copy>(
     task.run(alloc, &message, limits)
 }
 
-/// Does the `task` on the message that `bytes` encode in `form`, which isn't packed. Of a message with one segment only
-/// the words are read, which is faster. That call of the task is written only once, so that the compiler inlines it.
+/// Does the `task` on the message that `bytes` encode in `form`, which is not `Packed`. If the message has one segment,
+/// only its words are read, which is faster. For messages of one segment, the code has only one call of the task, so
+/// that the compiler inlines the call.
 fn of_plain<T: MessageTask<A>, A: Allocator + Copy>(
     alloc: A,
     task: &mut T,
@@ -110,8 +111,8 @@ fn of_packed<T: MessageTask<A>, A: Allocator + Copy>(
 
 /// Reads `bytes` in `form` as a message, once, and returns the answer of `task` for the message, within `limits`.
 ///
-/// Bytes that are no message of the form are refused before the task is run, and leave `task` as it was. Other refusals
-/// are those of the task. Reading asks `alloc` for memory only for the ends of more than 64 segments, and for the
+/// Bytes that are no message of the form are refused before the task runs, and `task` stays as it was. All other
+/// refusals come from the task. Reading asks `alloc` for memory only for the ends of more than 64 segments, and for the
 /// unpacked words. (Our own.)
 pub fn run_task<T: MessageTask<A>, A: Allocator + Copy>(
     alloc: A,

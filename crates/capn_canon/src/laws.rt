@@ -11,8 +11,8 @@ ghost use Rattle.capn_canon.specs.Laws.{AnswersTellTheSame};
 
 use std::alloc::Allocator;
 
-/// States the theorem of the README. Each of its sentences holds of every result that the clauses `found` and `refused`
-/// of `canonicalise` allow.
+/// States the theorem of the README. Each sentence of the theorem holds of every result that the clauses `found` and
+/// `refused` of `canonicalise` allow.
 pub fn theorem<A: Allocator>()
     ensures answered { EachIsAnswered A }
     ensures equal { AnswersAreEqualExactly A }
@@ -26,8 +26,9 @@ pub fn decision()
     ensures { IntoIsDecided }
 {}
 
-/// States that canonical bytes read back as the trimmed value, which has the same canonical bytes. Two values have
-/// equal canonical bytes if and only if they are the same.
+/// States that the canonical bytes of a value read back as that value, trimmed. The trimmed value has the same
+/// canonical bytes. Two values have equal canonical bytes if and only if they differ at most in trailing zero words and
+/// trailing null slots of structs.
 pub fn canonicity()
     ensures form { CanonIsForm }
     ensures exactly { EqualExactlySame }
@@ -49,9 +50,9 @@ pub fn spelling()
 {}
 
 /// States that words are the canonical bytes of the value that they denote if and only if they follow the rules of the
-/// encoding page. Words that follow the rules denote a value without capabilities, and each value without capabilities
-/// has one form that follows them. So each result follows the rules, and `is_canonical` returns `true` if and only if
-/// the input follows them.
+/// encoding page. Words that follow the rules denote a value without capabilities. Each value without capabilities has
+/// exactly one form that follows the rules. So each result follows the rules, and `is_canonical` returns `true` if and
+/// only if the input follows them.
 pub fn page()
     ensures exactly { CanonicalExactlyByPage }
     ensures denoted { PageFormsDenote }
@@ -61,9 +62,9 @@ pub fn page()
     ensures survey { SurveyIsOfThePage }
 {}
 
-/// States that two results, or any two messages that follow the rules of the encoding page, are equal if and only if
-/// the getters return the same from both values along every path. The getters return the same from each result as from
-/// its message.
+/// States that two results are equal if and only if the getters return the same from the values of both, along every
+/// path. The same is true of two messages that follow the rules of the encoding page. The getters return the same from
+/// the value of a result as from the value of its input.
 pub fn readers<A: Allocator>()
     ensures canon { CanonIsWhatIsTold }
     ensures page { PageFormsAreWhatIsTold }

@@ -28,9 +28,9 @@ pub struct CanonicalLength {
     pub visits: u32,
 }
 
-/// Returns the length of the canonical bytes of `space`, a surveyed message, if the length is above `room`. `paid` is
-/// the number of words that the survey paid. If `8 * (paid + 1)` is at most `room`, the canonical bytes have room, and
-/// are not measured.
+/// Returns the length of the canonical bytes of the surveyed message `space` if the length is above `room`, and
+/// otherwise `None`. `paid` is the number of words that the survey paid. If `8 * (paid + 1)` is at most `room`, the
+/// length cannot be above `room`, and is not measured.
 pub(crate) fn length_beyond<S: Space, L: Ledger>(
     space: &CountedSpace<'_, S, L>,
     limits: Limits,

@@ -1,8 +1,8 @@
 //! The canonical bytes of values: one encoding for each value, so that equal values have equal bytes.
 //!
 //! - [`canonicalise`] writes the canonical bytes of the value that bytes denote, in any of the three forms. It returns
-//!   the bytes with the number of words that the walk paid. [`canonical_of`] makes them for any message that is a
-//!   `Space`.
+//!   the bytes with the number of words that the walk paid. [`canonical_of`] makes the canonical bytes of any message
+//!   that is a `Space`.
 //! - [`canonical_into`] writes the canonical bytes into a buffer of the caller, and [`canonical_length`] returns the
 //!   number of canonical bytes. Neither takes memory or an allocator.
 //! - [`is_canonical`] tests whether the bytes of a bare message are canonical, and makes no copy. [`survey_bare`] also
@@ -10,13 +10,14 @@
 //!   [`is_canonical`] and [`survey_bare`] make first, and reports only on canonical bytes. [`measure_canonical`] is the
 //!   same pass, and also finds the depth. [`are_canonical`] and [`survey_bare_of`] work without an allocator.
 //!   [`survey_bare_of`] reads any message of one segment through a counter.
-//! - [`survey_bare_counted`], [`survey_canonical_counted`] and [`measure_canonical_counted`] are the same calls for a
-//!   message of one segment whose reads are counted. The budget bounds the number of reads.
+//! - [`survey_bare_counted`], [`survey_canonical_counted`] and [`measure_canonical_counted`] return what the calls
+//!   without `_counted` return, for a message of one segment whose reads are counted. The budget bounds the number of
+//!   reads.
 //! - [`canonical_of_counted`], [`canonical_into_counted`] and [`canonical_length_counted`] return what the calls
 //!   without `_counted` return, for a message whose reads are counted. The number of words paid bounds the reads of all
 //!   passes together.
-//! - [`same_messages`] tests whether two messages have the same value, and so equal canonical bytes, without making the
-//!   bytes. [`same_messages_counted`] compares two messages whose reads are counted.
+//! - [`same_messages`] tests whether the canonical bytes of two messages are equal, without making the bytes.
+//!   [`same_messages_counted`] compares two messages whose reads are counted.
 //! - [`own_canonical`] returns the bytes of a message if the message is canonical already, and copies nothing.
 //!   [`measure`] reports the price, the number of visits and the depth of a message, and whether it is canonical.
 //! - [`run_task`] reads bytes in a form as a message, and returns the answer of a [`MessageTask`] for it.
@@ -25,37 +26,38 @@
 //! - [`layout`] writes the canonical bytes of a tree: one segment, its objects in preorder, every struct without its
 //!   trailing zero words and trailing null pointers. A tree with a capability is refused with the index of the first
 //!   capability.
-//! - [`Patch`] is a buffer of words, with holes for words that are not known yet, such as a pointer to an object that
-//!   has no place so far. No call of this crate writes to one.
+//! - [`Patch`] is a buffer of words, with holes for words that are not known yet. Such a word is a pointer to an object
+//!   that has no place so far. No call of this crate writes to a `Patch`.
 //!
 //! For any bytes, form and limits, unless an allocation is refused, `canonicalise` succeeds if and only if the bytes
 //! denote a value without capabilities within the limits. Two results, from any two forms, inputs and limits, are byte
 //! for byte equal if and only if the values denoted are the same up to trailing zero words and trailing null pointers
-//! of structs. Each result, read bare under the same limits, denotes a value that is the same in this sense, and
-//! canonicalises to itself: a second call returns the same bytes, or `Memory`. No walk pays more than the budget. The
-//! clauses `answered`, `equal`, `second` and `within` of `canonicalise` state this, by the definitions of
-//! `specs/Theorem.antt`. [`laws::theorem`] states the same of all results.
+//! of structs. Each result, read bare under the same limits, denotes a value that is the same, in this sense, as the
+//! value of the input. A second call on the result returns the same bytes, or `Memory`. No walk pays more than the
+//! budget. The clauses `answered`, `equal`, `second` and `within` of `canonicalise` state these sentences, by the
+//! definitions of `specs/Theorem.antt`. [`laws::theorem`] states them of every result that the clauses `found` and
+//! `refused` allow.
 //!
 //! For any message, limits and buffer, `canonical_into` succeeds if and only if the message denotes a value without
 //! capabilities within the limits and the buffer has room for its canonical bytes. It writes exactly the canonical
 //! bytes. Otherwise it returns the first refusal, and the buffer is as it was. It never allocates. The clauses
-//! `answered`, `written`, `refused` and `unchanged` of `canonical_into` state this, by definitions of the same file.
-//! [`laws::decision`] states that the clauses allow only one result.
+//! `answered`, `written`, `refused` and `unchanged` of `canonical_into` state this, by definitions of
+//! `specs/Theorem.antt`. [`laws::decision`] states that the clauses allow only one result.
 //!
 //! For any two messages and limits, `same_messages` succeeds if and only if both denote values without capabilities
-//! within the limits. It then returns whether the two values are the same, which is whether their canonical bytes are
-//! equal. Otherwise it returns the refusal of the first message, or of the second if the first has none. It never
-//! allocates. The clauses `answered`, `found`, `equal` and `refused` of `same_messages` state this, by the definitions
-//! of `specs/SameMessages.antt`.
+//! within the limits. It then returns `true` if and only if the canonical bytes of the two values are equal. Otherwise
+//! it returns the refusal of the first message, or of the second if the first has none. It never allocates. The clauses
+//! `answered`, `found`, `equal` and `refused` of `same_messages` state this, by the definitions of
+//! `specs/SameMessages.antt`.
 //!
-//! The same code lays out trees and messages, since both give it slots with their values.
+//! Trees and messages are laid out by one implementation, which reads slots and their values from either.
 //!
-//! `layout` takes memory for the bytes that it returns. If an allocation is refused, it returns `Memory`.
+//! `layout` allocates memory for the bytes that it returns. If an allocation is refused, it returns `Memory`.
 //!
 //! ```rust
 //! let input = [0, 0, 0, 0, 2, 0, 0, 0, 5, 0, 0, 0, 0, 0, 0, 0, 0, 0, 0, 0, 0, 0, 0, 0];
 //! if let Ok(answer) = canonicalise(alloc, Form::Bare, &input, Limits::usual()) {
-//!     // the first 16 bytes, with one word fewer in the pointer: the trailing zero word is cut
+//!     // the first 16 bytes, with one word fewer in the pointer: the trailing zero word is left out
 //! }
 //! ```
 #![tactic(auto)]

@@ -61,17 +61,18 @@ fn measure_bare<A: Allocator + Copy>(
 }
 
 /// Surveys the message `space` within `limits`. Returns the price, the number of visits, the first capability, the
-/// depth, and whether the message is canonical, in one segment. The depth is the least limit on depth under which the
-/// message is accepted, with the other limits unchanged. (Our own.)
+/// depth, and whether the message is one segment of canonical bytes. The depth is the least limit on depth under which
+/// the message is accepted, with the other limits unchanged. (Our own.)
 ///
-/// A message of one segment that is not canonical is walked at most twice, any other once. A message that the walk
-/// refuses is refused with the stop of the walk. No memory is taken.
+/// A message of one segment that is not canonical is walked at most twice. Any other message is walked once. A message
+/// that the walk refuses is refused with the stop of the walk. No memory is allocated.
 pub fn measure<S: Space, A: Allocator + Copy>(
     alloc: A,
     space: &S,
     limits: Limits,
 ) -> Result<MeasuredBare, Stopped>
-    // If `result` is `Ok`, the message is accepted, and `result` has its price, its depth and the other results.
+    // If `result` is `Ok`, the message is accepted. `result` has its price, its number of visits, its first capability
+    // and its depth, and says whether the message is canonical.
     ensures found { IfOk result (λ m. IsMeasure (S.message space.now) limits m) }
     // If the message is accepted, `result` is `Ok`.
     ensures only { (v : Value) → IsValueOf (S.message space.now) limits v → IsOk result }

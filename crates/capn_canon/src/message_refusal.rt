@@ -5,23 +5,24 @@ use capn_walk::Stopped;
 use std::error::Error;
 use std::fmt;
 
-/// The reason why a message has no canonical bytes within the limits, in the order in which the tests are made. (Our
-/// own.)
+/// The reason why a message has no canonical bytes within the limits. The variants stand in the order of the tests.
+/// (Our own.)
 ///
-/// There is no variant for memory, since none is taken. The fault of a walk has such a variant, for walks that make a
-/// tree, but the clauses exclude it here.
+/// There is no variant `Memory`, since no memory is allocated. The fault of a walk has such a variant, for walks that
+/// make a tree. The clauses of the calls exclude that fault here.
 #[derive(Clone, Copy, Debug, PartialEq, Eq)]
 pub enum MessageRefusal {
-    /// The place and the reason at which the walk stopped, if the message is not accepted. The fault is never `Memory`.
+    /// The stop of the walk, with its place and its fault, if the message is not accepted. The fault is never `Memory`.
     Walk(Stopped),
     /// The index of the first capability in preorder, if the value has any: a capability has no canonical form.
     Capability(u32),
 }
 
-/// The reason why canonical bytes are not written into a buffer, in the order in which the tests are made. (Our own.)
+/// The reason why canonical bytes are not written into a buffer. The variants stand in the order of the tests. (Our
+/// own.)
 #[derive(Clone, Copy, Debug, PartialEq, Eq)]
 pub enum IntoRefusal {
-    /// The place and the reason at which the walk stopped, if the message is not accepted. The fault is never `Memory`.
+    /// The stop of the walk, with its place and its fault, if the message is not accepted. The fault is never `Memory`.
     Walk(Stopped),
     /// The index of the first capability in preorder, if the value has any: a capability has no canonical form.
     Capability(u32),

@@ -1,4 +1,4 @@
-//! The call `survey`, which surveys a whole message.
+//! The call `survey`, which surveys a message that is a `Space`.
 
 ghost use Rattle.std.specs.Prelude.{◌≡◌, ◌≢◌, ℕ, ◌≤◌, IfOk, IfErr, MatchResult};
 ghost use Rattle.capn_value.specs.Tree.{Tree as Value};

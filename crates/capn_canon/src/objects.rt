@@ -16,8 +16,9 @@ use capn_target::counted::Reads;
 use capn_words::{Space, Width};
 use std::sync::ledger::Ledger;
 
-/// Opens the struct at the next free word, to which `word`, the first slot of `pass`, points. Returns the slots of the
-/// struct. Returns `None` if the struct is empty, is out of range, costs too much, or ends a section in a zero word.
+/// Opens the struct at the next free word. `word` is the first slot of `pass` and points to the struct. Returns the
+/// slots of the struct. Returns `None` if the struct is empty, is out of range or costs too much, or if its last word
+/// or its last slot is zero.
 #[inline(always)]
 pub fn open_struct<S: Space, L: Ledger>(
     space: &CountedWords<'_, S, L>,
@@ -59,8 +60,9 @@ pub fn open_struct<S: Space, L: Ledger>(
     }
 }
 
-/// Tests the list of `count` numbers at the next free word, to which the first slot of `pass` points. Returns the
-/// progress after the list.
+/// Tests the list of `count` numbers at the next free word. The first slot of `pass` points to the list. Returns the
+/// progress after the list. Returns `None` if the list is out of range, costs too much, or has bits set after its last
+/// element.
 #[inline(always)]
 pub fn check_numbers<S: Space, L: Ledger>(
     space: &CountedWords<'_, S, L>,
@@ -88,8 +90,8 @@ pub fn check_numbers<S: Space, L: Ledger>(
     pass.paid(base as u64 + words + without_size as u64, end as u32, 0)
 }
 
-/// Opens the list of `count` pointers at the next free word, to which the first slot of `pass` points. Returns the
-/// elements as slots.
+/// Opens the list of `count` pointers at the next free word. The first slot of `pass` points to the list. Returns the
+/// elements as slots. Returns `None` if the list is out of range or costs too much.
 #[inline(always)]
 pub fn open_pointers<S: Space, L: Ledger>(
     space: &CountedWords<'_, S, L>,
@@ -122,8 +124,9 @@ pub fn open_pointers<S: Space, L: Ledger>(
     }
 }
 
-/// Opens the list of structs of `span` words at the next free word, to which the first slot of `pass` points. Returns
-/// the rows if the tag has the sizes of canonical rows.
+/// Opens the list of structs at the next free word. The structs have `span` words together, and the first slot of
+/// `pass` points to the list. Returns the rows. Returns `None` if the list is out of range, costs too much, or is not
+/// laid out canonically.
 #[inline(never)]
 pub fn open_composite<S: Space, L: Ledger>(
     space: CountedWords<'_, S, L>,

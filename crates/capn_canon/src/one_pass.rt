@@ -4,8 +4,8 @@
 //! out of range and nothing is read twice. The pass follows the words in order, and needs no survey before it.
 //!
 //! For each slot the pass makes at most seven reads and turns: the turn, the word, and five to test the object that the
-//! slot points to. The price of a list of structs covers its further cost. That cost is at most two for each word of
-//! the rows, to test that trimming keeps them all, and a turn for each row with slots.
+//! slot points to. A list of structs needs further reads and turns. They are at most two for each word of the rows, to
+//! test that trimming keeps all words, and a turn for each row with slots. The price of the list covers them.
 
 ghost use Rattle.std.specs.Prelude.{◌≡◌, ◌+◌, ◌-◌, ◌*◌, ◌%◌, ◌^◌, ◌<◌, ◌≤◌, [], ◌∷◌, slice_index, IfSome};
 ghost use Rattle.capn_words.specs.Message.{IsMessage};
@@ -23,8 +23,8 @@ use capn_target::counted::Reads;
 use capn_words::{Pointer, Space, Width, split};
 use std::sync::ledger::Ledger;
 
-/// Tests everything below the slots of the object that `pass` has opened. Returns the progress after it, or `None` if a
-/// word is not in its canonical place, at a capability, or beyond the limit on depth or price.
+/// Tests the slots of `pass` and everything below them. Returns the progress after the test. Returns `None` if a word
+/// is not in its canonical place, if a slot holds a capability, or if the limit on depth or price is exceeded.
 ///
 /// Each level of depth takes one frame of the stack, of this function or of [`check_rows`].
 #[cycle(pass)]
@@ -44,7 +44,8 @@ pub fn check_object<S: Space, L: Ledger, const DEEP: bool>(
     check_slots::<S, L, DEEP>(&space, base, pass, least, reads)
 }
 
-/// Tests everything below the slots of `pass`. Returns the progress after it, or `None` as [`check_object`] does.
+/// Tests the slots of `pass` and everything below them. Returns the progress after the test, or `None` as
+/// [`check_object`] does.
 #[cycle(pass)]
 #[inline(always)]
 fn check_slots<S: Space, L: Ledger, const DEEP: bool>(
@@ -70,9 +71,9 @@ fn check_slots<S: Space, L: Ledger, const DEEP: bool>(
     Some(left.here())
 }
 
-/// Tests the first slot of `pass` with everything below it. Returns the rest of `pass`. If the last slot points to a
-/// struct or a list of pointers, the slots of that object are returned instead, untested, and the loop of the caller
-/// continues with them.
+/// Tests the first slot of `pass` with everything below it. Returns the slots of `pass` after the first. There is one
+/// exception: the first slot is also the last, and points to a struct or a list of pointers. Then the slots of that
+/// object are returned untested, and the loop of the caller tests these slots.
 #[cycle(pass)]
 #[inline(always)]
 fn check_slot<S: Space, L: Ledger, const DEEP: bool>(
@@ -115,7 +116,7 @@ fn check_slot<S: Space, L: Ledger, const DEEP: bool>(
     None
 }
 
-/// Tests the first slot of `pass`, `word`, a pointer to a struct at the next free word, with everything below it.
+/// Tests `word`, the first slot of `pass`, with everything below it. `word` points to a struct at the next free word.
 #[cycle(pass)]
 #[inline(always)]
 fn check_struct<S: Space, L: Ledger, const DEEP: bool>(
@@ -141,8 +142,8 @@ fn check_struct<S: Space, L: Ledger, const DEEP: bool>(
     }
 }
 
-/// Tests everything below the first slot of `pass`, whose object has the slots `below`. If it is the last slot, `below`
-/// is returned untested.
+/// Tests the slots `below` and everything below them. They are the slots of the object to which the first slot of
+/// `pass` points. If that slot is the last of `pass`, `below` is returned untested.
 #[cycle(pass)]
 #[inline(always)]
 fn check_below<S: Space, L: Ledger, const DEEP: bool>(
@@ -174,8 +175,8 @@ fn check_below<S: Space, L: Ledger, const DEEP: bool>(
     }
 }
 
-/// Tests everything `below` an object that is not in the last slot. The pass is copied here for the call, so that
-/// nothing is written to the stack if no call is made.
+/// Tests the slots `below` and everything below them by [`check_object`]. If there are no slots, nothing is called, and
+/// no copy of `below` is written to the stack.
 #[cycle(pass)]
 #[inline(always)]
 fn check_first<S: Space, L: Ledger, const DEEP: bool>(
@@ -204,7 +205,7 @@ fn check_first<S: Space, L: Ledger, const DEEP: bool>(
     check_object::<S, L, DEEP>(space.again(), base, object, least, reads)
 }
 
-/// Tests the first slot of `pass`, `word`, a pointer to a list at the next free word, with everything below it.
+/// Tests `word`, the first slot of `pass`, with everything below it. `word` points to a list at the next free word.
 #[cycle(pass)]
 #[inline(always)]
 fn check_list<S: Space, L: Ledger, const DEEP: bool>(
@@ -251,8 +252,8 @@ fn check_list<S: Space, L: Ledger, const DEEP: bool>(
     }
 }
 
-/// Tests the list of structs at the next free word, to which the first slot of `pass` points, with everything below it.
-/// Returns the progress after it.
+/// Tests the list of structs at the next free word, with everything below it. The first slot of `pass` points to the
+/// list. Returns the progress after the list and everything below it.
 #[cycle(pass)]
 #[inline(always)]
 fn check_composite<S: Space, L: Ledger, const DEEP: bool>(
@@ -291,8 +292,8 @@ fn check_composite<S: Space, L: Ledger, const DEEP: bool>(
     }
 }
 
-/// Tests everything below the slots of `count` rows, which `pass` covers, each of `words` words and `slots` slots.
-/// Returns the progress after it.
+/// Tests the slots of `count` rows and everything below them. Each row has `words` words and `slots` slots, and `pass`
+/// begins at the first row. Returns the progress after the test.
 #[cycle(pass)]
 #[inline(never)]
 fn check_rows<S: Space, L: Ledger, const DEEP: bool>(

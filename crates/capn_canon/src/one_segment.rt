@@ -76,10 +76,10 @@ fn own_words(bytes: &[u8], limits: Limits) -> Option<OwnCanonical<'_>>
     }
 }
 
-/// Returns the bytes of the message `space` and the number of words that the walk pays. Returns `None` unless the
-/// message has one segment, is accepted within `limits`, and is canonical. (Our own.)
+/// Returns the bytes of the message `space` and the number of words that the walk pays. Returns `None` if the message
+/// has several segments, is not accepted within `limits`, or is not canonical. (Our own.)
 ///
-/// The one pass of [`survey_canonical`] makes the test. No memory is taken, and nothing is copied.
+/// The one pass of [`survey_canonical`] makes the test. No memory is allocated, and nothing is copied.
 pub fn own_canonical<S: Space>(space: &S, limits: Limits) -> Option<OwnCanonical<'_>>
     // If `result` is `Some`, `bytes` are the canonical bytes of the message, and `paid` is the price.
     ensures own { IfSome result (λ own. AnswersMessage (S.message space.now) limits own.bytes.now own.paid) }

@@ -1,4 +1,4 @@
-//! Tests whether the own words of one object, without those below it, are laid out canonically.
+//! Tests whether the words of one object, without the objects below it, are laid out canonically.
 
 ghost use Rattle.std.specs.Prelude.{◌≡◌, ◌+◌, ◌*◌, ◌/◌, ◌^◌, ◌<◌, ◌≤◌, IsTrue, ◌↔◌, [], ◌∷◌};
 ghost use Rattle.std.specs.Prelude.{length, take, drop, slice_index, pos, ◌-◌, ◌%◌};
@@ -83,7 +83,7 @@ pub fn are_bits_at<S: Space, L: Ledger>(
     last == last % (1 << rest)
 }
 
-/// The tag word of a list of structs: the number of rows, the words of each row and the slots of each row.
+/// The tag word of a list of structs: the number of rows, and the numbers of words and of slots in each row.
 #[derive(Clone, Copy)]
 pub struct Tag {
     pub count: u32,
@@ -91,7 +91,7 @@ pub struct Tag {
     pub slots: u16,
 }
 
-/// Reads `word` as a tag word, whatever kind of pointer it has.
+/// Returns the fields of the tag word `word`. The pointer kind of `word` is not tested.
 #[inline(always)]
 pub fn tag_of(word: u64) -> Tag
     ensures { result ≡ record { count = field 2 30 word; words = field 32 16 word; slots = field 48 16 word } }
@@ -136,9 +136,9 @@ fn is_part_kept<S: Space, L: Ledger>(
     false
 }
 
-/// Tests whether the list of structs at word `next` is canonical, without the objects below its slots. Canonical rows
-/// must have the sizes in `tag`, the word at `next` must be the tag word of `tag`, the word at `from` must point to
-/// `next`, and the message must have all words of the rows.
+/// Tests whether the list of structs at word `next` is canonical, without the objects below its slots. It is canonical
+/// if four conditions hold. Trimming leaves the rows the sizes in `tag`. The word at `next` is the tag word of `tag`.
+/// The word at `from` points to `next`. The message has all words of the rows.
 pub fn are_rows_at<S: Space, L: Ledger>(
     space: &CountedWords<'_, S, L>,
     tag: Tag,

@@ -4,7 +4,7 @@ ghost use Rattle.std.specs.Prelude.{◌≡◌, ◌+◌, ◌-◌, ◌^◌, ◌<�
 
 use crate::own_words_test::Tag;
 
-/// The progress of a pass.
+/// The progress of a pass over a layout.
 #[derive(Clone, Copy)]
 pub struct Progress {
     /// The next free word.
@@ -22,26 +22,27 @@ pub struct Pass {
     pub from: u32,
     /// The word after the last slot.
     pub end: u32,
-    /// The greatest number of objects that may be one below another, counted from a target of the slots on.
+    /// The limit on depth that remains for the objects below the slots.
     pub depth: u32,
     /// The next free word, at which the objects below the slots have to begin.
     pub next: u32,
     /// The number of words that may still be paid.
     pub left: u32,
-    /// The number of slots visited, with all slots of the object.
+    /// The number of slots visited. All slots of the object count as visited from the beginning.
     pub visits: u32,
 }
 
 /// Rows of a list of structs whose slots are still to be tested.
 #[derive(Clone, Copy)]
 pub struct RowPass {
-    /// The number of rows, the words of each row and the slots of each row.
+    /// The number of rows, and the numbers of words and of slots in each row.
     pub tag: Tag,
     /// The words of all rows, and the progress of the pass that tests their slots.
     pub pass: Pass,
 }
 
-/// Lowers `least`, the least depth that was left so far, to `depth`, the depth left below an object, if `DEEP` is set.
+/// Lowers `least` to `depth` if `DEEP` is set and `depth` is less. `depth` is the depth left below an object, and
+/// `least` the least such depth so far.
 #[inline(always)]
 pub fn lower<const DEEP: bool>(least: &mut u32, depth: u32)
     ensures { IsTrue DEEP → least.new ≡ min least.old depth }
@@ -64,7 +65,8 @@ impl Pass {
         }
     }
 
-    /// Returns the slots after the first, with the `progress` after everything below the first slot.
+    /// Returns the pass over the slots after the first. `progress` is the progress after everything below the first
+    /// slot.
     #[inline(always)]
     pub fn behind(self, progress: Progress) -> Pass
         requires { self.from < 2 ^ 29 }

@@ -8,8 +8,8 @@ use capn_words::BareFault;
 use std::error::Error;
 use std::fmt;
 
-/// The reason why bytes in a form have no canonical bytes, in the order in which the tests are made. The bytes are read
-/// in their form, the message is walked, and its value is searched for a capability. (Our own.)
+/// The reason why bytes in a form have no canonical bytes. The variants before `Memory` stand in the order of the
+/// tests: the bytes are read, the message is walked, and its value is searched for a capability. (Our own.)
 #[derive(Clone, Copy, Debug, PartialEq, Eq)]
 pub enum Refusal {
     /// A fault of the form `Bare`: the bytes are not whole words, or are too many.
@@ -22,7 +22,7 @@ pub enum Refusal {
     /// The offset of the first byte that follows the frame. For the form `Packed` it is an offset in the unpacked
     /// bytes.
     Trailing(u64),
-    /// The place and the reason at which the walk stopped, if the message is not accepted within the limits.
+    /// The stop of the walk, with its place and its fault, if the message is not accepted within the limits.
     Walk(Stopped),
     /// The index of the first capability in preorder, if the value has any: a capability has no canonical form.
     Capability(u32),

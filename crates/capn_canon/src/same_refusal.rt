@@ -16,7 +16,7 @@ pub enum Side {
 pub struct SameRefusal {
     /// The message that is refused, first or second.
     pub side: Side,
-    /// The refusal that [`canonical_of`](crate::canonical_of) gives that message: `Walk` or `Capability`, by the
-    /// clauses.
+    /// The refusal that [`canonical_of`](crate::canonical_of) gives that message. The clauses allow only `Walk` and
+    /// `Capability`.
     pub refusal: Refusal,
 }

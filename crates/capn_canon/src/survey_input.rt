@@ -50,7 +50,8 @@ pub fn survey_bytes<A: Allocator + Copy>(
     bytes: &[u8],
     limits: Limits,
 ) -> Result<Surveyed, Refusal>
-    // If `result` is `Ok`, the bytes are an accepted message with that price, number of visits and first capability.
+    // If `result` is `Ok`, the bytes are an accepted message, and `result` has its price, its number of visits and its
+    // first capability.
     ensures found { IfOk result (λ s. Surveys form bytes.now limits s) }
     // If the bytes denote a value, `result` is `Ok` or `Memory`.
     ensures only { (v : Value) → Denotes form bytes.now limits v
@@ -62,7 +63,7 @@ pub fn survey_bytes<A: Allocator + Copy>(
     // The walk pays at most the budget, also if the message is refused.
     ensures bounded { MatchResult result (λ s. IsBounded limits.budget s.paid s.visits)
         (λ e. IsPaidWithin limits.budget e) }
-    // The canonical bytes of the value are at most 8 for each word paid, and 8 more.
+    // The value has at most 8 canonical bytes for each word paid, and 8 more.
     ensures short { IfOk result (λ s. (v : Value) → Denotes form bytes.now limits v
         → length (canon v) ≤ 8 * (s.paid + 1)) }
 {

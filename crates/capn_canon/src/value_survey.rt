@@ -11,7 +11,8 @@ use capn_walk::{Limits, Surveyed, survey_counted};
 use capn_words::Space;
 use std::sync::ledger::Ledger;
 
-/// Surveys the message `space` within `limits`. Refuses a message without canonical bytes.
+/// Surveys the message `space` within `limits`. Returns the survey, or the reason why the message has no canonical
+/// bytes.
 pub(crate) fn survey_value<S: Space, L: Ledger>(
     space: &CountedSpace<'_, S, L>,
     limits: Limits,

@@ -91,8 +91,8 @@ impl CountedWriter for IntoTask {
 }
 
 /// Writes the canonical bytes of the value that the message `space` denotes within `limits` to the beginning of `out`.
-/// Returns the number of bytes written, the number of words that the walk pays, and the number of visits. The rest of
-/// `out` stays as it was.
+/// Returns the number of bytes written, the number of words that the walk pays, and the number of visits. The bytes of
+/// `out` after the canonical bytes stay as they were.
 ///
 /// The refusals are tested in this order, and each leaves `out` as it was. `Walk` refuses a message that is not
 /// accepted. `Capability` refuses a value with capabilities, with the index of the first in preorder. `NoRoom` refuses
@@ -100,7 +100,7 @@ impl CountedWriter for IntoTask {
 /// pays.
 ///
 /// Only the stack is used, whatever the depth. `8 * (paid + 1)` bytes are always enough, and so are `8 * (budget + 1)`.
-/// The canonical bytes are measured before they are written only if `out` has fewer than `8 * (paid + 1)` bytes. (Our
+/// If `out` has fewer than `8 * (paid + 1)` bytes, the canonical bytes are measured before any byte is written. (Our
 /// own.)
 pub fn canonical_into<M: Asked>(
     space: M,
@@ -115,9 +115,9 @@ pub fn canonical_into<M: Asked>(
     ensures answered { AnsweredInto (M.message space) limits (length out.old) result }
     // If `result` is `Ok`, the canonical bytes are at the beginning of `out`, and the bytes after them are as before.
     ensures written { IfOk result (λ c. WrittenInto (M.message space) limits out.old out.new c) }
-    // If `result` is an `Err`, it is the first refusal in the order of the tests.
+    // If `result` is `Err(e)`, the reason that `e` gives is true, and no earlier test refuses the message.
     ensures refused { IfErr result (λ e. RefusedInto (M.message space) limits (length out.old) e) }
-    // A refusal leaves `out` as it was.
+    // If `result` is an `Err`, `out` is as it was.
     ensures unchanged { OnErr result (out.new ≡ out.old) }
     // The walk pays at most the budget, also if the message is refused.
     ensures bounded { MatchResult result (λ c. IsBounded limits.budget c.paid c.visits)
@@ -127,16 +127,18 @@ pub fn canonical_into<M: Asked>(
     ensures past { IfOk result (λ c. drop c.length out.new ≡ drop c.length out.old) }
     ensures inside { IfOk result (λ c. c.length ≤ length out.new) }
     ensures short { IfOk result (λ c. c.length ≤ 8 * (c.paid + 1)) }
-    // Read bare under the same limits, the canonical bytes denote the trimmed value of `v`, which is the same as `v`.
+    // Read bare under the same limits, the canonical bytes denote the trimmed value of `v`. The two values differ at
+    // most in trailing zero words and trailing null slots of structs.
     ensures reads_back { IfOk result (λ c. (v : Value) → IsValueOf (M.message space) limits v
         → ReadsBack (take c.length out.new) limits v) }
     // A walk of the canonical bytes, read bare, pays exactly the cost of the trimmed value of `v`.
     ensures pays { IfOk result (λ c. (v : Value) → IsValueOf (M.message space) limits v
         → PaysItsCost (take c.length out.new) limits v) }
-    // The trimmed value of `v` has the same canonical bytes.
+    // The canonical bytes of `v` are also those of the trimmed value of `v`.
     ensures own { IfOk result (λ c. (v : Value) → IsValueOf (M.message space) limits v
         → IsItsOwnForm (take c.length out.new) v) }
-    // Among the values that fit and are in range, exactly those that are the same as `v` have the same canonical bytes.
+    // A value that fits and is in range has the same canonical bytes as `v` if and only if it is the same as `v`
+    // (`Same`).
     ensures exactly { IfOk result (λ c. (v : Value) → IsValueOf (M.message space) limits v
         → IsFormExactlyOf (take c.length out.new) v) }
 {
@@ -149,9 +151,9 @@ pub fn canonical_into<M: Asked>(
 /// Writes the canonical bytes of the message `space` to `out` within `limits`, and counts reads and loop turns in
 /// `reads`. Returns the result of [`canonical_into`].
 ///
-/// There are at most 54 reads and turns for each word paid, and 54 more. The walk takes 14 of the 54, the measuring 20
-/// if it is needed, and the writing 20. A refusal costs at most 54 for each word of the budget, and 54 more. So the
-/// budget bounds the work, whatever the message is. Only the stack is used.
+/// There are at most 54 reads and turns for each word paid, and 54 more. Of the 54, the walk takes 14, measuring takes
+/// 20 if it is needed, and writing takes 20. A refusal costs at most 54 for each word of the budget, and 54 more. So
+/// the budget bounds the work, whatever the message is. Only the stack is used.
 pub fn canonical_into_counted<S: Space, L: Ledger>(
     space: &CountedSpace<'_, S, L>,
     limits: Limits,
@@ -163,9 +165,9 @@ pub fn canonical_into_counted<S: Space, L: Ledger>(
     ensures answered { AnsweredInto space.now limits (length out.old) result }
     // If `result` is `Ok`, the canonical bytes are at the beginning of `out`, and the bytes after them are as before.
     ensures written { IfOk result (λ c. WrittenInto space.now limits out.old out.new c) }
-    // If `result` is an `Err`, it is the first refusal in the order of the tests.
+    // If `result` is `Err(e)`, the reason that `e` gives is true, and no earlier test refuses the message.
     ensures refused { IfErr result (λ e. RefusedInto space.now limits (length out.old) e) }
-    // A refusal leaves `out` as it was.
+    // If `result` is an `Err`, `out` is as it was.
     ensures unchanged { OnErr result (out.new ≡ out.old) }
     // The walk pays at most the budget, also if the message is refused.
     ensures bounded { MatchResult result (λ c. IsBounded limits.budget c.paid c.visits)
@@ -175,16 +177,18 @@ pub fn canonical_into_counted<S: Space, L: Ledger>(
     ensures past { IfOk result (λ c. drop c.length out.new ≡ drop c.length out.old) }
     ensures inside { IfOk result (λ c. c.length ≤ length out.new) }
     ensures short { IfOk result (λ c. c.length ≤ 8 * (c.paid + 1)) }
-    // Read bare under the same limits, the canonical bytes denote the trimmed value of `v`, which is the same as `v`.
+    // Read bare under the same limits, the canonical bytes denote the trimmed value of `v`. The two values differ at
+    // most in trailing zero words and trailing null slots of structs.
     ensures reads_back { IfOk result (λ c. (v : Value) → IsValueOf space.now limits v
         → ReadsBack (take c.length out.new) limits v) }
     // A walk of the canonical bytes, read bare, pays exactly the cost of the trimmed value of `v`.
     ensures pays { IfOk result (λ c. (v : Value) → IsValueOf space.now limits v
         → PaysItsCost (take c.length out.new) limits v) }
-    // The trimmed value of `v` has the same canonical bytes.
+    // The canonical bytes of `v` are also those of the trimmed value of `v`.
     ensures own { IfOk result (λ c. (v : Value) → IsValueOf space.now limits v
         → IsItsOwnForm (take c.length out.new) v) }
-    // Among the values that fit and are in range, exactly those that are the same as `v` have the same canonical bytes.
+    // A value that fits and is in range has the same canonical bytes as `v` if and only if it is the same as `v`
+    // (`Same`).
     ensures exactly { IfOk result (λ c. (v : Value) → IsValueOf space.now limits v
         → IsFormExactlyOf (take c.length out.new) v) }
     // All passes together do at most 54 reads and turns of loops for each word paid, and 54 more.

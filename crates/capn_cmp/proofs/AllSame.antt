@@ -54,7 +54,7 @@ both b h k = let bad : true ≡ false = sym h ∙ k in cc
 no_fault : (r : Ending) (fault : RunFault) → r ≡ Ok tt → r ≡ Err fault → ⊥
 no_fault r fault fine e = let bad : done ≡ stopped fault = sym fine ∙ e in cc
 
--- ---- what is found
+-- ---- a result that is `Same`
 
 few_or_same : (few : Bool) → cond few (Err faults.TooFew) same ≡ same → few ≡ false
 few_or_same true e = absurd (cc)
@@ -78,7 +78,7 @@ module _ (order : CmpOrder) where
 
   -- ---- messages that were served without a difference
 
-  -- No message is served after one that differs.
+  -- If `differs` is true in the state `x`, it is true in each state `y` that a run from `x` reaches.
   pub stays : (x y : Comparing) (ps : List Part) → x.service.differs ≡ true → AreServed f x ps y
       → y.service.differs ≡ false → ⊥
   stays x y [] move is stay = both x.service.differs move (ap (λ (w : Comparing). w.service.differs) is ∙ stay)
@@ -111,7 +111,6 @@ module _ (order : CmpOrder) where
       stay =
       absurd (stays mid y ps (ap (λ (q : CmpState). q.differs) t) more stay)
 
-  -- The messages of a run without a difference have the same canonical bytes, and there are at least two.
   from_first : (y : Comparing) (ps : List Part) → AreServed f (first_run order) ps y → y.service.differs ≡ false
       → 2 ≤ y.at.index → (bytes : List ℕ) × AllHave order bytes ps × (2 ≤ length ps)
   from_first y [] is stay many =
@@ -127,9 +126,8 @@ module _ (order : CmpOrder) where
   from_first y (p ∷ ps) (mid, part, ((own, form, inr (inr (late, other, told, t))), at), more) stay many =
       absurd (late refl)
 
-  -- ---- the end
+  -- ---- the end of the stream
 
-  -- Nothing is left of an input whose loop ends with `Ok`.
   nothing_left : (y : Comparing) (rest : List ℕ) (r : Ending) → r ≡ Ok tt
       → EndsUnframed f y rest None r ⊎ EndsRefused f y rest r → rest ≡ []
   nothing_left y rest r fine (inl (frame_faults.Empty, other, refused, e)) = no_bytes rest refused
@@ -157,7 +155,7 @@ module _ (order : CmpOrder) where
 
   -- ---- messages of one value
 
-  -- The state of a run that has kept `bytes`, at the position `at`.
+  -- The state of a run at the position `at`, after a first message with the canonical bytes `bytes` and no difference.
   abbrev keeping : List ℕ → Position → Comparing
   keeping bytes at = record { service = record { limits = limits; first = bytes; differs = false }; at = at }
 
@@ -183,7 +181,7 @@ module _ (order : CmpOrder) where
         ap (λ (l : List ℕ). l ++ texts_of ps) text ∙ rest.3,
       )
 
-  -- All messages are served from the first state on, and none differs.
+  -- All messages of `ps` are served from the first state on, and the last state is `keeping bytes z`.
   abbrev AllServed : List ℕ → List Part → Type 0
   AllServed bytes ps = (z : Position) × AreServed f (first_run order) ps (keeping bytes z)
       × (z.index ≡ length ps) × (texts_of ps ≡ [])

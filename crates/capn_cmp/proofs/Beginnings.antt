@@ -1,4 +1,4 @@
--- Lemmas for `begin_text` and `end_text`: the prefix of a text that the writer has kept.
+-- Lemmas for `begin_text` and `end_text`: the prefix of a text that the writer has stored.
 use Rattle.std.proofs.Common.{◌≡◌, ℕ, List, [], ◌∷◌, ◌++◌, Bool, Some, take, drop, refl, sym, ap, subst, ◌∙◌}
 use Rattle.std.proofs.lemmas.List.{append_assoc, take-append-drop}
 use Rattle.capn_words.specs.Message.{IsBare}
@@ -17,12 +17,12 @@ use Rattle.capn_show.specs.declared.fault.Broken.TheVariants as broken
 use Rattle.capn_cmp.specs.ShownText.{IsShownFrom, end_line, shown_with_ways, ways_alone}
 use Rattle.capn_cmp.specs.inner.Ended.{IsEnded}
 
--- The output of a writer that has taken `taken`, with `kept` held back.
+-- The `Outgoing` with the fields `taken`, `kept` and `failed`.
 abbrev pub out : List ℕ → List ℕ → Bool → Outgoing
 out taken kept failed = record { taken = Some taken; kept = kept; failed = failed }
 
 module _ (a k b l : List ℕ) (f g : Bool) where
-  -- Case: the line `end` was not written in whole.
+  -- Case: `e` ended the call before all of the line `end` was added.
   pub ended_broken : (e : Broken) → BreaksOff (out a k f) (out b l g) e end_line → IsEnded a k b
   ended_broken broken.Io (n, wrote, failed) = (
     drop n (k ++ end_line),
@@ -41,7 +41,7 @@ module _ (a k b l : List ℕ) (f g : Bool) where
             ∙ ap (λ (x : List ℕ). x ++ (l ++ drop n end_line)) (sym h.taken),
       )
 
-  -- Case: the line `end` was added, and a prefix of the text held back was written.
+  -- Case: the line `end` was added, and then all or a prefix of the unwritten bytes `l` was written.
   pub ended_written : (c : List ℕ) → Adds (out a k f) (out b l g) end_line → HasBegun (Some b) (Some c) l
       → IsEnded a k c
   ended_written c h (n, wrote) = (
@@ -52,7 +52,6 @@ module _ (a k b l : List ℕ) (f g : Bool) where
         ∙ sym (append_assoc b (take n l) (drop n l)) ∙ ap (λ (x : List ℕ). x ++ drop n l) (sym wrote),
   )
 
--- A text was not written in whole, because the writer had no more room.
 pub begun_of : (m : List (List ℕ)) (limits : Bounds) (of : Tree → List ℕ) (fault : ShowFault) (p q : Outgoing)
     → fault ≡ ends.Io → IsUnwritten m limits of fault p q → IsBegun m limits of p q broken.Io
 begun_of m limits of fault p q is h = subst (λ (f : ShowFault). IsUnwritten m limits of f p q) is h

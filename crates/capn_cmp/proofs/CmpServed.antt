@@ -26,18 +26,15 @@ state limits first differs = record { limits = limits; first = first; differs = 
 
 module _ (s : CmpState) (at : Position) (bytes : List ℕ) where
   module _ (a : Outgoing) (failed : Bool) (fine : failed ≡ false) where
-    -- A comparison that writes nothing.
     silent : (t : CmpState) → Compares s at bytes [] t → TriesToCompare s at bytes a a failed done t
     silent t is = ([], is, added_none a, fine, λ h. h)
 
-    -- Case: the message is the first.
     pub keeps : at.index ≡ 0 → (first : List ℕ) → first ≡ bytes
         → TriesToCompare s at bytes a a failed done (state s.limits first s.differs)
     keeps zero first same =
         silent (state s.limits first s.differs)
         (inl (zero, refl, ap (λ (x : List ℕ). state s.limits x s.differs) same))
 
-    -- Case: the message agrees with the first.
     pub agrees : at.index ≢ 0 → bytes ≡ s.first → TriesToCompare s at bytes a a failed done s
     agrees later same = silent s (inr (inl (later, same, refl, refl)))
 
@@ -48,7 +45,7 @@ module _ (s : CmpState) (at : Position) (bytes : List ℕ) where
         subst (λ (e : ServeFault). TriesToCompare s at bytes a a failed (stopped e) t) (sym is)
         (inl (added_none a), fine)
 
-  -- Case: the message differs, and the report on it was added, in whole or in part.
+  -- Case: the message differs, and all or a prefix of its report was added.
   pub differs_with : at.index ≢ 0 → bytes ≢ s.first → (text : List ℕ) → IsReport at s.first bytes text
       → (a b : Outgoing) (failed : Bool) (r : Ending) → AddsBytes text a b failed r
       → TriesToCompare s at bytes a b failed r (state s.limits s.first true)
@@ -59,7 +56,6 @@ module _ (s : CmpState) (at : Position) (bytes : List ℕ) where
       ((text, state s.limits s.first true, count, inr (inr (later, other, report, refl)), breaks), broken)
   differs_with later other text report a b failed (Err (faults.Refused r)) none = absurd none
 
--- A message that was compared has the effect that the fold states.
 pub tried_does : (s : CmpState) (at : Position) (frame : List ℕ) (message : List (List ℕ)) (bytes : List ℕ) (price : ℕ)
     → AnswersMessage message s.limits bytes price → (a b : Outgoing) (failed : Bool) (r : Ending) (t : CmpState)
     → TriesToCompare s at bytes a b failed r t → DoesService serves refuses s at frame message a b failed r t
@@ -72,7 +68,7 @@ tried_does s at frame message bytes price is a b failed (Err faults.Io) t ((text
     ((text, u, count, (bytes, (price, is), compares), breaks), broken)
 tried_does s at frame message bytes price is a b failed (Err (faults.Refused r)) t none = absurd none
 
--- ---- by the fields of a state
+-- ---- lemmas with the fields of a state as arguments
 
 module _ (limits : Bounds) (first : List ℕ) (differs : Bool) (s : CmpState) (same : state limits first differs ≡ s)
     (at : Position) (later : at.index ≢ 0) (bytes own : List ℕ) (is : own ≡ first) where

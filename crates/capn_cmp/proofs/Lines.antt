@@ -8,7 +8,6 @@ use Rattle.std.proofs.lemmas.List.{append_assoc}
 use Rattle.capn_cmp.specs.LinesApart.{AreApart, AreLines, IsUnbroken, joined}
 use Rattle.capn_cmp.specs.inner.Alike.{BeginAlike}
 
--- Bytes without a newline have none after a byte that is no newline is appended.
 pub unbroken_more : (xs : List ℕ) (c : ℕ) → IsUnbroken xs → c ≢ 10 → IsUnbroken (xs ++ c ∷ [])
 unbroken_more [] c h other = (other, tt)
 unbroken_more (x ∷ xs) c h other = (h.0, unbroken_more xs c h.1 other)
@@ -20,7 +19,7 @@ unbroken_next xs n within h other =
     subst (λ (k : ℕ). IsUnbroken (take k xs)) (sym one)
     (subst IsUnbroken (sym (take-suc xs n 0 within)) (unbroken_more (take n xs) (slice_index_or xs n 0) h other))
 
--- ---- bytes that are found to be the same
+-- ---- a test for equal bytes
 
 same_bytes : (xs ys : List ℕ) → (pointwise nat_eq xs ys ≡ true) ↔ (xs ≡ ys)
 same_bytes = pointwise_decides {E = nat_eq} (λ x y. (eqb-true x y, eq-eqb x y))
@@ -38,7 +37,6 @@ found_equal xs ys r is e = (same_bytes xs ys).0 (sym is ∙ e)
 pub found_other : (xs ys : List ℕ) (r : Bool) → r ≡ pointwise nat_eq xs ys → r ≡ false → xs ≢ ys
 found_other xs ys r is e same = let bad : true ≡ false = sym ((same_bytes xs ys).1 same) ∙ sym is ∙ e in cc
 
--- Lines with one more line at the end are lines.
 lines_more : (lines : List (List ℕ)) (line : List ℕ) → AreLines lines → IsUnbroken line → AreLines (lines ++ line ∷ [])
 lines_more [] line h is = (is, tt)
 lines_more (l ∷ ls) line h is = (h.0, lines_more ls line h.1 is)
@@ -78,7 +76,7 @@ alike_apart text other rest left first second more behind h is also one two diff
   differ = differ;
 }
 
--- ---- longer texts
+-- ---- texts with more bytes at the end
 
 pub apart_longer : (text other first second more behind : List ℕ) → AreApart text other first second
     → AreApart (text ++ more) (other ++ behind) first second
@@ -100,7 +98,6 @@ apart_longer text other first second more behind h = record {
 
 -- ---- two texts have at most one pair of first lines that differ
 
--- Equal texts have the same first line and the same rest.
 one_line : (a b x y : List ℕ) → IsUnbroken a → IsUnbroken b → a ++ 10 ∷ x ≡ b ++ 10 ∷ y → (a ≡ b) × (x ≡ y)
 one_line [] [] x y h k e = (refl, cc)
 one_line [] (c ∷ b) x y h k e = absurd (k.0 (let f : 10 ≡ c = cc in sym f))
@@ -111,14 +108,11 @@ one_line (c ∷ a) (d ∷ b) x y h k e =
     let same = one_line a b x y h.1 k.1 rest in
     (λ i. first i ∷ same.0 i, same.1)
 
--- If a text begins with the line `q`, then `q` is its first line.
 after_line : (a q x more : List ℕ) (qs : List (List ℕ)) → IsUnbroken a → IsUnbroken q
     → a ++ 10 ∷ x ≡ joined (q ∷ qs) ++ more → (a ≡ q) × (x ≡ joined qs ++ more)
 after_line a q x more qs one other e =
     one_line a q x (joined qs ++ more) one other (e ∙ append_assoc q (10 ∷ joined qs) more)
 
--- Two texts that begin with the same lines and then differ have the same different lines, however their common lines
--- are given.
 apart_from : (ps qs : List (List ℕ)) (a b c d x y u v : List ℕ) → AreLines ps → AreLines qs → IsUnbroken a
     → IsUnbroken b → IsUnbroken c → IsUnbroken d → a ≢ b → c ≢ d
     → joined ps ++ (a ++ 10 ∷ x) ≡ joined qs ++ (c ++ 10 ∷ u)

@@ -24,7 +24,7 @@ in_parts at line other head is =
     ∙ ap (λ (x : List ℕ). decimal (at.index + 1) ++ (codes " at " ++ x)) (append_assoc (decimal at.offset) said tail)
     ∙ sym (append_assoc (decimal (at.index + 1)) (codes " at " ++ decimal at.offset) (said ++ tail)))
 
--- If prefixes of both texts have the first lines that differ, the text made from these lines is the report.
+-- Prefixes of both texts are enough for the report if they have the first lines that differ.
 pub report_from : (at : Position) (first bytes beginning other line other_line text : List ℕ)
     → IsShownFrom first beginning → IsShownFrom bytes other → AreApart beginning other line other_line
     → text ≡ report at line other_line → IsReport at first bytes text

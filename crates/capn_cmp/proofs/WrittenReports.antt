@@ -22,7 +22,6 @@ use Rattle.capn_cmp.proofs.AllSame.{Comparing, Ending, Found, both, stays}
 abbrev different : Found
 different = Ok comparisons.Different
 
--- `xs ++ ys` is not empty if `xs` is not.
 some_before : (xs ys : List ℕ) → xs ≢ [] → xs ++ ys ≢ []
 some_before [] ys some = absurd (some refl)
 some_before (x ∷ xs) ys some = λ h. cc
@@ -33,7 +32,6 @@ some_report at line other h = absurd (omega (arith, ap length h))
 -- ---- one message
 
 module _ (s t : CmpState) (at : Position) (bytes text : List ℕ) where
-  -- Either nothing was written and the message did not differ, or the message differed and its report was written.
   silent_or_told : Compares s at bytes text t
       → ((text ≡ []) × (t.differs ≡ s.differs)) ⊎ ((text ≢ []) × (t.differs ≡ true))
   silent_or_told (inl (first, none, is)) = inl (none, ap (λ (q : CmpState). q.differs) is)

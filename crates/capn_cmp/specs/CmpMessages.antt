@@ -1,4 +1,5 @@
--- The messages that `cmp` finds to differ from the first one, which have other canonical bytes. (Our own.)
+-- The messages that `cmp` finds to differ from the first one. Two messages differ if their canonical bytes differ. (Our
+-- own.)
 use Rattle.std.specs.Prelude.{◌≡◌, ◌≢◌, ◌⊎◌, ℕ, ◌<◌, List, [], ◌∷◌, ◌++◌, codes, length, Bool, true, false, Result}
 use Rattle.std.specs.Prelude.{Ok, Err, refl}
 use Rattle.std.specs.Fmt.{digits}
@@ -42,40 +43,41 @@ second : report (record { index = 1; offset = 24 }) (codes "0\t  word 0000000000
 unfolding digits
 second = refl
 
--- `text` is the report on the message at `at`. `first` are the canonical bytes of the first message, and `bytes` those
--- of the message at `at`.
+-- `text` is the report on the message at `at`. `first` are the canonical bytes of the first message, and `bytes` are
+-- those of the message at `at`.
 abbrev pub IsReport : Position → List ℕ → List ℕ → List ℕ → Type 0
 IsReport at first bytes text =
     (shown : List ℕ) × (other : List ℕ) × (line : List ℕ) × (other_line : List ℕ)
     × IsShown first shown × IsShown bytes other × AreApart shown other line other_line
     × (text ≡ report at line other_line)
 
--- The message at `at` is the first: its canonical bytes `bytes` are kept, and nothing is written.
+-- The message at the position `at` is the first. Nothing is written, and `t` has its canonical bytes `bytes`.
 abbrev pub Keeps : CmpState → Position → List ℕ → List ℕ → CmpState → Type 0
 Keeps s at bytes text t =
     (at.index ≡ 0) × (text ≡ []) × (t ≡ record { limits = s.limits; first = bytes; differs = s.differs })
 
--- The message at `at` is a later one, whose canonical bytes `bytes` are those of the first. Nothing is written.
+-- The message at the position `at` is not the first, and its canonical bytes `bytes` equal those of the first message.
+-- Nothing is written.
 abbrev pub Agrees : CmpState → Position → List ℕ → List ℕ → CmpState → Type 0
 Agrees s at bytes text t = (at.index ≢ 0) × (bytes ≡ s.first) × (text ≡ []) × (t ≡ s)
 
--- The message at `at` is a later one, whose canonical bytes `bytes` are not those of the first. The report on it is
--- written.
+-- The message at the position `at` is not the first, and its canonical bytes `bytes` differ from those of the first
+-- message. `text` is the report on the message.
 abbrev pub Differs : CmpState → Position → List ℕ → List ℕ → CmpState → Type 0
 Differs s at bytes text t =
     (at.index ≢ 0) × (bytes ≢ s.first) × IsReport at s.first bytes text
     × (t ≡ record { limits = s.limits; first = s.first; differs = true })
 
--- The message at `at`, with the canonical bytes `bytes`, is the first, agrees with the first, or differs from the
--- first.
+-- The message at the position `at`, with the canonical bytes `bytes`, is the first message, agrees with the first, or
+-- differs from the first.
 abbrev pub Compares : CmpState → Position → List ℕ → List ℕ → CmpState → Type 0
 Compares s at bytes text t = Keeps s at bytes text t ⊎ (Agrees s at bytes text t ⊎ Differs s at bytes text t)
 
--- `message` takes the state `s` to `t` and writes `text`: the canonical bytes of the message are compared.
+-- `message` leads from the state `s` to `t` and writes `text`, as `Compares` states for its canonical bytes.
 abbrev pub serves : CmpState → Position → List ℕ → List (List ℕ) → List ℕ → CmpState → Type 0
 serves s at frame message text t = (bytes : List ℕ) × IsForm message s.limits bytes × Compares s at bytes text t
 
--- `message` ends the run: `r` refuses it by its walk or for a capability, so that it has no canonical bytes.
+-- `r` refuses `message`, by its walk or for a capability. The refusal ends the run.
 abbrev pub refuses : CmpState → Position → List ℕ → List (List ℕ) → Refusal → Type 0
 refuses s at frame message r = IsRefusedMessage message s.limits r × (r ≢ refusals.Memory)
 
@@ -83,8 +85,8 @@ refuses s at frame message r = IsRefusedMessage message s.limits r × (r ≢ ref
 abbrev pub done : CmpState → Position → Bool
 done s at = s.differs
 
--- The message at `at`, with the canonical bytes `bytes`, was compared. Or an allocation was refused before or within
--- the text for that message. Or the writer failed within that text.
+-- After `Ok`, the message with the canonical bytes `bytes` was compared, and its `text` was added. After `Memory`,
+-- nothing or a prefix of `text` was added, and after `Io`, a prefix of `old.kept ++ text` was written.
 abbrev pub TriesToCompare : CmpState → Position → List ℕ → Outgoing → Outgoing → Bool → Result (Unit {0}) ServeFault
     → CmpState → Type 0
 TriesToCompare s at bytes old new failed (Ok u) t =

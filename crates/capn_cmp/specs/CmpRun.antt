@@ -1,4 +1,4 @@
--- A whole run of `cmp`, and its result. (Our own.)
+-- A run of `cmp`: its fold, its first state and its result. (Our own.)
 use Rattle.std.specs.Prelude.{◌≡◌, ℕ, nat_lt, List, Bool, cond, Option, Result, Ok, Err}
 use Rattle.capn_canon.specs.declared.form.Form.{Form}
 use Rattle.capn_canon.specs.declared.form.Form.TheVariants as forms
@@ -16,12 +16,12 @@ use Rattle.capn_cmp.specs.declared.cmp_run.Comparison.TheVariants as comparisons
 use Rattle.capn_cmp.specs.declared.fault.CmpFault.{CmpFault}
 use Rattle.capn_cmp.specs.declared.fault.CmpFault.TheVariants as faults
 
--- The form of an input that holds a stream in the given form of streams.
+-- The `Form` of an input that holds a stream in the given `StreamForm`.
 abbrev pub form_of : StreamForm → Form
 form_of streams.Stream = forms.Stream
 form_of streams.Packed = forms.Packed
 
--- The fold over the messages of a stream, up to one that differs from the first.
+-- The fold of a run of `cmp` with the options `order`. A state is `done` after a message that differs from the first.
 abbrev pub cmp_fold : CmpOrder → Fold (Run CmpState)
 cmp_fold order = fold_until serves refuses done order.limits.message_words
 
@@ -29,8 +29,8 @@ cmp_fold order = fold_until serves refuses done order.limits.message_words
 abbrev pub first_run : CmpOrder → Run CmpState
 first_run order = record { service = first_state order.limits; at = start }
 
--- The result of a run whose loop ended without a fault after `messages` messages. `differs` says whether a message
--- differed.
+-- The result of a run whose loop ended with `Ok`. It is `Different` if `differs` is `true`, `TooFew` after fewer than
+-- two messages, and `Same` otherwise.
 abbrev pub found_by : Bool → ℕ → Result Comparison CmpFault
 found_by differs messages = cond differs (Ok comparisons.Different)
     (cond (nat_lt messages 2) (Err faults.TooFew) (Ok comparisons.Same))
@@ -40,8 +40,8 @@ abbrev pub outcome : Result (Unit {0}) RunFault → Run CmpState → Result Comp
 outcome (Ok u) y = found_by y.service.differs y.at.index
 outcome (Err fault) y = Err (faults.Run fault)
 
--- A run with the options `order` takes the reader from `a` to `b` and the writer from `c` to `d`, and returns `r`.
--- `reader_failed` and `writer_failed` say whether the reader and the writer failed.
+-- The effect of a run with the options `order` that ends with the result `r`. `a` and `b` are the reader before and
+-- after the run, and `c` and `d` the writer.
 abbrev pub Compared : CmpOrder → Option (List ℕ) → Option (List ℕ) → Option (List ℕ) → Option (List ℕ) → Bool → Bool
     → Result Comparison CmpFault → Type 0
 Compared order a b c d reader_failed writer_failed r =

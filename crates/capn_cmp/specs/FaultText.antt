@@ -7,7 +7,7 @@ use Rattle.capn_serve.specs.declared.fault.RunFault.TheVariants as run_faults
 use Rattle.capn_cmp.specs.declared.fault.CmpFault.{CmpFault}
 use Rattle.capn_cmp.specs.declared.fault.CmpFault.TheVariants as faults
 
--- The text of a fault, which says why there is no result.
+-- The text of a fault that ends a run of `cmp`.
 abbrev pub cmp_text : CmpFault → List ℕ
 cmp_text (faults.Run fault) = served.fault_text fault
 cmp_text faults.TooFew = codes "fewer than two messages"
@@ -17,7 +17,7 @@ refused : cmp_text (faults.Run (run_faults.Refused (record { index = 2; offset =
 unfolding digits
 refused = refl
 
--- The exit status, which is 1 if there are fewer than two messages, and the status for the fault of the loop otherwise.
+-- The exit status after a fault: 1 for `TooFew`, and otherwise the status of the fault that ended the loop.
 abbrev pub status_of : CmpFault → ℕ
 status_of (faults.Run fault) = served.status_of fault
 status_of faults.TooFew = 1

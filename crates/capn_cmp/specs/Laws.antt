@@ -1,4 +1,4 @@
--- The laws, which follow from the definitions whatever the code does. (Our own.)
+-- Laws of the definitions, without any function. (Our own.)
 use Rattle.std.specs.Prelude.{◌≡◌, ◌≢◌, ◌↔◌, ℕ, ◌≤◌, List, [], ◌∷◌, length, Result, Ok, ⊤}
 use Rattle.capn_words.specs.Message.{total}
 use Rattle.capn_stream.specs.Frames.{Frames}
@@ -19,7 +19,7 @@ OneCmp = (order : CmpOrder) (input t u : List ℕ) (r s : Result (Unit {0}) RunF
     → AreMessages (cmp_fold order) (first_run order) (form_of order.form) input u s z
     → (t ≡ u) × (outcome r y ≡ outcome s z)
 
--- A comparison writes something if and only if a message differs.
+-- The result of a comparison is `Different` if and only if its text is not empty.
 abbrev pub WritesExactly : Type 0
 WritesExactly = (order : CmpOrder) (input text : List ℕ) (r : Result (Unit {0}) RunFault) (y : Run CmpState)
     → AreMessages (cmp_fold order) (first_run order) (form_of order.form) input text r y
@@ -39,8 +39,8 @@ pub record IsOfOneValue (order : CmpOrder) (stream : List ℕ) : Type 0 where
   pub is : stream ≡ frames_of parts
   pub many : 2 ≤ length parts
 
--- A comparison of a stream returns `Same` if and only if the stream has at least two messages, and all have the same
--- canonical bytes.
+-- For a stream of at most `most_stream` bytes, the result of a comparison is `Same` if and only if `IsOfOneValue` holds
+-- for the stream.
 abbrev pub SameExactly : Type 0
 SameExactly = (order : CmpOrder) (stream text : List ℕ) (r : Result (Unit {0}) RunFault) (y : Run CmpState)
     → length stream ≤ most_stream

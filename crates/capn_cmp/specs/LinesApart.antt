@@ -16,7 +16,8 @@ abbrev pub joined : List (List ℕ) → List ℕ
 joined [] = []
 joined (line ∷ lines) = line ++ 10 ∷ joined lines
 
--- `text` and `other` begin with the same lines, and then have the whole lines `first` and `second`, which differ.
+-- `text` and `other` begin with the same lines. After these lines `text` has the line `first`, and `other` has the line
+-- `second`. The lines `first` and `second` differ.
 pub record AreApart (text other first second : List ℕ) : Type 0 where
   pub lines : List (List ℕ)
   pub each : AreLines lines

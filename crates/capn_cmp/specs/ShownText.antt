@@ -19,7 +19,7 @@ end_line = codes "\tend\n"
 abbrev pub shown_with_ways : List ℕ → Tree → List ℕ
 shown_with_ways words v = marked_at (words ∷ []) ways_alone [] v ++ end_line
 
--- `text` is the whole text of `bytes`, read as the words of one segment.
+-- `bytes` are one segment of the words `words`, and `text` is the complete text of that segment.
 pub record IsShown (bytes text : List ℕ) : Type 0 where
   pub words : List ℕ
   pub value : Tree

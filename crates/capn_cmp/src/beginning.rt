@@ -1,4 +1,4 @@
-//! A prefix of limited length of the text that `show` writes of canonical bytes.
+//! A prefix of the text that `show` writes for canonical bytes. The length of the prefix is limited.
 
 ghost use Rattle.std.specs.Prelude.{◌≡◌, [], IfErr, IfOk};
 ghost use Rattle.capn_serve.specs.declared.fault.ServeFault.TheVariants as faults;
@@ -23,8 +23,8 @@ const WAYS: Marks = Marks {
     table: 0,
 };
 
-/// A writer that keeps the first `room` bytes written to it, and takes no more. The memory is allocated before the
-/// first write, so that a refused allocation is never mistaken for the end of the room.
+/// A writer that stores the first `room` bytes written to it, and no more. The memory is allocated before the first
+/// write, so that a refused allocation is never mistaken for a full writer.
 #[derive(Drop)]
 struct Beginning<A: Allocator> {
     bytes: Vec<u8, A>,
@@ -66,14 +66,14 @@ fn new_writer<A: Allocator>(bytes: Vec<u8, A>, room: usize) -> Watched<Beginning
     Watched::new(Beginning { bytes, room })
 }
 
-/// Returns the bytes that `writer` has kept.
+/// Returns the bytes that `writer` has stored.
 fn kept_by<A: Allocator>(writer: Watched<Beginning<A>>) -> Vec<u8, A>
     ensures { result.items ≡ (inner_of writer).bytes.items }
 {
     writer.into_inner().bytes
 }
 
-/// Appends the line `end` to `text`, and writes `text` to `writer`. The error is `Io` if the writer has no room left.
+/// Appends the line `end` to `text`, and writes `text` to `writer`. The error is `Io` if the writer is full.
 fn end_text<A: Allocator>(
     text: &mut Vec<u8, A>,
     writer: &mut Watched<Beginning<A>>,
@@ -87,8 +87,8 @@ fn end_text<A: Allocator>(
     }
 }
 
-/// Returns a prefix of the text that `show --ways --form bare` writes of the `canonical` bytes. If the prefix is not
-/// the whole text, its length is `room` bytes or a few less.
+/// Returns a prefix of the text that `show --ways --form bare` writes for the `canonical` bytes. If the prefix is not
+/// the complete text, its length is `room` bytes.
 pub(crate) fn begin_text<A: Allocator + Copy>(
     alloc: A,
     limits: Limits,

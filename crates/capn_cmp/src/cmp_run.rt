@@ -1,4 +1,4 @@
-//! The call `run_cmp`, which does a whole run of `cmp`, from the first message to the result.
+//! The call `run_cmp`, which carries out `cmp`, from the first message to the result.
 
 ghost use Rattle.std.specs.Prelude.{◌≡◌, false};
 ghost use Rattle.capn_words.specs.Watched.{inner_of, has_failed};
@@ -50,16 +50,17 @@ fn found_by<A: Allocator>(run: &Run<CmpService<A>>) -> Result<Comparison, CmpFau
 ///
 /// Input is read as [`serve_form`] reads it, and each message is compared as soon as all of its bytes were read. At the
 /// first message that differs, three lines are written to `writer`, and nothing more is read. The first line shows the
-/// position of the message that differs. The other two are the first lines that differ between the text of the first
-/// message and the text of that message. The text of a message is the one that `show --ways --form bare` writes of its
-/// canonical bytes. If no message differs, nothing is written.
+/// position of the message that differs. The other two lines are the first lines that differ between the texts of the
+/// first message and of that message. The text of a message is what `show --ways --form bare` writes for its canonical
+/// bytes. If no message differs, nothing is written.
 ///
-/// The result is `Same` if all of the input was served, had at least two messages, and none differs from the first. The
-/// result is `Different` after a message that differs. Otherwise the first fault is returned. It is `TooFew` if the
-/// whole input has fewer than two messages, and a `RunFault` otherwise: `Refused`, with the position, if a frame or a
-/// group is refused, or a message by its walk or for a capability, `InputTooLong`, `Io` if and only if the reader or
-/// the writer failed, or `Memory` if an allocation was refused. A run holds in memory what the loop over the messages
-/// holds, the canonical bytes of the first message and of one other, and, at a difference, a prefix of each text.
+/// The result is `Same` if all of the input was served, and its messages, at least two, have the same value. The result
+/// is `Different` after a message that differs. Otherwise the first fault is returned. The fault is `TooFew` if the
+/// complete input has fewer than two messages. Any other fault is a `RunFault`. It is `Refused`, with the position, if
+/// a frame or a group is refused, or if a message is refused by its walk or for a capability. The other faults are
+/// `InputTooLong`, `Io` if and only if the reader or the writer failed, and `Memory` if an allocation was refused. A
+/// run holds in memory what the loop over the messages holds, and the canonical bytes of the first message and of one
+/// other. At a difference it also holds a prefix of each text.
 pub fn run_cmp<R: Read, W: Write, A: Allocator + Copy>(
     alloc: A,
     order: CmpOrder,

@@ -17,10 +17,10 @@ use std::marker::Model;
 
 /// The service that compares each message with the first one.
 ///
-/// A message that is refused, by its walk or for a capability, ends the run. The service keeps the canonical bytes of
-/// the first message. At the first message with other canonical bytes, the service writes the position of that message
-/// and the first lines that differ in the texts of both values, and then is done. Nothing is written for any other
-/// message.
+/// A message that is refused, by its walk or for a capability, ends the run. The service stores the canonical bytes of
+/// the first message. At the first message with other canonical bytes, the service writes the position of that message,
+/// and the first lines that differ in the texts of both values. Then the service is finished. Nothing is written for
+/// any other message.
 #[derive(Drop)]
 pub struct CmpService<A: Allocator> {
     limits: Limits,
@@ -55,8 +55,8 @@ impl<B: Allocator> CmpService<B> {
         self.differs
     }
 
-    /// Keeps the `canonical` bytes of the message at `at` if the message is the first, and compares them with those of
-    /// the first otherwise.
+    /// If the message at `at` is the first, stores its `canonical` bytes. Otherwise compares `canonical` with the bytes
+    /// of the first message.
     #[tactic(auto, using(crate::proofs::CmpServed::keeps, crate::proofs::CmpServed::no_memory))]
     fn compare<W: Write, A: Allocator + Copy>(
         &mut self,

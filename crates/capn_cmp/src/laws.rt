@@ -1,16 +1,16 @@
-//! The laws of comparisons, as empty functions.
+//! Laws of comparisons, stated by the clauses of functions with empty bodies.
 
 ghost use Rattle.capn_cmp.specs.Laws.{OneCmp, SameExactly, WritesExactly};
 
-/// States that the options and the input determine the text and the result of a comparison, and that a comparison
-/// writes something if and only if a message differs.
+/// States two laws of comparisons. The options and the input determine the text and the result. A comparison writes
+/// something if and only if a message differs.
 pub fn one_text()
     ensures one { OneCmp }
     ensures written { WritesExactly }
 {}
 
-/// States that a comparison of a stream finds all messages the same if and only if there are at least two, all are
-/// accepted, and all have the same canonical bytes.
+/// States when a comparison finds all messages the same, for a stream of at most 2^64 - 1 bytes. It finds them the same
+/// if and only if the stream is at least two accepted messages with the same canonical bytes.
 pub fn same_exactly()
     ensures { SameExactly }
 {}

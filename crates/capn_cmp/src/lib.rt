@@ -2,8 +2,8 @@
 //!
 //! [`run_cmp`] carries out a [`CmpOrder`] with the service [`CmpService`]. Two values are the same if their canonical
 //! bytes are equal. At the first message that differs, the service writes the position of that message, and the first
-//! lines that differ in the texts of both values. [`capn_marks`] makes these texts. The loop over the messages is that
-//! of [`capn_serve`].
+//! lines that differ in the texts of both values. [`capn_marks`] makes these texts. The loop over the messages is in
+//! [`capn_serve`].
 #![tactic(auto)]
 
 mod beginning;

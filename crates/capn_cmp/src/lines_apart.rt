@@ -3,8 +3,8 @@
 ghost use Rattle.std.specs.Prelude.{◌≡◌, ◌∷◌, ◌++◌, IfSome};
 ghost use Rattle.capn_cmp.specs.LinesApart.{AreApart, IsUnbroken};
 
-/// Splits `bytes` after the first line. Returns the line without its newline, and the rest, or `None` if there is no
-/// newline.
+/// Splits `bytes` after the first line. Returns the line without its newline, and the bytes after the newline, or
+/// `None` if there is no newline.
 fn split_line(bytes: &[u8]) -> Option<(&[u8], &[u8])>
     ensures { IfSome result (λ parts. (bytes.now ≡ parts.0.now ++ 10 ∷ parts.1.now) × IsUnbroken parts.0.now) }
 {
@@ -16,8 +16,8 @@ fn split_line(bytes: &[u8]) -> Option<(&[u8], &[u8])>
     None
 }
 
-/// Returns the first line of `text` that differs from the same line of `other`, and that line of `other`, without their
-/// newlines. `None` means that the texts do not differ within the whole lines that both have.
+/// Returns the first lines in which `text` and `other` differ, without their newlines. The line of `text` comes first.
+/// `None` means that the texts do not differ within the complete lines that both have.
 pub(crate) fn lines_apart<'a>(text: &'a [u8], other: &'a [u8]) -> Option<(&'a [u8], &'a [u8])>
     ensures { IfSome result (λ lines. AreApart text.now other.now lines.0.now lines.1.now) }
 {

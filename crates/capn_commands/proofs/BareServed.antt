@@ -1,4 +1,4 @@
--- Lemmas that a run of the service over a bare input is a run of the plan for that input. (For `run_one`.)
+-- Lemmas for `run_one`: if the service ran over a bare input, `Runs` holds for the plan of that input.
 use Rattle.std.proofs.Common.{◌≡◌, ◌≢◌, ◌⊎◌, inl, inr, ℕ, ◌≤◌, ◌^◌, List, [], ◌∷◌, length, Bool, true, false}
 use Rattle.std.proofs.Common.{Option, None, Some, IfSome, Ok, Err, refl, ap, sym, subst, arith, take_all}
 use Rattle.capn_words.proofs.shared.OneSegment.{bare_length}
@@ -23,14 +23,12 @@ use Rattle.capn_commands.specs.declared.fault.ToolFault.TheVariants as faults
 use Rattle.capn_commands.proofs.Served.{Ending, IsOf, ending_of, io_same, memory_from}
 use Rattle.capn_commands.proofs.WholeRun.{is_all, is_more}
 
--- Except for the price line, the text of a bare message is that of any message.
 bare_text : (piece : MessageText) (words : List ℕ) (limits : Bounds) (text : List ℕ) → piece ≢ kinds.Price
     → IsMessageText piece (words ∷ []) limits text → IsBareMessageText piece words limits text
 bare_text kinds.Text words limits text other is = is
 bare_text kinds.Price words limits text other is = absurd (other refl)
 bare_text kinds.Digest words limits text other is = is
 
--- A statement about all bytes of an input holds for the taken bytes, if all bytes are taken.
 pub taken : (P : List ℕ → Bool → Type 0) (bytes : List ℕ) → length bytes ≤ 2 ^ 32 → P bytes false
     → P (taken_of bytes) (has_more bytes)
 taken P bytes short p =

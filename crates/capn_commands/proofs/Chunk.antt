@@ -1,4 +1,4 @@
--- Lemmas on a chunk that was read into a buffer after the bytes that were left there. (For `unpack_stream`.)
+-- Lemmas for `unpack_stream`: a chunk is read into a buffer, after the bytes of an unfinished group.
 use Rattle.std.proofs.Common.{◌≡◌, ℕ, ◌+◌, ◌-◌, ◌≤◌, List, [], ◌++◌, length, take, drop, Bool, false, Option, ap, sym}
 use Rattle.std.proofs.Common.{subst, ◌∙◌, arith, length-append, length-drop, length-take, length-take-le}
 use Rattle.std.proofs.Math.Seq.{paste, take-append-add, take_all}
@@ -10,7 +10,6 @@ use Rattle.capn_commands.specs.declared.flow_fault.FlowFault.{FlowFault}
 use Rattle.capn_commands.specs.Flow.{Ending, Stops}
 use Rattle.capn_commands.specs.UnpackRun.{ending_of, unpacking}
 
--- The bytes that were left come first in the buffer.
 left_first : (buf new tail : List ℕ) (held : ℕ) → held ≤ length buf
     → take held (take held buf ++ (new ++ tail)) ≡ take held buf
 left_first buf new tail held fits =
@@ -24,7 +23,6 @@ pub ending_left : (buf new tail : List ℕ) (held offset : ℕ) (r : Ending) →
 ending_left buf new tail held offset r fits is =
     is ∙ ap (λ (l : List ℕ). ending_of false l offset) (left_first buf new tail held fits)
 
--- The bytes from `at` to `end` are moved to the front.
 moved_first : (whole : List ℕ) (at end : ℕ) → at ≤ end → end ≤ length whole
     → take (end - at) (paste whole 0 (drop at whole) (end - at)) ≡ drop at (take end whole)
 moved_first whole at end forward within =
@@ -40,7 +38,6 @@ module _ (buf new tail : List ℕ) (held within end : ℕ) (fits : held ≤ leng
   abbrev whole : List ℕ
   whole = take held buf ++ (new ++ tail)
 
-  -- The chunk follows the bytes that were left.
   chunk_is : take end whole ≡ take held buf ++ take within new
   chunk_is =
       let at : end ≡ length (take held buf) + within = omega (arith, is, length-take-le held buf fits) in
@@ -67,7 +64,6 @@ module _ (buf new tail : List ℕ) (held within end : ℕ) (fits : held ≤ leng
       → Splits (take held buf ++ take within new) after [] words at
   chunk_split after words at = subst (λ (l : List ℕ). Splits l after [] words at) chunk_is
 
-  -- The bytes after the whole groups, of the bytes that were left and the chunk, are moved to the front.
   pub chunk_left : (moved words : List ℕ) (at : ℕ) → moved ≡ paste whole 0 (drop at whole) (end - at)
       → Splits (take end whole) (drop at (take end whole)) [] words at
       → Splits (take held buf ++ take within new) (take (end - at) moved) [] words at

@@ -1,4 +1,4 @@
--- Lemmas that a run of the service over a stream is a run of the plan for that stream. (For `run_each`.)
+-- Lemmas for `run_each`: if the service ran over a stream, `Runs` holds for the plan of that stream.
 use Rattle.std.proofs.Common.{◌≡◌, ◌⊎◌, inl, inr, ℕ, List, Bool, true, false, Option, Some, None, IfSome}
 use Rattle.std.proofs.Common.{Ok, Err, refl, ap, sym, subst}
 use Rattle.std.specs.Io.KnownBytes.{Appends}
@@ -96,8 +96,6 @@ module _ (piece : MessageText) (limits : Bounds) (x : Run MessageTexts) (of : Is
     memory = λ e. h.memory (memory_from r e);
   }
 
-  -- If `most` is the greatest number of words in the limits, a run of the service over a stream is a run of the plan
-  -- for that stream.
   pub each_served : (most : ℕ) → most ≡ limits.message_words → (a b c d : Option (List ℕ))
       (reader_failed writer_failed : Bool) (r : Ending) (y : Run MessageTexts)
       → served.Runs (fold_of serves refuses most) x most_input a b c d reader_failed writer_failed r y

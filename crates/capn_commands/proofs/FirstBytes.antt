@@ -28,7 +28,6 @@ use Rattle.capn_commands.specs.declared.fault.ToolFault.TheVariants as faults
 padding_le : (count : ℕ) → padding count ≤ 4
 padding_le count = grind (arith, nat_tests)
 
--- A frame has at most 8 * (`most` + `most_table_words`) bytes.
 framed_length : (bs : List ℕ) (most : ℕ) (message : List (List ℕ)) → IsFramed bs most message
     → length bs ≤ 8 * (most + most_table_words)
 framed_length bs most message f =
@@ -36,7 +35,6 @@ framed_length bs most message f =
     let pad = padding_le (frames.announced_segments bs) in
     omega (arith, pad, a.length_is, a.count, a.words, f.frame.fits.few, f.room)
 
--- A frame that is cut is shorter than the longest frame.
 cut_length : (bs : List ℕ) (most : ℕ) → frames.IsCut bs most → length bs < 8 * (most + most_table_words)
 cut_length bs most (inl first) = omega (arith, first.1)
 cut_length bs most (inr (inl table)) =
@@ -45,12 +43,11 @@ cut_length bs most (inr (inr contents)) =
     omega (arith, padding_le (frames.announced_segments bs), contents.0.0.1, contents.1, contents.2)
 
 module _ (n most : ℕ) (bytes : List ℕ) (enough : 8 * (most + most_table_words) < n) where
-  -- If the first `n` bytes are a frame, there are no further bytes.
+  -- If `n` is more than the length of the longest frame, and the first `n` bytes are one frame, they are all `bytes`.
   pub framed_first : (message : List (List ℕ)) → IsFramed (take n bytes) most message → take n bytes ≡ bytes
   framed_first message f =
       take_all n bytes (omega (arith, enough, length-take n bytes, framed_length (take n bytes) most message f))
 
-  -- If the first `n` bytes are refused as no frame, all bytes are refused for the same reason.
   refused_first : (e : FrameFault) → (e ≡ frame_faults.Memory → ⊥) → n < length bytes
       → frames.IsFrameRefused (take n bytes) most e → frames.IsFrameRefused bytes most e
   refused_first frame_faults.Memory other more h = tt
@@ -106,7 +103,7 @@ module _ (n : ℕ) (limits : Bounds) (bytes : List ℕ) (enough : 8 * (limits.me
   refusal_first (refusals.Bare e) h = h
   refusal_first (refusals.Packed e) h = h
 
-  -- The canonical bytes or the refusal of the first bytes are those of all bytes.
+  -- If `n` is more than the length of the longest frame, a result for the first `n` bytes is a result for all `bytes`.
   pub gives_first : {A : Type 0} (r : Result (Vec ℕ A) ToolFault)
       → Gives (wholes.Canonical forms.Stream limits) (take n bytes) r
       → Gives (wholes.Canonical forms.Stream limits) bytes r
@@ -116,7 +113,7 @@ module _ (n : ℕ) (limits : Bounds) (bytes : List ℕ) (enough : 8 * (limits.me
   gives_first (Err fault) (inl m) = inl m
   gives_first (Err fault) (inr (r, is, other, h)) = inr (r, is, other, refusal_first r h)
 
--- The canonical bytes of a packed text are those of the words that the text packs.
+-- Cases: `bytes` pack `words`, which are no longer than the longest frame.
 module _ (limits : Bounds) (bytes words : List ℕ) (packs : Packs bytes words)
     (room : length words ≤ 8 * (limits.message_words + most_table_words)) where
   refusal_packed : (r : Refusal) → IsRefused forms.Stream words limits r → IsRefused forms.Packed bytes limits r
@@ -144,7 +141,6 @@ module _ (limits : Bounds) (bytes words : List ℕ) (packs : Packs bytes words)
   gives_packed (Err fault) (inl m) = inl m
   gives_packed (Err fault) (inr (r, is, other, h)) = inr (r, is, other, refusal_packed r h)
 
--- A packed text that packs no words is refused.
 pub fails_unpacked : (limits : Bounds) (bytes : List ℕ) (fault : ToolFault)
     → (fault ≡ faults.Memory)
     ⊎ MakesNothing (wholes.Unpacked (limits.message_words + most_table_words)) bytes fault

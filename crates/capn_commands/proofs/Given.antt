@@ -10,7 +10,7 @@ use Rattle.capn_commands.specs.inner.ReadInput.{IsUntaken, TakesAll}
 use Rattle.capn_commands.specs.declared.fault.ToolFault.{ToolFault}
 use Rattle.capn_commands.specs.declared.fault.ToolFault.TheVariants as faults
 
--- A reader has returned `taken` bytes, which unpack to `words`, and `held` is an unfinished group.
+-- A reader returned `taken` bytes `seen`, and `IsPending` holds for them. `len` is less than `most_group`.
 pub record Unpacked (old new : Option (List ℕ)) (failed : Bool) (most taken : ℕ) (words : List ℕ) (len : ℕ)
     (held : List ℕ) (at left : ℕ) (long : Bool) : Type 0 where
   pub seen : List ℕ
@@ -33,7 +33,6 @@ pub given_long : (a b : Option (List ℕ)) (f : Bool) (seen : List ℕ) → HasG
     → IsUntaken a b f faults.InputTooLong
 given_long a b f seen h long = (seen, inl (h, inr (refl, long)))
 
--- The result of an input that was read to its end.
 pub takes_so : {T : Type 0} (P : List ℕ → Result T ToolFault → Type 0) (a b : Option (List ℕ)) (f : Bool)
     (r : Result T ToolFault) (bytes : List ℕ) → HasGivenAll a b f bytes → P bytes r → TakesAll P a b f r
 takes_so P a b f (Ok x) bytes all p = (bytes, all, p)

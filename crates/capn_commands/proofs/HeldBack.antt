@@ -20,7 +20,6 @@ open_zeros more bs is = record {
   are = refl;
 }
 
--- A dense word followed by dense words gives dense words.
 dense_first : (word more : List ℕ) (count : ℕ) → IsDense word → AllDense count more
     → AllDense (suc count) (word ++ more)
 dense_first word more count first dense =
@@ -42,7 +41,6 @@ open_raw word more count bs first dense is = record {
   are = dense_first word more count first dense;
 }
 
--- Dense words followed by dense words are dense words.
 dense_append : (n m : ℕ) (a b : List ℕ) → AllDense n a → AllDense m b → AllDense (n + m) (a ++ b)
 dense_append zero m a b none more =
     let same : m ≡ 0 + m = omega arith in
@@ -64,14 +62,12 @@ open_more a b n o more = record {
   are = dense_append o.count n o.dense b o.are more;
 }
 
--- ---- the cut before dense words
+-- ---- the offset `cut` before dense words
 
--- If the cut is at the end of the words, no dense words follow.
 pub dense_end : (words : List ℕ) (cut : ℕ) → cut ≡ length words → (n : ℕ) × AllDense n (drop cut words)
 dense_end words cut all = (0, drop_all cut words (omega (arith, all)))
 
--- If the words after a cut and the word before the cut are dense, the words after the cut are still dense if the cut is
--- moved one word back.
+-- If the word before `cut` and all words after `cut` are dense, all words after `cut - 8` are dense.
 pub dense_before : (words : List ℕ) (cut : ℕ) → 8 ≤ cut → cut ≤ length words
     → zero_count (slice_range words (cut - 8) cut) ≤ 1 → (n : ℕ) × AllDense n (drop cut words)
     → (n : ℕ) × AllDense n (drop (cut - 8) words)

@@ -20,7 +20,7 @@ is_not_below a b h = grind (arith, nat_tests)
 below : (a b : ℕ) → nat_lt a b ≡ true → a < b
 below a b e = grind (arith, nat_tests)
 
--- Case: a read found the end of the input, and all bytes were taken.
+-- Case: the read returned no bytes, and a run takes all bytes `xs` that were read before.
 pub read_end : (a b c : Option (List ℕ)) (xs buf : List ℕ) (n : ℕ) → n ≡ 0 → Consumes a b xs
     → Consumes b c (take n buf)
     × (n ≡ 0 → 0 < length buf → IsAtEnd c) → 0 < length buf → length xs ≤ most
@@ -36,7 +36,7 @@ read_end a b c xs buf n zero first second some short =
       ended = λ e. end;
     }
 
--- Case: a read returned bytes past the greatest number, and only the bytes before that number were taken.
+-- Case: the read returned `n` bytes, of which a run takes only the first `k`.
 pub read_past : (a b c : Option (List ℕ)) (xs buf : List ℕ) (n k : ℕ) → Consumes a b xs → Consumes b c (take n buf)
     → n ≤ length buf → length xs + k ≡ most → k < n → length xs + n ≤ most + 1
     → Kept a c (xs ++ take k buf) true (xs ++ take n buf)
@@ -55,7 +55,6 @@ read_past a b c xs buf n k first second within full past bound =
       ended = λ e. absurd (cc);
     }
 
--- If all bytes that the reader had are known, a run takes exactly the kept bytes of them.
 pub kept_all : (old new : Option (List ℕ)) (kept bytes : List ℕ) (is_longer : Bool)
     → Kept old new kept is_longer bytes
     → IfSome old (λ all. (taken_of all ≡ kept) × (has_more all ≡ is_longer))
@@ -79,8 +78,6 @@ cut_front buf m k w within least = elim (cases_lt m k) [
       take_all m (take k buf) (omega (arith, short, length-take-le k buf within)) ∙ ap (λ (i : ℕ). take i buf) e)
 ]
 
--- The bytes that a run takes of those that were read, after one more read, are the bytes before that read and the first
--- `w` new ones.
 pub taken_front : (bs buf : List ℕ) (n w k : ℕ) → length bs ≡ n → n ≤ most → w ≡ min k (most - n)
     → k ≤ length buf → taken_of (bs ++ take k buf) ≡ bs ++ take w buf
 taken_front bs buf n w k count short least within =
@@ -89,7 +86,6 @@ taken_front bs buf n w k count short least within =
     ∙ take-append-add bs (take k buf) (most - n)
     ∙ ap (λ (p : List ℕ). bs ++ p) (cut_front buf (most - n) k w within least)
 
--- A reader that returned an error has failed. A reader that returned bytes has not.
 pub has_broken : (old new : Bool) → new ≡ (old || true) → new ≡ true
 has_broken false new is = is
 has_broken true new is = is

@@ -1,4 +1,5 @@
--- Lemmas on the last group of a packer's text, derived from the last word. (For `settled_part` and `zeros_part`.)
+-- Lemmas for `settled_part` and `zeros_part`: the last word of `bs` tells the kind of the last group of `t`, the packed
+-- text of `bs`.
 use Rattle.std.proofs.Common.{◌≡◌, ◌≢◌, ◌⊎◌, inl, inr, ℕ, zero, suc, ◌+◌, ◌-◌, ◌*◌, ◌/◌, ◌^◌, ◌<◌, ◌≤◌, List, [], ◌∷◌}
 use Rattle.std.proofs.Common.{◌++◌}
 use Rattle.std.proofs.Common.{length, take, drop, replicate, get_or, eqb, false, refl, ap, sym, subst, ◌∙◌, arith}
@@ -31,7 +32,6 @@ few_zeros [] = omega arith
 few_zeros (zero ∷ xs) = omega (arith, few_zeros xs)
 few_zeros (suc x ∷ xs) = omega (arith, few_zeros xs, (some_first x xs).1)
 
--- A tag with all bits set leaves no zero byte.
 pub full_tag : (n : ℕ) (xs : List ℕ) → length xs ≡ n → 1 + tag_of xs ≡ 2 ^ n → zero_count xs ≡ 0
 full_tag zero [] size full = refl
 full_tag zero (x ∷ xs) size full = absurd (omega (arith, size))
@@ -41,7 +41,6 @@ full_tag (suc n) (suc x ∷ xs) size full =
     let some = some_first x xs in
     some.1 ∙ full_tag n xs (omega (arith, size)) (omega (arith, full, some.0))
 
--- If all bytes are zero, their tag is 0.
 zero_tag : (xs : List ℕ) → zero_count xs ≡ length xs → tag_of xs ≡ 0
 zero_tag [] all = refl
 zero_tag (zero ∷ xs) all = omega (arith, zero_tag xs (omega (arith, all)))
@@ -59,7 +58,6 @@ last_alone word size =
     let at : length word - 8 ≡ 0 = omega (arith, size) in
     ap (λ (k : ℕ). drop k word) at
 
--- Dense words end with a dense word.
 dense_last : (n : ℕ) (bs : List ℕ) → AllDense (suc n) bs → length bs ≡ 8 * suc n → zero_count (last_word bs) ≤ 1
 dense_last zero bs dense long =
     let all : take 8 bs ≡ last_word bs = take_all 8 bs (omega (arith, long))
@@ -108,7 +106,7 @@ some_last : (gs : List Group) → 0 < length (contents gs) → HasLast gs
 some_last [] some = absurd (omega (arith, some))
 some_last (g ∷ gs) some = has_last g gs
 
--- The facts about the last group of a packer's text.
+-- Facts about `r.last`, the last group of the packed text `t` of `bs`.
 module _ (t bs : List ℕ) (count : ℕ) (c : Chosen t bs) (size : length bs ≡ 8 * count) (r : HasLast c.groups) where
   last_row : IsChosenRow (r.front ++ r.last ∷ [])
   last_row = subst IsChosenRow r.whole c.chosen
@@ -150,8 +148,8 @@ module _ (t bs : List ℕ) (count : ℕ) (c : Chosen t bs) (size : length bs ≡
 
 -- ---- which group is the last
 
--- `nulls` is the number of zero bytes in the last word of a group: eight for a run of zero words, at most one for a run
--- of raw words, and fewer than eight for any other group.
+-- The last word of a group may have `nulls` zero bytes. `nulls` is eight for a run of zero words, less than two for a
+-- run of raw words, and less than eight for any other group.
 abbrev pub EndsBy : Group → ℕ → Type 0
 EndsBy (Zeros more) nulls = nulls ≡ 8
 EndsBy (Named tag word) nulls = nulls < 8
@@ -186,7 +184,6 @@ zeros_by (Zeros more) nulls kind all = (more, refl)
 zeros_by (Named tag word) nulls kind all = absurd (omega (arith, kind, all))
 zeros_by (Raw word count more) nulls kind all = absurd (omega (arith, kind, all))
 
--- For a group with the tag 0 or 255, `AreOpen` holds for its words.
 pub open_group : (g : Group) (behind : List ℕ) → IsGroup g → IsChoice g behind
     → (get_or (group_text g) 0 0 ≡ 0) ⊎ (get_or (group_text g) 0 0 ≡ 255) → AreOpen (group_bytes g)
 open_group (Zeros more) behind is choice tag = open_zeros more (group_bytes (Zeros more)) refl
@@ -196,7 +193,6 @@ open_group (Raw word count more) behind is choice tag =
     let none : zero_count word ≡ 0 = full_tag 8 word is.0 (omega (arith, choice.0)) in
     open_raw word more count (group_bytes (Raw word count more)) (is.0, omega (arith, none)) choice.1 refl
 
--- If the tag where the last group begins is 0 or 255, `AreOpen` holds for the words of that group.
 pub open_last : (t bs : List ℕ) (count taken known tag : ℕ) (l : Last t bs count taken known)
     → get_or t taken 0 ≡ tag → (tag ≡ 0) ⊎ (tag ≡ 255) → AreOpen (group_bytes l.last)
 open_last t bs count taken known tag l is kind =
@@ -207,10 +203,10 @@ open_last t bs count taken known tag l is kind =
     open_group l.last [] group_is.0 group_is.1
     (subst (λ (x : ℕ). (x ≡ 0) ⊎ (x ≡ 255)) (sym same) kind)
 
--- ---- what is settled
+-- ---- the settled prefix of the packed text
 
--- The last group of a text whose last word is zero has `more` + 1 zero words. If `more` is below 255, the text before
--- that group is settled.
+-- `t` ends with a group of `more` + 1 zero words. If `more` is below 255, the text before that group is settled, and
+-- otherwise all of `t` is settled.
 pub record ZerosEnd (t bs : List ℕ) : Type 0 where
   pub more : ℕ
   pub byte : get_or t (length t - 1) 0 ≡ more
@@ -233,7 +229,7 @@ module _ (t bs : List ℕ) (count taken known : ℕ) (l : Last t bs count taken 
       subst (λ (w : List ℕ). EndsBy l.last (zero_count w)) (sym word_is)
       (ends_by l.last [] group_is.0 group_is.1)
 
-  -- All of a text is settled if its last word is neither zero nor dense.
+  -- Case: the last word is neither zero nor dense. All of `t` is settled.
   named_settled : Chosen t bs → 2 ≤ zero_count (last_word bs) → zero_count (last_word bs) < 8
       → IsSettled t bs (length t) (length bs)
   named_settled c some few =
@@ -266,7 +262,7 @@ module _ (t bs : List ℕ) (count taken known : ℕ) (l : Last t bs count taken 
             settled_whole t bs count taken known l c (λ less. absurd (omega (arith, words_are, less, all)));
       }
 
--- ---- by the words alone
+-- ---- the settled prefix, derived from the words alone
 
 pub named_text : (t bs : List ℕ) (nulls : ℕ) → Chosen t bs → 8 ≤ length bs → nulls ≡ zero_count (last_word bs)
     → 2 ≤ nulls → nulls ≢ 8 → IsSettled t bs (length t) (length bs)

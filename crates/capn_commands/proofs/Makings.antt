@@ -1,5 +1,4 @@
--- Lemmas on the output for an input, derived from what was read. (For `make_framed`, `make_text`, `make_trimmed` and
--- `make_verdict`.)
+-- Lemmas for `make_framed`, `make_text`, `make_trimmed` and `make_verdict`: the output for the bytes that were read.
 use Rattle.std.proofs.Common.{◌≡◌, ◌⊎◌, inl, inr, ℕ, ◌+◌, ◌*◌, ◌^◌, List, Bool, Option, Result, Ok}
 use Rattle.std.proofs.Common.{Err, IsErr, IsErrAnd}
 use Rattle.std.proofs.Common.{Vec, ap, sym, subst, ◌∙◌, arith, take_all}
@@ -37,15 +36,15 @@ use Rattle.capn_commands.proofs.Given.{takes_so}
 abbrev Fails : Whole → List ℕ → ToolFault → Type 0
 Fails whole bytes fault = (fault ≡ faults.Memory) ⊎ MakesNothing whole bytes fault
 
--- An input was not read to its end, or was read to its end and `P` holds for its bytes.
+-- Either `fault` is the reason why an input was not read to its end, or all `bytes` of the input were read, and `P`
+-- holds for `bytes`.
 abbrev TakesNone : (List ℕ → Type 0) → Option (List ℕ) → Option (List ℕ) → Bool → ToolFault → Type 0
 TakesNone P a b f fault = IsUntaken a b f fault ⊎ ((bytes : List ℕ) × HasGivenAll a b f bytes × P bytes)
 
--- `fault` refuses `bytes`, which are not one segment.
+-- `fault` is the refusal `Bare e`, where `e` is the reason why `bytes` are not one segment.
 abbrev FailsBare : List ℕ → ToolFault → Type 0
 FailsBare bytes fault = (e : BareFault) × (fault ≡ faults.Refused (refusals.Bare e)) × ReadsBare bytes (Err e)
 
--- Case: an input was not read to its end.
 pub untaken : (a b : Option (List ℕ)) (f : Bool) (fault : RunFault) → served.IsUntaken a b f fault
     → IsUntaken a b f (unplaced fault)
 untaken a b f fault (bytes, inl (given, inl (is, some))) = (bytes, inl (given, inl (ap unplaced is, some)))
@@ -72,7 +71,6 @@ module _ (a b : Option (List ℕ)) (f : Bool) (fault : ToolFault) where
   none_else P Q change (inl untaken) = inl untaken
   none_else P Q change (inr (bytes, all, p)) = inr (bytes, all, change bytes p)
 
-  -- Bytes that are not one segment have no canonical bytes.
   pub unmade_canonical : (limits : Bounds) → TakesNone (λ bytes. FailsBare bytes fault) a b f fault
       → TakesNone (λ bytes. Fails (wholes.Canonical forms.Bare limits) bytes fault) a b f fault
   unmade_canonical limits h =
@@ -88,7 +86,7 @@ module _ (a b : Option (List ℕ)) (f : Bool) (fault : ToolFault) where
       none_else (λ bytes. FailsBare bytes fault) (λ bytes. Fails (wholes.Bare piece limits) bytes fault)
       (λ bytes why. inr (inl why)) h
 
--- Case: the bytes have no canonical bytes.
+-- Case: `bytes` have no canonical bytes in `form`, for the reason `r`.
 pub gives_refused : {A : Type 0} (form : Form) (bytes : List ℕ) (limits : Bounds) (r : Refusal)
     (result : Result (Vec ℕ A) ToolFault) → IsRefused form bytes limits r
     → IsErr result × IsErrAnd result (IsFaultOf r) → Gives (wholes.Canonical form limits) bytes result
@@ -97,7 +95,7 @@ gives_refused form bytes limits r (Err fault) refused (is_err, inl (memory, is))
 gives_refused form bytes limits r (Err fault) refused (is_err, inr (other, is)) = inr (r, is, other, refused)
 
 module _ {A : Type 0} (a b : Option (List ℕ)) (f : Bool) where
-  -- Case: all of the input is held.
+  -- Case: `held` is the complete input.
   pub made_held : (whole : Whole) (input : WholeInput A) (held : List ℕ) (r : Result (Vec ℕ A) ToolFault)
       → served.TakesAll (IsBeginning (2 ^ 32)) a b f (Ok input) → held ≡ input.bytes.items
       → Gives whole held r → TakesAll (Gives whole) a b f r
@@ -105,7 +103,7 @@ module _ {A : Type 0} (a b : Option (List ℕ)) (f : Bool) where
       takes_so (Gives whole) a b f r bytes all
       (subst (λ (xs : List ℕ). Gives whole xs r) (same ∙ sym is.0 ∙ take_all (2 ^ 32) bytes all.within) gives)
 
-  -- Case: the first part of a frame is held, or the words that a packed input packs.
+  -- Case: `held` is the first bytes of a stream, or the words that a packed input unpacks to.
   pub made_framed : (form : StreamForm) (limits : Bounds) (most : ℕ) (frame : Vec ℕ A) (held : List ℕ)
       (r : Result (Vec ℕ A) ToolFault) → most ≡ limits.message_words
       → TakesAll {T = Vec ℕ A} (HoldsFrame form most) a b f (Ok frame)
@@ -130,7 +128,7 @@ module _ {A : Type 0} (a b : Option (List ℕ)) (f : Bool) where
       takes_so (Gives whole) a b f r bytes all
       (subst (λ (xs : List ℕ). Gives whole xs r) (same ∙ sym is) gives)
 
--- Case: no frame is read from the input.
+-- Case: no frame was read, because of `fault`.
 pub unmade_framed : (A : Type 0) (a b : Option (List ℕ)) (f : Bool) (form : StreamForm) (limits : Bounds) (most : ℕ)
     (fault : ToolFault) → most ≡ limits.message_words
     → TakesAll {T = Vec ℕ A} (HoldsFrame form most) a b f (Err fault)

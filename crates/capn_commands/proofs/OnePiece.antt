@@ -1,5 +1,4 @@
--- Lemmas that a run of the service over the one message of an input is a run of the plan for that input. (For
--- `run_framed`.)
+-- Lemmas for `run_framed`: if the service served the one message of an input, `Runs` holds for the plan of that input.
 use Rattle.std.proofs.Common.{◌≡◌, ◌≢◌, inl, inr, ℕ, List, Bool, Option, Result, sym, subst}
 use Rattle.capn_walk.specs.Limits.{Bounds}
 use Rattle.capn_walk.specs.declared.walk_answer.Stopped.{Stopped}
@@ -31,7 +30,6 @@ use Rattle.capn_commands.proofs.OneRun.{runs_more}
 abbrev Ending : Type 0
 Ending = Result (Unit {0}) ToolFault
 
--- A run over an input that is taken whole is a run of the plan `whole`.
 runs_plan : (whole : Whole) (a b c d : Option (List ℕ)) (r w : Bool) (e : Ending)
     → RunsWhole (Makes whole) (MakesNothing whole) a b c d r w e → Runs (plans.Whole whole) a b c d r w e
 runs_plan whole a b c d r w e h = record {
@@ -46,7 +44,6 @@ runs_plan whole a b c d r w e h = record {
   memory = h.memory;
 }
 
--- Bytes whose frame is that of a message are read as that message.
 pub reads_of : (form : StreamForm) (most : ℕ) (bytes frame : List ℕ) (message : List (List ℕ))
     → IsFrameOf form most bytes frame → IsFramed frame most message → Reads (form_of form) bytes most message
 reads_of streams.Stream most bytes frame message is framed =
@@ -54,11 +51,10 @@ reads_of streams.Stream most bytes frame message is framed =
 reads_of streams.Packed most bytes frame message unpacks framed = (frame, unpacks, framed)
 
 module _ (bytes : List ℕ) (limits : Bounds) where
-  -- `r` refuses the bytes as one message in `form`.
+  -- `r`, which is not `Memory`, is the reason why `bytes` in `form` have no text of the given kind as one message.
   abbrev IsRefusal : MessageText → Form → Refusal → Type 0
   IsRefusal piece form r = (r ≢ refusals.Memory) × IsOneRefused piece form bytes limits r
 
-  -- Bytes that are not exactly one message are refused with the refusal of `canonical`.
   pub misread_known : (form : Form) (r : Refusal) → IsMisread form bytes limits.message_words r
       → (piece : MessageText) → IsRefusal piece form r
   misread_known form (refusals.Bare e) h kinds.Text = (λ is. cc, h)
@@ -84,12 +80,10 @@ module _ (bytes : List ℕ) (limits : Bounds) where
   misread_known forms.Packed refusals.Memory h piece = absurd h.2
 
   module _ (form : Form) (message : List (List ℕ)) (reads : Reads form bytes limits.message_words message) where
-    -- If the walk of a message is refused, the message is refused.
     stops : (r : Refusal) (s : Stopped) (piece : MessageText) → r ≡ refusals.Walk s
         → IsRefusal piece form (refusals.Walk s) → IsRefusal piece form r
     stops r s piece is h = subst (λ (q : Refusal). IsRefusal piece form q) (sym is) h
 
-    -- A message that has no text is refused.
     no_piece : (r : Refusal) (piece : MessageText) → IsNoMessageText piece message limits (faults.Refused r)
         → IsRefusal piece form r
     no_piece r kinds.Text (s, e, h) =

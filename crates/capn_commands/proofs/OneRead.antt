@@ -1,5 +1,5 @@
--- Lemmas on the frame of the one message of an input: what was read, and how the message was served. (For `read_frame`,
--- `serve_frame` and `serve_message`.)
+-- Lemmas for `read_frame`, `serve_frame` and `serve_message`: the frame of the one message of an input, and the result
+-- of the service for that message.
 use Rattle.std.proofs.Common.{◌≡◌, ◌⊎◌, ◌||◌, inl, inr, ℕ, ◌+◌, ◌*◌, ◌≤◌, List, [], ◌++◌, length, take, Bool, true}
 use Rattle.std.proofs.Common.{false, Option, Result, Ok, Err, Vec, ap, sym, subst, ◌∙◌, arith, length-take}
 use Rattle.std.proofs.Math.Seq.{take-append-add, take-append_seam, take-length, take-nil, take_all}
@@ -69,10 +69,10 @@ pub unheld : (A : Type 0) (a b : Option (List ℕ)) (f : Bool) (most : ℕ) (for
 unheld A a b f most form fault (inl h) = inl (untaken a b f fault h)
 unheld A a b f most form fault (inr (bytes, all, none)) = absurd none
 
--- ---- its message
+-- ---- the message of a frame
 
 module _ (frame : List ℕ) (most : ℕ) where
-  -- A frame that takes all bytes is the frame of a message.
+  -- If all bytes of `frame` belong to its first message, `frame` is exactly the frame of that message.
   pub framed_whole : (m : List (List ℕ)) (taken : ℕ) → StandsFirst frame most m taken → length frame ≤ taken
       → IsFramed frame most m
   framed_whole m taken h long =
@@ -80,7 +80,7 @@ module _ (frame : List ℕ) (most : ℕ) where
       let all : take taken frame ≡ frame = ap (λ (n : ℕ). take n frame) e ∙ take-length frame in
       record { frame = subst (λ (l : List ℕ). Frames l m) all h.frame; room = h.room }
 
-  -- Case: the bytes begin with no frame.
+  -- Case: `frame` does not begin with a complete frame.
   pub frame_refused : (writes : List ℕ → Type 0) (refuses : List ℕ → List (List ℕ) → Refusal → Type 0)
       (c : Option (List ℕ)) (failed : Bool) (fault : FrameFault) (r : Refusal) (e : ToolFault) → failed ≡ false
       → IsFrameRefused frame most fault → IsOfFrame fault r → IsFaultOf r e
@@ -104,18 +104,17 @@ take_less m n l = elim (cases_lt n m) [
   | inr more ↦ (m, take-take m n l more)
 ]
 
--- If the rest of a text is kept, the part that was written is a prefix of the text.
 written_front : (w kept text : List ℕ) → w ++ kept ≡ text → w ≡ take (length w) text
 written_front w kept text is = sym (take-append_seam w kept) ∙ ap (λ (l : List ℕ). take (length w) l) is
 
 module _ {S : Type 0} (serves : S → Position → List ℕ → List (List ℕ) → List ℕ → S → Type 0)
     (refuses : S → Position → List ℕ → List (List ℕ) → Refusal → Type 0) (s t : S) (frame : List ℕ)
     (message : List (List ℕ)) (c m : Option (List ℕ)) (none kept : List ℕ) (fine : Bool) (empty : none ≡ []) where
-  -- The service ended with `r`.
+  -- The service was called in the state `s` and ended with `r` in the state `t`.
   abbrev Does : Result (Unit {0}) ServeFault → Type 0
   Does r = DoesService serves refuses s start frame message (outgoing c none) (outgoing m kept) fine r t
 
-  -- The run ends with `e` after the service.
+  -- `ServesWhole` holds for the texts and the refusals of the service, and for the result `e`.
   abbrev Serves : Option (List ℕ) → Bool → Ending → Type 0
   Serves d failed e =
       ServesWhole (Writes serves s frame message) (refuses s start frame message) c d failed e
@@ -123,7 +122,7 @@ module _ {S : Type 0} (serves : S → Position → List ℕ → List (List ℕ) 
   joined : (w text : List ℕ) → w ++ kept ≡ none ++ text → w ++ kept ≡ text
   joined w text is = is ∙ ap (λ (l : List ℕ). l ++ text) empty
 
-  -- Case: the message was served, and the rest of the text was written.
+  -- Case: the message was served, and the bytes `kept` were written too.
   pub message_served : (d : Option (List ℕ)) (piece : List ℕ) (failed : Bool) → Does (Ok tt) → piece ≡ kept
       → Appends m d piece → failed ≡ (fine || false) → Serves d failed (Ok tt)
   message_served d piece failed ((text, is, (w, wrote, e), good), short) same more still = (
@@ -136,7 +135,7 @@ module _ {S : Type 0} (serves : S → Position → List ℕ → List (List ℕ) 
     still ∙ ap (λ (x : Bool). x || false) good,
   )
 
-  -- Case: the message was served, and the writer failed within the rest of the text.
+  -- Case: the message was served, and the writer failed while the bytes `kept` were written.
   pub message_broken : (d : Option (List ℕ)) (piece : List ℕ) (failed : Bool) → Does (Ok tt) → piece ≡ kept
       → HasBegun m d piece → failed ≡ (fine || true) → Serves d failed (Err faults.Io)
   message_broken d piece failed ((text, is, (w, wrote, e), good), short) same (count, begun) broke =
@@ -152,7 +151,6 @@ module _ {S : Type 0} (serves : S → Position → List ℕ → List (List ℕ) 
         broke ∙ ap (λ (x : Bool). x || true) good,
       )
 
-  -- If nothing was added, nothing was written.
   unwritten : Adds (outgoing c none) (outgoing m kept) [] → Appends c m []
   unwritten (w, wrote, e) =
       subst (Appends c m) (written_front w kept [] (joined w [] e) ∙ take-nil (length w)) wrote

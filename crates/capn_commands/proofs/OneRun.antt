@@ -1,5 +1,4 @@
--- Lemmas on a run over the one message of an input, derived from what was read and how the message was served. (For
--- `serve_frame` and `serve_one`.)
+-- Lemmas for `serve_frame` and `serve_one`: the result of a run over the one message of an input.
 use Rattle.std.proofs.Common.{◌≡◌, ◌⊎◌, ◌↔◌, inl, inr, ℕ, ◌+◌, ◌*◌, ◌<◌, ◌≤◌, ◌^◌, List, [], length, take, Bool, true}
 use Rattle.std.proofs.Common.{false, Option, None, Some, IfSome, Result, Ok, Err, Vec, refl, ap, sym, subst, ◌∙◌, arith}
 use Rattle.std.proofs.Common.{take_all}
@@ -36,7 +35,7 @@ Ending = Result (Unit {0}) ToolFault
 abbrev stopped : ToolFault → Ending
 stopped fault = Err fault
 
--- ---- all that a reader had, if that is known
+-- ---- a fact about the input of a reader, if that input is known
 
 some_all : (a : Option (List ℕ)) (P : List ℕ → Type 0) → ((all : List ℕ) → P all) → IfSome a P
 some_all None P h = tt
@@ -58,7 +57,7 @@ all_kept P (Some all) b kept bytes is_longer k h =
 
 module _ (makes : List ℕ → List ℕ → Type 0) (fails : List ℕ → ToolFault → Type 0) (a b c : Option (List ℕ))
     (r w : Bool) where
-  -- The run ends with `e`.
+  -- If the input is known, `WholeEnds` holds for the input and for the result `e`.
   abbrev Ends : Option (List ℕ) → Ending → Type 0
   Ends d e = IfSome a (λ input. WholeEnds makes fails c d e (taken_of input) (has_more input))
 
@@ -97,7 +96,6 @@ module _ (makes : List ℕ → List ℕ → Type 0) (fails : List ℕ → ToolFa
       })
       (inr (inr ([], (refl, ap stopped is), Appends-nil c)))
 
-  -- The run has written nothing.
   begins_none : (d : Option (List ℕ)) (bytes : List ℕ) → Consumes a b bytes → length bytes ≤ 2 ^ 32 + 1
       → Appends c d [] → WholeBegins makes fails a b c d
   begins_none d bytes read bound wrote = record {
@@ -160,7 +158,7 @@ module _ (makes : List ℕ → List ℕ → Type 0) (fails : List ℕ → ToolFa
     heard_all : (d : Option (List ℕ)) → r ≡ true → Appends c d []
     heard_all d failed = absurd (let no : true ≡ false = sym failed ∙ all.given.fine in cc)
 
-    -- Case: there is no output for the input.
+    -- Case: nothing was written, because of `fault`.
     pub runs_none : (d : Option (List ℕ)) (fault : ToolFault) → w ≡ false → Appends c d []
         → (fault ≡ faults.Io → ⊥) → (fault ≡ faults.Memory) ⊎ fails bytes fault
         → RunsWhole makes fails a b c d r w (Err fault)
@@ -176,7 +174,7 @@ module _ (makes : List ℕ → List ℕ → Type 0) (fails : List ℕ → ToolFa
         ends (inl memory) = ends_unread d fault (inl memory)
         ends (inr why) = ends_given d bytes [] (Err fault) all (refl, why) none
 
-    -- Case: the message of the input was served, or was not.
+    -- Case: the service was called for the message of the input, and `e` is the result.
     pub runs_served : (d : Option (List ℕ)) (e : Ending)
         → ServesWhole (makes bytes) (λ (q : Refusal). fails bytes (faults.Refused q)) c d w e
         → RunsWhole makes fails a b c d r w e
@@ -209,7 +207,7 @@ module _ (makes : List ℕ → List ℕ → Type 0) (fails : List ℕ → ToolFa
     runs_served d (Err faults.InputTooLong) none = absurd none
     runs_served d (Err (faults.NotWhole n)) none = absurd none
 
--- ---- the same run, for a more general statement
+-- ---- a run also satisfies weaker relations
 
 pub serves_more : (writes also : List ℕ → Type 0) (refuses too : Refusal → Type 0) (c d : Option (List ℕ))
     (failed : Bool) (e : Ending) → ((t : List ℕ) → writes t → also t) → ((q : Refusal) → refuses q → too q)

@@ -1,4 +1,4 @@
--- Lemmas that the text and the ending of an input are unique. (For `run`.)
+-- Lemmas for `run`: the text and the result of a run over an input are unique.
 use Rattle.std.proofs.Common.{◌≡◌, ◌⊎◌, inl, inr, ℕ, List, [], ◌∷◌, ◌++◌, length, take, codes, Bool, true, false}
 use Rattle.std.proofs.Common.{Option, Some, None, IfSome, Result, Ok, Err, refl, ap, sym, subst, ◌∙◌, append_assoc}
 use Rattle.std.proofs.Common.{arith, length-append}
@@ -115,7 +115,7 @@ module _ (words : List ℕ) (limits : Bounds) where
   bare_or_none kinds.Price t fault (v, is, line) k = no_stop (words ∷ []) limits v fault is k
   bare_or_none kinds.Digest t fault h k = piece_or_none (words ∷ []) limits kinds.Digest t fault h k
 
--- ---- an input that is taken whole
+-- ---- an input that is read completely before anything is written
 
 denoted : (form : Form) (bytes : List ℕ) (limits : Bounds) (t : List ℕ) (price : ℕ)
     (a : Answers form bytes limits t price) → Denotes form bytes limits a.answer.value
@@ -135,7 +135,6 @@ one_made (wholes.One piece form limits) bytes t u (m, h, i) (n, k, j) =
     (one_message (form_of form) bytes limits.message_words m n h k) i) j
 
 module _ (form : Form) (bytes : List ℕ) (limits : Bounds) where
-  -- A message that has a text is not refused.
   one_or_none : (piece : MessageText) (m : List (List ℕ)) (t : List ℕ) (r : Refusal)
       → Reads form bytes limits.message_words m → IsMessageText piece m limits t
       → IsOneRefused piece form bytes limits r → r ≡ refusals.Memory
@@ -146,7 +145,6 @@ module _ (form : Form) (bytes : List ℕ) (limits : Bounds) where
   one_or_none kinds.Digest m t r reads (answer, price, a, e) h =
       not_refused form bytes limits a.value r (record { message = m; reads = reads; value = a.is }) a.free h
 
-  -- Bytes that are not accepted are refused.
   unaccepted : (r : Refusal) → IsUnacceptedIn form bytes limits r → IsRefused form bytes limits r
   unaccepted (refusals.Walk s) h = h
   unaccepted (refusals.Capability k) h = absurd h
@@ -210,7 +208,7 @@ one_due_whole whole bytes false t u (Err f) (Err g) h k =
 -- ---- a stream
 
 module _ (piece : MessageText) (limits : Bounds) (last : Option ToolFault) where
-  -- `ending` is the end of a run, where `rest` is left after the parts.
+  -- `ending` is the result of a run that has `rest` left after the messages at the front of its input.
   abbrev Behind : List ℕ → Result (Unit {0}) ToolFault → Type 0
   Behind rest ending = EndsUnframed limits rest last ending ⊎ EndsRefused piece limits rest ending
 
@@ -228,7 +226,6 @@ module _ (piece : MessageText) (limits : Bounds) (last : Option ToolFault) where
       ought in
       a ∙ ap (λ (x : ToolFault). Err x) fault ∙ sym b
 
-  -- Bytes that begin with the frame of a part have the message of that part first.
   part_first : (part : Part) (more : List ℕ) → IsPart piece limits part
       → StandsFirst (part.frame ++ more) limits.message_words part.message (length part.frame)
   part_first part more h =
@@ -240,7 +237,6 @@ module _ (piece : MessageText) (limits : Bounds) (last : Option ToolFault) where
         room = h.room;
       }
 
-  -- A run does not end before a part.
   no_end : (rest more : List ℕ) (part : Part) (r : Result (Unit {0}) ToolFault) → IsPart piece limits part
       → rest ≡ part.frame ++ more → Behind rest r → ⊥
   no_end rest more part r h is ends =
@@ -303,8 +299,6 @@ one_due (plans.Packed piece limits) bytes is_longer t u r s h k =
     second in
     one_due_each piece limits (behind_packed is_longer k.group k.at) k.words t u r s third k.due
 
--- If `t` and `s` are the text and the ending of `input`, a run of `command` over `input` wrote `t` and ended with `s`,
--- unless memory was refused or the reader or the writer failed.
 ends_by : (command : Command) (old new : Option (List ℕ)) (r : Result (Unit {0}) ToolFault) (input t : List ℕ)
     (s : Result (Unit {0}) ToolFault) → EndsAs command old new r input → IsText command input t s → EndsBy t s old new r
 ends_by command old new r input t s (inl m) k = inl m

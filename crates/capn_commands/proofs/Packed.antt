@@ -22,7 +22,6 @@ stopped fault = Err fault
 abbrev wrote : Unit {0} → Ending
 wrote u = Ok u
 
--- With the empty text, all bytes are the rest.
 pub settles_none : (bytes : List ℕ) → Settles bytes [] bytes
 settles_none bytes = record { settled = λ more t c. c }
 
@@ -44,7 +43,6 @@ module _ (bytes text rest more : List ℕ) (s : Settles bytes text rest) where
   front_more next (inl (after, n)) = inl (after, settles_more next after n)
   front_more next (inr c) = inr (s.settled more next c)
 
-  -- If the settled part of a text was written, and then a prefix of the rest, a prefix of the whole text was written.
   pub written_more : (c d e : Option (List ℕ)) → Appends c d text → HasWritten packing (rest ++ more) d e
       → HasWritten packing (bytes ++ more) c e
   written_more c d e done (v, count, front, part) = (
@@ -59,16 +57,15 @@ module _ (bytes text rest more : List ℕ) (s : Settles bytes text rest) where
   packs_stop c d e failed fault done stop =
       record { kind = stop.kind; io = stop.io; written = written_more c d e done stop.written }
 
--- Case: a run stops within the first bytes of a buffer.
 pub front_stop : (rest buf tail : List ℕ) (w : ℕ) (c d : Option (List ℕ)) (failed : Bool) (fault : FlowFault)
     → w ≤ length buf → Stops packing (rest ++ take w (buf ++ tail)) c d failed fault
     → Stops packing (rest ++ take w buf) c d failed fault
 front_stop rest buf tail w c d failed fault within stop =
     subst (λ (l : List ℕ). Stops packing (rest ++ l) c d failed fault) (take-append-le w buf tail within) stop
 
--- ---- the end
+-- ---- the end of the input
 
--- Cases: the held bytes are packed at the end.
+-- Cases: the bytes `held` are packed at the end of the input.
 module _ (bytes text held : List ℕ) (s : Settles bytes text held) (count : ℕ) (size : length bytes ≡ count)
     (c d e : Option (List ℕ)) (done : Appends c d text) where
   last_ended : (is_longer : Bool) (r : Ending) → HasEnded (packing_last count) held is_longer d e r
@@ -102,9 +99,8 @@ module _ (bytes text held : List ℕ) (s : Settles bytes text held) (count : ℕ
     memory = λ h. omega (arith, few, size, ends.memory h);
   }
 
--- ---- the whole stream
+-- ---- the complete stream
 
--- `text` is settled by `bytes`, and `held` are the bytes that are not packed yet.
 abbrev pub Holds : List ℕ → List ℕ → List ℕ → Type 0
 Holds held bytes text = Settles bytes text held × (length held < most_held) × MayGoOn held
 
@@ -116,7 +112,7 @@ holds_begins held bytes text h = inl (held, h.0)
 
 -- ---- a chunk
 
--- Case: a prefix of the settled text was written.
+-- Case: `Settles` holds for `text`. The run stopped after a prefix of `text` was written.
 pub packs_broken : (bytes text rest : List ℕ) (count : ℕ) (c d : Option (List ℕ)) (failed : Bool) (fault : FlowFault)
     → Settles bytes text rest → Appends c d (take count text) → (fault ≡ faults.Memory) ⊎ (fault ≡ faults.Io)
     → (fault ≡ faults.Io) ↔ (failed ≡ true) → Stops packing bytes c d failed fault
@@ -138,7 +134,7 @@ wrote_fine : (failed : Bool) (u : Unit {0}) → (wrote u ≡ Err faults.Io) ↔ 
 wrote_fine false u io = refl
 wrote_fine true u io = absurd (let e = io.1 refl in cc)
 
--- Case: the settled text was written, and the rest is held.
+-- Case: `text`, for which `Settles` holds, was written, and `rest` is not packed yet.
 pub packs_part : (before bytes held text rest : List ℕ) (c d : Option (List ℕ)) (failed : Bool) (u v : Unit {0})
     → held ≡ before ++ bytes → Settles held text rest → length rest < most_held → length rest ≤ length held
     → MayGoOn rest → Appends c d text
@@ -153,7 +149,7 @@ packs_part before bytes held text rest c d failed u v is s short few open_rest d
   open_rest,
 )
 
--- Case: a prefix of the settled text was written, and the writer failed.
+-- Case: `Settles` holds for `text`. The writer failed after a prefix of `text` was written.
 pub packs_unwritten : (bytes held text rest : List ℕ) (c d : Option (List ℕ)) (failed : Bool) (fault : FlowFault)
     → held ≡ bytes → Settles held text rest → HasBegun c d text
     → (stopped fault ≡ Err faults.Io) ↔ (failed ≡ true) → fault ≡ faults.Io → Stops packing bytes c d failed fault
@@ -182,7 +178,7 @@ no_ending : (is_longer : Bool) (count : ℕ) → ending_of is_longer count ≡ E
 no_ending true count e = cc
 no_ending false count e = no_whole (eqb (count % 8) 0) count e
 
--- Case: the text of all whole words was written.
+-- Case: `text`, the packed text of the complete words of `held`, was written.
 pub last_packed : (held text : List ℕ) (count : ℕ) (is_longer : Bool) (c d : Option (List ℕ)) (failed : Bool)
     (u : Unit {0}) (r : Ending) → Chosen text (whole_of held) → Appends c d text
     → (wrote u ≡ Err faults.Io) ↔ (failed ≡ true) → r ≡ ending_of is_longer count
@@ -199,7 +195,7 @@ last_packed held text count is_longer c d failed u r chosen done io is =
       memory = λ h. absurd (no_memory is_longer count (sym is ∙ h));
     }
 
--- Case: a prefix of the text of all whole words was written, and the writer failed.
+-- Case: the writer failed after a prefix of `text`, the packed text of the complete words of `held`.
 pub last_unwritten : (held text : List ℕ) (count : ℕ) (is_longer : Bool) (c d : Option (List ℕ)) (failed : Bool)
     (fault : FlowFault) → Chosen text (whole_of held) → HasBegun c d text
     → (stopped fault ≡ Err faults.Io) ↔ (failed ≡ true) → fault ≡ faults.Io
@@ -211,7 +207,7 @@ last_unwritten held text count is_longer c d failed fault chosen (n, begun) io o
   memory = λ h. absurd (let bad : stopped faults.Io ≡ stopped faults.Memory = sym (ap stopped only) ∙ h in cc);
 }
 
--- Case: memory was refused for the text of the last words.
+-- Case: memory was refused for the packed text of `held`.
 pub last_memory : (held : List ℕ) (count : ℕ) (is_longer : Bool) (c : Option (List ℕ)) (failed : Bool)
     → failed ≡ false → 0 < length held → Ends (packing_last count) held is_longer c c failed (Err faults.Memory)
 last_memory held count is_longer c failed fine some = record {

@@ -1,4 +1,4 @@
--- Lemmas that a run of the service over a packed stream is a run of the plan for that stream. (For `run_each_packed`.)
+-- Lemmas for `run_each_packed`: if the service ran over a packed stream, `Runs` holds for the plan of that stream.
 use Rattle.std.proofs.Common.{◌≡◌, ◌⊎◌, inl, inr, ℕ, ◌+◌, ◌*◌, ◌-◌, ◌^◌, ◌≤◌, List, [], ◌∷◌, ◌++◌, length}
 use Rattle.std.proofs.Common.{Bool, true, false, Option, Some, None, IfSome, Ok, Err, refl, ap, sym, subst, arith}
 use Rattle.std.proofs.Common.{length-append, length-take}
@@ -48,7 +48,7 @@ all_spread (g ∷ gs) (here, each) = omega (
   length-append (group_text g) (texts gs),
 )
 
--- The greatest number of unpacked bytes that are taken.
+-- The greatest number of unpacked bytes that a run takes.
 abbrev most_unpacked : ℕ
 most_unpacked = 2 ^ 64 - 1
 
@@ -63,7 +63,6 @@ within bytes stream rest gs each is are short = omega (
   short,
 )
 
--- All bytes that an input unpacks to are taken.
 all_taken : (stream : List ℕ) → length stream ≤ most_unpacked → streams.taken_of most_unpacked stream ≡ stream
 all_taken stream short = take_all most_unpacked stream short
 
@@ -184,8 +183,6 @@ module _ (piece : MessageText) (limits : Bounds) (x : Run MessageTexts) (of : Is
     memory = λ e. h.memory (memory_from r e);
   }
 
-  -- If `most` is the greatest number of words in the limits, a run of the service over a packed stream is a run of the
-  -- plan for that stream.
   pub packed_served : (most : ℕ) → most ≡ limits.message_words → (a b c d : Option (List ℕ))
       (reader_failed writer_failed : Bool) (r : Ending) (y : Run MessageTexts)
       → served.RunsPacked (fold_of serves refuses most) x most_input most_unpacked a b c d reader_failed

@@ -1,4 +1,5 @@
--- Lemmas that a service serves a message whose part is shown. (For `message_texts.rt` and `part_texts.rt`.)
+-- Lemmas for `message_texts.rt` and `part_texts.rt`: the text of a value and the end of that text are added to the
+-- output.
 use Rattle.std.proofs.Common.{◌≡◌, inl, inr, ℕ, List, [], ◌++◌, false, Option, Result}
 use Rattle.std.proofs.Common.{Ok, Err, refl, sym, subst, ◌∙◌, append-nil, take, Bool, true, IsErrAnd}
 use Rattle.std.specs.Prelude.{if◌then◌else◌}
@@ -30,7 +31,7 @@ stopped fault = Err fault
 
 -- ---- the end of a text
 
--- Case: the end is kept, and then the kept text was written if the kept text was long.
+-- Case: `q` is `p` with `line` appended to `kept`, and `r` is the output after `q` was flushed (`Flushes`).
 pub end_added : (line : List ℕ) (p q r : Outgoing) (end : Ending) → q.taken ≡ p.taken → q.failed ≡ p.failed
     → q.kept ≡ p.kept ++ line → p.failed ≡ false
     → served.Flushes (served.outgoing q.taken q.kept) (served.outgoing r.taken r.kept) r.failed end
@@ -66,7 +67,7 @@ module _ (m : List (List ℕ)) (limits : Bounds) (of : Tree → List ℕ) (line 
       (shown.value, shown.is, then-broken p q r broken.Io (of shown.value) line shown.text added)
   part_line p q r (Err (faults.Refused f)) shown added = absurd added
 
-  -- Case: memory is refused for the end of the text.
+  -- Case: memory is refused for `line`, the end of the text.
   pub no_line : (p q : Outgoing) (end : Ending) (fault : ServeFault) → IsErrAnd end (λ e. e ≡ fault)
       → fault ≡ faults.Memory → IsWritten m limits of p q → AddsPart m limits of line p q end
   no_line p q (Ok u) fault told is shown = absurd told
@@ -96,7 +97,7 @@ module _ (m : List (List ℕ)) (limits : Bounds) (of : Tree → List ℕ) (line 
       subst (λ (f : ServeFault). AddsPart m limits of line p q (stopped f)) (sym is)
       (inr (begun.value, begun.is, broken-before p q broken.Memory (of begun.value) line begun.text))
 
--- ---- one of two texts, by whether marks are asked for
+-- ---- one of two texts: with marks, or in a style
 
 module _ (m : List (List ℕ)) (limits : Bounds) (of other : Tree → List ℕ) (line rest : List ℕ) (p q : Outgoing)
     (end : Ending) where
@@ -112,7 +113,7 @@ module _ (m : List (List ℕ)) (limits : Bounds) (of other : Tree → List ℕ) 
 
 -- ---- the result as that of a service
 
--- A service that adds the text of a message's value and its end, and keeps its state.
+-- A service that adds the text of a message's value and the end `line` of that text, and stays in the state `s`.
 module _ {X : Type 0} (serves : X → Position → List ℕ → List (List ℕ) → List ℕ → X → Type 0)
     (refuses : X → Position → List ℕ → List (List ℕ) → Refusal → Type 0) (m : List (List ℕ)) (limits : Bounds)
     (of : Tree → List ℕ) (line : List ℕ) (s : X) (at : Position) (frame : List ℕ)

@@ -10,7 +10,6 @@ use Rattle.capn_commands.specs.inner.ReadInput.{Kept}
 is_below : (a b : ℕ) → a < b → nat_lt a b ≡ true
 is_below a b h = grind (arith, nat_tests)
 
--- A reader that returned an error has failed. A reader that returned bytes has not.
 pub has_broken : (old new : Bool) → new ≡ (old || true) → new ≡ true
 has_broken false new is = is
 has_broken true new is = is
@@ -19,7 +18,6 @@ pub still_fine : (old new : Bool) → old ≡ false → new ≡ (old || false) �
 still_fine false new fine is = is
 still_fine true new fine is = absurd (cc)
 
--- If all bytes that the reader had are known, a run takes exactly the kept bytes of them.
 pub kept_all : (old new : Option (List ℕ)) (kept bytes : List ℕ) (is_longer : Bool) → Kept old new kept is_longer bytes
     → IfSome old (λ all. (taken_of all ≡ kept) × (has_more all ≡ is_longer))
 kept_all None new kept bytes is_longer h = tt

@@ -1,4 +1,4 @@
--- Lemmas on the end of a run. (For `pack_stream` and `unpack_stream`.)
+-- Lemmas on the result of a run. (For `pack_stream` and `unpack_stream`.)
 use Rattle.std.proofs.Common.{◌≡◌, ◌⊎◌, inl, inr, ℕ, ◌+◌, ◌-◌, ◌<◌, ◌≤◌, min, List, ◌++◌, length, take, Bool, true}
 use Rattle.std.proofs.Common.{[], append-nil, false, Option, None, Some, IfSome, Err, refl, ap, sym, subst, ◌∙◌, arith}
 use Rattle.std.proofs.Common.{length-append, length-take, length-take-le}
@@ -23,7 +23,7 @@ writer_only : (r w : Bool) → r ≡ false → (r ≡ true) ⊎ (w ≡ true) →
 writer_only r w fine (inl h) = absurd (not_read r fine h)
 writer_only r w fine (inr h) = h
 
--- One more chunk was read, and more output was written. `Q` holds for all bytes that were read and for all output.
+-- Case: one more chunk was read, and `words` were written. `Q` holds for all bytes that were read and for all output.
 pub heard_more : (P Q : List ℕ → List ℕ → Type 0) (a b b2 c d e : Option (List ℕ)) (taken w k : ℕ) (buf words : List ℕ)
     → w ≡ k → (h : Consumed P a b c d taken) → Consumes b b2 (take k buf) → k ≤ length buf → Appends d e words
     → Q (h.bytes ++ take k buf) (h.text ++ words) → Consumed Q a b2 c e (taken + w)
@@ -66,7 +66,7 @@ module _ (f : Flow) where
       subst (λ (m : Bool). HasEnded f (taken_of all) m c d r) (sym same.1)
       (subst (λ (xs : List ℕ). HasEnded f xs is_longer c d r) (sym same.0) h)
 
-  -- Case: all bytes that are taken were read.
+  -- Case: the run has read all bytes `kept` that it takes.
   run_kept : (a b c d : Option (List ℕ)) (kept bytes : List ℕ) (is_longer : Bool) (rf wf : Bool) (r : Ending)
       → rf ≡ false → Kept a b kept is_longer bytes → IsAhead f bytes c d → Ends f kept is_longer c d wf r
       → Runs f a b c d rf wf r
@@ -80,8 +80,6 @@ module _ (f : Flow) where
 
   module _ (P : List ℕ → List ℕ → Type 0) (settles : (bytes text : List ℕ) → P bytes text → f.settles bytes text)
       (begins : (bytes text : List ℕ) → P bytes text → f.begins bytes text) where
-    -- Before the last chunk was read, the settled output of the bytes before that chunk was written. More output
-    -- follows.
     ahead : (a b c d e : Option (List ℕ)) (taken k : ℕ) (buf more : List ℕ) → (h : Consumed P a b c d taken)
         → k ≤ length buf → k ≤ 65536 → Appends d e more → IsAhead f (h.bytes ++ take k buf) c e
     ahead a b c d e taken k buf more h within small wrote = (
@@ -97,7 +95,6 @@ module _ (f : Flow) where
       wrote,
     )
 
-    -- The settled output of all bytes was written, and the last chunk is taken as empty.
     ahead_all : (a b c d e : Option (List ℕ)) (taken : ℕ) (more : List ℕ) → (h : Consumed P a b c d taken)
         → Appends d e more → IsAhead f h.bytes c e
     ahead_all a b c d e taken more h wrote = (
@@ -137,7 +134,7 @@ module _ (f : Flow) where
         (read_end a b b2 h.bytes buf n zero h.read more some (omega (arith, h.count, short)))
         (ahead_all a b c d e taken last h wrote) ends
 
-    -- Case: a byte past the greatest number was read.
+    -- Case: the last read returned more bytes than the run takes.
     pub run_long : (a b b2 c d e : Option (List ℕ)) (taken : ℕ) (buf : List ℕ) (w k : ℕ) (rf wf : Bool) (r : Ending)
         → rf ≡ false → taken + w ≡ most → w < k → taken + k ≤ most + 1 → k ≤ 65536 → (h : Consumed P a b c d taken)
         → Consumes b b2 (take k buf) → k ≤ length buf → (last : List ℕ) → Appends d e last

@@ -1,4 +1,4 @@
--- Lemmas that a run ends as its plan requires for all that the reader had. (For `perform`, `run` and `run_bare_piece`.)
+-- Lemmas for `perform`, `run` and `run_bare_piece`: `PlanEndsAs` holds for the complete input of a run.
 use Rattle.std.proofs.Common.{◌≡◌, ◌⊎◌, inl, inr, ℕ, ◌+◌, ◌≤◌, ◌^◌, List, [], Bool, Option, None, Some, IfSome, Result}
 use Rattle.std.proofs.Common.{Err, refl, ap, sym, subst}
 use Rattle.std.proofs.KnownBytes.{Appends-nil}
@@ -11,7 +11,6 @@ use Rattle.capn_commands.specs.declared.fault.ToolFault.{ToolFault}
 use Rattle.capn_commands.specs.declared.fault.ToolFault.TheVariants as faults
 use Rattle.capn_commands.proofs.ReadMore.{kept_all}
 
--- The empty text is an output that may have been started for any bytes.
 front_none : (plan : Plan) (bytes : List ℕ) (is_longer : Bool) → IsFront plan bytes is_longer []
 front_none (plans.Whole whole) bytes is_longer = inl refl
 front_none (plans.Each piece limits) bytes is_longer = ([], bytes, record { each = tt; is = refl }, refl)
@@ -24,7 +23,6 @@ front_none (plans.Packed piece limits) bytes is_longer = (
   refl,
 )
 
--- If nothing was written, a prefix of any output was written.
 pub begins_none : (plan : Plan) (old new writer : Option (List ℕ)) → HasRead old new (λ n. n ≤ 2 ^ 32 + 1)
     → PlanBegins plan old new writer writer
 begins_none plan old new writer (bytes, read, bound) = (
@@ -36,7 +34,6 @@ begins_none plan old new writer (bytes, read, bound) = (
   },
 )
 
--- The output that was written for the kept bytes was written for the bytes that were read.
 pub begins_kept : (plan : Plan) (old new writer written : Option (List ℕ)) (kept : List ℕ) (is_longer : Bool)
     → (bytes : List ℕ) × Kept old new kept is_longer bytes
     → HasWritten plan kept is_longer writer written → PlanBegins plan old new writer written
@@ -51,7 +48,6 @@ begins_kept plan old new writer written kept is_longer (bytes, k) h = (
   },
 )
 
--- A run that ended as its plan requires for the kept bytes ended as its plan requires for all that the reader had.
 pub ends_kept : (plan : Plan) (old new writer written : Option (List ℕ)) (kept : List ℕ) (is_longer : Bool)
     (r : Result (Unit {0}) ToolFault) → (bytes : List ℕ) × Kept old new kept is_longer bytes
     → HasEnded plan kept is_longer writer written r → IfSome old (PlanEndsAs plan writer written r)
@@ -61,19 +57,17 @@ ends_kept plan (Some all) new writer written kept is_longer r (bytes, k) h =
     subst (λ (b : Bool). HasEnded plan (taken_of all) b writer written r) (sym same.1)
     (subst (λ (xs : List ℕ). HasEnded plan xs is_longer writer written r) (sym same.0) h)
 
--- Case: the reader failed, or memory was refused.
+-- Case: `fault` is `Memory` or `Io`.
 pub ends_unread : (plan : Plan) (old writer written : Option (List ℕ)) (fault : ToolFault) → (fault ≡ faults.Memory)
     ⊎ (fault ≡ faults.Io) → IfSome old (PlanEndsAs plan writer written (Err fault))
 ends_unread plan None writer written fault h = tt
 ends_unread plan (Some all) writer written fault (inl m) = inl (ap (λ (f : ToolFault). Err f) m)
 ends_unread plan (Some all) writer written fault (inr e) = inr (inl (ap (λ (f : ToolFault). Err f) e))
 
--- If two plans are equal, a run that ended as one plan requires ended as the other plan requires.
 pub ends_planned : (plan other : Plan) (known old new : Option (List ℕ)) (r : Result (Unit {0}) ToolFault)
     → plan ≡ other → IfSome known (PlanEndsAs plan old new r) → IfSome known (PlanEndsAs other old new r)
 ends_planned plan other known old new r e h = subst (λ (p : Plan). IfSome known (PlanEndsAs p old new r)) e h
 
--- A run of a plan is a run of any plan that equals it.
 pub runs_planned : (plan this : Plan) (a b c d : Option (List ℕ)) (reader_failed writer_failed : Bool)
     (r : Result (Unit {0}) ToolFault) → plan ≡ this → Runs this a b c d reader_failed writer_failed r
     → Runs plan a b c d reader_failed writer_failed r

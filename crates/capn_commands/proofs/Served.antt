@@ -1,5 +1,5 @@
--- Lemmas on messages that a service serves: the list of their texts, and how a run ends after the messages. (For
--- `run_each`, `run_each_packed` and `run_one`.)
+-- Lemmas on messages that a service serves: the list of their texts, and the result of the run. (For `run_each`,
+-- `run_each_packed` and `run_one`.)
 use Rattle.std.proofs.Common.{◌≡◌, ◌⊎◌, ◌↔◌, inl, inr, ℕ, ◌≤◌, List, [], ◌∷◌, ◌++◌, length, take, Option, Some, None}
 use Rattle.std.proofs.Common.{Result, Ok, Err, refl, ap, sym, subst, ◌∙◌, arith, length-append, map}
 use Rattle.std.proofs.Math.Seq.{take-length, take-append-le}
@@ -56,7 +56,6 @@ io_from (Err run_faults.Io) e = refl
 io_from (Err run_faults.InputTooLong) e = absurd (cc)
 io_from (Err (run_faults.Refused at refusal)) e = absurd (cc)
 
--- The result without positions is Memory only if the result with positions is Memory.
 pub memory_from : (r : Ending) → ending_of r ≡ Err faults.Memory → r ≡ Err run_faults.Memory
 memory_from (Ok u) e = absurd (cc)
 memory_from (Err run_faults.Memory) e = refl
@@ -64,7 +63,6 @@ memory_from (Err run_faults.Io) e = absurd (cc)
 memory_from (Err run_faults.InputTooLong) e = absurd (cc)
 memory_from (Err (run_faults.Refused at refusal)) e = absurd (cc)
 
--- The result without positions is Io if and only if the result with positions is Io.
 pub io_same : (P : Type 0) (r : Ending) → ((r ≡ Err run_faults.Io) ↔ P) → (ending_of r ≡ Err faults.Io) ↔ P
 io_same P r io = (λ e. io.0 (io_from r e), λ h. ap ending_of (io.1 h))
 
@@ -81,7 +79,6 @@ texts_same : (ps : List folds.Part) → texts_of (map same_part ps) ≡ folds.te
 texts_same [] = refl
 texts_same (p ∷ ps) = ap (λ (l : List ℕ). p.text ++ l) (texts_same ps)
 
--- Bytes that begin with the frame of a message have that message first.
 stands : (rest frame more : List ℕ) (message : List (List ℕ)) (most : ℕ) → rest ≡ frame ++ more → Frames frame message
     → total message ≤ most → StandsFirst rest most message (length frame)
 stands rest frame more message most is framed room =
@@ -94,11 +91,11 @@ stands rest frame more message most is framed room =
     })
 
 module _ (piece : MessageText) (limits : Bounds) where
-  -- The fold of the service, with the text of each message and the reason why a message ends the run.
+  -- The fold of the service over messages of at most `limits.message_words` words.
   abbrev pub texts : Fold (Run MessageTexts)
   texts = fold_of serves refuses limits.message_words
 
-  -- `x` is a run of the service that writes `piece` within `limits`.
+  -- `x` is a run of the service that writes the text of the kind `piece` for each message, within `limits`.
   abbrev pub IsOf : Run MessageTexts → Type 0
   IsOf x = x.service ≡ message_texts piece limits
 
@@ -114,7 +111,6 @@ module _ (piece : MessageText) (limits : Bounds) where
       let rest = each_part ps mid y (step.0.1 ∙ of) more in
       ((record { frame = is.frame; room = is.room; text = here }, rest.0), rest.1)
 
-  -- Frames of messages that were served are frames of messages that have a text.
   parts_of : (x y : Run MessageTexts) (bytes rest : List ℕ) (ps : List folds.Part) → IsOf x
       → folds.AreParts texts x bytes ps rest y → AreParts piece limits bytes (map same_part ps) rest
   parts_of x y bytes rest ps of are = record {
@@ -141,7 +137,6 @@ module _ (piece : MessageText) (limits : Bounds) where
     ap ending_of e,
   )
 
-  -- The text and the ending of a stream that the fold gives are those of the plan.
   pub due : (x y : Run MessageTexts) (bytes text : List ℕ) (behind : Option RunFault) (r : Ending) → IsOf x
       → folds.IsFolded texts x bytes behind text r y
       → IsDueEach piece limits bytes (behind_of behind) text (ending_of r)

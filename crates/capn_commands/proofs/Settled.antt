@@ -1,4 +1,4 @@
--- Lemmas on the settled part of a packer's text. (For `settle` and `unpacked_part`.)
+-- Lemmas for `settle` and `unpacked_part`: the prefix of a packed text that no later word changes.
 use Rattle.std.proofs.Common.{◌≡◌, inl, inr, ℕ, ◌+◌, ◌-◌, ◌*◌, ◌/◌, ◌<◌, ◌≤◌, List, [], ◌∷◌}
 use Rattle.std.proofs.Common.{◌++◌, length, take, drop, get_or, refl, ap, sym, subst, ◌∙◌, arith}
 use Rattle.std.proofs.Common.{append-nil, append_assoc, length-append, length-drop, length-take-le, take-append-drop}
@@ -20,9 +20,8 @@ use Rattle.capn_pack.proofs.shared.GroupLemmas.{count_append, length_content, le
 use Rattle.capn_commands.specs.PackRun.{AreOpen, IsSettled, MayGoOn, Settles, most_held, whole_of}
 use Rattle.capn_commands.proofs.HeldBack.{open_more, open_none}
 
--- ---- whole words
+-- ---- complete words
 
--- The whole words of some words followed by bytes are those words followed by the whole words of the bytes.
 pub whole_after : (front bytes : List ℕ) (n : ℕ) → length front ≡ 8 * n
     → whole_of (front ++ bytes) ≡ front ++ whole_of bytes
 whole_after front bytes n size =
@@ -30,16 +29,15 @@ whole_after front bytes n size =
     omega (arith, size, length-append front bytes) in
     ap (λ (k : ℕ). take k (front ++ bytes)) count ∙ take-append-add front bytes (length bytes / 8 * 8)
 
--- ---- what follows a group
+-- ---- the words after a group
 
--- The packer's choice of a group depends only on the first word that follows it.
 choice_longer : (g : Group) (a b : List ℕ) → 8 ≤ length a → IsChoice g a → IsChoice g (a ++ b)
 choice_longer (Zeros more) a b long c = λ less e. c less (sym (take-append-le 8 a b long) ∙ e)
 choice_longer (Named tag word) a b long c = c
 choice_longer (Raw word count more) a b long c =
     (c.0, c.1, λ less dense. c.2 less (subst IsDense (take-append-le 8 a b long) dense))
 
--- The group is full, so that no later word changes it.
+-- No later word changes the group: it is a run of 256 words, or no run.
 abbrev pub IsFull : Group → Type 0
 IsFull (Zeros more) = more ≡ 255
 IsFull (Named tag word) = ⊤
@@ -50,7 +48,6 @@ choice_full (Zeros more) a b full c = λ less e. absurd (omega (arith, full, les
 choice_full (Named tag word) a b full c = c
 choice_full (Raw word count more) a b full c = (c.0, c.1, λ less dense. absurd (omega (arith, full, less)))
 
--- A list of groups that may be followed by `us` may also be followed by groups that begin with the same words.
 row_join : (gs us vs : List Group) (more : List ℕ) → IsChosenRow (gs ++ us) → contents vs ≡ contents us ++ more
     → 8 ≤ length (contents us) → IsChosenRow vs → IsChosenRow (gs ++ vs)
 row_join [] us vs more row same long next = next
@@ -76,7 +73,6 @@ words_some (Zeros more) = omega arith
 words_some (Named tag word) = omega arith
 words_some (Raw word count more) = omega arith
 
--- A list of groups whose last group is full may be followed by any groups.
 row_full : (gs : List Group) (h : Group) (vs : List Group) → IsFull h → IsChosenRow (gs ++ h ∷ []) → IsChosenRow vs
     → IsChosenRow (gs ++ h ∷ vs)
 row_full gs h vs full row next =
@@ -87,7 +83,7 @@ row_full gs h vs full row next =
     omega (arith, length_content h last.0, length-append (group_bytes h) [], words_some h) in
     row_join gs (h ∷ []) (h ∷ vs) (contents vs) row same size (last.0, choice_full h [] (contents vs) full last.1, next)
 
--- ---- what a row settles
+-- ---- the settled text of a row of groups
 
 each_of : (gs : List Group) → IsChosenRow gs → AllByRecursion IsGroup gs
 each_of [] row = tt
@@ -97,7 +93,6 @@ pub each_front : (gs us : List Group) → IsChosenRow (gs ++ us) → AllByRecurs
 each_front [] us row = tt
 each_front (g ∷ gs) us row = (row.0, each_front gs us row.2)
 
--- A list of groups settles its text, if the groups that the packer chooses for any following bytes may follow the list.
 settles_row : (gs : List Group) (rest : List ℕ) → AllByRecursion IsGroup gs
     → ((next : List ℕ) (vs : List Group) → contents vs ≡ whole_of (rest ++ next) → IsChosenRow vs
     → IsChosenRow (gs ++ vs)) → Settles (contents gs ++ rest) (texts gs) rest
@@ -114,7 +109,7 @@ settles_row gs rest each law = record {
   };
 }
 
--- The text of all groups but the last one is settled.
+-- If the packer may choose `gs` and then `h`, `Settles` holds for the text of `gs`.
 settles_front : (gs : List Group) (h : Group) (more : List ℕ) → AllByRecursion IsGroup gs → IsChosenRow (gs ++ h ∷ [])
     → Settles (contents gs ++ (group_bytes h ++ more)) (texts gs) (group_bytes h ++ more)
 settles_front gs h more each row =
@@ -128,7 +123,7 @@ settles_front gs h more each row =
     ∙ whole_after (group_bytes h) (more ++ next) (group_words h) size
     ∙ ap (λ (l : List ℕ). l ++ whole_of (more ++ next)) (sym (append-nil (group_bytes h)))) long rows)
 
--- If the last group is full, the text of all groups is settled.
+-- If the packer may choose `gs` and then `h`, and `h` is full, `Settles` holds for the text of `gs` and `h`.
 settles_all : (gs : List Group) (h : Group) (more : List ℕ) → IsFull h → IsChosenRow (gs ++ h ∷ [])
     → Settles (contents (gs ++ h ∷ []) ++ more) (texts (gs ++ h ∷ [])) more
 settles_all gs h more full row =
@@ -137,7 +132,7 @@ settles_all gs h more full row =
 
 -- ---- the last group of a text
 
--- The groups that were unpacked are all groups but the last one.
+-- The first `taken` bytes of `text_of` are the text of `groups`, and `last` is the only group after them.
 pub record Last (text_of words_of : List ℕ) (count taken known : ℕ) : Type 0 where
   pub groups : List Group
   pub last : Group
@@ -149,7 +144,6 @@ pub record Last (text_of words_of : List ℕ) (count taken known : ℕ) : Type 0
   pub words_are : known + group_words last ≡ count
   pub content_is : words_of ≡ contents groups ++ group_bytes last
 
--- After the groups that were unpacked, only one group is left.
 one_left : (next : Next) (left : ℕ) (h : Group) (more : List ℕ) → IsGroup h → group_words h ≤ left
     → StandsNext next left (group_text h ++ more) → ⊥
 one_left nexts.End left h more is fits none =
@@ -201,13 +195,13 @@ module _ (t bs : List ℕ) (count taken known : ℕ) (old new : List ℕ) (next 
       let r = goes_on c.groups u.groups (drop taken t) (each_of c.groups c.chosen) u.each (sym c.text ∙ split_of) in
       last_among r.more r.whole r.each r.text
 
--- ---- the settled part
+-- ---- the settled prefix
 
 no_bytes : (bs : List ℕ) → length bs ≡ 0 → bs ≡ []
 no_bytes [] none = refl
 no_bytes (b ∷ bs) none = absurd (omega (arith, none))
 
--- Of bytes that are less than a word, no text is settled.
+-- Case: `bs` is less than one word, and nothing is settled.
 pub settled_none : (t bs : List ℕ) → Chosen t bs → length bs < 8 → IsSettled t bs 0 0
 settled_none t bs c less = record {
   inside = omega arith;
@@ -244,7 +238,6 @@ module _ (t bs : List ℕ) (count taken known : ℕ) (l : Last t bs count taken 
     open_words = subst AreOpen (sym rest_of) is_open;
   }
 
-  -- By its tag and its number of words, the last group is full.
   full_last : (h : Group) → IsGroup h
       → (group_words h < 256 → (0 < get_or (group_text h) 0 0) × (get_or (group_text h) 0 0 < 255))
       → IsFull h
@@ -285,7 +278,7 @@ module _ (t bs : List ℕ) (count taken known : ℕ) (l : Last t bs count taken 
         open_words = open_none (drop (length bs) bs) (drop_all (length bs) bs (omega arith));
       }
 
--- All of a text is settled, if the tag where the last group begins shows that the group is full.
+-- Case: the tag at `taken` shows that the last group is full. All of `t` is settled.
 pub settled_tag : (t bs : List ℕ) (count taken known tag : ℕ) → Last t bs count taken known → Chosen t bs
     → get_or t taken 0 ≡ tag → (count - known < 256 → (0 < tag) × (tag < 255)) → IsSettled t bs (length t) (length bs)
 settled_tag t bs count taken known tag l c is closed =
@@ -294,24 +287,23 @@ settled_tag t bs count taken known tag l c is closed =
     settled_whole t bs count taken known l c
     (λ less. subst (λ (x : ℕ). (0 < x) × (x < 255)) (sym same) (closed less))
 
--- If all groups of a text but one were unpacked, that one is the last group.
+-- If at most `length bs / 8 - 1` words may be unpacked from `t`, all groups of `t` but the last are unpacked.
 pub last_of : (t bs : List ℕ) (taken known : ℕ) (old new : List ℕ) (next : Next) → Chosen t bs → 8 ≤ length bs
     → UnpacksSome t (length bs / 8 - 1) old new taken known next → Last t bs (length bs / 8) taken known
 last_of t bs taken known old new next c some u =
     last_group t bs (length bs / 8) taken known old new next c (omega (arith, chosen_whole t bs c))
     (omega (arith, some)) u
 
--- ---- what is held
+-- ---- the bytes `held`
 
--- The bytes after the cut are the words after the cut, followed by less than a word.
 dense_behind : (held : List ℕ) (cut whole : ℕ) → cut ≤ whole → whole ≤ length held
     → drop cut held ≡ drop cut (take whole held) ++ drop whole held
 dense_behind held cut whole before inside =
     ap (drop cut) (sym (take-append-drop whole held))
     ∙ drop-append-le cut (take whole held) (drop whole held) (omega (arith, before, length-take-le whole held inside))
 
--- The bytes before the cut were packed, and few bytes follow the cut. The settled part of their text is settled by all
--- bytes.
+-- The words of `held` before `cut` were packed to `t`. The settled prefix of `t` for these words is also settled for
+-- all of `held`.
 pub settled_held : (held t first_of rest_of : List ℕ) (cut whole first at n : ℕ)
     → IsSettled t (take cut held) first at → length held < length (take cut held) + 2048 → first_of ≡ take first t
     → rest_of ≡ drop at held → cut ≤ whole → whole ≤ length held → length held < whole + 8

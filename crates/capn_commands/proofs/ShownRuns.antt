@@ -1,4 +1,4 @@
--- Lemmas that a run that shows parts serves the messages of its input. (For `run_show`.)
+-- Lemmas for `run_show`: `Shown` holds for a run that served the messages of its input.
 use Rattle.std.proofs.Common.{◌≡◌, ℕ, List, Bool, Option, Result, subst}
 use Rattle.capn_serve.specs.Fold.{fold_of}
 use Rattle.capn_serve.specs.FormRun.{ServesMessages}

@@ -27,19 +27,17 @@ use Rattle.capn_commands.specs.UnpackRun.{ending_of, unpacking}
 abbrev stopped : FlowFault → Ending
 stopped fault = Err fault
 
--- ---- groups that come first in some bytes
+-- ---- the first groups of some bytes
 
 -- Case: no group was unpacked yet.
 pub row_none : (bytes : List ℕ) → TakesRow bytes 0 [] []
 row_none bytes = record { groups = []; each = tt; within = omega arith; text = refl; content = refl }
 
--- The groups that one call unpacks come first in the bytes.
 row_some : (bytes words : List ℕ) (max taken count : ℕ) (next : Next)
     → UnpacksSome bytes max [] words taken count next → TakesRow bytes taken [] words
 row_some bytes words max taken count next u =
     record { groups = u.groups; each = u.each; within = u.inside; text = u.text; content = u.content }
 
--- If some groups come first in the bytes, and other groups come next, both lists of groups together come first.
 row_then : (bytes words more : List ℕ) (at taken : ℕ) → TakesRow bytes at [] words
     → TakesRow (drop at bytes) taken [] more → TakesRow bytes (at + taken) [] (words ++ more)
 row_then bytes words more at taken s t = record {
@@ -59,7 +57,6 @@ row_more bytes words more at max taken count next s u =
 
 -- ---- the bytes that follow
 
--- If a call did not stop at a group with too many words, no whole group follows.
 none_next : (next : Next) (room : ℕ) (rest : List ℕ) → StandsNext next room rest → (next ≡ nexts.TooLong → ⊥)
     → NoGroupFirst rest × (length rest < most_group)
 none_next nexts.End room rest is other =
@@ -71,7 +68,7 @@ not_long : (next : Next) → (next ≡ nexts.End) ⊎ (next ≡ nexts.Cut) → n
 not_long next (inl a) e = let bad : nexts.End ≡ nexts.TooLong = sym a ∙ e in cc
 not_long next (inr a) e = let bad : nexts.Cut ≡ nexts.TooLong = sym a ∙ e in cc
 
--- Case: all whole groups were unpacked.
+-- Case: the call stopped at the end or in an unfinished group. All complete groups were unpacked.
 pub row_last : (bytes words more : List ℕ) (at max taken count : ℕ) (next : Next) → TakesRow bytes at [] words
     → UnpacksSome (drop at bytes) max [] more taken count next → (next ≡ nexts.End) ⊎ (next ≡ nexts.Cut)
     → Splits bytes (drop (at + taken) bytes) [] (words ++ more) (at + taken)
@@ -84,7 +81,6 @@ row_last bytes words more at max taken count next s u is =
       omega (arith, none.1, length-drop (at + taken) bytes),
     )
 
--- A group has at most 256 words.
 few_words : (rest : List ℕ) → ((k : ℕ) → get_or rest k 0 < 2 ^ 8) → words_at rest ≤ 256
 few_words rest fits = grind (arith, nat_tests, fits 1, fits 9)
 
@@ -92,7 +88,6 @@ no_words : (gs : List Group) → [] ≡ texts gs → word_count gs ≡ 0
 no_words [] e = refl
 no_words (g ∷ gs) e = absurd (omega (arith, text_some g, ap length e, length-append (group_text g) (texts gs)))
 
--- If there is room for any group, a call that stops before a group that is too long has unpacked at least one group.
 grows : (bytes words : List ℕ) (max taken count : ℕ) → ((k : ℕ) → get_or bytes k 0 < 2 ^ 8) → 256 ≤ max
     → UnpacksSome bytes max [] words taken count nexts.TooLong → 0 < taken
 grows bytes words max zero count fits room u =
@@ -116,7 +111,7 @@ some_refused bytes c failed fine = record {
   written = ([], 0, record { groups = []; rest = bytes; each = tt; text = refl; content = refl }, Appends-nil c);
 }
 
--- Case: a prefix of the words of some groups was written, and the writer failed.
+-- Case: the writer failed after a prefix of `words`, the words of some groups.
 pub some_unwritten : (bytes old words : List ℕ) (max taken count : ℕ) (next : Next) (c d : Option (List ℕ))
     (failed : Bool) (fault : FlowFault) → old ≡ [] → UnpacksSome bytes max old words taken count next
     → HasBegun c d words → (stopped fault ≡ Err faults.Io) ↔ (failed ≡ true) → fault ≡ faults.Io
@@ -152,7 +147,7 @@ begins_row bytes words next at s b = record {
   content = (λ i. s.content i ++ b.content i) ∙ sym (flat_map-append group_bytes s.groups b.groups);
 }
 
--- Case: words were written, and then the run stopped.
+-- Case: `words` were written, and then the run stopped.
 stops_then : (bytes rest words : List ℕ) (c d e : Option (List ℕ)) (failed : Bool) (fault : FlowFault)
     → ((next : List ℕ) → packing.Begins rest [] next → packing.Begins bytes [] (words ++ next)) → Appends c d words
     → Stops unpacking rest d e failed fault → Stops unpacking bytes c e failed fault
@@ -176,9 +171,9 @@ pub row_stop : (bytes words : List ℕ) (at : ℕ) (c d e : Option (List ℕ)) (
 row_stop bytes words at c d e failed fault s =
     stops_then bytes (drop at bytes) words c d e failed fault (λ next. begins_row bytes words next at s)
 
--- ---- the whole stream
+-- ---- the complete stream
 
--- The words of all whole groups of `bytes`, which were read from the first byte on, are `text`, and `rest` is left.
+-- `text` is the words of the complete groups of `bytes`, and `rest` is the bytes after these groups.
 abbrev pub FromStart : List ℕ → List ℕ → List ℕ → Type 0
 FromStart rest bytes text = (len : ℕ) × Splits bytes rest [] text len
 
@@ -193,7 +188,6 @@ start_begins rest bytes text told =
     let s = told.1 in
     record { groups = s.groups; rest = rest; each = s.each; text = s.text; content = s.content }
 
--- A split that unpacks to `words` also appends `words` to words that were there before.
 shifted : (stream rest words old : List ℕ) (len : ℕ) → Splits stream rest [] words len
     → Splits stream rest old (old ++ words) len
 shifted stream rest words old len s = record {
@@ -206,7 +200,7 @@ shifted stream rest words old len s = record {
 }
 
 module _ (rest bytes text piece : List ℕ) (told : FromStart rest bytes text) where
-  -- Case: one more chunk was read.
+  -- Case: one more chunk `piece` was read, and `words` were written.
   pub start_more : (after words : List ℕ) (at : ℕ) → Splits (rest ++ piece) after [] words at
       → FromStart after (bytes ++ piece) (text ++ words)
   start_more after words at more = (
@@ -215,32 +209,29 @@ module _ (rest bytes text piece : List ℕ) (told : FromStart rest bytes text) w
         (shifted (rest ++ piece) after words text at more),
   )
 
-  -- Case: the run stopped within the chunk.
+  -- Case: the run stopped in the chunk `piece`.
   pub start_stop : (c d e : Option (List ℕ)) (failed : Bool) (fault : FlowFault) → Appends c d text
       → Stops unpacking (rest ++ piece) d e failed fault → Stops unpacking (bytes ++ piece) c e failed fault
   start_stop c d e failed fault =
       stops_then (bytes ++ piece) (rest ++ piece) text c d e failed fault
       (λ next. begins_then bytes rest piece text next told.0 told.1)
 
--- The offset of the bytes that are left, and their number, add up to the number of bytes read.
 pub start_at : (rest bytes text : List ℕ) (told : FromStart rest bytes text) → told.0 + length rest ≡ length bytes
 start_at rest bytes text told =
     let s = told.1 in
     omega (arith, s.size, ap length s.text, length-append (texts s.groups) rest)
 
--- The ending of unpacking is never Io, which is returned only if the reader or the writer failed.
 not_io : (is_longer : Bool) (rest : List ℕ) (offset : ℕ) → ending_of is_longer rest offset ≡ Err faults.Io → ⊥
 not_io true rest offset e = cc
 not_io false [] offset e = cc
 not_io false (b ∷ rest) offset e = cc
 
--- The ending of unpacking is never Memory, which is returned only if an allocation was refused.
 not_memory : (is_longer : Bool) (rest : List ℕ) (offset : ℕ) → ending_of is_longer rest offset ≡ Err faults.Memory → ⊥
 not_memory true rest offset e = cc
 not_memory false [] offset e = cc
 not_memory false (b ∷ rest) offset e = cc
 
--- Case: all bytes that are taken were read.
+-- Case: all `bytes` that the run takes were read.
 pub unpacking_ends : (rest bytes text : List ℕ) (is_longer : Bool) (c d : Option (List ℕ)) (wf : Bool) (offset : ℕ)
     (r : Ending) → wf ≡ false → FromStart rest bytes text → Appends c d text → offset + length rest ≡ length bytes
     → r ≡ ending_of is_longer rest offset → Ends unpacking bytes is_longer c d wf r

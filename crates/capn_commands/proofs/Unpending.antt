@@ -29,8 +29,8 @@ begins_pending most = record {
   begun = inl refl;
 }
 
--- The number of words that a group has with the tag `tag`. `zeros` and `raw` are the bytes with the length of a run of
--- zero words and of raw words.
+-- The number of words of a group that has the tag `tag`. `zeros` and `raw` are the bytes that count a run of zero words
+-- and a run of raw words.
 abbrev announced : ℕ → ℕ → ℕ → ℕ
 announced tag zeros raw = if tag == 0 then 1 + zeros else (if tag == 255 then 1 + raw else 1)
 
@@ -40,7 +40,6 @@ same_words true f a b c d p q = ap (λ (n : ℕ). 1 + n) (p refl)
 same_words false true a b c d p q = ap (λ (n : ℕ). 1 + n) (q refl refl)
 same_words false false a b c d p q = refl
 
--- If more bytes follow, the head of a group and the number of words that this head announces stay the same.
 head_stays : (rest more : List ℕ) → 0 < length rest → HasHead rest
     → HasHead (rest ++ more) × (words_at (rest ++ more) ≡ words_at rest)
 head_stays rest more some head =
@@ -54,7 +53,6 @@ head_stays rest more some head =
           (λ z f. at 9 (omega (arith, rw (z, f) at head))),
     )
 
--- A group that has more words than `room` has more words than `room` if more bytes follow.
 long_stays : (room : ℕ) (rest more : List ℕ) → IsTooLong room rest → IsTooLong room (rest ++ more)
 long_stays room rest more long =
     let stays = head_stays rest more long.0 long.1 in
@@ -75,8 +73,6 @@ refused_stays most seen more at s = record {
 
 module _ (most : ℕ) (seen words held piece : List ℕ) (at left : ℕ) (h : Holds most seen words held at left)
     (new : List ℕ) (taken count : ℕ) where
-  -- The bytes read so far are the text of the whole groups, followed by the bytes after the groups that the chunk
-  -- completes.
   split : (groups : List Group) → take taken (held ++ piece) ≡ texts groups
       → seen ++ piece ≡ texts (h.groups ++ groups) ++ drop taken (held ++ piece)
   split groups e =
@@ -87,7 +83,7 @@ module _ (most : ℕ) (seen words held piece : List ℕ) (at left : ℕ) (h : Ho
       ∙ sym (append_assoc (texts h.groups) (texts groups) (drop taken (held ++ piece)))
       ∙ ap (λ (xs : List ℕ). xs ++ drop taken (held ++ piece)) (sym (flat_map-append group_text h.groups groups))
 
-  -- Case: the chunk ends after the groups that it completes, or within the next group.
+  -- Case: the chunk `piece` ends after a complete group, or in an unfinished group.
   pub goes_on : (next : Next) (rest : List ℕ) (to room : ℕ)
       → UnpacksSome (held ++ piece) left words new taken count next
       → rest ≡ drop taken (held ++ piece) → to ≡ at + taken → room + count ≡ left
@@ -137,7 +133,7 @@ module _ (most : ℕ) (seen words held piece : List ℕ) (at left : ℕ) (h : Ho
     fault = u.stops;
   }
 
--- Case: the input ends after whole groups.
+-- Case: the input ends after a complete group.
 pub all_unpacked : (most : ℕ) (seen words held : List ℕ) (at left : ℕ) → Holds most seen words held at left
     → length held ≡ 0 → Packs seen words × (length words ≤ 8 * most)
 all_unpacked most seen words held at left h none = (
@@ -154,7 +150,7 @@ all_unpacked most seen words held at left h none = (
     nothing [] e = refl
     nothing (x ∷ xs) e = absurd (omega (arith, e))
 
--- Case: the input ends within a group.
+-- Case: the input ends in an unfinished group.
 pub cut_pending : (most : ℕ) (seen words held : List ℕ) (at left : ℕ) → Holds most seen words held at left
     → 0 < length held → Stands IsCut seen most at
 cut_pending most seen words held at left h some = record {
@@ -168,7 +164,6 @@ cut_pending most seen words held at left h some = record {
   fault = elim h.begun [ inl none ↦ absurd (omega (arith, some, ap length none)) | inr cut ↦ cut ];
 }
 
--- The offset of the unfinished group is within the bytes that were read.
 pub offset_within : (most : ℕ) (seen words held : List ℕ) (at left : ℕ) (long : Bool)
     → IsPending most seen words held at left long → at ≤ length seen
 offset_within most seen words held at left false h =
@@ -203,7 +198,7 @@ pub ends_whole : {A : Type 0} (most : ℕ) (seen held : List ℕ) (words : Vec �
 ends_whole most seen held words at left true e none p = absurd (let bad : true ≡ false = e in cc)
 ends_whole most seen held words at left false e none p = all_unpacked most seen words.items held at left p none
 
--- Case: a chunk was taken that ends after a group or within a group.
+-- Case: a chunk `piece` was read, which ends after a complete group or in an unfinished group.
 pub taken_piece : (most : ℕ) (seen words held piece : List ℕ) (at left : ℕ) (long : Bool) (new : List ℕ)
     (taken count : ℕ) (next is : Next) (rest : List ℕ) (to room : ℕ) → long ≡ false
     → UnpacksSome (held ++ piece) left words new taken count next → next ≡ is
@@ -232,7 +227,7 @@ taken_piece most seen words held piece at left false new taken count next is res
           (subst (λ (n : ℕ). IsCut n (drop taken (held ++ piece))) same_room s.0)))
     ]
 
--- Case: a chunk was taken that ends after a group.
+-- Case: a chunk `piece` was read, which ends after a complete group.
 pub taken_end : (most : ℕ) (seen words held piece : List ℕ) (at left : ℕ) (long : Bool) (new : List ℕ)
     (taken count : ℕ) (next : Next) (to room : ℕ) → long ≡ false
     → UnpacksSome (held ++ piece) left words new taken count next → next ≡ nexts.End
@@ -244,7 +239,7 @@ taken_end most seen words held piece at left long new taken count next to room o
     taken_piece most seen words held piece at left long new taken count next nexts.End [] to room off u e (inl refl)
     (sym s) further less p
 
--- Case: a chunk was taken, and one of its groups has too many words.
+-- Case: a chunk `piece` was read, and one of its groups has too many words.
 pub taken_long : (most : ℕ) (seen words held piece : List ℕ) (at left : ℕ) (long : Bool) (new : List ℕ)
     (taken count : ℕ) (next : Next) (rest : List ℕ) (to room : ℕ) → long ≡ false
     → UnpacksSome (held ++ piece) left words new taken count next → next ≡ nexts.TooLong → to ≡ at + taken
@@ -255,7 +250,6 @@ taken_long most seen words held piece at left false new taken count next rest to
     stops_long most seen words held piece at left p new taken count to
     (subst (λ (n : Next). UnpacksSome (held ++ piece) left words new taken count n) e u) further
 
--- The bytes of an unfinished group are fewer than the bytes of the longest group.
 pub cut_short : (next : Next) (room : ℕ) (rest : List ℕ) → next ≡ nexts.Cut → StandsNext next room rest
     → length rest < most_group
 cut_short next room rest e s =

@@ -1,4 +1,4 @@
--- Lemmas on a run over an input that is taken whole. (For `write_made`.)
+-- Lemmas for `write_made`: the result of a run that reads its complete input first.
 use Rattle.std.proofs.Common.{◌≡◌, ◌⊎◌, ◌↔◌, inl, inr, ℕ, ◌<◌, ◌≤◌, ◌^◌, List, [], length, Bool, true, false}
 use Rattle.std.proofs.Common.{Option, IfSome, Result, Ok, Err, IsOkUnless, OnOk, Vec, refl, ap, sym}
 use Rattle.std.proofs.Common.{subst, arith, take_all}
@@ -27,7 +27,8 @@ is_more bytes h = grind (arith, nat_tests)
 pub is_all : (bytes : List ℕ) → length bytes ≤ 2 ^ 32 → has_more bytes ≡ false
 is_all bytes h = grind (arith, nat_tests)
 
--- An input was not read to its end, or `whole` has no output for the input.
+-- `fault` is the reason why an input was not read to its end, or why `whole` has no output for the input, or `fault` is
+-- `Memory`.
 abbrev Unmade : Whole → Option (List ℕ) → Option (List ℕ) → Bool → ToolFault → Type 0
 Unmade whole a b failed fault = IsUntaken a b failed fault
     ⊎ ((bytes : List ℕ) × HasGivenAll a b failed bytes × ((fault ≡ faults.Memory) ⊎ MakesNothing whole bytes fault))
@@ -67,7 +68,6 @@ module _ (whole : Whole) (a b c : Option (List ℕ)) where
       )
       ended
 
-  -- A run without an output ends as its plan requires.
   pub unmade_ends : (failed : Bool) (fault : ToolFault)
       → Unmade whole a b failed fault
       → IfSome a (PlanEndsAs (plans.Whole whole) c c (Err fault))
@@ -82,7 +82,6 @@ module _ (whole : Whole) (a b c : Option (List ℕ)) where
   unmade_ends failed fault (inr (bytes, all, inr why)) =
       ends_all failed bytes c (Err fault) all (inr (inr ([], (refl, why), Appends-nil c)))
 
-  -- If there is no output, nothing was written.
   pub unmade_begins : (failed : Bool) (fault : ToolFault)
       → Unmade whole a b failed fault
       → PlanBegins (plans.Whole whole) a b c c
@@ -93,7 +92,6 @@ module _ (whole : Whole) (a b c : Option (List ℕ)) where
   unmade_begins failed fault (inr (bytes, all, why)) =
       begins_none (plans.Whole whole) a b c (bytes, all.given.read, all.given.bounded)
 
-  -- Memory was refused for bytes that were read, or after all bytes were read.
   pub unmade_memory : (failed : Bool) (fault : ToolFault) → Unmade whole a b failed fault → fault ≡ faults.Memory
       → TakesBytes a b ⊎ IsAtEnd b
   unmade_memory failed fault (inl (bytes, inl (h, inl (memory, some)))) is = inl (bytes, h.read, some)
@@ -131,12 +129,10 @@ module _ (whole : Whole) (a b c : Option (List ℕ)) where
       )
       (text.items, count, inr made, begun)
 
--- If an output was made, the reader has not failed.
 pub made_fine : {A : Type 0} (whole : Whole) (a b : Option (List ℕ)) (failed : Bool) (text : Vec ℕ A)
     → TakesAll {T = Vec ℕ A} (Gives whole) a b failed (Ok text) → failed ≡ false
 made_fine whole a b failed text (bytes, all, made) = all.given.fine
 
--- If there is no output, the fault is Io if and only if the reader has failed.
 pub unmade_io : (whole : Whole) (a b : Option (List ℕ)) (failed : Bool) (fault : ToolFault)
     → Unmade whole a b failed fault
     → (fault ≡ faults.Io) ↔ (failed ≡ true)

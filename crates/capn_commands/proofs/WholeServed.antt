@@ -1,4 +1,4 @@
--- Lemmas on faults that lower calls report. (For `bare_message.rt`, `command_run.rt` and `one_message.rt`.)
+-- Lemmas on faults that a called function returned. (For `bare_message.rt`, `command_run.rt` and `one_message.rt`.)
 use Rattle.std.proofs.Common.{◌≡◌, inl, inr, ℕ, List}
 use Rattle.capn_commands.specs.MessageText.{IsNoMessageText}
 use Rattle.capn_commands.specs.WholeInput.{MakesNothing}
@@ -11,7 +11,6 @@ use Rattle.capn_canon.specs.declared.refusal.Refusal.{Refusal}
 use Rattle.capn_commands.specs.declared.fault.ToolFault.{ToolFault}
 use Rattle.capn_commands.specs.declared.fault.ToolFault.TheVariants as faults
 
--- `fault`, which a lower call returned, is not a failure of the reader or the writer.
 pub record IsTold (fault : ToolFault) : Type 0 where
   pub no_io : fault ≡ faults.Io → ⊥
 
@@ -24,14 +23,12 @@ told_refused fault r e = record { no_io = λ h. cc }
 told_not_whole : (fault : ToolFault) (n : ℕ) → fault ≡ faults.NotWhole n → IsTold fault
 told_not_whole fault n e = record { no_io = λ h. cc }
 
--- The reason why a message has no text is not a failure of the reader or the writer.
 pub told_piece : (piece : MessageText) (message : List (List ℕ)) (limits : Bounds) (fault : ToolFault)
     → IsNoMessageText piece message limits fault → IsTold fault
 told_piece kinds.Text message limits fault h = told_refused fault _ h.1
 told_piece kinds.Price message limits fault h = told_refused fault _ h.1
 told_piece kinds.Digest message limits fault h = told_refused fault _ h.1
 
--- The reason why an input has no output is not a failure of the reader or the writer.
 pub told_whole : (whole : Whole) (bytes : List ℕ) (fault : ToolFault) → MakesNothing whole bytes fault → IsTold fault
 told_whole wholes.Packed bytes fault h = told_not_whole fault _ h.1
 told_whole (wholes.Unpacked most) bytes fault h = told_refused fault _ h.1

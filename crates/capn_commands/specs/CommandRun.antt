@@ -1,5 +1,4 @@
--- A run over all of its input: all output for the bytes that the reader returned was written, and the end of the run is
--- the one that the plan requires. (Our own.)
+-- The effect of a run over an input: the output that was written, and the end of the run. (Our own.)
 use Rattle.std.specs.Prelude.{◌≡◌, ◌⊎◌, ◌↔◌, ℕ, List, [], Bool, true, Option, IfSome, Result, Err, ⊤}
 use Rattle.std.specs.Io.KnownBytes.{Consumes, Appends, IsAtEnd}
 use Rattle.capn_pack.specs.PackedPieces.{Splits}
@@ -25,68 +24,65 @@ unplaced run_faults.Io = faults.Io
 unplaced run_faults.InputTooLong = faults.InputTooLong
 unplaced (run_faults.Refused at refusal) = faults.Refused refusal
 
--- All output for the bytes that a reader returned was written.
+-- The reader returned `bytes`, which took it from `a` to `b`. All output `text` of `plan` for these bytes was written,
+-- which took the writer from `c` to `d`.
 abbrev pub HasKeptUp : Plan → Option (List ℕ) → Option (List ℕ) → Option (List ℕ) → Option (List ℕ) → Type 0
 HasKeptUp plan a b c d =
     (bytes : List ℕ) × (text : List ℕ) × (due : Result (Unit {0}) ToolFault) × Consumes a b bytes
     × IsDue plan (taken_of bytes) (has_more bytes) text due
     × Appends c d text
 
--- If the input is taken message by message, all output for the bytes that a reader returned was written. If the input
--- is taken whole, nothing was written.
+-- For `Each` and `Packed`, `HasKeptUp` holds. For `Whole`, nothing was written.
 abbrev pub PlanKeepsUp : Plan → Option (List ℕ) → Option (List ℕ) → Option (List ℕ) → Option (List ℕ) → Type 0
 PlanKeepsUp (plans.Whole whole) a b c d = Appends c d []
 PlanKeepsUp (plans.Each piece limits) a b c d = HasKeptUp (plans.Each piece limits) a b c d
 PlanKeepsUp (plans.Packed piece limits) a b c d = HasKeptUp (plans.Packed piece limits) a b c d
 
--- If `command` takes its input message by message, all output for the bytes that a reader returned was written.
--- Otherwise nothing was written.
+-- `PlanKeepsUp` holds for the plan of `command`.
 abbrev pub KeepsUp : Command → Option (List ℕ) → Option (List ℕ) → Option (List ℕ) → Option (List ℕ) → Type 0
 KeepsUp command a b c d = PlanKeepsUp (plan_of command) a b c d
 
--- The texts of all whole messages in `bytes` were written, and no whole frame is left after these messages.
+-- `parts` are the complete messages at the front of `bytes`. Their texts were written, which took the writer from `c`
+-- to `d`. The bytes after these messages do not begin with a complete frame.
 abbrev pub HasWrittenAll : MessageText → Bounds → List ℕ → Option (List ℕ) → Option (List ℕ) → Type 0
 HasWrittenAll piece limits bytes c d = (parts : List Part) × (rest : List ℕ)
     × AreParts piece limits bytes parts rest × IsUnfinished rest limits.message_words × Appends c d (texts_of parts)
 
--- The texts of all whole messages in what the whole groups of `bytes` unpack to were written, and no whole frame is
--- left after these messages.
+-- `HasWrittenAll` holds for the `words` that the complete groups of `bytes` unpack to.
 abbrev pub HasWrittenAllPacked : MessageText → Bounds → List ℕ → Option (List ℕ) → Option (List ℕ) → Type 0
 HasWrittenAllPacked piece limits bytes c d = (words group : List ℕ) × (at : ℕ) × Splits bytes group [] words at
     × HasWrittenAll piece limits words c d
 
--- A reader returned some bytes. Before their last chunk was read, all that `Written` requires for the bytes before that
--- chunk was written.
+-- The reader returned `bytes`, which took it from `a` to `b`. Before the last chunk of `bytes` was read, `Written` held
+-- for the bytes before that chunk (`IsAhead`).
 abbrev pub StaysAhead : (List ℕ → Option (List ℕ) → Option (List ℕ) → Type 0) → Option (List ℕ) → Option (List ℕ)
     → Option (List ℕ) → Option (List ℕ) → Type 0
 StaysAhead Written a b c d = (bytes : List ℕ) × Consumes a b bytes × IsAhead Written bytes c d
 
--- If the input is taken message by message, all output that the bytes before the last chunk decide was written before
--- that chunk was read.
+-- For `Each` and `Packed`, `StaysAhead` holds: before the last chunk was read, the texts of all messages that were
+-- complete by then had been written. For `Whole`, nothing is stated.
 abbrev pub PlanIsAhead : Plan → Option (List ℕ) → Option (List ℕ) → Option (List ℕ) → Option (List ℕ) → Type 0
 PlanIsAhead (plans.Whole whole) a b c d = ⊤
 PlanIsAhead (plans.Each piece limits) a b c d = StaysAhead (HasWrittenAll piece limits) a b c d
 PlanIsAhead (plans.Packed piece limits) a b c d = StaysAhead (HasWrittenAllPacked piece limits) a b c d
 
--- If `command` takes its input message by message, all output that the bytes before the last chunk decide was written
--- before that chunk was read.
+-- `PlanIsAhead` holds for the plan of `command`.
 abbrev pub StaysAheadAs : Command → Option (List ℕ) → Option (List ℕ) → Option (List ℕ) → Option (List ℕ) → Type 0
 StaysAheadAs command a b c d = PlanIsAhead (plan_of command) a b c d
 
--- A run of `plan` may end with `Memory`: some bytes were read, or an input that is taken whole, and may be empty, was
--- read to its end.
+-- The reader returned at least one byte, which took it from `a` to `b`. For `Whole`, the reader may be at its end
+-- instead.
 abbrev pub PlanMayNeedMemory : Plan → Option (List ℕ) → Option (List ℕ) → Type 0
 PlanMayNeedMemory (plans.Whole whole) a b = TakesBytes a b ⊎ IsAtEnd b
 PlanMayNeedMemory (plans.Each piece limits) a b = TakesBytes a b
 PlanMayNeedMemory (plans.Packed piece limits) a b = TakesBytes a b
 
--- A run of `command` may end with `Memory`: some bytes were read, or an input that is taken whole, and may be empty,
--- was read to its end.
+-- `PlanMayNeedMemory` holds for the plan of `command`.
 abbrev pub MayNeedMemory : Command → Option (List ℕ) → Option (List ℕ) → Type 0
 MayNeedMemory command a b = PlanMayNeedMemory (plan_of command) a b
 
--- States the effect of a run of `plan` on a reader (from `a` to `b`) and a writer (from `c` to `d`), and the result of
--- the run.
+-- A run of `plan` has the result `r`. Before and after the run, the bytes left in the reader are `a` and `b`, and the
+-- contents of the writer are `c` and `d`.
 pub record Runs (plan : Plan) (a b c d : Option (List ℕ)) (reader_failed writer_failed : Bool)
     (r : Result (Unit {0}) ToolFault) : Type 0 where
   pub exact : IfSome a (PlanEndsAs plan c d r)

@@ -5,7 +5,7 @@ use Rattle.std.specs.Io.KnownBytes.{Consumes, Appends, IsAtEnd}
 use Rattle.capn_commands.specs.declared.flow_fault.FlowFault.{FlowFault}
 use Rattle.capn_commands.specs.declared.flow_fault.FlowFault.TheVariants as faults
 
--- The end of a run.
+-- The result of a run.
 abbrev pub Ending : Type 0
 Ending = Result (Unit {0}) FlowFault
 
@@ -13,52 +13,51 @@ Ending = Result (Unit {0}) FlowFault
 abbrev pub most : ℕ
 most = 2 ^ 64 - 1
 
--- The bytes of `input` that a run takes.
+-- The bytes of `input` that a run takes, which are the first `most` bytes.
 abbrev pub taken_of : List ℕ → List ℕ
 taken_of input = take most input
 
--- Tests whether `input` has more bytes than a run takes.
+-- True if `input` has more than `most` bytes.
 abbrev pub has_more : List ℕ → Bool
 has_more input = nat_lt most (length input)
 
--- A reader returned at least one byte.
+-- A reader returned at least one byte, which took it from `old` to `new`.
 abbrev pub TakesBytes : Option (List ℕ) → Option (List ℕ) → Type 0
 TakesBytes old new = (bytes : List ℕ) × Consumes old new bytes × (0 < length bytes)
 
--- A transformation of a stream. `gives` relates all bytes that are taken, and whether there are more, to the output and
--- the end. `settles` relates the bytes that were read so far to the output that is written before the next read.
--- `begins` relates bytes to an output of which a prefix may have been written when a run ends early.
+-- A transformation of a stream. `gives` relates the bytes of a run to its output and its result. `settles` relates
+-- bytes to the output that is written before the next read, and `begins` relates bytes to an output of which a prefix
+-- may be written.
 pub record Flow : Type 1 where
   pub gives : List ℕ → Bool → List ℕ → Ending → Type 0
   pub settles : List ℕ → List ℕ → Type 0
   pub begins : List ℕ → List ℕ → Type 0
 
 module _ (f : Flow) where
-  -- A run has ended with `r` over `bytes`: memory was refused, the reader or the writer failed, or the output of
-  -- `bytes` was written and `r` is their end.
+  -- A run over `bytes` has the result `r`: `Memory`, `Io`, or the result that `gives` relates to an output `text`. In
+  -- the last case `text` was written, which took the writer from `c` to `d`.
   abbrev pub HasEnded : List ℕ → Bool → Option (List ℕ) → Option (List ℕ) → Ending → Type 0
   HasEnded bytes is_longer c d r =
       (r ≡ Err faults.Memory)
       ⊎ ((r ≡ Err faults.Io)
       ⊎ ((text : List ℕ) × f.gives bytes is_longer text r × Appends c d text))
 
-  -- A run has ended with `r` over the bytes of `input` that it takes.
+  -- `HasEnded` holds for the bytes of `input` that a run takes, and for `r`.
   abbrev pub EndsAs : Option (List ℕ) → Option (List ℕ) → Ending → List ℕ → Type 0
   EndsAs c d r input = HasEnded (taken_of input) (has_more input) c d r
 
-  -- A prefix of an output of `bytes` was written.
+  -- A prefix of some `text` was written, which took the writer from `c` to `d`. `begins` relates `bytes` to `text`.
   abbrev pub HasWritten : List ℕ → Option (List ℕ) → Option (List ℕ) → Type 0
   HasWritten bytes c d = (text : List ℕ) × (count : ℕ) × f.begins bytes text × Appends c d (take count text)
 
-  -- `bytes` end with a chunk of at most 65,536 bytes. The output that is settled by the bytes before that chunk was
-  -- written before that chunk was read.
+  -- `bytes` end with a chunk `piece` of at most 65,536 bytes. Before `piece` was read, a `text` was written, and
+  -- `settles` relates the bytes before `piece` to `text`.
   abbrev pub IsAhead : List ℕ → Option (List ℕ) → Option (List ℕ) → Type 0
   IsAhead bytes c d = (before piece text more : List ℕ) × (mid : Option (List ℕ)) × (bytes ≡ before ++ piece)
       × (length piece ≤ 65536) × f.settles before text × Appends c mid text × Appends mid d more
 
-  -- A reader returned at most one byte more than a run takes, and a prefix of the output of the taken bytes was
-  -- written. Before the last chunk was read, the output that is settled by the bytes before that chunk had been
-  -- written.
+  -- A reader returned `bytes`, at most one byte more than a run takes. `IsAhead` holds for `bytes`, and `HasWritten`
+  -- for the bytes that the run takes.
   pub record Begins (a b c d : Option (List ℕ)) : Type 0 where
     pub bytes : List ℕ
     pub read : Consumes a b bytes
@@ -66,11 +65,13 @@ module _ (f : Flow) where
     pub lazy : IsAhead bytes c d
     pub written : HasWritten (taken_of bytes) c d
 
-  -- All output that is settled by the bytes that a reader returned was written.
+  -- A reader returned `bytes`, which took it from `a` to `b`. A `text` was written, which took the writer from `c` to
+  -- `d`. `settles` relates `bytes` to `text`.
   abbrev pub KeepsUp : Option (List ℕ) → Option (List ℕ) → Option (List ℕ) → Option (List ℕ) → Type 0
   KeepsUp a b c d = (bytes : List ℕ) × (text : List ℕ) × Consumes a b bytes × f.settles bytes text × Appends c d text
 
-  -- States the effect of a run on a reader (from `a` to `b`) and a writer (from `c` to `d`), and the end of the run.
+  -- A run has the result `r`. Before and after the run, the bytes left in the reader are `a` and `b`, and the contents
+  -- of the writer are `c` and `d`.
   pub record Runs (a b c d : Option (List ℕ)) (reader_failed writer_failed : Bool) (r : Ending) : Type 0 where
     pub exact : IfSome a (EndsAs c d r)
     pub io : (r ≡ Err faults.Io) ↔ ((reader_failed ≡ true) ⊎ (writer_failed ≡ true))
@@ -80,8 +81,8 @@ module _ (f : Flow) where
 
   -- ---- the progress of a run
 
-  -- All bytes that are taken were read, and the run ended with `r`: with a fault, or with the end and the output of
-  -- `bytes`.
+  -- A run has the result `r`, after it has taken all `bytes` of its input. `HasEnded` and `HasWritten` hold for
+  -- `bytes`. `failed` says whether the writer has failed.
   pub record Ends (bytes : List ℕ) (is_longer : Bool) (c d : Option (List ℕ)) (failed : Bool) (r : Ending) : Type 0
     where
       pub exact : HasEnded bytes is_longer c d r
@@ -89,14 +90,14 @@ module _ (f : Flow) where
       pub written : HasWritten bytes c d
       pub memory : r ≡ Err faults.Memory → 0 < length bytes
 
-  -- The run stopped within `bytes`: memory was refused, or the writer failed.
+  -- A run stopped with `fault`, which is `Memory`, or `Io` if the writer failed. `HasWritten` holds for `bytes`.
   pub record Stops (bytes : List ℕ) (c d : Option (List ℕ)) (failed : Bool) (fault : FlowFault) : Type 0 where
     pub kind : (fault ≡ faults.Memory) ⊎ (fault ≡ faults.Io)
     pub io : (fault ≡ faults.Io) ↔ (failed ≡ true)
     pub written : HasWritten bytes c d
 
--- A reader returned `bytes`, which are all that it had, or one byte more than a run takes. `kept` are the bytes that
--- were taken, and `is_longer` says whether there are more.
+-- A reader returned `bytes`, at most one byte more than a run takes. `kept` are the bytes that the run takes, and
+-- `is_longer` says whether `bytes` has more than `kept`. If not, the reader is at its end.
 pub record Kept (old new : Option (List ℕ)) (kept : List ℕ) (is_longer : Bool) (bytes : List ℕ) : Type 0 where
   pub read : Consumes old new bytes
   pub bounded : length bytes ≤ most + 1
@@ -104,7 +105,7 @@ pub record Kept (old new : Option (List ℕ)) (kept : List ℕ) (is_longer : Boo
   pub more : has_more bytes ≡ is_longer
   pub ended : is_longer ≡ false → IsAtEnd new
 
--- A reader returned `taken` bytes, a text was written, and `P` holds for these bytes and the text.
+-- A reader returned `taken` bytes, and a `text` was written. `P` holds for these `bytes` and for `text`.
 pub record Consumed (P : List ℕ → List ℕ → Type 0) (a b c d : Option (List ℕ)) (taken : ℕ) : Type 0 where
   pub bytes : List ℕ
   pub text : List ℕ

@@ -5,7 +5,7 @@ use Rattle.capn_serve.specs.Ending.{out_of_memory}
 use Rattle.capn_commands.specs.declared.flow_fault.FlowFault.{FlowFault}
 use Rattle.capn_commands.specs.declared.flow_fault.FlowFault.TheVariants as faults
 
--- The text of the reason why a stream isn't packed or unpacked to its end.
+-- The text that a program prints for the fault.
 abbrev pub fault_text : FlowFault → List ℕ
 fault_text faults.Memory = out_of_memory
 fault_text faults.Io = codes "input or output failed"
@@ -13,8 +13,7 @@ fault_text faults.InputTooLong = codes "input too long"
 fault_text (faults.Cut at) = codes "packed: Cut at " ++ decimal at
 fault_text (faults.NotWhole n) = codes "NotWhole(" ++ decimal n ++ codes ")"
 
--- The exit status of a fault: 1 if the input is refused, and 3 if memory, the reader or the writer failed or the input
--- is too long.
+-- The exit status of a run that ends with the fault: 1 if the input is refused, and 3 otherwise.
 abbrev pub status_of : FlowFault → ℕ
 status_of faults.Memory = 3
 status_of faults.Io = 3

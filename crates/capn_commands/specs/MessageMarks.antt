@@ -23,8 +23,8 @@ marks_of s at message = record {
 abbrev pub byte_after : Marks → ℕ → ℕ
 byte_after marks words = marks.offset + 8 * (marks.table + words)
 
--- The line `end` with marks, for a message of `words` words. The offset of that line is the offset of the byte after
--- the message, and the path of that line is empty.
+-- The line `end` after a message of `words` words. If `marks` ask for offsets, the line begins with the offset of the
+-- byte after the message. If `marks` ask for paths, an empty path comes next.
 abbrev pub marked_end : Marks → ℕ → List ℕ
 marked_end marks words =
     (if marks.offsets then decimal (byte_after marks words) ++ 9 ∷ [] else [])

@@ -22,20 +22,20 @@ use Rattle.capn_commands.specs.declared.plan.MessageText.TheVariants as kinds
 use Rattle.capn_commands.specs.declared.fault.ToolFault.{ToolFault}
 use Rattle.capn_commands.specs.declared.fault.ToolFault.TheVariants as faults
 
--- The text with `price` and the number `visits`, followed by `behind`.
+-- The text that shows `price` and `visits` in decimal digits, and then `behind`.
 abbrev pub priced : ℕ → ℕ → List ℕ → List ℕ
 priced price visits behind = codes "ok paid " ++ decimal price ++ codes " visits " ++ decimal visits ++ behind
 
--- The line with `price` and the number `visits`.
+-- The line that shows `price` and `visits`.
 abbrev pub price_line : ℕ → ℕ → List ℕ
 price_line price visits = priced price visits (10 ∷ [])
 
--- The line with the digest of `text`, which is 64 lower-case hexadecimal digits.
+-- The line that shows the SHA-256 of `text` in 64 lower-case hexadecimal digits.
 abbrev pub digest_line : List ℕ → List ℕ
 digest_line text = encode_lower (sha256 text) ++ 10 ∷ []
 
--- `text` is written for a message that is accepted within the limits: the text of the message's value and a line `end`,
--- the line with the price and the number of visits, or the line with the digest of the message's canonical bytes.
+-- `text` is the text of the given kind for `message`, which is accepted within `limits`. For `Text`, this is the text
+-- of the value and a line `end`. For `Price`, it is the price line, and for `Digest`, the digest line.
 abbrev pub IsMessageText : MessageText → List (List ℕ) → Bounds → List ℕ → Type 0
 IsMessageText kinds.Text message limits text =
     (v : Tree) × IsValueOf message limits v × (text ≡ show_text v ++ (codes "end" ++ 10 ∷ []))
@@ -45,21 +45,20 @@ IsMessageText kinds.Price message limits text =
 IsMessageText kinds.Digest message limits text =
     (answer : List ℕ) × (price : ℕ) × AnswersMessage message limits answer price × (text ≡ digest_line answer)
 
--- `fault` is the refusal of the message's walk.
+-- The walk of `message` within `limits` is refused, and `fault` is that refusal.
 abbrev pub IsStopped : List (List ℕ) → Bounds → ToolFault → Type 0
 IsStopped message limits fault =
     (s : Stopped) × (fault ≡ faults.Refused (refusals.Walk s))
     × walks.IsWalkRefused message limits s.fault s.place s.paid s.visits
 
--- `fault` is the fault of a run whose walk has stopped with `s`. `fault` is `Memory` if the fault of `s` is `Memory`,
--- and otherwise the refusal of the walk.
+-- `fault` is `Memory` if the fault of `s` is `Memory`, and otherwise the refusal of a walk that stopped with `s`.
 abbrev pub IsStopOf : Stopped → ToolFault → Type 0
 IsStopOf s fault =
     ((s.fault ≡ walk_faults.Memory) × (fault ≡ faults.Memory))
     ⊎ ((s.fault ≢ walk_faults.Memory) × (fault ≡ faults.Refused (refusals.Walk s)))
 
--- `fault` is the reason why a message has no text. The walk of the message is refused, or for the digest the message
--- has no canonical bytes.
+-- `fault` is the reason why `message` has no text of the given kind. For `Text` and `Price`, the walk of `message` is
+-- refused. For `Digest`, `message` has no canonical bytes.
 abbrev pub IsNoMessageText : MessageText → List (List ℕ) → Bounds → ToolFault → Type 0
 IsNoMessageText kinds.Text message limits fault = IsStopped message limits fault
 IsNoMessageText kinds.Price message limits fault = IsStopped message limits fault
@@ -70,8 +69,8 @@ IsNoMessageText kinds.Digest message limits fault =
 abbrev pub AreCanonical : Tree → List ℕ → Type 0
 AreCanonical v words = (first_cap v ≡ None) × (canon v ≡ bytes words)
 
--- `text` is written for the bare message with these `words`. The price line of a bare message also says whether `words`
--- are canonical. The other texts are those of any message.
+-- `text` is written for the bare message with these `words`. The price line ends with `canonical` or `not-canonical`.
+-- The texts of the other kinds are those of `IsMessageText`.
 abbrev pub IsBareMessageText : MessageText → List ℕ → Bounds → List ℕ → Type 0
 IsBareMessageText kinds.Text words limits text = IsMessageText kinds.Text (words ∷ []) limits text
 IsBareMessageText kinds.Price words limits text =
@@ -84,8 +83,8 @@ IsBareMessageText kinds.Price words limits text =
     (codes " not-canonical" ++ 10 ∷ []))))
 IsBareMessageText kinds.Digest words limits text = IsMessageText kinds.Digest (words ∷ []) limits text
 
--- A call appended the text of the message. Or the call returned `Memory` or the reason why the message has no text, and
--- appended nothing.
+-- After `Ok`, `new` is `old ++ text`, where `text` is written for `message` (`IsMessageText`). After `Err`, `new` is
+-- `old`, and `fault` is `Memory` or the reason why `message` has no text.
 abbrev pub PutsMessageText : MessageText → List (List ℕ) → Bounds → List ℕ → List ℕ → Result (Unit {0}) ToolFault
     → Type 0
 PutsMessageText piece message limits old new (Ok u) = (text : List ℕ) × IsMessageText piece message limits text
@@ -93,15 +92,15 @@ PutsMessageText piece message limits old new (Ok u) = (text : List ℕ) × IsMes
 PutsMessageText piece message limits old new (Err fault) =
     ((fault ≡ faults.Memory) ⊎ IsNoMessageText piece message limits fault) × (new ≡ old)
 
--- A call appended the text of the bare message with these `words`. Or the call returned `Memory` or the reason why the
--- message has no text, and appended nothing.
+-- After `Ok`, `new` is `old ++ text`, where `text` is written for the bare message with these `words`. After `Err`,
+-- `new` is `old`, and `fault` is `Memory` or the reason why that message has no text.
 abbrev pub PutsBareMessageText : MessageText → List ℕ → Bounds → List ℕ → List ℕ → Result (Unit {0}) ToolFault → Type 0
 PutsBareMessageText piece words limits old new (Ok u) = (text : List ℕ) × IsBareMessageText piece words limits text
     × (new ≡ old ++ text)
 PutsBareMessageText piece words limits old new (Err fault) =
     ((fault ≡ faults.Memory) ⊎ IsNoMessageText piece (words ∷ []) limits fault) × (new ≡ old)
 
--- `line` was appended to a text, or nothing if an allocation was refused.
+-- After `Ok`, `new` is `old ++ line`. After `Err`, `fault` is `Memory`, and `new` is `old`.
 abbrev pub PutsLine : List ℕ → List ℕ → List ℕ → Result (Unit {0}) ToolFault → Type 0
 PutsLine line old new (Ok u) = new ≡ old ++ line
 PutsLine line old new (Err fault) = (fault ≡ faults.Memory) × (new ≡ old)

@@ -12,8 +12,8 @@ use Rattle.capn_commands.specs.declared.plan.Whole.TheVariants as wholes
 use Rattle.capn_commands.specs.declared.plan.Plan.{Plan}
 use Rattle.capn_commands.specs.declared.plan.Plan.TheVariants as plans
 
--- The plan to write a text for each message of an input: of a bare input, which is one message, or of a stream, packed
--- or not.
+-- The plan that writes the text of the kind `piece` for each message of an input in the given form. A bare input is one
+-- message.
 abbrev pub pieces_of : MessageText → Form → Bounds → Plan
 pieces_of piece forms.Bare limits = plans.Whole (wholes.Bare piece limits)
 pieces_of piece forms.Stream limits = plans.Each piece limits
@@ -24,8 +24,7 @@ abbrev pub form_of : StreamForm → Form
 form_of streams.Stream = forms.Stream
 form_of streams.Packed = forms.Packed
 
--- The plan to write a text for the one message that the input is. For the form bare this plan equals the plan for each
--- message.
+-- The plan that writes the text of the kind `piece` for the one message of an input in the given form.
 abbrev pub one_piece_of : MessageText → Form → Bounds → Plan
 one_piece_of piece forms.Bare limits = plans.Whole (wholes.Bare piece limits)
 one_piece_of piece forms.Stream limits = plans.Whole (wholes.One piece streams.Stream limits)

@@ -12,8 +12,8 @@ use Rattle.capn_commands.specs.declared.part_texts.PartTexts.{PartTexts}
 abbrev pub part_fold : ℕ → Fold (Run PartTexts)
 part_fold most = fold_of serves refuses most
 
--- The messages of an input were served from the first one on, with an effect on a reader (from `a` to `b`) and a writer
--- (from `c` to `d`).
+-- A run of `show` with the options `texts` has the result `r`. Before and after the run, the bytes left in the reader
+-- are `a` and `b`, and the contents of the writer are `c` and `d`.
 abbrev pub Shown : PartTexts → Option (List ℕ) → Option (List ℕ) → Option (List ℕ) → Option (List ℕ) → Bool → Bool
     → Result (Unit {0}) RunFault → Type 0
 Shown texts a b c d reader_failed writer_failed r = (last : Run PartTexts)

@@ -1,4 +1,4 @@
--- The output of a command that takes its input whole, and the reason why there is none. (Our own.)
+-- The output of a command that reads its complete input first, and the reason why there is no output. (Our own.)
 use Rattle.std.specs.Prelude.{◌≡◌, ◌≢◌, ◌⊎◌, ℕ, ◌*◌, ◌%◌, ◌≤◌, List, [], ◌∷◌, length, Result, Ok, Err, Vec}
 use Rattle.capn_words.specs.Message.{IsBare, ReadsBare}
 use Rattle.capn_words.specs.declared.bare.BareFault.{BareFault}
@@ -23,22 +23,20 @@ use Rattle.capn_commands.specs.declared.plan.Whole.TheVariants as wholes
 use Rattle.capn_commands.specs.declared.fault.ToolFault.{ToolFault}
 use Rattle.capn_commands.specs.declared.fault.ToolFault.TheVariants as faults
 
--- `fault` is the fault of a run whose input is refused with `r`: `Memory` if `r` is `Memory`, and otherwise the refusal
--- `r`.
+-- `fault` is `Memory` if `r` is `Memory`, and otherwise the refusal `r`.
 abbrev pub IsFaultOf : Refusal → ToolFault → Type 0
 IsFaultOf r fault =
     ((r ≡ refusals.Memory) × (fault ≡ faults.Memory)) ⊎ ((r ≢ refusals.Memory) × (fault ≡ faults.Refused r))
 
--- `r` is the reason why `bytes` have no output as one message in `form`. For a digest `r` is the reason why they have
--- no canonical bytes. For a text or a price a capability is no such reason.
+-- `r` is the reason why `bytes` in `form` have no text of the given kind as one message. For a text or a price, the
+-- message is not accepted. For a digest, the message has no canonical bytes.
 abbrev pub IsOneRefused : MessageText → Form → List ℕ → Bounds → Refusal → Type 0
 IsOneRefused kinds.Text form bytes limits r = IsUnacceptedIn form bytes limits r
 IsOneRefused kinds.Price form bytes limits r = IsUnacceptedIn form bytes limits r
 IsOneRefused kinds.Digest form bytes limits r = IsRefused form bytes limits r
 
--- `text` is the output of `whole` for `bytes`: the packed text of `bytes`; the words that `bytes` unpack to, at most
--- `most`; the canonical bytes of the one message in `form`; the text of the bare message; or the text of the one
--- message in a frame.
+-- `text` is the output of `whole` for `bytes`: the packed text, the unpacked words, the canonical bytes of the one
+-- message in `bytes`, or a text of that message.
 abbrev pub Makes : Whole → List ℕ → List ℕ → Type 0
 Makes wholes.Packed bytes text = Chosen text bytes
 Makes (wholes.Unpacked most) bytes text = Packs bytes text × (length text ≤ 8 * most)
@@ -48,9 +46,8 @@ Makes (wholes.Bare piece limits) bytes text = (words : List ℕ) × IsBare bytes
 Makes (wholes.One piece form limits) bytes text = (message : List (List ℕ))
     × Reads (form_of form) bytes limits.message_words message × IsMessageText piece message limits text
 
--- `fault` is the reason why `whole` has no output for `bytes`: `bytes` are no whole words; or `bytes` do not unpack to
--- at most `most` words; or `bytes` have no canonical bytes in `form`; or `bytes` are no bare message with a text; or
--- `bytes` are not exactly one message in a frame with a text.
+-- `fault` is the reason why `whole` has no output for `bytes`. `bytes` are no complete words, or do not unpack to at
+-- most `most` words, or are not one message that has this output.
 abbrev pub MakesNothing : Whole → List ℕ → ToolFault → Type 0
 MakesNothing wholes.Packed bytes fault = (length bytes % 8 ≢ 0) × (fault ≡ faults.NotWhole (length bytes))
 MakesNothing (wholes.Unpacked most) bytes fault =
@@ -65,7 +62,8 @@ MakesNothing (wholes.One piece form limits) bytes fault =
     (r : Refusal) × (fault ≡ faults.Refused r) × (r ≢ refusals.Memory)
     × IsOneRefused piece (form_of form) bytes limits r
 
--- A call returned the output of `whole` for `bytes`, or the reason why there is none, or `Memory`.
+-- After `Ok`, `text` is the output of `whole` for `bytes` (`Makes`). After `Err`, `fault` is `Memory` or the reason why
+-- there is no output (`MakesNothing`).
 abbrev pub Gives : {A : Type 0} → Whole → List ℕ → Result (Vec ℕ A) ToolFault → Type 0
 Gives whole bytes (Ok text) = Makes whole bytes text.items
 Gives whole bytes (Err fault) = (fault ≡ faults.Memory) ⊎ MakesNothing whole bytes fault

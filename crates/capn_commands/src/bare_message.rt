@@ -16,8 +16,8 @@ use capn_words::Watched;
 use std::alloc::Allocator;
 use std::io::{Read, Write};
 
-/// Writes the text or the digest of a bare input, which is one message. `piece` must not be `Price`, because the price
-/// line of a bare message also says whether the bytes are canonical, and `make_verdict` makes that line. The run holds
+/// Writes the text or the digest of a bare input, which is one message. `piece` must not be `Price`: `make_verdict`
+/// makes the price line of a bare message, because that line also says whether the bytes are canonical. The run holds
 /// no more than the input and what the service holds.
 pub fn run_one<R: Read, W: Write, A: Allocator + Copy>(
     alloc: A,

@@ -96,22 +96,24 @@ fn perform<R: Read, W: Write, A: Allocator + Copy>(
     }
 }
 
-/// Carries out `command`: reads the input to its end, and writes the output of the command.
+/// Carries out `command`: reads the input, and writes the output of the command.
 ///
-/// `pack`, `unpack`, `canonical`, [`Command::One`] and the form bare read the input whole, and write nothing if the
-/// input is refused. `show`, `check` and `hash` take a stream, packed or not, message by message. Before each read, the
-/// text of all messages that are complete by then has been written, mostly by one call. If a message is refused, the
-/// text of the messages before it has been written.
+/// `pack`, `unpack`, `canonical`, [`Command::One`] and the form bare read the complete input first, and write nothing
+/// if the input is refused. `show`, `check` and `hash` read a stream, packed or not, message by message. Before each
+/// read, the text of all messages that are complete by then has been written, mostly by one call. If a message is
+/// refused, the text of the messages before it has been written.
 ///
 /// `Memory` is returned if an allocation was refused, and `Io` if and only if the reader or the writer has failed.
-/// `InputTooLong` is returned for a byte past 2^32. Other refusals are those of the command. After `Memory` and `Io` a
-/// prefix of the output was written, or nothing. At most 2^32 + 1 bytes are read, and at most 65,536 by one call. Over
-/// a stream the memory does not grow with the input: a run takes 128 KiB, the texts of what one call read, at most 1
-/// MiB for unpacked words, and what the longest message takes.
+/// `InputTooLong` is returned if the input has more than 2^32 bytes. In a stream, an earlier refusal is returned
+/// instead. Any other fault is the reason why the input is refused. After `Memory` and `Io` a prefix of the output was
+/// written, or nothing. At most 2^32 + 1 bytes are read, and at most 65,536 by one call. Over a stream the memory does
+/// not grow with the length of the input. A run takes 128 KiB, and at most 1 MiB for unpacked words. It also takes
+/// memory for the longest message, and for the texts of the messages that are complete after one read.
 ///
-/// If the input is read whole, `canonical` and [`Command::One`] hold the first 8 * (message words + 2,049) + 1 bytes of
-/// a stream, or the first (message words + 2,049) words that a packed input unpacks to. `unpack` holds its output.
-/// Input after that is read and dropped. The form bare holds at most 2^28 + 1 words, and `pack` holds all of the input.
+/// If the complete input is read first, the run may hold only its first bytes. Of a stream, `canonical` and
+/// [`Command::One`] hold the first 8 * (message words + 2,049) + 1 bytes. Of a packed input they hold the first
+/// (message words + 2,049) words that the input unpacks to. `unpack` holds its output. Input after these bytes is read
+/// and dropped. The form bare holds at most 2^28 + 1 words, and `pack` holds all of the input.
 pub fn run<R: Read, W: Write, A: Allocator + Copy>(
     alloc: A,
     command: Command,
@@ -120,30 +122,30 @@ pub fn run<R: Read, W: Write, A: Allocator + Copy>(
 ) -> Result<(), ToolFault>
     requires reader_fine { has_failed reader.old ≡ false }
     requires writer_fine { has_failed writer.old ≡ false }
-    // If the bytes of the input are known, the text for these bytes was written and `result` is the ending for these
-    // bytes, unless `result` is `Memory` or `Io`.
+    // Let the bytes of the input be known. Unless `result` is `Memory` or `Io`, the text for these bytes was written,
+    // and `result` is the ending for these bytes.
     ensures exact { IfSome (R.remaining (inner_of reader.old))
         (EndsAs command (W.contents (inner_of writer.old)) (W.contents (inner_of writer.new)) result) }
-    // If `text` and `due` are the text and the ending of the input, `text` was written and `result` is `due`, unless
-    // `result` is `Memory` or `Io`.
+    // Let the bytes of the input be known, and let `text` and `due` be their text and their ending. Unless `result` is
+    // `Memory` or `Io`, `text` was written, and `result` is `due`.
     ensures only { IfSome (R.remaining (inner_of reader.old)) (λ input.
         (text : List ℕ) (due : Result (Unit {0}) ToolFault) → IsText command input text due →
         EndsBy text due (W.contents (inner_of writer.old)) (W.contents (inner_of writer.new)) result) }
     // `result` is `Io` if and only if the reader or the writer has failed.
     ensures io { IsErrOf result ToolFault.Io ↔ ((has_failed reader.new ≡ true) ⊎ (has_failed writer.new ≡ true)) }
-    // Whatever `result` is, a prefix of the text for the bytes that were read was written, or nothing.
+    // For each `result`, nothing was written, or a prefix of the text for the bytes that the reader returned.
     ensures begun { Begins command (R.remaining (inner_of reader.old)) (R.remaining (inner_of reader.new))
         (W.contents (inner_of writer.old)) (W.contents (inner_of writer.new)) }
-    // If the reader failed and the input is taken message by message, all output for the bytes that were read before
-    // was written. If the reader failed and the input is taken whole, nothing was written.
+    // If the reader failed and the input is read message by message, the writer has all output for the bytes that the
+    // reader returned. If the reader failed and the complete input is read first, nothing was written.
     ensures heard { has_failed reader.new ≡ true
         → KeepsUp command (R.remaining (inner_of reader.old)) (R.remaining (inner_of reader.new))
         (W.contents (inner_of writer.old)) (W.contents (inner_of writer.new)) }
-    // If the input is taken message by message, all output that the bytes before a read decide was written before that
-    // read.
+    // If the input is read message by message, the writer had these texts before the last read: the texts of all
+    // messages that were complete by then.
     ensures ahead { StaysAheadAs command (R.remaining (inner_of reader.old)) (R.remaining (inner_of reader.new))
         (W.contents (inner_of writer.old)) (W.contents (inner_of writer.new)) }
-    // `result` is `Memory` only if some bytes were read, or all bytes of an input that is taken whole.
+    // `result` is `Memory` only if some bytes were read, or if the complete input is read first and its end was found.
     ensures memory { IsErrOf result ToolFault.Memory
         → MayNeedMemory command (R.remaining (inner_of reader.old)) (R.remaining (inner_of reader.new)) }
 {

@@ -23,7 +23,7 @@ pub enum ToolFault {
     /// The input has more than 2^32 bytes.
     #[error("InputTooLong")]
     InputTooLong,
-    /// The input has this number of bytes, which is not whole words.
+    /// The input has this number of bytes, which is no multiple of eight.
     #[error("NotWhole")]
     NotWhole(u64),
     /// The input is refused.

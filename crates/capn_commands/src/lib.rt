@@ -1,10 +1,10 @@
 //! Runs of the six commands over messages and bytes: `canonical`, `show`, `check`, `hash`, `pack` and `unpack`.
 //!
-//! [`run`] carries out a [`Command`]: writes exactly the text for the input, and returns how the run ended. [`status`]
+//! [`run`] carries out a [`Command`]: it writes the text for the input, and returns the outcome of the run. [`status`]
 //! and [`fault_text`] return the exit status and the text for the user, and [`end`] writes that text. `show`, `check`
-//! and `hash` take one bare message, or the messages of a stream, packed or not, while the stream is read. `canonical`
-//! and [`Command::One`] take one message in any of the three forms. [`serve_one`] serves exactly one message in a
-//! frame, for any service of [`capn_serve`].
+//! and `hash` take one bare message, or each message of a stream while the stream is read. The stream may be packed.
+//! `canonical` and [`Command::One`] take one message in any of the three forms. [`serve_one`] serves exactly one
+//! message in a frame, for any service of [`capn_serve`].
 //!
 //! ```text
 //! let command = Command::Canonical(Form::Bare, Limits::usual());

@@ -71,7 +71,8 @@ fn add_end_at<W: Write, A: Allocator>(
     add_end(&block[start..], text, writer)
 }
 
-/// Adds the line `end`, which begins with the offset `byte`, at least 2^64, and with an empty path if `ways` is set.
+/// Adds the line `end`, which begins with the offset `byte`, and with an empty path if `ways` is set. Memory is
+/// allocated for the line, so `byte` may be 2^64 or more.
 #[cold]
 fn add_wide_end<W: Write, A: Allocator>(
     alloc: A,

@@ -14,7 +14,8 @@ use capn_words::Watched;
 use std::alloc::Allocator;
 use std::io::{Read, Write};
 
-/// Writes `piece` of each message of a stream. Before each read, all messages that are complete have been served.
+/// Writes the text of the kind `piece` for each message of a stream. Before each read, all messages that are complete
+/// have been served.
 pub fn run_each<R: Read, W: Write, A: Allocator + Copy>(
     alloc: A,
     piece: MessageText,
@@ -34,8 +35,8 @@ pub fn run_each<R: Read, W: Write, A: Allocator + Copy>(
     Ok(())
 }
 
-/// Writes `piece` of each message of a packed stream. Before each read, all messages that are complete have been
-/// served.
+/// Writes the text of the kind `piece` for each message of a packed stream. Before each read, all messages that are
+/// complete have been served.
 pub fn run_each_packed<R: Read, W: Write, A: Allocator + Copy>(
     alloc: A,
     piece: MessageText,
@@ -51,7 +52,7 @@ pub fn run_each_packed<R: Read, W: Write, A: Allocator + Copy>(
 {
     let mut run = first_run(piece, limits);
     let most = limits.message_words();
-    // All words that 2^32 packed bytes unpack to are taken.
+    // 2^32 packed bytes unpack to fewer than `u64::MAX` bytes, so no unpacked words are left out.
     run_packed(
         alloc,
         most,

@@ -25,23 +25,23 @@ use capn_words::{Space, Watched};
 use std::alloc::Allocator;
 use std::io::Write;
 
-/// The service that writes a text of each message, and keeps nothing of earlier messages.
+/// The service that writes a text for each message, and remembers nothing of earlier messages.
 #[derive(Clone, Copy)]
 pub struct MessageTexts {
-    /// The text that is written of a message.
+    /// The kind of text that is written for each message.
     pub piece: MessageText,
     /// The limits of a message.
     pub limits: Limits,
 }
 
-/// Returns the state of a run before its first message, which writes `piece` of each message.
+/// Returns the state of a run before its first message. The run writes the text of the kind `piece` for each message.
 pub(crate) fn first_run(piece: MessageText, limits: Limits) -> Run<MessageTexts>
     ensures { result ≡ spec.first_run piece limits }
 {
     Run::new(MessageTexts { piece, limits })
 }
 
-/// Adds the text of the value of `message`, and the line `end`. A long text is written while it is made.
+/// Adds the text of the value of `message`, and the line `end`. A long text is written before it is complete.
 fn add_shown<S: Space, W: Write, A: Allocator + Copy>(
     alloc: A,
     message: &S,
@@ -71,7 +71,7 @@ fn served_fault(fault: ToolFault) -> ServeFault
     }
 }
 
-/// Maps the outcome of one message's text to the outcome of its service.
+/// Maps `put`, the outcome of appending a message's text, to the outcome of serving the message.
 #[inline(always)]
 fn served(put: Result<(), ToolFault>) -> Result<(), ServeFault>
     ensures { (s : MessageTexts) (at : Position) (frame : List ℕ) (message : List (List ℕ)) (old new : List ℕ)
@@ -84,8 +84,8 @@ fn served(put: Result<(), ToolFault>) -> Result<(), ServeFault>
     }
 }
 
-/// Maps `put`, the outcome of a message's text, to the outcome of its service. Writes `text` if `text` has at least
-/// 65,536 bytes.
+/// Maps `put`, the outcome of appending a message's text, to the outcome of serving the message. Writes `text` if
+/// `text` has at least 65,536 bytes.
 #[inline(always)]
 fn end_piece<W: Write, A: Allocator>(
     put: Result<(), ToolFault>,

@@ -1,4 +1,4 @@
-//! Runs over exactly one message: the whole input is its frame.
+//! Runs over exactly one message: the complete input is its frame.
 
 ghost use Rattle.std.specs.Prelude.{◌≡◌, ◌≤◌, false};
 ghost use Rattle.capn_words.specs.Message.{most_message_words};
@@ -79,9 +79,10 @@ fn serve_frame<S: Service + Drop, W: Write, A: Allocator + Copy>(
 ///
 /// All of the input is read first. An input that is not exactly one message is refused with the refusal that
 /// [`canonicalise`](capn_canon::canonicalise) gives for the same bytes. Otherwise the service may refuse the message.
-/// In both cases nothing is written. `InputTooLong` is returned for a byte past 2^32, `Io` if and only if the reader or
-/// the writer failed, and `Memory` if an allocation was refused. For a stream the run holds at most the longest frame
-/// and one byte. For a packed input the run holds at most the words of the longest frame.
+/// If the input or its message is refused, nothing is written. `InputTooLong` is returned if the input has more than
+/// 2^32 bytes, `Io` if and only if the reader or the writer failed, and `Memory` if an allocation was refused. Of a
+/// stream the run holds at most the longest frame and one byte. Of a packed input the run holds at most the words of
+/// the longest frame and an unfinished group.
 pub fn serve_one<S: Service + Drop, R: Read, W: Write, A: Allocator + Copy>(
     alloc: A,
     service: S,

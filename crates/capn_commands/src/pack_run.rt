@@ -1,4 +1,4 @@
-//! Packing of a whole stream.
+//! Packing of a complete stream.
 
 ghost use Rattle.std.specs.Prelude.{◌≡◌, ◌⊎◌, ◌+◌, ◌%◌, ◌<◌, ◌≤◌, ℕ, drop, length, true, false, IfOk};
 ghost use Rattle.capn_pack.specs.Chosen.{AllDense, Chosen, zero_count};
@@ -33,8 +33,8 @@ const RUN: u32 = 256;
 /// The number of bytes of 255 words, which is the longest run that may continue with a further word.
 const OPEN: usize = 2040;
 
-/// The part of a packed text that is settled, which means that no later word changes it. `text` is the number of bytes
-/// of that part, and `words` is the number of bytes of the words that the part packs.
+/// The settled prefix of a packed text. No later word changes this prefix. `text` is the length of the prefix in bytes,
+/// and `words` is the number of bytes of the words that the prefix packs.
 #[derive(Clone, Copy)]
 struct Settled {
     text: usize,
@@ -63,9 +63,9 @@ fn zeros_of(bytes: &[u8]) -> usize
     zeros
 }
 
-/// Returns the end of the part of `words` that can be packed now. A word is dense if at most one of its bytes is zero.
-/// The dense words at the end are left out, because a run of dense words may continue in the next bytes. If more than
-/// 255 words at the end are dense, or if all words are dense, the length of `words` is returned.
+/// Returns the number of bytes at the front of `words` that can be packed now. A word is dense if at most one of its
+/// bytes is zero. The dense words at the end are left out, because a run of dense words may continue in the next bytes.
+/// If more than 255 words at the end are dense, or if all words are dense, the length of `words` is returned.
 fn before_dense(words: &[u8]) -> usize
     requires { length words.now % 8 ≡ 0 }
     ensures whole { result % 8 ≡ 0 }
@@ -86,8 +86,8 @@ fn before_dense(words: &[u8]) -> usize
     words.len()
 }
 
-/// Returns the settled part of `text`, the packed text of `words`, if the last word is zero. Then the last group is a
-/// run of zero words, and the last byte of `text` is the number of these words less one.
+/// Returns the settled prefix of `text`, the packed text of `words`. The last word is zero, so the last group is a run
+/// of zero words. The last byte of `text` is the number of words of that run less one.
 fn zeros_part(words: &[u8], text: &[u8]) -> Settled
     requires some { 8 ≤ length words.now }
     requires chosen { Chosen text.now words.now }
@@ -107,7 +107,7 @@ fn zeros_part(words: &[u8], text: &[u8]) -> Settled
     }
 }
 
-/// Returns the settled part of `text`, the packed text of `words`. The groups before the last group are unpacked, to
+/// Returns the settled prefix of `text`, the packed text of `words`. The groups before the last group are unpacked, to
 /// find where the last group begins.
 fn unpacked_part<A: Allocator + Copy>(
     alloc: A,
@@ -134,9 +134,9 @@ fn unpacked_part<A: Allocator + Copy>(
     })
 }
 
-/// Returns the settled part of `text`, the packed text of `words`: all of `text`, or all but the last group if that
-/// group is a run that may continue. The last word mostly decides. A dense word may be in a run of raw words, a zero
-/// word is in a run of zero words, and any other word is a group of its own.
+/// Returns the settled prefix of `text`, the packed text of `words`. If the last group is a run that may continue, the
+/// text before that group is settled. Otherwise all of `text` is settled. A zero word at the end is in a run of zero
+/// words, and a dense word at the end may be in a run of raw words. Any other last word is a group of its own.
 fn settled_part<A: Allocator + Copy>(
     alloc: A,
     words: &[u8],
@@ -169,7 +169,7 @@ struct Settlement<A: Allocator + Copy> {
     rest: Vec<u8, A>,
 }
 
-/// Packs the whole words of `held`, as far as their text is settled. Dense words at the end stay in the rest if a run
+/// Packs the complete words of `held`, as far as their text is settled. Dense words at the end stay in `rest` if a run
 /// of dense words may continue. So the groups before that run need not be unpacked to find where the run starts.
 fn settle<A: Allocator + Copy>(alloc: A, held: &[u8]) -> Result<Settlement<A>, AllocError>
     requires short { length held.now ≤ 131072 }
@@ -190,7 +190,8 @@ fn settle<A: Allocator + Copy>(alloc: A, held: &[u8]) -> Result<Settlement<A>, A
     Ok(Settlement { text, rest })
 }
 
-/// Appends `bytes` to `held`, writes the settled part of the packed text of `held`, and leaves the rest in `held`.
+/// Appends `bytes` to `held`, and writes the settled prefix of the packed text of `held`. Leaves in `held` the bytes
+/// that are not packed yet.
 fn pack_chunk<W: Write, A: Allocator + Copy>(
     alloc: A,
     held: &mut Vec<u8, A>,
@@ -210,8 +211,8 @@ fn pack_chunk<W: Write, A: Allocator + Copy>(
     Ok(())
 }
 
-/// Returns the outcome of a run that took `count` bytes: `InputTooLong` if `is_longer` is set, else `NotWhole` if
-/// `count` is no multiple of eight, else `Ok`.
+/// Returns the outcome of a run over `count` bytes: `InputTooLong` if `is_longer` is set, else `NotWhole` if `count` is
+/// no multiple of eight, else `Ok`.
 fn end_after(count: u64, is_longer: bool) -> Result<(), FlowFault>
     ensures { result ≡ ending_of is_longer count }
 {
@@ -224,8 +225,8 @@ fn end_after(count: u64, is_longer: bool) -> Result<(), FlowFault>
     Ok(())
 }
 
-/// Writes the packed text of the whole words of `held`, which are the last of the stream, to `writer`. Returns the
-/// outcome of the run, which took `count` bytes in all. If `is_longer` is set, the stream has more bytes, and the
+/// Writes the packed text of the complete words of `held`, which are the last of the stream, to `writer`. Returns the
+/// outcome of the run, which packed `count` bytes in all. If `is_longer` is set, the stream has more bytes, and the
 /// outcome is an error.
 fn pack_last<W: Write, A: Allocator + Copy>(
     alloc: A,
@@ -248,20 +249,20 @@ fn pack_last<W: Write, A: Allocator + Copy>(
     }
 }
 
-/// Packs a stream: writes the text that [`pack`](capn_pack::pack) returns for the whole words of `reader` to `writer`.
-/// Chunks of at most 65,536 bytes are read. Before each read, the settled part of the text has been written. (Page:
-/// packing; the rest is our own.)
+/// Packs a stream: writes the text that [`pack`](capn_pack::pack) returns for the complete words of `reader` to
+/// `writer`. Chunks of at most 65,536 bytes are read. Before each read, the settled prefix of the text has been
+/// written. (Page: packing; the rest is our own.)
 ///
 /// Text is settled if no later word can change it. If the last group is a run of zero words or of raw words that may
 /// continue, the text before that group is settled. Otherwise all text is settled. Up to 255 dense words at the end are
 /// not packed before the next read either. In all, fewer than 4,096 bytes of input are not packed before a read.
 ///
-/// At most 2^64 - 1 bytes of the stream are taken. One more byte may be read, to find out whether the stream is longer.
-/// The run ends as done, or with the first fault: `Io` if and only if the reader or the writer failed; `Memory` if an
-/// allocation was refused, which takes at least one byte of input; `InputTooLong` if there are more bytes; `NotWhole`,
-/// with the number of bytes, if that number is no multiple of eight. Before `InputTooLong` and `NotWhole` the text of
-/// all whole words was written. Before `Memory` and `Io` a prefix of that text was written. The run holds a chunk with
-/// its text and its words, each at most twice: less than 2 MiB.
+/// At most 2^64 - 1 bytes of the stream are packed. One more byte may be read, to find out whether the stream is
+/// longer. `Io` is returned if and only if the reader or the writer failed. `Memory` is returned if an allocation was
+/// refused, and only after at least one byte of input. `InputTooLong` is returned if the stream has more than 2^64 - 1
+/// bytes. `NotWhole`, with the number of bytes, is returned if that number is no multiple of eight. Before
+/// `InputTooLong` and `NotWhole` the text of all complete words was written. Before `Memory` and `Io` a prefix of that
+/// text was written. The run holds a chunk with its text and its words, each at most twice: less than 2 MiB.
 pub fn pack_stream<R: Read, W: Write, A: Allocator + Copy>(
     alloc: A,
     reader: &mut Watched<R>,

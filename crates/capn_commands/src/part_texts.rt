@@ -67,8 +67,8 @@ pub(crate) fn add_end<W: Write, A: Allocator>(
     }
 }
 
-/// Adds the text of the value at `path` from a message's root, in `style`, and the end of that text. A long text is
-/// written while it is made.
+/// Adds the text of the value at `path` from a message's root, in `style`, and the line `end` if the style has one. A
+/// long text is written before it is complete.
 fn add_part<S: Space, W: Write, A: Allocator + Copy>(
     alloc: A,
     message: &S,
@@ -116,8 +116,8 @@ fn has_marks(texts: &PartTexts) -> bool
     texts.offsets || texts.ways
 }
 
-/// Adds the text of the value at `texts.path` from the message's root, and the end of that text. The text has marks if
-/// `texts` asks for offsets or paths, and otherwise the style `texts.style`.
+/// Adds the text of the value at `texts.path` from the message's root, and the line `end` if the style has one. The
+/// text has marks if `texts` asks for offsets or paths, and otherwise the style `texts.style`.
 fn add_text<S: Space, W: Write, A: Allocator + Copy>(
     alloc: A,
     texts: &PartTexts,

@@ -16,7 +16,7 @@ use capn_words::Watched;
 use std::alloc::{AllocError, Allocator};
 use std::io::Read;
 
-/// The room for an unfinished group and one chunk, in bytes.
+/// The number of bytes of a buffer for any unfinished group and one chunk.
 const ROOM: usize = 2050 + CHUNK as usize;
 
 /// The state of a packed input that is unpacked while it is read.
@@ -90,7 +90,7 @@ fn take_chunk<A: Allocator>(
     Ok(())
 }
 
-/// Returns `words` at the end of a packed input, or the fault of a group that is cut or has too many words.
+/// Returns `words` at the end of a packed input, or the fault of a group that is cut off or has too many words.
 fn end_pending<A: Allocator>(pending: &Pending, words: Vec<u8, A>) -> Result<Vec<u8, A>, ToolFault>
     ensures { (most : ℕ) (seen : List ℕ)
         → IsPending most seen words.items (take pending.now.len pending.now.text) pending.now.at

@@ -1,4 +1,4 @@
-//! The plan of a command: whether it reads its input whole or message by message, and the output that it makes.
+//! The plan of a command: its output, and whether it reads its complete input first or reads message by message.
 
 ghost use Rattle.std.specs.Prelude.{◌≡◌};
 ghost use Rattle.capn_commands.specs.Plan as spec;
@@ -19,25 +19,25 @@ pub enum MessageText {
     Digest,
 }
 
-/// The output that is made from an input that is read whole.
+/// The output of a command that reads its complete input first.
 #[derive(Clone, Copy)]
 pub enum Whole {
     /// The packed text of the input's words.
     Packed,
     /// The words that the input unpacks to. The number is the greatest number of words that are accepted.
     Unpacked(u32),
-    /// The canonical bytes of the one message that the input is.
+    /// The canonical bytes of the input, which has to be one message.
     Canonical(Form, Limits),
-    /// The text, price or digest of the one bare message that the input is.
+    /// The text, price or digest of the input, which has to be one bare message.
     Bare(MessageText, Limits),
-    /// The text, price or digest of the one message that the input is, in a frame.
+    /// The text, price or digest of the input, which has to be exactly the frame of one message.
     One(MessageText, StreamForm, Limits),
 }
 
 /// The way in which a command reads its input.
 #[derive(Clone, Copy)]
 pub enum Plan {
-    /// Reads the whole input before anything is written.
+    /// Reads the complete input before anything is written.
     Whole(Whole),
     /// Reads a stream message by message.
     Each(MessageText, Limits),
@@ -45,7 +45,7 @@ pub enum Plan {
     Packed(MessageText, Limits),
 }
 
-/// Returns the plan that writes `piece` of each message of an input in `form`.
+/// Returns the plan that writes the text of the kind `piece` for each message of an input in `form`.
 fn pieces(piece: MessageText, form: Form, limits: Limits) -> Plan
     ensures { result ≡ spec.pieces_of piece form limits }
 {
@@ -56,7 +56,7 @@ fn pieces(piece: MessageText, form: Form, limits: Limits) -> Plan
     }
 }
 
-/// Returns the plan that writes `piece` of the one message that an input in `form` holds.
+/// Returns the plan that writes the text of the kind `piece` for an input in `form`, which has to be one message.
 fn one_piece(piece: MessageText, form: Form, limits: Limits) -> Plan
     ensures { result ≡ spec.one_piece_of piece form limits }
 {

@@ -10,14 +10,16 @@ use capn_words::Watched;
 use std::alloc::Allocator;
 use std::io::{Read, Write};
 
-/// Writes, for each message of an input, the text of the value at a path from the root, in a style or with marks. An
-/// empty path shows the whole message.
+/// Writes, for each message of an input, the text of the value at the path `texts.path` from the root. `texts` also
+/// says whether the text is in a style or has marks. An empty path shows the complete message.
 ///
 /// The line `end` follows each text, except in JSON. If nothing is at the path, the text is the line `none`, or in JSON
-/// an empty line. The text of a message is written as soon as the message is complete. The run ends as done, or with
-/// the first fault: a frame, a group or a message that is refused; `InputTooLong`; `Io` if and only if the reader or
-/// the writer failed; `Memory` if an allocation was refused. A message is refused if and only if its survey is refused,
-/// whatever is at the path.
+/// an empty line. A message is refused if and only if its survey is refused, whatever is at the path. In a stream, the
+/// texts of all complete messages have been written before each read.
+///
+/// The first fault ends the run. A frame, a group or a message may be refused. `InputTooLong` is returned if the input
+/// has more bytes than a run takes. `Io` is returned if and only if the reader or the writer failed, and `Memory` if an
+/// allocation was refused.
 pub fn run_show<R: Read, W: Write, A: Allocator + Copy>(
     alloc: A,
     texts: &PartTexts,

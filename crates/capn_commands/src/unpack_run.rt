@@ -1,4 +1,4 @@
-//! Unpacking of a whole stream.
+//! Unpacking of a complete stream.
 
 ghost use Rattle.std.specs.Prelude.{◌≡◌, false};
 ghost use Rattle.capn_words.specs.Watched.{inner_of, has_failed};
@@ -21,7 +21,7 @@ const UNFINISHED: usize = 2049;
 /// The greatest number of words that are held at once. A group has fewer words.
 const WORDS: u32 = 16_384;
 
-/// Writes the words of the first whole groups of `bytes`, at most 16,384 words. `words` is a buffer, which is
+/// Writes the words of the first complete groups of `bytes`, at most 16,384 words. `words` is a buffer, which is
 /// overwritten.
 fn write_some<W: Write, A: Allocator + Copy>(
     bytes: &[u8],
@@ -38,7 +38,7 @@ fn write_some<W: Write, A: Allocator + Copy>(
     Ok(progress)
 }
 
-/// Writes the words of all whole groups at the start of `bytes`, and returns the number of bytes of those groups.
+/// Writes the words of all complete groups at the start of `bytes`, and returns the number of bytes of those groups.
 /// `words` is a buffer, which is overwritten.
 fn write_groups<W: Write, A: Allocator + Copy>(
     bytes: &[u8],
@@ -60,8 +60,8 @@ fn write_groups<W: Write, A: Allocator + Copy>(
     }
 }
 
-/// Returns the outcome of a run at the end of the input. `rest` has the bytes after the last whole group. The offset of
-/// `rest` in the input is `offset`.
+/// Returns the outcome of a run at the end of the input. `rest` has the bytes after the last complete group. The offset
+/// of `rest` in the input is `offset`.
 fn end_of_unpacking(rest: &[u8], offset: u64) -> Result<(), FlowFault>
     ensures { result ≡ ending_of false rest.now offset }
 {
@@ -71,16 +71,17 @@ fn end_of_unpacking(rest: &[u8], offset: u64) -> Result<(), FlowFault>
     Err(FlowFault::Cut(offset))
 }
 
-/// Unpacks a stream in chunks of at most 65,536 bytes of `reader`. Before each read, the words of all whole groups have
-/// been written to `writer`. (Page: packing; the rest is our own.)
+/// Unpacks a stream in chunks of at most 65,536 bytes of `reader`. Before each read, the words of all complete groups
+/// have been written to `writer`. (Page: packing; the rest is our own.)
 ///
-/// At most 2^64 - 1 bytes of the stream are taken. One more byte may be read, to find out whether the stream is longer.
-/// The number of words has no maximum. The run ends as done, or with the first fault: `Io` if and only if the reader or
-/// the writer failed; `Memory` if an allocation was refused, which takes at least one byte of input; `InputTooLong` if
-/// there are more bytes; `Cut`, with the offset of the tag of a group, if the input ends within that group. Before
-/// `InputTooLong` and `Cut` the words of all whole groups were written. Before `Memory` and `Io` a prefix of these
-/// words was written. The run holds a chunk, an unfinished group of at most 2,049 bytes, and up to 16,384 words, which
-/// are written at once. The room for the words grows by doubling, to less than 512 KiB for any input.
+/// At most 2^64 - 1 bytes of the stream are unpacked. One more byte may be read, to find out whether the stream is
+/// longer. The number of words has no maximum. `Io` is returned if and only if the reader or the writer failed.
+/// `Memory` is returned if an allocation was refused, and only after at least one byte of input. `InputTooLong` is
+/// returned if the stream has more than 2^64 - 1 bytes. `Cut`, with the offset of the tag of a group, is returned if
+/// the input ends within that group. Before `InputTooLong` and `Cut` the words of all complete groups were written.
+/// Before `Memory` and `Io` a prefix of these words was written. The run holds a chunk, an unfinished group of at most
+/// 2,049 bytes, and up to 16,384 words, which are written at once. The buffer for the words grows by doubling, and has
+/// less than 512 KiB for any input.
 pub fn unpack_stream<R: Read, W: Write, A: Allocator + Copy>(
     alloc: A,
     reader: &mut Watched<R>,

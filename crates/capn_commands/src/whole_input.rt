@@ -1,4 +1,4 @@
-//! The outputs of commands that read their input whole.
+//! The outputs of commands that read their complete input first.
 
 ghost use Rattle.std.specs.Prelude.{◌≡◌, ◌≤◌, false};
 ghost use Rattle.capn_words.specs.Message.{most_message_words};
@@ -60,8 +60,9 @@ fn verdict<A: Allocator + Copy>(
 }
 
 /// Reads all of an input that should be one frame, and returns the bytes that the command may need. For a stream these
-/// are at most the longest frame of a message of `most` words and one byte more. For a packed input these are the words
-/// that the input unpacks to, and more words than the longest frame has are refused.
+/// are the first bytes, at most one byte more than the longest frame of a message of `most` words. For a packed input
+/// these are the words that the input unpacks to. A packed input that unpacks to more words than the longest frame has
+/// is refused.
 pub(crate) fn read_frame<R: Read, A: Allocator>(
     alloc: A,
     reader: &mut Watched<R>,
@@ -83,7 +84,7 @@ pub(crate) fn read_frame<R: Read, A: Allocator>(
     }
 }
 
-/// Reads an input in a frame, and returns the canonical bytes of the one message that it is.
+/// Reads an input that is one message in a frame, and returns the canonical bytes of that message.
 fn make_framed<R: Read, A: Allocator + Copy>(
     alloc: A,
     reader: &mut Watched<R>,
@@ -99,7 +100,8 @@ fn make_framed<R: Read, A: Allocator + Copy>(
     Ok(canonical.bytes)
 }
 
-/// Reads an input, all of which is held, and returns the packed text of the words of the input.
+/// Reads all of the input of `reader`, and returns the packed text of its words. The complete input is held. `NotWhole`
+/// is returned if the number of bytes is no multiple of eight.
 pub fn make_text<R: Read, A: Allocator + Copy>(
     alloc: A,
     reader: &mut Watched<R>,
@@ -112,7 +114,7 @@ pub fn make_text<R: Read, A: Allocator + Copy>(
     packed(alloc, &input.bytes)
 }
 
-/// Reads a bare input, and returns the canonical bytes of the one message that it is.
+/// Reads a bare input, which is one message, and returns the canonical bytes of that message.
 fn make_trimmed<R: Read, A: Allocator + Copy>(
     alloc: A,
     reader: &mut Watched<R>,
@@ -127,7 +129,8 @@ fn make_trimmed<R: Read, A: Allocator + Copy>(
     Ok(canonical.bytes)
 }
 
-/// Reads a bare input, and returns the verdict line of the one message that it is.
+/// Reads a bare input from `reader`, and returns the verdict line of its message. The message is refused if it exceeds
+/// `limits`.
 pub fn make_verdict<R: Read, A: Allocator + Copy>(
     alloc: A,
     reader: &mut Watched<R>,
@@ -141,7 +144,7 @@ pub fn make_verdict<R: Read, A: Allocator + Copy>(
     verdict(alloc, &bytes, limits)
 }
 
-/// Reads an input in `form`, and returns the canonical bytes of the one message that it is.
+/// Reads an input in `form`, which is one message, and returns the canonical bytes of that message.
 pub fn make_canonical<R: Read, A: Allocator + Copy>(
     alloc: A,
     reader: &mut Watched<R>,

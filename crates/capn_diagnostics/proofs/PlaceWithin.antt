@@ -17,6 +17,6 @@ module _ (m : List (List ℕ)) (s w : ℕ) (h : w < length (segment_at m s)) whe
   pub has_segment : s < length m
   has_segment = exists-by (nat_lt s (length m)) refl
 
-  -- The words before the place, in its segment and in those before, are fewer than all words of the message.
+  -- The number of words before the place is less than the number of words of the message.
   pub before_end : sum_by length (take s m) + w < sum_by length m
   before_end = let all = sum_by_more_le length m s [] has_segment in omega arith

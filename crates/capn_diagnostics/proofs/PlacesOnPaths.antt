@@ -38,14 +38,12 @@ rows-length s w a b (suc n) =
     let more = rows-length s (w + a + b) a b n in
     omega arith
 
--- A list with a place in it is not empty.
 some-of : (ps before : List Place) (p : Place) (behind : List Place) → ps ≡ before ++ p ∷ behind → 0 < length ps
 some-of ps before p behind e = let l = length-append before (p ∷ behind) in let n = ap length e in omega arith
 
 no-slot : (before : List Place) (p : Place) (behind : List Place) → [] ≡ before ++ p ∷ behind → ⊥
 no-slot before p behind e = let n = some-of [] before p behind e in omega arith
 
--- A slot of `n` rows of `b` slots lies in one of the rows.
 low-row : (row slot b n : ℕ) → slot < b → row * b + slot < n * b → row < n
 low-row row slot b n h k =
     let q = row_below_turned (row * b + slot) b n b k (omega arith) in rw (div-mul-add row b slot h) at q.1
@@ -99,7 +97,7 @@ module _ (m : List (List ℕ)) where
       let j = h.1 in
       in-rows s (start + 1) a b n (omega arith)
 
-  -- The slots below the target of a place in range are in range.
+  -- If the place `at` is in range, each slot `p` below its target `t` is in range.
   slot-in : (at : Place) (t : Target) (before : List Place) (p : Place) (behind : List Place) → IsPlace m at
       → target m at ≡ Ok t → slots_below t ≡ before ++ p ∷ behind → IsPlace m p
   slot-in at t before p behind h e s =
@@ -107,7 +105,7 @@ module _ (m : List (List ℕ)) where
 
   -- ---- a path
 
-  -- A path from a place in range leads to a place in range.
+  -- If the place `from` is in range, the place `to`, to which `path` leads from `from`, is in range.
   led-in : (base d : ℕ) (from : Place) (path : List ℕ) (to : Place) (n : ℕ) → IsPlace m from
       → Leads m base d from path to n → IsPlace m to
   led-in base zero from [] to n h l = subst (IsPlace m) (sym l.0) h
@@ -118,7 +116,7 @@ module _ (m : List (List ℕ)) where
 
   -- ---- the object that holds a slot
 
-  -- The object that holds a slot below a target begins at a place in range.
+  -- If the target `t` is in the message, the object `holder`, which holds a slot below `t`, begins at a place in range.
   held-in : (t : Target) (numbers : List ℕ) (before : List Place) (p : Place) (behind : List Place)
       (holder : Holder) → IsInMessage m t → slots_below t ≡ before ++ p ∷ behind
       → AreNumbersOf t (length before) numbers → IsHeldIn t numbers holder → IsPlace m (beginning holder)
@@ -168,7 +166,8 @@ module _ (m : List (List ℕ)) where
   held-in (targets.Content s start (shapes.Rows n x y span) pads) (row ∷ slot ∷ k ∷ ks) ps p qs holder h e a held =
       absurd held
 
-  -- The object that holds the slot to which a path leads begins at a place in range.
+  -- If the root is in range, the object `holder`, which holds the slot at `to`, begins at a place in range. `path`
+  -- leads to this slot.
   pub holder-in : (path : List ℕ) (to : Place) (holder : Holder) → IsPlace m root → IsHolder m path to holder
       → IsPlace m (beginning holder)
   holder-in path to holder h x =
@@ -179,13 +178,13 @@ module _ (m : List (List ℕ)) where
   -- ---- the place where a walk stops
 
   module _ (limits : Bounds) (stopped : Stopped) where
-    -- A message whose walk made a visit has a root.
+    -- If a refused walk made a visit, the message has a root.
     rooted : IsWalkRefused m limits stopped.fault stopped.place stopped.paid stopped.visits
         → (stopped.visits ≡ 0 → ⊥) → 0 < length (segment_at m 0)
     rooted (inl h) some = absurd (some h.4)
     rooted (inr h) some = h.0
 
-    -- A message whose walk made no visit has no root.
+    -- If a refused walk made no visit, the message has no root.
     rootless : IsWalkRefused m limits stopped.fault stopped.place stopped.paid stopped.visits
         → stopped.visits ≡ 0 → length (segment_at m 0) ≡ 0
     rootless (inl h) none = h.0

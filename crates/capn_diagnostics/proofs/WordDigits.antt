@@ -1,4 +1,4 @@
--- Lemmas for `fmt` of `WordText`: the digits of bytes are a text.
+-- Lemmas for `fmt` of `WordText`: the hexadecimal digits of bytes are UTF-8.
 use Rattle.std.proofs.Common.{◌≡◌, ℕ, ◌<◌, nat_lt, ◌&&◌, Bool, true, List, [], ◌∷◌, w64, refl, arith}
 use Rattle.std.proofs.lemmas.Bool.{and_parts}
 use Rattle.std.proofs.lemmas.Bool.Decides.{nat_tests}
@@ -15,7 +15,7 @@ pub word-digits : (word : ℕ) → encode_lower (to_le_bytes w64 word) ≡ word_
 unfolding word_bytes
 word-digits word = refl
 
--- True if each byte is ASCII.
+-- True if each byte `b` is ASCII, that is, below 128.
 all_small : List ℕ → Bool
 all_small [] = true
 all_small (b ∷ bs) = nat_lt b 128 && all_small bs
@@ -32,10 +32,8 @@ digits-ascii : IsAscii lower_digits
 unfolding all_small
 digits-ascii = ascii lower_digits refl
 
--- The digits of bytes are UTF-8.
 pub are-digits : (bs : List ℕ) → IsUtf8 (encode_lower bs)
 are-digits bs = IsUtf8-from_ascii (encode_lower bs) (IsAscii-encode_with lower_digits bs digits-ascii)
 
--- The digits of the bytes of a word are UTF-8.
 pub are-text : (word : ℕ) → IsUtf8 (encode_lower (to_le_bytes w64 word))
 are-text word = are-digits (to_le_bytes w64 word)

@@ -21,7 +21,7 @@ use Rattle.capn_diagnostics.specs.declared.count_text.CountText.TheVariants as c
 
 -- ---- `message` and `segments`
 
--- The numbers, each behind a comma.
+-- The numbers, each after a comma and a space.
 abbrev pub behind_commas : List ℕ → List ℕ
 behind_commas [] = []
 behind_commas (n ∷ ns) = codes ", " ++ (decimal n ++ behind_commas ns)
@@ -31,14 +31,15 @@ abbrev pub listed : List ℕ → List ℕ
 listed [] = codes ""
 listed (n ∷ ns) = decimal n ++ behind_commas ns
 
--- The text of the sizes of segments, which is empty if there are fewer than two. It lists at most the first eight
--- sizes.
+-- The text of the sizes in `first`, of at most eight segments. The text is empty if `count`, the number of segments, is
+-- less than 2.
 abbrev pub sizes_text : ℕ → List ℕ → List ℕ
 sizes_text count first =
     if nat_lt count 2 then codes ""
     else codes ": " ++ (listed (take (min count 8) first) ++ (if nat_lt 8 count then codes ", .." else codes ""))
 
--- The sizes of the segments of a message. The size of a segment that does not exist is 0.
+-- The number of segments of `message`, the number of its words, and the sizes of its first eight segments. The size of
+-- a segment that does not exist is 0.
 abbrev pub segments_of : List (List ℕ) → SegmentsText
 segments_of message = record {
   count = length message;
@@ -48,17 +49,17 @@ segments_of message = record {
       ∷ length (segment_at message 6) ∷ length (segment_at message 7) ∷ [];
 }
 
--- The text of the number of segments, the number of words in all, and the sizes.
+-- The text of `s`: the number of segments, the number of words of all segments, and the sizes of the first segments.
 abbrev pub segments_text : SegmentsText → List ℕ
 segments_text s =
     decimal s.count ++ (codes " of " ++ (decimal s.words ++ (codes " words" ++ sizes_text s.count s.first)))
 
--- The line of the segments, which is empty if the sizes are not known.
+-- The line `segments:`, with the text of `segments`. `None` stands for sizes that are not known, and has no line.
 abbrev pub segments_line : Option SegmentsText → List ℕ
 segments_line (Some segments) = line (codes "segments: ") (segments_text segments)
 segments_line None = codes ""
 
--- The lines of the number of a message, counted from 1, its offset, and its segments.
+-- The lines of `head`: the number of a message, counted from 1, its offset, and its segments.
 abbrev pub head_lines : MessageHead → List ℕ
 head_lines head =
     codes "message: " ++ (decimal (head.index + 1) ++ (codes " at " ++ (decimal head.offset ++ (codes "\n"
@@ -66,19 +67,19 @@ head_lines head =
 
 -- ---- a message that is refused in its walk
 
--- The lines of the slot, which are empty if there is no root.
+-- The lines of `slot`. `None` stands for a message without a root, and has no lines.
 abbrev pub some_slot : Option SlotLines → List ℕ
 some_slot (Some slot) = slot_lines slot.path.now slot.holder slot.examined
 some_slot None = codes ""
 
--- All lines of a message that is refused in its walk.
+-- All lines of a message that is refused in its walk: its head, the line `refused:`, and the lines of `slot`.
 abbrev pub refused_lines : MessageHead → Stopped → Option SlotLines → List ℕ
 refused_lines head stopped slot =
     head_lines head ++ (codes "refused: " ++ (stopped_text stopped ++ (codes "\n" ++ some_slot slot)))
 
 -- ---- a message whose frame, packing or length is refused
 
--- The line of the sizes behind a refusal, which is empty if the refusal has no such line.
+-- The line of the sizes that explain why a frame, a packing or a length is refused. The line is empty for `Nothing`.
 abbrev pub key_line : FrameKey → List ℕ
 key_line keys.Nothing = codes ""
 key_line (keys.There came) = codes "there: " ++ (decimal came ++ codes " bytes\n")
@@ -97,11 +98,11 @@ frame_lines head fault key =
 
 -- ---- a message that is accepted
 
--- The text of a word as its bytes, and as the pointer that they encode.
+-- The bytes of `word`, and then the text of the pointer that they encode.
 abbrev pub word_says : ℕ → List ℕ
 word_says word = word_text word ++ (codes " (" ++ (pointer_text (pointer_of word) ++ codes ")"))
 
--- The text `yes` if the message is canonical, and the reason if the message is not canonical.
+-- The text `yes` for `Yes`. Otherwise the text `no`, and the reason why the message is not canonical.
 abbrev pub canonical_text : CanonicalText → List ℕ
 canonical_text forms.Yes = codes "yes"
 canonical_text (forms.Segments count) = codes "no: " ++ (decimal count ++ codes " segments")
@@ -120,8 +121,8 @@ canonical_text (forms.After byte word) =
     codes "no: at byte " ++ (decimal byte ++ (codes ": " ++ (word_text word
     ++ codes ", canonical nothing, after the value")))
 
--- The line of two lengths, of the message's contents and of its canonical bytes. The line is empty if they are not
--- known.
+-- The line `lengths:`, with the length of a message's contents and that of its canonical bytes. The line is empty for
+-- `None`.
 abbrev pub lengths_line : Option (ℕ × ℕ) → List ℕ
 lengths_line (Some lengths) =
     codes "lengths: " ++ (decimal lengths.0 ++ (codes " bytes, canonical " ++ (decimal lengths.1 ++ codes "\n")))

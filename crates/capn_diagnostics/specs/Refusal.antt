@@ -1,4 +1,4 @@
--- The whole explanation of a message that is refused in its walk. (Our own.)
+-- The complete explanation of a message that is refused in its walk. (Our own.)
 use Rattle.std.specs.Prelude.{◌≡◌, ℕ, ◌<◌, List, [], ◌∷◌, length, Option, Some, None, codes, refl}
 use Rattle.std.specs.Fmt.{digits}
 use Rattle.capn_words.specs.Message.{segment_at}
@@ -20,25 +20,26 @@ use Rattle.capn_diagnostics.specs.declared.holder_text.HolderText.{HolderText}
 use Rattle.capn_diagnostics.specs.declared.holder_text.HolderText.TheVariants as texts
 use Rattle.capn_diagnostics.specs.declared.message_text.MessageHead.{MessageHead}
 
--- The place at which a holder begins: a struct, a list of pointers, or a row.
+-- The place at which a holder begins. A holder is a struct, a list of pointers, or a row.
 abbrev pub beginning : Holder → Place
 beginning (holders.Struct words slots at) = at
 beginning (holders.Pointers count at) = at
 beginning (holders.Row row count at) = at
 
 module _ (message : List (List ℕ)) (offset table : ℕ) where
-  -- An object that holds a slot, with the offset in bytes at which the object begins.
+  -- The object that holds a slot, with the offset in bytes at which the object begins.
   abbrev pub with_byte : Holder → HolderText
   with_byte (holders.Struct words slots at) = texts.Struct words slots (place_byte offset table message at)
   with_byte (holders.Pointers count at) = texts.Pointers count (place_byte offset table message at)
   with_byte (holders.Row row count at) = texts.Row row count (place_byte offset table message at)
 
-  -- An object that holds a slot, with its offset in bytes, if there is an object.
+  -- For `Some holder`, the object `holder` with the offset in bytes at which it begins. For `None`, the result is
+  -- `None`.
   abbrev pub with_byte_if : Option Holder → Option HolderText
   with_byte_if (Some holder) = Some (with_byte holder)
   with_byte_if None = None
 
-  -- The findings about the slot at which the walk stopped.
+  -- The findings about the slot at `stopped.place`, at which the walk stopped.
   abbrev pub examined_at : Bounds → Stopped → Examined
   examined_at limits stopped = record {
     slot = slots.placed message offset table stopped.place;
@@ -56,26 +57,27 @@ module _ (message : List (List ℕ)) (offset table : ℕ) where
     pub holds : IsHolderOrRoot message path to holder
     pub is : text ≡ with_byte_if holder
 
-  -- `lines` are those of the slot at which the walk stopped: the path `path` to the slot, the object that holds the
-  -- slot, and the findings about the slot.
+  -- `lines` has the `path` to the slot at which the walk stopped, the object that holds this slot, and the findings
+  -- about it.
   pub record AreLinesOf (limits : Bounds) (path : List ℕ) (stopped : Stopped) (lines : SlotLines) : Type 0 where
     pub numbers : lines.path.now ≡ path
     pub holder : IsHolderText path stopped.place lines.holder
     pub examined : lines.examined ≡ examined_at limits stopped
 
-  -- The given lines are those of the slot at which the walk stopped. No lines are given if the message has no root.
+  -- If the message has a root, the lines are `Some lines`, those of the slot at which the walk stopped. Otherwise they
+  -- are `None`.
   abbrev pub AreLinesIf : Bounds → List ℕ → Stopped → Option SlotLines → Type 0
   AreLinesIf limits path stopped (Some lines) =
       (0 < length (segment_at message 0)) × AreLinesOf limits path stopped lines
   AreLinesIf limits path stopped None = length (segment_at message 0) ≡ 0
 
--- The head of the lines, with the number `index` of messages before this one, the offset of the message's table, and
--- the segments.
+-- The head of the lines of `message`: the number `index` of messages before it, the `offset` of its table, and its
+-- segments.
 abbrev pub head : List (List ℕ) → ℕ → ℕ → MessageHead
 head message index offset = record { index = index; offset = offset; segments = Some (segments_of message) }
 
--- `message` is refused, and `text` has the lines that explain the refusal. These are the head, the refusal, and the
--- lines of the slot at which the walk stopped, if the message has a root.
+-- `message` is refused within `limits`, as `stopped` says, and `text` has the lines that explain this. If the message
+-- has a root, these lines include the lines of the slot at which the walk stopped.
 pub record IsRefusalTold (message : List (List ℕ)) (limits : Bounds) (index offset table : ℕ) (stopped : Stopped)
     (text : List ℕ) : Type 0 where
   pub path : List ℕ

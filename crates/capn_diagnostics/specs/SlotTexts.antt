@@ -15,19 +15,19 @@ use Rattle.capn_diagnostics.specs.declared.holder_text.HolderText.TheVariants as
 
 -- ---- texts
 
--- The text of words of a segment, with the length of the segment.
+-- The text of the words `s` of a segment, with the length of the segment.
 abbrev pub stretch_text : Stretch → List ℕ
 stretch_text s =
     codes "words " ++ (signed_decimal s.start ++ (codes " to " ++ (signed_decimal s.end ++ (codes " of segment "
     ++ (decimal s.segment ++ (codes ", which has " ++ decimal s.length))))))
 
--- The text of rows that have no room.
+-- The text of the rows `r`: their number, the words of one row and of all rows, and the words of their list.
 abbrev pub rows_text : RowWords → List ℕ
 rows_text r =
     decimal r.count ++ (codes " of " ++ (decimal r.each ++ (codes " words each: " ++ (decimal r.words
     ++ (codes " of the list's " ++ decimal r.span)))))
 
--- The text of a limit.
+-- The text of a limit, with the numbers to compare.
 abbrev pub limit_text : Limit → List ℕ
 limit_text (bounds.Depth depth) = codes "--depth " ++ decimal depth
 limit_text (bounds.Budget asks left budget) =
@@ -45,53 +45,53 @@ holder_text (holders.Pointers count byte) =
 holder_text (holders.Row row count byte) =
     codes "row " ++ (decimal row ++ (codes " of " ++ (decimal count ++ (codes " at byte " ++ decimal byte))))
 
--- The text of a word that is read as a pointer.
+-- The text of the word of `s`, read as a pointer.
 abbrev pub word_as_pointer : SlotText → List ℕ
 word_as_pointer s = slot_text s.byte s.place s.word
 
--- The text of a word that is read as a tag.
+-- The text of the word of `s`, read as a tag.
 abbrev pub word_as_tag : SlotText → List ℕ
 word_as_tag s = word_at_text s.byte s.place s.word (tag_text s.word)
 
 -- ---- lines, each empty if there is nothing to show
 
--- A line with a key and a text.
+-- The line of `key`, `text` and a newline.
 abbrev pub line : List ℕ → List ℕ → List ℕ
 line key text = key ++ (text ++ codes "\n")
 
--- The line `in:`, which shows the object that holds the slot; empty for the slot of the root.
+-- The line `in:`, with the object that holds the slot. The line is empty for the slot of the root.
 abbrev pub holder_line : Option HolderText → List ℕ
 holder_line (Some holder) = line (codes "in: ") (holder_text holder)
 holder_line None = codes ""
 
--- The lines `pad:`, one for each word of the landing pad; empty if there is no pad to show.
+-- The lines `pad:`, one for each word of the landing pad. There are no lines for `Absent`.
 abbrev pub pad_lines : Pad → List ℕ
 pad_lines pads.Absent = codes ""
 pad_lines (pads.One word) = line (codes "pad: ") (word_as_pointer word)
 pad_lines (pads.Two first second) =
     line (codes "pad: ") (word_as_pointer first) ++ line (codes "pad: ") (word_as_pointer second)
 
--- The line `tag:`, which shows the tag of the list of structs; empty if there is none.
+-- The line `tag:`, with the tag of the list of structs. The line is empty if there is no tag.
 abbrev pub tag_line : Option SlotText → List ℕ
 tag_line (Some word) = line (codes "tag: ") (word_as_tag word)
 tag_line None = codes ""
 
--- The line `content:`, which shows content or a landing pad with its segment; empty if there is none.
+-- The line `content:`, with the words of content or of a landing pad. The line is empty if there are no such words.
 abbrev pub content_line : Option Stretch → List ℕ
 content_line (Some s) = line (codes "content: ") (stretch_text s)
 content_line None = codes ""
 
--- The line `rows:`, which shows the rows that have no room; empty if there are none.
+-- The line `rows:`, with the rows `r` of a list of structs. The line is empty for `None`.
 abbrev pub rows_line : Option RowWords → List ℕ
 rows_line (Some r) = line (codes "rows: ") (rows_text r)
 rows_line None = codes ""
 
--- The line `limit:`, which shows the limit that the refusal is about; empty if there is none.
+-- The line `limit:`, with the text of `limit`. The line is empty for `None`.
 abbrev pub limit_line : Option Limit → List ℕ
 limit_line (Some limit) = line (codes "limit: ") (limit_text limit)
 limit_line None = codes ""
 
--- The lines of the findings, after the line of the path to the slot.
+-- The line of the `path` to a slot, and the lines of the findings `e` about this slot.
 abbrev pub slot_lines : List ℕ → Option HolderText → Examined → List ℕ
 slot_lines path holder e =
     line (codes "way: ") (path_text path) ++ (line (codes "slot: ") (word_as_pointer e.slot) ++ (holder_line holder

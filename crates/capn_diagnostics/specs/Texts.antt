@@ -13,7 +13,7 @@ use Rattle.capn_words.specs.declared.pointer.Width.TheVariants.{W0, W1, W8, W16,
 
 -- ---- the text of a word as a pointer
 
--- The kind of the elements of a list, in the plural.
+-- The text of the kind of the elements of a list, in the plural.
 abbrev pub elements_text : Width → List ℕ
 elements_text W0 = codes "voids"
 elements_text W1 = codes "bits"
@@ -28,11 +28,11 @@ elements_text Rows = codes "structs"
 abbrev pub sizes_text : ℕ → ℕ → List ℕ
 sizes_text words slots = decimal words ++ (codes " words and " ++ (decimal slots ++ codes " slots"))
 
--- The text of a place.
+-- The text of a place: the numbers `segment` and `word`.
 abbrev pub place_text : ℕ → ℕ → List ℕ
 place_text segment word = codes "segment " ++ (decimal segment ++ (codes " word " ++ decimal word))
 
--- The text of a pointer.
+-- The text of a pointer: its kind, and the fields of that kind.
 abbrev pub pointer_text : Pointer → List ℕ
 pointer_text Nil = codes "null"
 pointer_text (Node offset words slots) =
@@ -48,7 +48,7 @@ pointer_text (Far true word segment) = codes "double far to " ++ place_text segm
 pointer_text (Cap index) = codes "capability " ++ decimal index
 pointer_text (Reserved word) = codes "reserved"
 
--- The text of a word as the tag of a list of structs if the word has the kind of a struct, and as a pointer otherwise.
+-- The text of `word` as the tag of a list of structs, if it has the kind of a struct. Otherwise its text as a pointer.
 abbrev pub tag_text : ℕ → List ℕ
 tag_text word =
     if field 0 2 word == 0
@@ -68,18 +68,18 @@ word_at_text byte at word says =
     codes "byte " ++ (decimal byte ++ (codes ", " ++ (place_text at.segment at.word ++ (codes ": "
     ++ (word_text word ++ (codes ": " ++ says))))))
 
--- The text of a slot.
+-- The text of the slot at `at`: its offset in bytes, its place, the bytes of `word`, and the pointer that they encode.
 abbrev pub slot_text : ℕ → Place → ℕ → List ℕ
 slot_text byte at word = word_at_text byte at word (pointer_text (pointer_of word))
 
 -- ---- paths
 
--- The numbers, each behind a dot.
+-- The numbers, each after a dot.
 abbrev pub dotted : List ℕ → List ℕ
 dotted [] = []
 dotted (n ∷ path) = codes "." ++ (decimal n ++ dotted path)
 
--- The text of a path.
+-- The text of a path: its numbers with dots between them, or `root` for the empty path.
 abbrev pub path_text : List ℕ → List ℕ
 path_text [] = codes "root"
 path_text (first ∷ path) = decimal first ++ dotted path

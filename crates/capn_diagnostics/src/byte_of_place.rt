@@ -6,10 +6,10 @@ ghost use Rattle.capn_diagnostics.specs.PlaceByte as spec;
 
 use capn_words::{Place, Space};
 
-/// Returns the byte of a stream at which the word at `at` of the message `space` lies.
+/// Returns the offset in bytes, in a stream, of the word at `at` of the message `space`.
 ///
-/// `offset` is the byte at which the message begins, and `table` is the number of words of its table, which is 0 for a
-/// bare segment. The call asks `space` for the length of each segment before that of the word.
+/// `offset` is the byte at which the message begins. `table` is the number of words of its table, and 0 for a bare
+/// segment. The call asks `space` for the length of each segment before the segment of the word.
 #[tactic(auto, using(std::proofs::lemmas::List::Sums::sum_by_more_le, std::proofs::lemmas::List::Sums::fold_more))]
 pub fn place_byte<S: Space>(space: &S, offset: u64, table: u32, at: Place) -> u64
     requires segment { at.segment ≤ length (S.message space.now) }
@@ -26,8 +26,8 @@ pub fn place_byte<S: Space>(space: &S, offset: u64, table: u32, at: Place) -> u6
     offset + 8 * (table as u64 + before as u64 + at.word as u64)
 }
 
-/// Returns the byte of a stream at which the word at `at` lies, like `place_byte`. The place has to be in range, and
-/// the byte may pass 64 bits.
+/// Returns the offset in bytes of the word at `at`, like `place_byte`. The place has to be in range, and the offset may
+/// pass 64 bits.
 #[tactic(auto, using(crate::proofs::PlaceWithin::before_end, crate::proofs::PlaceWithin::has_segment))]
 pub(crate) fn long_place_byte<S: Space>(space: &S, offset: u64, table: u32, at: Place) -> u128
     requires { IsPlace (S.message space.now) at }

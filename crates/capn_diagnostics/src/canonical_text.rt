@@ -5,8 +5,8 @@ use crate::pointer_text::PointerText;
 use crate::word_text::WordText;
 use std::fmt;
 
-/// A finding on whether a message is canonical, displayed in one line without its newline: `yes`, or the reason why
-/// not.
+/// A finding on whether a message is canonical, displayed in one line without its newline: `yes`, or `no` and the
+/// reason.
 #[derive(Clone, Copy, Debug, PartialEq, Eq)]
 pub enum CanonicalText<'a> {
     /// The message is canonical.
@@ -24,8 +24,7 @@ pub enum CanonicalText<'a> {
     /// A word differs from the canonical one, and is the last word of a list. The fields are the offset in bytes of the
     /// word, the word, the canonical word, and the path to the list's slot.
     LastWord(u128, u64, u64, &'a [u32]),
-    /// A word stands behind the end of the canonical bytes. The fields are the offset in bytes of the word, and the
-    /// word.
+    /// A word lies after the end of the canonical bytes. The fields are the offset in bytes of the word, and the word.
     After(u128, u64),
 }
 

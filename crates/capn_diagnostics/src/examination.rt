@@ -15,7 +15,7 @@ use capn_target::{Fault, pointer_at, segment_length};
 use capn_walk::{Limits, Stopped};
 use capn_words::{Place, Pointer, Space};
 
-/// Returns the number of the word that lies `offset` words after word `from`.
+/// Returns the number of the word that lies `offset` words after word `from`. The result may be negative.
 fn led(from: u64, offset: i32) -> i64
     requires { from < 2 ^ 42 }
     ensures { result ≡ (pos from +ℤ offset) }
@@ -23,7 +23,7 @@ fn led(from: u64, offset: i32) -> i64
     from as i64 + offset as i64
 }
 
-/// Returns the words that the reference `told` of a pointer refers to.
+/// Returns the words to which the reference `told` of a pointer leads.
 fn stretch_of<S: Space>(space: &S, told: Telling) -> Stretch
     requires { told.from ≤ 2 ^ 32 }
     ensures { result ≡ spec.stretch (S.message space.now) told }
@@ -37,7 +37,7 @@ fn stretch_of<S: Space>(space: &S, told: Telling) -> Stretch
     }
 }
 
-/// Returns the words that the reference `told` of a pointer refers to, or `None` if there is no reference.
+/// Returns the words to which the reference `told` of a pointer leads, or `None` if `told` is `None`.
 fn stretch_told<S: Space>(space: &S, told: Option<Telling>) -> Option<Stretch>
     requires { IfSome told (λ t. t.from ≤ 2 ^ 32) }
     ensures { result ≡ spec.stretch_told (S.message space.now) told }
@@ -48,8 +48,8 @@ fn stretch_told<S: Space>(space: &S, told: Option<Telling>) -> Option<Stretch>
     }
 }
 
-/// Returns the words that the `fault` of the slot at `at` is about. If the fault is `Range` or `TagOverrun`, they are
-/// the content, and if it is `PadRange`, the landing pad. Returns `None` for any other fault.
+/// Returns the words that the `fault` of the slot at `at` is about. For `Range` and `TagOverrun`, these words are the
+/// content. For `PadRange`, they are the landing pad. Returns `None` for any other fault.
 fn content_of<S: Space>(
     space: &S,
     at: Place,
@@ -70,7 +70,7 @@ fn content_of<S: Space>(
     }
 }
 
-/// Returns the limit that the refusal `stopped` is about, if it is about one.
+/// Returns the limit that the fault of `stopped` is about, or `None` if there is no such limit.
 fn limit_of<S: Space>(space: &S, limits: Limits, stopped: Stopped) -> Option<Limit>
     requires { IsPlace (S.message space.now) stopped.place }
     ensures { result ≡ spec.limit_of (S.message space.now) limits stopped.place stopped.paid stopped.fault }
@@ -100,10 +100,10 @@ fn placed_some<S: Space>(space: &S, offset: u64, table: u32, at: Option<Place>) 
 
 /// Examines the slot at which the walk over the message `space` was refused within `limits`.
 ///
-/// `offset` is the byte of the stream at which the message's table begins, and `table` is the number of words that the
-/// table takes, which is 0 for a bare segment. The slot of `stopped` has to be a place of the message, as it is after
-/// each refusal but `NoRoot`. The call reads at most twelve words, asks for the length of each segment a few times, and
-/// takes no memory.
+/// `offset` is the byte of the stream at which the message's table begins. `table` is the number of words of that
+/// table, and 0 for a bare segment. The place in `stopped` has to be a place of the message. This is so for each fault
+/// of a refused walk other than `NoRoot`. The call reads at most twelve words, asks for the length of each segment a
+/// few times, and takes no memory.
 pub fn examine<S: Space>(
     space: &S,
     offset: u64,

@@ -13,14 +13,14 @@ pub enum Pad {
     Two(SlotText, SlotText),
 }
 
-/// The words of a segment that a pointer refers to. Some may lie outside the segment, even before its first word.
+/// The words of a segment to which a pointer leads. Some may lie outside the segment, even before its first word.
 #[derive(Clone, Copy, Debug, PartialEq, Eq)]
 pub struct Stretch {
     /// The number of the segment.
     pub segment: u32,
     /// The first of the words.
     pub start: i64,
-    /// The word behind the last of the words.
+    /// The word after the last of the words.
     pub end: i64,
     /// The length of the segment in words.
     pub length: u32,
@@ -33,18 +33,18 @@ pub struct RowWords {
     pub count: u32,
     /// The number of words of one row.
     pub each: u32,
-    /// The number of words of all rows together.
+    /// The number of words of all rows.
     pub words: u64,
-    /// The number of words that the list's pointer gives to the rows, without the tag.
+    /// The number of words that the list's pointer gives to the rows. The tag is not counted.
     pub span: u32,
 }
 
-/// The limit that a refusal is about, with the numbers to compare.
+/// The limit that a fault is about, with the numbers to compare.
 #[derive(Clone, Copy, Debug, PartialEq, Eq)]
 pub enum Limit {
     /// The limit on depth, in objects.
     Depth(u32),
-    /// The price of the visit, the words that were left of the budget, and the budget, all in words.
+    /// The price of the visit, the budget that is left before the visit, and the complete budget, all in words.
     Budget(u64, u32, u32),
     /// The number of segments of the message.
     Segments(u32),
@@ -57,7 +57,7 @@ pub struct Examined {
     pub slot: SlotText,
     /// The landing pad of the slot's pointer.
     pub pad: Pad,
-    /// The tag of the list of structs to which the slot leads, if the tag is inside its segment.
+    /// The tag of the list of structs to which the slot leads, if the list is inside its segment.
     pub tag: Option<SlotText>,
     /// The words of the content if the fault is `Range` or `TagOverrun`, or of the landing pad if the fault is
     /// `PadRange`.

@@ -1,4 +1,4 @@
-//! The lines about a refused slot: its word, its landing pads, its tag, its content, and the limit that the refusal is
+//! The lines about a refused slot: its word, its landing pads, its tag, its content, and the limit that the fault is
 //! about.
 
 use crate::examined::{Examined, Limit, Pad, RowWords, Stretch};
@@ -62,7 +62,7 @@ impl fmt::Display for Limit {
     }
 }
 
-/// The word of a tag, displayed with its byte, its place and its bytes.
+/// The word of a tag, displayed with its offset in bytes, its place, its bytes, and its text as a tag.
 #[derive(Drop)]
 struct TagAt(SlotText);
 
@@ -85,7 +85,7 @@ impl fmt::Display for TagAt {
     }
 }
 
-/// The line `in:`, which shows the object that holds a slot; empty if there is none.
+/// The line `in:`, with the object that holds a slot. The line is empty if there is no such object.
 #[derive(Drop)]
 struct HolderLine(Option<HolderText>);
 
@@ -103,7 +103,7 @@ impl fmt::Display for HolderLine {
     }
 }
 
-/// The lines `pad:`, one for each word of a landing pad; empty if there is no pad to show.
+/// The lines `pad:`, one for each word of a landing pad. There are no lines for the pad `Absent`.
 #[derive(Drop)]
 struct PadLines(Pad);
 
@@ -125,7 +125,7 @@ impl fmt::Display for PadLines {
     }
 }
 
-/// The line `tag:`, which shows the tag of a list of structs; empty if there is none.
+/// The line `tag:`, with the tag of a list of structs. The line is empty if there is no tag.
 #[derive(Drop)]
 struct TagLine(Option<SlotText>);
 
@@ -143,8 +143,7 @@ impl fmt::Display for TagLine {
     }
 }
 
-/// The line `content:`, which shows words outside their segment or without room for their rows; empty if there are
-/// none.
+/// The line `content:`, with words of content or of a landing pad. The line is empty if there are no such words.
 #[derive(Drop)]
 struct ContentLine(Option<Stretch>);
 
@@ -162,7 +161,7 @@ impl fmt::Display for ContentLine {
     }
 }
 
-/// The line `rows:`, which shows rows that have no room; empty if there are none.
+/// The line `rows:`, with the rows of a list of structs. The line is empty if there are no rows to show.
 #[derive(Drop)]
 struct RowsLine(Option<RowWords>);
 
@@ -180,7 +179,7 @@ impl fmt::Display for RowsLine {
     }
 }
 
-/// The line `limit:`, which shows the limit of a refusal; empty if there is none.
+/// The line `limit:`, with the limit that a fault is about. The line is empty if there is no limit.
 #[derive(Drop)]
 struct LimitLine(Option<Limit>);
 

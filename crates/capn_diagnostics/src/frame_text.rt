@@ -5,19 +5,20 @@ ghost use Rattle.hex.specs.Hex.{encode_lower};
 
 use std::{fmt, str};
 
-/// The sizes behind the refusal of a frame, a packing or a length, displayed in a line with its newline, or as nothing.
+/// The sizes that explain why a frame, a packing or a length is refused. They are displayed in one line with its
+/// newline, or as nothing.
 #[derive(Clone, Copy, Debug, PartialEq, Eq)]
 pub enum FrameKey {
     /// Nothing, since the fault has no such line.
     Nothing,
     /// The number of bytes of a bare message that were read.
     There(u64),
-    /// The number of bytes of a framed message that were read, and the least number that the message has.
+    /// The number of bytes of a framed message that were read, and the least number of bytes that the message has.
     AtLeast(u64, u64),
     /// The number of segments or words that a table announces, and the greatest number that is allowed.
     Announced(u64, u64),
-    /// A group of a packed input: the offset in bytes at which the group begins, its tag, the least number of bytes
-    /// that the group has, and the number of bytes that were read.
+    /// A group of a packed input. The fields are the offset in bytes at which the group begins, its tag, the least
+    /// number of bytes of the group, and the number of bytes that were read.
     Group(u64, u8, u64, u64),
 }
 
@@ -26,7 +27,7 @@ fn digits_of(byte: u8) -> [u8; 2]
     ensures { result ≡ encode_lower (byte ∷ []) }
 {
     let mut digits = [0u8; 2];
-    // The array has room for both digits, so the call cannot fail.
+    // The array has a byte for each of the two digits, so the call cannot fail.
     let _done = hex::encode_to_slice([byte], &mut digits);
     digits
 }

@@ -16,8 +16,8 @@ pub enum HolderText {
     Struct(u16, u16, u128),
     /// A list of pointers, with its length, and the offset in bytes of the first pointer.
     Pointers(u32, u128),
-    /// A row of a list of structs, with the number of the row, counted from 0, the number of rows, and the offset in
-    /// bytes at which the row begins.
+    /// A row of a list of structs. The fields are the number of the row, counted from 0, the number of rows, and the
+    /// offset in bytes at which the row begins.
     Row(u32, u32, u128),
 }
 
@@ -25,8 +25,8 @@ impl HolderText {
     /// Returns the text of `holder`, an object of the message `space` that holds a slot. The object has to begin at a
     /// place in range.
     ///
-    /// `offset` is the byte of the stream at which the message's table begins, and `table` is the number of words that
-    /// the table takes, which is 0 for a bare segment.
+    /// `offset` is the byte of the stream at which the message's table begins. `table` is the number of words of that
+    /// table, and 0 for a bare segment.
     pub fn of<S: Space>(space: &S, offset: u64, table: u32, holder: Holder) -> HolderText
         requires { IsPlace (S.message space.now) (spec.beginning holder) }
         ensures { result ≡ spec.with_byte (S.message space.now) offset table holder }

@@ -7,8 +7,8 @@
 //! - [`PathText`] displays the path from the root to a slot.
 //! - [`place_byte`] returns the byte of a stream at which a word of a message lies.
 //! - [`examine`] examines the slot at which the walk over a message was refused. The call finds the words that
-//!   lead to the slot's content, the place of the content, and the limit that the refusal is about.
-//! - [`explain_stop`] returns all lines that explain a message at which the walk has stopped.
+//!   lead to the slot's content, the place of the content, and the limit that the fault is about.
+//! - [`explain_stop`] returns all lines that explain why the walk over a message has stopped.
 //! - [`RefusedLines`] and [`FrameLines`] display all lines that explain a refused message. The lines are made of
 //!   [`MessageHead`], [`SegmentsText`], [`SlotLines`], [`HolderText`] and [`FrameKey`].
 //! - [`CountText`] displays the line of a run that finds no message to explain.

@@ -17,7 +17,7 @@ pub struct MessageHead {
     pub segments: Option<SegmentsText>,
 }
 
-/// The line `segments:`, which shows the sizes of a message; empty if they are not known.
+/// The line `segments:`, with the sizes of a message. The line is empty if the sizes are not known.
 #[derive(Drop)]
 struct SegmentsLine(Option<SegmentsText>);
 
@@ -58,13 +58,13 @@ impl fmt::Display for MessageHead {
 pub struct RefusedLines<'a> {
     /// The place and the size of the message.
     pub head: MessageHead,
-    /// The reason for the refusal, and the place at which the walk stopped.
+    /// The fault at which the walk stopped, and its place.
     pub stopped: Stopped,
     /// The findings about the slot, or `None` if there is no root.
     pub slot: Option<SlotLines<'a>>,
 }
 
-/// The lines about a slot; empty if there is no root.
+/// The lines about a slot. There are no lines if there is no root.
 #[derive(Drop)]
 struct SomeSlot<'a>(Option<SlotLines<'a>>);
 
@@ -102,7 +102,7 @@ pub struct FrameLines<'a> {
     pub head: MessageHead,
     /// The text of the fault.
     pub fault: &'a str,
-    /// The sizes behind the refusal.
+    /// The sizes that explain the fault.
     pub key: FrameKey,
 }
 

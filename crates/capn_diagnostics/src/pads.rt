@@ -1,4 +1,4 @@
-//! The landing pad of a slot's pointer, as `explain` shows it.
+//! The landing pad of a slot's pointer, as the command `explain` shows it.
 
 ghost use Rattle.std.specs.Prelude.{◌≡◌};
 ghost use Rattle.capn_diagnostics.specs.Slot as spec;
@@ -74,7 +74,8 @@ fn one_word<S: Space>(space: &S, offset: u64, table: u32, segment: u32, word: u3
     }
 }
 
-/// Returns the landing pad of two words at `word` of `segment`, or `Absent` if not both are inside the segment.
+/// Returns the landing pad of two words at `word` of `segment`, or `Absent` if the words are not both inside the
+/// segment.
 fn two_words<S: Space>(space: &S, offset: u64, table: u32, segment: u32, word: u32) -> Pad
     ensures { result ≡ spec.pad_of_two (S.message space.now) offset table segment word }
 {

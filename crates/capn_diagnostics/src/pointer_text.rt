@@ -1,4 +1,4 @@
-//! The text of a word that is read as a pointer.
+//! The text of a word that is read as a pointer, such as a far pointer, for the command `explain`.
 
 ghost use Rattle.std.specs.Prelude.{◌≡◌};
 ghost use Rattle.capn_words.specs.Pointers.{pointer_of};

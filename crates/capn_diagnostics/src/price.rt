@@ -28,7 +28,7 @@ fn toll_of(target: Target, base: u32) -> u64
     }
 }
 
-/// Returns the price of the visit of the slot at `at`, in words. It is 0 if the target of the slot is a fault.
+/// Returns the price of the visit of the slot at `at`, in words. The price is 0 if the target of the slot is a fault.
 pub(crate) fn asked<S: Space>(space: &S, tariff: Tariff, at: Place) -> u64
     requires { IsPlace (S.message space.now) at }
     ensures { result ≡ spec.asked (base tariff) (target (S.message space.now) at) }

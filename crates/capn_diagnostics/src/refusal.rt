@@ -22,7 +22,7 @@ use std::alloc::{Allocator, Global};
 /// The explanation of a message that was refused in its walk.
 #[derive(Debug, Drop)]
 pub struct Explanation<A: Allocator = Global> {
-    /// The reason for the refusal, and the place at which the walk stopped.
+    /// The fault at which the walk stopped, and its place.
     pub stopped: Stopped,
     /// The lines of the explanation, as [`RefusedLines`] displays them.
     pub text: Vec<u8, A>,
@@ -30,11 +30,11 @@ pub struct Explanation<A: Allocator = Global> {
 
 /// Explains why the walk over the message `space` was refused with `stopped`, and returns the lines.
 ///
-/// `stopped` has to be the refusal of this message within `limits`, as [`survey`](capn_walk::survey) returns it.
-/// `index` is the number of messages before this one. `offset` is the byte of the stream at which the message's table
-/// begins, and `table` is the number of words that the table takes, which is 0 for a bare segment. The call repeats the
-/// visits up to the refused one, but makes no survey. The call takes memory of `alloc` for the text and for the path,
-/// which has at most two numbers for each level of the depth limit. (Our own.)
+/// `stopped` has to be the error that [`survey`](capn_walk::survey) returns for this message within `limits`. `index`
+/// is the number of messages before this one. `offset` is the byte of the stream at which the message's table begins.
+/// `table` is the number of words of that table, and 0 for a bare segment. The call repeats the visits up to the
+/// refused one, but makes no survey. The call takes memory of `alloc` for the text and for the path. The path has at
+/// most two numbers for each level of the depth limit. (Our own.)
 pub fn explain_stop<S: Space, A: Allocator + Copy>(
     alloc: A,
     space: &S,
@@ -55,7 +55,7 @@ pub fn explain_stop<S: Space, A: Allocator + Copy>(
     tell(alloc, space, index, offset, table, limits, &refused)
 }
 
-/// Explains a message whose walk was `refused`. The refusal has the path to the slot at which the walk stopped.
+/// Explains a message whose walk was `refused`. `refused` has the path to the slot at which the walk stopped.
 fn tell<S: Space, A: Allocator + Copy>(
     alloc: A,
     space: &S,

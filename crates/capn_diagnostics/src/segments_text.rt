@@ -31,12 +31,12 @@ impl<'a> fmt::Display for Listed<'a> {
 }
 
 /// The segments of a message, displayed in one line without its newline: the number of segments, and the number of
-/// words of all together. If there are two or more segments, the number of words of each of the first eight follows.
+/// words of all segments. If there are two or more segments, the number of words of each of the first eight follows.
 #[derive(Clone, Copy, Debug, PartialEq, Eq)]
 pub struct SegmentsText {
     /// The number of segments.
     pub count: u32,
-    /// The number of words of all segments together.
+    /// The number of words of all segments.
     pub words: u64,
     /// The number of words of each of the first eight segments. Elements past the number of segments are not displayed.
     pub first: [u32; 8],

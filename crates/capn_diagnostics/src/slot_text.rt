@@ -10,8 +10,8 @@ use crate::word_text::WordText;
 use capn_words::{Place, Space};
 use std::fmt;
 
-/// A slot, displayed in one line without its newline: the offset in bytes and the place of its word, the bytes of the
-/// word, and the pointer that they encode.
+/// A slot, displayed in one line without its newline. The line has the offset in bytes and the place of the slot's
+/// word, the bytes of the word, and the pointer that they encode.
 #[derive(Clone, Copy, Debug, PartialEq, Eq)]
 pub struct SlotText {
     /// The byte of the stream at which the word begins.
@@ -25,8 +25,8 @@ pub struct SlotText {
 impl SlotText {
     /// Returns the text of the slot at `at` of the message `space`. The place has to be in range.
     ///
-    /// `offset` is the byte of the stream at which the message's table begins, and `table` is the number of words that
-    /// the table takes, which is 0 for a bare segment.
+    /// `offset` is the byte of the stream at which the message's table begins. `table` is the number of words of that
+    /// table, and 0 for a bare segment.
     pub fn at<S: Space>(space: &S, offset: u64, table: u32, at: Place) -> SlotText
         requires { IsPlace (S.message space.now) at }
         ensures { result ≡ placed (S.message space.now) offset table at }

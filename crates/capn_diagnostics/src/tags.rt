@@ -105,8 +105,8 @@ fn row_words(tag: u64, span: u32) -> RowWords
     }
 }
 
-/// Returns the rows of the list of structs to which the slot at `at` leads, if the `fault` is that the rows have no
-/// room.
+/// Returns the rows of the list of structs to which the slot at `at` leads, if the `fault` is `TagOverrun`. Returns
+/// `None` for any other fault.
 pub(crate) fn rows_of<S: Space>(
     space: &S,
     at: Place,

@@ -1,4 +1,4 @@
-//! The reference of a pointer to its content, directly or over a landing pad, as `explain` shows it.
+//! The reference of a pointer to its content, directly or over a landing pad, as the command `explain` shows it.
 
 ghost use Rattle.std.specs.Prelude.{◌≡◌, ◌<◌, ◌≤◌, ◌+◌, ◌^◌, IsTrue, Some, None, IfSome, if◌then◌else◌};
 ghost use Rattle.capn_target.specs.Target.{pointer_in};
@@ -41,7 +41,7 @@ pub(crate) fn words_told(form: Pointer) -> u64
     }
 }
 
-/// Returns the reference of `pointer`, which lies at `word` of `segment`, if `pointer` is one to a struct or list.
+/// Returns the reference of `pointer` if it is a pointer to a struct or list. The pointer lies at `word` of `segment`.
 fn told_near(segment: u32, word: u32, pointer: Pointer) -> Option<Telling>
     ensures value { result ≡ spec.told_near segment word pointer }
     ensures small { IfSome result (λ t. t.from ≤ 2 ^ 32) }

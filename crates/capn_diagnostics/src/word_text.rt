@@ -11,7 +11,7 @@ fn digits_of(word: u64) -> [u8; 16]
     ensures { result ≡ encode_lower (to_le_bytes w64 word) }
 {
     let mut digits = [0u8; 16];
-    // The array has room for all 16 digits, so the call cannot fail.
+    // The array has 16 bytes, one for each digit, so the call cannot fail.
     let _done = hex::encode_to_slice(word.to_le_bytes(), &mut digits);
     digits
 }

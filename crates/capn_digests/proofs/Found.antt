@@ -20,7 +20,7 @@ use Rattle.capn_digests.specs.Tag.{tag}
 use Rattle.capn_digests.specs.Buckets.{IsMarked, IsHeld, IsHeldAt, IsOverflowed, IsFound}
 use Rattle.capn_digests.specs.Buckets.{slot_of, no_slot, no_head}
 
--- `heads` and `table` change only at index `at`, and each slot that the bucket at `at` held is still held
+-- `heads` and `table` change only at index `at`, and the bucket at `at` still holds each slot that it held before
 pub record IsChangedAt (at : ℕ) (heads : List Head) (table : List (List Slot)) (new_heads : List Head)
     (new_table : List (List Slot)) : Type 0 where
   pub headed : length new_heads ≡ length heads
@@ -62,7 +62,7 @@ module _ (at : ℕ) (heads : List Head) (table : List (List Slot)) (new_heads : 
         | inr other ↦ (below, ap (λ (h : Head). h.overflowed) (change.same_head (t % n) other) ∙ is)
       ]
 
-  -- each digest that was found is still found
+  -- if `IsFound` holds before the change, it holds after the change
   pub found_still : (list rest : List (List ℕ)) → IsFound list heads table rest → IsFound list new_heads new_table rest
   found_still list rest f =
       record {
@@ -75,7 +75,7 @@ module _ (at : ℕ) (heads : List Head) (table : List (List Slot)) (new_heads : 
             (λ d. overflowed_at f.buckets (tag d)) rest f.others;
       }
 
--- a digest that is pushed to the list is found there, if its bucket holds the slot with the new index
+-- after `d` is pushed to `list`, `IsFound` still holds, if the bucket of `d` holds the slot with the new index
 pub found_more : (list : List (List ℕ)) (heads : List Head) (table : List (List Slot)) (rest : List (List ℕ))
     (d : List ℕ) → IsFound list heads table rest → IsHeldAt (length heads) heads table (slot_of d (length list))
     → IsFound (list ++ d ∷ []) heads table rest
@@ -99,7 +99,7 @@ found_more list heads table rest d f held =
       others = f.others;
     }
 
--- a digest that is put into the tree is found there, if its bucket has overflowed
+-- after `d` is put into the tree, `IsFound` still holds, if the bucket of `d` has overflowed
 pub found_other : (list : List (List ℕ)) (heads : List Head) (table : List (List Slot)) (rest : List (List ℕ))
     (d : List ℕ) → IsFound list heads table rest → IsOverflowed (length heads) heads (tag d)
     → IsFound list heads table (insert_key (slice_cmp nat_cmp) rest d)
@@ -118,7 +118,6 @@ module _ (at : ℕ) (heads : List Head) (table : List (List Slot)) (head : Head)
   over : (get_or heads at no_head).overflowed ≡ true → (get_or (set heads at head) at no_head).overflowed ≡ true
   over e = ap (λ (h : Head). h.overflowed) (get_or-set_same heads at head no_head inside) ∙ overflowed e
 
-  -- if the head and the bucket at index `at` are set, `IsChangedAt` holds
   pub changed_both : (bucket : List Slot) → length table ≡ length heads → ((s : Slot) → s.tag % length heads ≡ at
       → IsHeld (get_or heads at no_head) (get_or table at []) s → IsHeld head bucket s)
       → IsChangedAt at heads table (set heads at head) (set table at bucket)
@@ -134,7 +133,6 @@ module _ (at : ℕ) (heads : List Head) (table : List (List Slot)) (head : Head)
         overflowed = over;
       }
 
-  -- if only the head at index `at` is set, `IsChangedAt` holds
   pub changed_head : ((s : Slot) → IsHeld (get_or heads at no_head) (get_or table at []) s
       → IsHeld head (get_or table at []) s) → IsChangedAt at heads table (set heads at head) table
   changed_head held =
@@ -148,7 +146,7 @@ module _ (at : ℕ) (heads : List Head) (table : List (List Slot)) (head : Head)
         overflowed = over;
       }
 
--- with twice as many buckets, the bucket of a tag is the old one or its copy in the second half
+-- if the `n` buckets are doubled, the bucket of the tag `t` is the old bucket, or its copy in the second half
 twice : (n t : ℕ) → 0 < n → t % (n + n) < n + n → ((t % (n + n) < n) × (t % n ≡ t % (n + n)))
     ⊎ ((n ≤ t % (n + n)) × (t % n ≡ t % (n + n) - n))
 twice n t some below =
@@ -167,19 +165,19 @@ twice n t some below =
 
 module _ (list : List (List ℕ)) (heads : List Head) (table : List (List Slot)) (rest : List (List ℕ))
     (q : List ℕ) (f : IsFound list heads table rest) where
-  -- the bucket of a digest in the list holds the digest's slot
+  -- if the list has `q` at index `i`, the bucket of `q` holds the slot of `q` with index `i`
   pub held_of : (i : ℕ) → i < length list → get_or list i [] ≡ q → IsHeldAt (length heads) heads table (slot_of q i)
   held_of i below is =
       subst (λ (n : ℕ). IsHeldAt n heads table (slot_of q i)) (sym f.headed)
       (subst (λ (d : List ℕ). IsHeldAt f.buckets heads table (slot_of d i)) is (f.listed i below))
 
-  -- the bucket of a digest in the tree has overflowed
+  -- if the tree has `q`, the bucket of `q` has overflowed
   pub over_of : (i : ℕ) → i < length rest → get_or rest i [] ≡ q → IsOverflowed (length heads) heads (tag q)
   over_of i below is =
       subst (λ (n : ℕ). IsOverflowed n heads (tag q)) (sym f.headed)
       (subst (λ (d : List ℕ). IsOverflowed f.buckets heads (tag d)) is (f.others i [] below))
 
-  -- without buckets the list has no digests
+  -- if there are no buckets, the list does not have `q`
   pub none_listed : length heads ≡ 0 → (i : ℕ) → i < length list → get_or list i [] ≡ q → ⊥
   none_listed none i below is =
       let less : tag q % length heads < length heads = (held_of i below is).0 in
@@ -190,18 +188,19 @@ module _ (list : List (List ℕ)) (heads : List Head) (table : List (List Slot))
       let less : tag q % length heads < length heads = (over_of i below is).0 in
       omega arith
 
-  -- a digest is not in the list if the head of its bucket lacks a mark of its tag
+  -- if the head of the bucket of `q` lacks a mark of the tag of `q`, the list does not have `q`
   pub unmarked_listed : (head : Head) → head ≡ get_or heads (tag q % length heads) no_head
       → (IsMarked head (tag q) → ⊥) → (i : ℕ) → i < length list → get_or list i [] ≡ q → ⊥
   unmarked_listed head same not i below is =
       not (subst (λ (h : Head). IsMarked h (tag q)) (sym same) (held_of i below is).1.marked)
 
-  -- a digest is not in the tree if its bucket has not overflowed
+  -- if the bucket of `q` has not overflowed, the tree does not have `q`
   pub unmarked_other : (head : Head) → head ≡ get_or heads (tag q % length heads) no_head
       → (head.overflowed ≡ true → ⊥) → (i : ℕ) → i < length rest → get_or rest i [] ≡ q → ⊥
   unmarked_other head same not i below is = not (ap (λ (h : Head). h.overflowed) same ∙ (over_of i below is).1)
 
-  -- a digest is not in the list if no slot of its bucket has an index at which the list has the digest
+  -- if no slot of the bucket of `q` has both the tag of `q` and an index at which the list has `q`, the list does not
+  -- have `q`
   pub unled : (bucket : List Slot) → bucket ≡ get_or table (tag q % length heads) []
       → ((k : ℕ) → k < length bucket → (get_or bucket k no_slot).tag ≡ tag q
       → (get_or bucket k no_slot).at < length list → get_or list ((get_or bucket k no_slot).at) [] ≡ q → ⊥)
@@ -214,7 +213,7 @@ module _ (list : List (List ℕ)) (heads : List Head) (table : List (List Slot))
       (subst (λ (n : ℕ). n < length list) (sym (ap (λ (s : Slot). s.at) e)) below)
       (ap (λ (s : Slot). get_or list s.at []) e ∙ is)
 
--- if a list is appended to itself, the item for a tag is the same as before
+-- if `xs` of length `n` is appended to itself, the item at index `t % (n + n)` is the item of `xs` at index `t % n`
 pub same_twice : {X : Type 0} (xs : List X) (d : X) (n t : ℕ) → length xs ≡ n → t % n < n
     → (t % (n + n) < n + n) × (get_or (xs ++ xs) (t % (n + n)) d ≡ get_or xs (t % n) d)
 same_twice xs d n t same below =
@@ -242,7 +241,7 @@ twice_over : (heads : List Head) (n : ℕ) → length heads ≡ n → (t : ℕ) 
 twice_over heads n a t (below, is) =
     let h = same_twice heads no_head n t a below in (h.0, ap (λ (x : Head). x.overflowed) h.1 ∙ is)
 
--- if heads and buckets are appended to themselves, every digest is still found
+-- if `heads` and `table` are appended to themselves, `IsFound` still holds
 pub found_twice : (list : List (List ℕ)) (heads : List Head) (table : List (List Slot)) (rest : List (List ℕ))
     → IsFound list heads table rest → IsFound list (heads ++ heads) (table ++ table) rest
 found_twice list heads table rest f =
@@ -257,7 +256,7 @@ found_twice list heads table rest f =
       others = λ i d below. twice_over heads f.buckets f.headed (tag (get_or rest i d)) (f.others i d below);
     }
 
--- a slot that a bucket holds is still held after the head is marked as overflowed
+-- `bucket` still holds the slot `s` after `head` is marked as overflowed
 flagged : (head : Head) (bucket : List Slot) (s : Slot) → IsHeld head bucket s → IsHeld (record {
   marks = head.marks;
   more = head.more;
@@ -281,7 +280,7 @@ module _ (list : List (List ℕ)) (heads : List Head) (table : List (List Slot))
   even : length table ≡ length heads
   even = f.tabled ∙ sym f.headed
 
-  -- a digest that is added to the list and to its bucket is found in the list
+  -- after `d` is pushed to the list, and its slot is put into its bucket, `IsFound` still holds
   pub found_added : (new : Head) → IsOneMore head new → IsMarked new t → new.overflowed ≡ head.overflowed
       → (bucket : List Slot) → bucket ≡ get_or table (t % n) bucket → head.count < length bucket → (at : ℕ)
       → at ≡ length list → IsFound (list ++ d ∷ []) (set heads (t % n) new)
@@ -316,7 +315,7 @@ module _ (list : List (List ℕ)) (heads : List Head) (table : List (List Slot))
       (subst (λ (x : ℕ). IsHeldAt n (set heads (t % n) new) (set table (t % n) new_bucket) (record { tag = t; at = x }))
       last at_home)))
 
-  -- a digest that is added to the tree is found there, since its bucket is marked as overflowed
+  -- after `d` is put into the tree, and its bucket is marked as overflowed, `IsFound` still holds
   pub found_in_tree : IsFound list (set heads (t % n) (record {
     marks = head.marks;
     more = head.more;
@@ -348,7 +347,6 @@ some_of n e =
       | inr other ↦ omega arith
     ]
 
--- an item read with the same tag and the same number of buckets is the item of the digest's bucket
 pub read_at_home : {X : Type 0} (xs : List X) (d : X) (q : List ℕ) (heads t n : ℕ) (x : X) → t ≡ tag q → n ≡ heads
     → 0 < n → length xs ≡ heads → x ≡ get_or xs (t % n) x → x ≡ get_or xs (tag q % heads) d
 read_at_home xs d q heads t n x tagged count some long is =

@@ -11,7 +11,7 @@ use Rattle.capn_digests.specs.Buckets.{no_head}
 use Rattle.capn_digests.specs.Digests.{Digests, HasGrown, counts, count_of, taken_for}
 use Rattle.capn_digests.proofs.Found.{same_twice}
 
--- after the number of buckets is doubled, the bucket of a tag has no more slots taken than before
+-- after the number of buckets is doubled, the bucket of the tag `t` has at most as many taken slots as before
 pub fewer_twice : (heads new : List Head) → 0 < length heads → length new ≡ length heads + length heads
     → ((i : ℕ) → (get_or new i no_head).count ≤ (get_or (heads ++ heads) i no_head).count)
     → (t : ℕ) → count_of new t ≤ count_of heads t
@@ -22,7 +22,7 @@ fewer_twice heads new some long fewer t =
     subst (λ (m : ℕ). (get_or new (t % m) no_head).count ≤ (get_or heads (t % n) no_head).count) (sym long)
     (subst (λ (x : Head). (get_or new (t % (n + n)) no_head).count ≤ x.count) h.1 (fewer (t % (n + n))))
 
--- the set and its heads give the same number of taken slots for the bucket of `digest`
+-- if `s` has the counts of `heads`, both give the same number of taken slots for the bucket of `digest`
 pub taken_is : (heads : List Head) (s : Digests) → counts heads ≡ s.taken → (digest : List ℕ)
     → taken_for s digest ≡ count_of heads (tag digest)
 taken_is heads s is digest =
@@ -30,7 +30,6 @@ taken_is heads s is digest =
     ∙ (ap (λ (n : ℕ). get_or (counts heads) (tag digest % n) 0) (length-map heads (λ (h : Head). h.count))
     ∙ get_or-map (λ (h : Head). h.count) heads (tag digest % length heads) no_head)
 
--- `HasGrown` holds if the list and the table have grown as needed, and the digest is in the list or found no slot
 pub grown : (old new : Digests) (digest : List ℕ) (heads more : List Head) (listed room : ℕ) → listed ≡ old.listed
     → room ≡ old.room → counts heads ≡ old.taken → length new.taken ≡ length more → room ≤ new.room
     → (room ≤ listed → listed + (listed / 8 + 16) ≤ new.room) → (listed / 8 < length heads → more ≡ heads)

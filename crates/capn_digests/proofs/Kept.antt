@@ -1,4 +1,4 @@
--- Lemmas for `kept` and `double`: a bucket that gets one more slot, and the slots of a bucket that are kept.
+-- Lemmas for `kept` and `double`: a slot is put into a bucket, and a bucket keeps only the slots that belong to it.
 use Rattle.std.proofs.Common.{◌≡◌, ℕ, ◌+◌, ◌<◌, ◌≢◌, List, length, get_or, set, ◌%◌, ◌++◌, take, drop, arith, ap, sym}
 use Rattle.std.proofs.Common.{◌∙◌, subst, below_more}
 use Rattle.std.specs.Prelude.{slice_range}
@@ -9,13 +9,13 @@ use Rattle.capn_digests.specs.declared.slot.Slot.{Slot}
 use Rattle.capn_digests.specs.declared.slot.Head.{Head}
 use Rattle.capn_digests.specs.Buckets.{IsMarked, IsHeld, no_slot}
 
--- `new` has one more slot taken than `old`, and all marks of `old`
+-- the count of taken slots in `new` is one more than in `old`, and `new` has all marks of `old`
 pub record IsOneMore (old new : Head) : Type 0 where
   pub count : new.count ≡ old.count + 1
   pub kept : (t : ℕ) → IsMarked old t → IsMarked new t
 
 module _ (old new : Head) (bucket : List Slot) (slot : Slot) (more : IsOneMore old new) where
-  -- a slot that was held before is held afterwards
+  -- after `slot` is put into the bucket, the bucket still holds each slot `s` that it held before
   pub held_still : (s : Slot) → IsHeld old bucket s → IsHeld new (set bucket old.count slot) s
   held_still s h =
       let taken : h.place < old.count = h.taken in
@@ -29,7 +29,6 @@ module _ (old new : Head) (bucket : List Slot) (slot : Slot) (more : IsOneMore o
         marked = more.kept s.tag h.marked;
       }
 
-  -- the new slot is held
   pub held_one : old.count < length bucket → IsMarked new slot.tag → IsHeld new (set bucket old.count slot) slot
   held_one within marked =
       let one : new.count ≡ old.count + 1 = more.count in
@@ -41,7 +40,7 @@ module _ (old new : Head) (bucket : List Slot) (slot : Slot) (more : IsOneMore o
         marked = marked;
       }
 
--- if slot `k` of `bucket` is taken and its tag belongs to bucket `at`, the new bucket holds it
+-- if slot `k` of `bucket` is taken and its tag belongs to bucket `at`, the new bucket `kept` holds this slot
 abbrev pub IsKept : Head → List Slot → ℕ → ℕ → Head → List Slot → ℕ → Type 0
 IsKept head bucket buckets at new kept k =
     k < head.count → (get_or bucket k no_slot).tag % buckets ≡ at → IsHeld new kept (get_or bucket k no_slot)
@@ -57,19 +56,18 @@ module _ (head : Head) (bucket : List Slot) (buckets at j : ℕ) (new : Head) (k
       (λ k below taken own. held_still new more kept (get_or bucket j no_slot) one (get_or bucket k no_slot)
       (held k below taken own)) (λ taken own. held_one new more kept (get_or bucket j no_slot) one within marked)
 
-  -- if slot `j` does not belong to the new bucket, `IsKept` holds of the slots up to `j` without a change
+  -- if slot `j` does not belong to the new bucket `kept`, the unchanged `kept` satisfies `IsKept` for the slots up to
+  -- `j`
   pub kept_none : (j < head.count → (get_or bucket j no_slot).tag % buckets ≡ at → ⊥) → (k : ℕ) → k < j + 1
       → IsKept head bucket buckets at new kept k
   kept_none not =
       below_more (λ (k : ℕ). IsKept head bucket buckets at new kept k) j held (λ taken own. absurd (not taken own))
 
--- writing a list over another of the same length gives the first list
 pub written : {X : Type 0} (xs ys : List X) (n : ℕ) → n ≡ length ys → length xs ≡ length ys
     → take n (xs ++ drop (length xs) ys) ≡ xs
 written xs ys n whole same =
     ap (λ (m : ℕ). take m (xs ++ drop (length xs) ys)) (whole ∙ sym same)
     ∙ take-append_seam xs (drop (length xs) ys)
 
--- the range from 0 to the length is the whole list
 pub all_of : {X : Type 0} (xs : List X) (n : ℕ) → n ≡ length xs → slice_range xs 0 n ≡ xs
 all_of xs n e = ap (λ (m : ℕ). slice_range xs 0 m) e ∙ grind (arith, common_steps)

@@ -6,7 +6,7 @@ use Rattle.std.proofs.lemmas.Nat.Bits.{same_from_bits, bit_at_and, bit_at_or}
 min_of_more : (a m x : ℕ) → min a x ≡ x → min (max a m) x ≡ x
 min_of_more a m x h = omega arith
 
--- bits that are set in `a` are still set after other bits are added
+-- if `a` has all bits of `x`, `a` with the bits of `m` added has all bits of `x` too
 pub or_keeps : (a m x : ℕ) → bit_and a x ≡ x → bit_and (bit_or a m) x ≡ x
 or_keeps a m x h =
     same_from_bits (bit_and (bit_or a m) x) x

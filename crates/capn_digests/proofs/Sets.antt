@@ -27,14 +27,14 @@ use Rattle.capn_digests.specs.Buckets.{digests_of, IsIndexed, IsFound, IsOverflo
 abbrev pub has : List (List ℕ) → List ℕ → Bool
 has ds q = list_any (eq_by_cmp (slice_cmp nat_cmp) q) ds
 
--- the set has the digests of the list and of the tree
+-- the set of `list` and `rest` has `q` exactly if `list` or `rest` has `q`
 pub contains_parts : (list rest : List (List ℕ)) (q : List ℕ)
     → set.contains (digests_of list rest) q ≡ (has list q || has rest q)
 contains_parts list rest q =
     set.contains-from_list nat_list_cmp_total (list ++ rest) q
     ∙ list_any-append (eq_by_cmp (slice_cmp nat_cmp) q) list rest
 
--- empty parts satisfy `IsIndexed`
+-- `IsIndexed` holds if the list, the heads, the table and the tree are empty
 pub indexed_none : (list : List (List ℕ)) (heads : List Head) (table : List (List Slot)) (rest : List (List ℕ))
     → list ≡ [] → heads ≡ [] → table ≡ [] → rest ≡ [] → IsIndexed list heads table rest
 indexed_none list heads table rest a b c d =
@@ -66,11 +66,11 @@ or_again true true c e = refl
 or_again false b c e = refl
 or_again true false c e = absurd (cc)
 
--- digests that compare as equal are equal
+-- digests `a` and `b` that compare as equal are equal
 pub same_digest : (a b : List ℕ) → slice_cmp nat_cmp a b ≡ Equal → a ≡ b
 same_digest = slice_cmp-IsAntisymmetric nat_cmp-IsAntisymmetric
 
--- after `k` is inserted, the keys have `q` if `q` is `k` or was among the keys before
+-- after `k` is inserted, the keys have `q` exactly if `q` compares as equal to `k` or was among the keys before
 pub has-insert_key : (q k : List ℕ) (ks : List (List ℕ))
     → has (insert_key (slice_cmp nat_cmp) ks k) q ≡ (eq_by_cmp (slice_cmp nat_cmp) q k || has ks q)
 has-insert_key q k [] = refl
@@ -85,7 +85,6 @@ has-insert_key q k (x ∷ xs) =
           ∙ or_swap (eq_by_cmp (slice_cmp nat_cmp) q x) (eq_by_cmp (slice_cmp nat_cmp) q k) (has xs q)
     ] refl
 
--- a digest at an index of `ds` is among `ds`
 pub has_at : (ds : List (List ℕ)) (i : ℕ) (q : List ℕ) → i < length ds → get_or ds i [] ≡ q → has ds q ≡ true
 has_at ds i q below is =
     list_any_at (eq_by_cmp (slice_cmp nat_cmp) q) ds i [] below
@@ -105,7 +104,7 @@ later : (x : List ℕ) (xs : List (List ℕ)) (q : List ℕ) → (i : ℕ) × (i
     → (i : ℕ) × (i < length (x ∷ xs)) × (get_or (x ∷ xs) i [] ≡ q)
 later x xs q (i, below, is) = (suc i, omega arith, is)
 
--- a digest among `ds` is at some index of `ds`
+-- if `q` is among `ds`, `ds` has `q` at some index
 pub stands : (ds : List (List ℕ)) (q : List ℕ) → has ds q ≡ true → (i : ℕ) × (i < length ds) × (get_or ds i [] ≡ q)
 stands [] q e = absurd (true≢false (sym e))
 stands (x ∷ xs) q e =
@@ -114,7 +113,7 @@ stands (x ∷ xs) q e =
       | inr there ↦ later x xs q (stands xs q there)
     ]
 
--- a digest that is at no index of `ds` is not among `ds`
+-- if `ds` has `q` at no index, `q` is not among `ds`
 pub has_not : (ds : List (List ℕ)) (q : List ℕ) → ((i : ℕ) → i < length ds → get_or ds i [] ≡ q → ⊥) → has ds q ≡ false
 has_not ds q none =
     elim (cases_Bool (has ds q)) [
@@ -123,23 +122,23 @@ has_not ds q none =
     ]
 
 module _ (list rest : List (List ℕ)) (q : List ℕ) where
-  -- a digest is not in the set if it is neither in the list nor in the tree
+  -- `q` is not in the set if neither the list nor the tree has `q` at an index
   pub absent : ((i : ℕ) → i < length list → get_or list i [] ≡ q → ⊥)
       → ((i : ℕ) → i < length rest → get_or rest i [] ≡ q → ⊥) → set.contains (digests_of list rest) q ≡ false
   absent none other =
       contains_parts list rest q ∙ (ap (λ (b : Bool). b || has rest q) (has_not list q none) ∙ has_not rest q other)
 
-  -- a digest is in the set if it is in the list
+  -- `q` is in the set if the list has `q` at index `at`
   pub present : (at : ℕ) × (at < length list) × (get_or list at [] ≡ q) → set.contains (digests_of list rest) q ≡ true
   present (at, below, is) =
       contains_parts list rest q ∙ ap (λ (b : Bool). b || has rest q) (has_at list at q below is)
 
-  -- if a digest is not in the list, it is in the set exactly if it is in the tree
+  -- if the list does not have `q`, `q` is in the set exactly if it is in the tree
   pub asked : ((i : ℕ) → i < length list → get_or list i [] ≡ q → ⊥)
       → set.contains (digests_of list rest) q ≡ has rest q
   asked none = contains_parts list rest q ∙ ap (λ (b : Bool). b || has rest q) (has_not list q none)
 
--- pushing a digest to the list inserts it into the set
+-- pushing `d` to the list inserts `d` into the set
 pub listed_set : (list rest : List (List ℕ)) (d : List ℕ)
     → digests_of (list ++ d ∷ []) rest ≡ set.insert (digests_of list rest) d
 listed_set list rest d =
@@ -150,7 +149,7 @@ listed_set list rest d =
     ∙ sym (set.contains-insert nat_list_cmp_total (digests_of list rest) d q
     ∙ ap (λ (b : Bool). eq_by_cmp (slice_cmp nat_cmp) q d || b) (contains_parts list rest q)))))
 
--- inserting a digest into the tree inserts it into the set
+-- inserting `d` into the tree inserts `d` into the set
 pub other_set : (list rest : List (List ℕ)) (d : List ℕ)
     → digests_of list (insert_key (slice_cmp nat_cmp) rest d) ≡ set.insert (digests_of list rest) d
 other_set list rest d =
@@ -162,7 +161,7 @@ other_set list rest d =
     ∙ sym (set.contains-insert nat_list_cmp_total (digests_of list rest) d q
     ∙ ap (λ (b : Bool). eq_by_cmp (slice_cmp nat_cmp) q d || b) (contains_parts list rest q)))))
 
--- inserting a digest that the set lacks makes the set larger by one
+-- inserting `d`, which the set `s` lacks, makes the set larger by one
 pub len_more : (s : set.FinSet (slice_cmp nat_cmp)) (d : List ℕ) → set.contains s d ≡ false
     → set.len (set.insert s d) ≡ set.len s + 1
 len_more s d e =
@@ -170,7 +169,7 @@ len_more s d e =
 
 module _ (list : List (List ℕ)) (heads : List Head) (table : List (List Slot)) (rest : List (List ℕ)) (d : List ℕ)
     (indexed : IsIndexed list heads table rest) (lacks : set.contains (digests_of list rest) d ≡ false) where
-  -- after a push to the list of a digest that the set lacked, the parts satisfy `IsIndexed`
+  -- if the set lacks `d`, `IsIndexed` holds after `d` is pushed to the list
   pub indexed_listed : (new_heads : List Head) (new_table : List (List Slot))
       → IsFound (list ++ d ∷ []) new_heads new_table rest → IsIndexed (list ++ d ∷ []) new_heads new_table rest
   indexed_listed new_heads new_table found =
@@ -182,7 +181,7 @@ module _ (list : List (List ℕ)) (heads : List Head) (table : List (List Slot))
             ∙ (len_more (digests_of list rest) d lacks ∙ omega arith);
       }
 
-  -- after an insertion into the tree of a digest that the set lacked, the parts satisfy `IsIndexed`
+  -- if the set lacks `d`, `IsIndexed` holds after `d` is inserted into the tree
   pub indexed_other : (new_heads : List Head) (new_table : List (List Slot)) (keys : List (List ℕ))
       → keys ≡ insert_key (slice_cmp nat_cmp) rest d → length keys ≡ length rest + 1
       → IsFound list new_heads new_table (insert_key (slice_cmp nat_cmp) rest d)
@@ -196,7 +195,7 @@ module _ (list : List (List ℕ)) (heads : List Head) (table : List (List Slot))
             ∙ (len_more (digests_of list rest) d lacks ∙ omega arith));
       }
 
--- inserting a digest that is in the set changes nothing
+-- inserting `d`, which the set `s` has, does not change the set
 pub inserted_again : (s : set.FinSet (slice_cmp nat_cmp)) (d : List ℕ) → set.contains s d ≡ true → s ≡ set.insert s d
 inserted_again s d e =
     set.same_set nat_list_cmp_total same_digest s (set.insert s d)
@@ -208,7 +207,7 @@ or_right : (a b : Bool) → (a || b) ≡ false → b ≡ false
 or_right true b e = absurd (true≢false e)
 or_right false b e = e
 
--- inserting a digest that the set lacks makes the tree longer by one
+-- inserting `d`, which the set lacks, makes the tree longer by one
 pub one_more : (list rest : List (List ℕ)) (d : List ℕ) → set.contains (digests_of list rest) d ≡ false → (added : Bool)
     → added ≡ not (has rest d) → (n : ℕ) → n ≡ length rest + cond added 1 0 → n ≡ length rest + 1
 one_more list rest d lacks added is n e =

@@ -56,7 +56,7 @@ pub record IsFound (list : List (List ℕ)) (heads : List Head) (table : List (L
 abbrev pub digests_of : List (List ℕ) → List (List ℕ) → set.FinSet (slice_cmp nat_cmp)
 digests_of list rest = set.from_list (list ++ rest)
 
--- Each digest is found through the table, and no digest is twice in `list` and `rest`.
+-- `IsFound` holds of the list, the table and the tree, and no digest stands twice in `list ++ rest`.
 pub record IsIndexed (list : List (List ℕ)) (heads : List Head) (table : List (List Slot)) (rest : List (List ℕ))
     : Type 0 where
   pub found : IsFound list heads table rest

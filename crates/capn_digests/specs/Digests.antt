@@ -20,7 +20,7 @@ pub record Digests : Type 0 where
 abbrev pub no_digests : Digests
 no_digests = record { seen = set.empty; listed = 0; room = 0; taken = [] }
 
--- for each of `heads`, the number of slots that are taken
+-- the number of taken slots of each head in `heads`
 abbrev pub counts : List Head → List ℕ
 counts heads = map (λ (h : Head). h.count) heads
 
@@ -28,8 +28,7 @@ counts heads = map (λ (h : Head). h.count) heads
 abbrev pub count_of : List Head → ℕ → ℕ
 count_of heads t = (slice_index_or heads (t % length heads) no_head).count
 
--- either the list is full and has to grow, or it has at least eight digests for each bucket, so that the table has to
--- grow
+-- a list of `count` digests has reached its `capacity`, or has at least eight digests for each of `buckets` buckets
 abbrev pub HasToGrow : ℕ → ℕ → ℕ → Type 0
 HasToGrow count capacity buckets = (capacity ≤ count) ⊎ (buckets ≤ count / 8)
 
@@ -43,9 +42,9 @@ abbrev pub MayGrow : Digests → List ℕ → Type 0
 MayGrow s digest =
     HasToGrow s.listed s.room (length s.taken) ⊎ ((16 ≤ taken_for s digest) ⊎ (2 ^ 32 - 1 ≤ s.listed))
 
--- A bound on how often the set grows. If the list was full, it then has room for an eighth more digests, and 16. If the
--- table had to grow, it then has at least twice as many buckets, and at least one. The digest is put into the list, and
--- not into the tree, unless its bucket was full or the list was too long.
+-- The growth from `old` to `new` by `digest`. A full list of `n` digests gets capacity for at least `n / 8 + 16` more.
+-- A table that had to grow has a bucket, and at least twice as many buckets as before. If the bucket of `digest` had a
+-- free slot, and the list had fewer than 2^32 - 1 digests, the list is longer by one.
 pub record HasGrown (old new : Digests) (digest : List ℕ) : Type 0 where
   pub room : old.room ≤ new.room
   pub list : old.room ≤ old.listed → old.listed + (old.listed / 8 + 16) ≤ new.room

@@ -9,7 +9,7 @@ ghost use Rattle.capn_digests.specs.Digests.{HasToGrow, count_of};
 use crate::slot::{Head, NO_HEAD, NO_SLOT, SLOTS, Slot};
 use std::alloc::{AllocError, Allocator};
 
-/// Returns `head` and `bucket` without the slots whose tags do not belong to bucket `at` of `buckets` buckets.
+/// Returns `head` and `bucket` with only the slots whose tags belong to bucket `at` of `buckets` buckets.
 fn kept(head: Head, bucket: &[Slot; SLOTS], at: usize, buckets: usize) -> (Head, [Slot; SLOTS])
     requires { 0 < buckets }
     ensures held { (s : SlotValue) → s.tag % buckets ≡ at → IsHeld head bucket.now s → IsHeld result.0 result.1 s }
@@ -84,11 +84,11 @@ fn double<A: Allocator>(
     Ok(())
 }
 
-/// Makes room for one more digest. A full list grows by an eighth and 16, and the table doubles if the list has eight
-/// digests for each bucket.
+/// Allocates so that one more digest fits. A full list of `n` digests gets the capacity for `n / 8 + 16` more digests.
+/// The table doubles if the list has at least eight digests for each bucket.
 ///
 /// `AllocError` is returned only if an allocation was refused, and only if the list is full or has at least eight
-/// digests for each bucket. After a refusal every digest is still found.
+/// digests for each bucket. After an error every digest is still found.
 #[inline(always)]
 pub(crate) fn make_room<A: Allocator>(
     list: &mut Vec<[u8; 32], A>,

@@ -1,7 +1,7 @@
 //! A set of SHA-256 digests that grows.
 //!
 //! A [`DigestSet`] takes digests and reports for each whether it was inserted before. A set has three parts: a list of
-//! the digests, a table of slots that says where in the list a digest may be, and a tree for the digests whose bucket
+//! digests, a table of slots that says where in the list a digest may be, and a tree for the digests whose bucket
 //! of the table is full. A lookup therefore reads at most one bucket, sixteen digests and one path of the tree,
 //! whatever the digests are.
 //!

@@ -16,7 +16,7 @@ fn stands_at(list: &[[u8; 32]], at: u32, digest: &[u8; 32]) -> bool
     at < list.len() && list[at] == *digest
 }
 
-/// Tests whether a slot of `bucket` with the tag `tag` has an index at which `list` has `digest`.
+/// Tests whether `list` has `digest` at the index in some slot of `bucket` with the tag `tag`.
 #[inline(never)]
 pub(crate) fn is_among(
     bucket: &[Slot; SLOTS],

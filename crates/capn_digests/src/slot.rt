@@ -7,7 +7,7 @@ ghost use Rattle.capn_digests.specs.Buckets.{IsMarked};
 /// The number of slots of a bucket.
 pub(crate) const SLOTS: usize = 16;
 
-/// The entry of one digest in a bucket: the tag of the digest, and its index in the list.
+/// The entry of one digest in a bucket: the tag of the digest, and the index of the digest in the list.
 #[derive(Clone, Copy)]
 pub(crate) struct Slot {
     pub(crate) tag: u32,

@@ -21,7 +21,7 @@ use Rattle.capn_explain.specs.declared.account.Account.{Account}
 use Rattle.capn_explain.specs.declared.explain.Explain.{Explain}
 
 module _ {A : Type 0} where
-  -- The numbers of `d`, with `Unit` in place of the allocator.
+  -- The vector `d`, with `Unit` as the type of its allocator.
   abbrev pub path : Vec ℕ A → Vec ℕ (Unit {0})
   path d = record {
     ptr = d.ptr;
@@ -51,7 +51,6 @@ module _ {A : Type 0} where
   abbrev pub account : Account A → Account (Unit {0})
   account a = record { head = a.head; paid = a.paid; visits = a.visits; depth = a.depth; lines = lines a.lines }
 
-  -- The text of a mismatch does not depend on the allocator.
   same_mismatch : (offset table : ℕ) (d : Mismatch A)
       → mismatch_text offset table d ≡ mismatch_text offset table (mismatch d)
   same_mismatch offset table mismatches.Canonical = refl
@@ -70,7 +69,6 @@ module _ {A : Type 0} where
   same_account a = λ i. head_lines a.head ++ (codes "accepted: paid " ++ (decimal a.paid ++ (codes " visits "
       ++ (decimal a.visits ++ (codes " depth " ++ (decimal a.depth ++ (codes "\n" ++ same_lines a.lines i)))))))
 
-  -- A mismatch of a message is one with any other allocator too.
   is_mismatch : (message : List (List ℕ)) (limits : Bounds) (d : Mismatch A) → IsMismatch message limits d
       → IsMismatch message limits (mismatch d)
   is_mismatch message limits mismatches.Canonical is = is
@@ -82,7 +80,6 @@ module _ {A : Type 0} where
   is_mismatch message limits (mismatches.After w x) is = is
 
   module _ (form : Form) (at : Position) (message : List (List ℕ)) (limits : Bounds) where
-    -- The text of an account has the lines of the message.
     pub account_told : (a : Account A) → IsAccount form at message limits a
         → IsAccountText form at message limits (account_text a)
     account_told a (m, measured, are, is) = (
@@ -103,13 +100,11 @@ module _ {A : Type 0} where
       same_account a,
     )
 
-    -- The account that is kept is that of the first message.
     pub first_kept : (r : Result (Account A) Memory) → at.index ≡ 0 → IfOk r (IsAccount form at message limits)
         → (IsErr r → HasMismatch message limits) → IsFirst form at message limits (lines_first (Some r))
     first_kept (Ok a) first found mismatched = (first, account_told a found)
     first_kept (Err memory) first found mismatched = (first, mismatched refl)
 
-  -- The lines of an accepted message were appended, or an allocation was refused.
   pub puts_account : (order : Explain) (at : Position) (message : List (List ℕ)) (a : Account A) (old new : List ℕ)
       (r : Result (Unit {0}) ServeFault) → IsAccount order.form at message order.limits a
       → PutsText (account_text a) old new r → PutsAccount order at message old new r

@@ -1,5 +1,4 @@
--- Lemmas for `least_of` and `needs_of`: missing bytes are read as zeros, so no number that is read from a prefix is
--- greater than the whole one.
+-- Lemmas for `least_of` and `needs_of`: a length that is computed with zeros for the missing bytes is never too great.
 use Rattle.std.proofs.Common.{◌≡◌, ℕ, zero, suc, ◌+◌, ◌≤◌, List, [], ◌∷◌, ◌++◌, drop, sum}
 use Rattle.std.proofs.Common.{slice_index, ap, arith}
 use Rattle.std.proofs.lemmas.List.{append-nil, get_or-drop}
@@ -43,7 +42,7 @@ less-frame xs ys less =
     (less-drop 4 xs ys less) in
     omega (arith, count, words, head-words (announced_segments xs), head-words (announced_segments ys))
 
--- No frame that begins with `rest` has fewer bytes than `least`.
+-- Every frame that begins with `rest` has at least `least_length rest` bytes.
 pub least_of_frame : (rest : List ℕ) (least : ℕ) → least ≡ least_length rest → IsLeastOfFrame rest least
 least_of_frame rest least is more =
     omega (arith, is, same_least rest, less-frame rest (rest ++ more) (less-more rest more))
@@ -51,7 +50,7 @@ least_of_frame rest least is more =
 less-group : (tag : ℕ) (came more : List ℕ) → len_at (tag ∷ came) ≤ len_at (tag ∷ (came ++ more))
 less-group tag came more = let byte = less-more (tag ∷ came) more 9 in grind (arith, byte)
 
--- No group that begins with `came` has fewer bytes than `least`.
+-- If `came` is not empty, every group whose text begins with `came` has at least `len_at came` bytes.
 pub least_of_group : (came : List ℕ) (least : ℕ) → least ≡ len_at came → IsLeastOfGroup came least
 least_of_group [] least is some group more fits begins = absurd (omega arith)
 least_of_group (tag ∷ came) least is some group more fits begins =

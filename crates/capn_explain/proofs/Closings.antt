@@ -21,11 +21,11 @@ use Rattle.capn_explain.specs.declared.outcome.Outcome.TheVariants as outcomes
 abbrev pub Ending : Type 0
 Ending = Result (Unit {0}) RunFault
 
--- The result `r` of a run, under a name that proofs can use.
+-- The result `r` of a run, with the type `Ending`.
 abbrev pub ended : Ending → Ending
 ended r = r
 
--- The result of a run that `e` ended.
+-- The result of a run that ends with the fault `e`.
 abbrev pub stopped : RunFault → Ending
 stopped e = Err e
 
@@ -51,12 +51,10 @@ pub closing_refused : (text : List ℕ) (old new : Option (List ℕ)) (before af
 closing_refused text old new before after (Ok u) fault told is same fine some = absurd told
 closing_refused text old new before after (Err e) fault told is same fine some = (some, inl (told ∙ is, same, fine))
 
--- The lines of a fault are not empty.
 fault_some : (limits : Bounds) (at : Position) (r : Refusal) (rest group : List ℕ)
     → fault_lines limits at r rest group ≢ []
 fault_some limits at r rest group = λ h. absurd (omega (arith, ap length h))
 
--- If messages are not explained apart, the text of a refusal has no empty line.
 pub told_without : (apart : Bool) (order : Explain) (at : Position) (r : Refusal) (came : Came) → apart ≡ false
     → told_by apart order at r came ≡ told_at order at r came
 told_without false order at r came is = refl
@@ -74,7 +72,6 @@ told_some true order at r came = λ h. absurd (omega (arith, ap length h))
 
 -- ---- the end of a run
 
--- The ending of a run that explained no message during the loop is not `Io`.
 pub rest_not_io : (number : Option ℕ) (first : Option First) → rest_ending number first ≡ Err faults.Io → ⊥
 rest_not_io (Some number) first is = absurd (cc)
 rest_not_io None (Some (Ok text)) is = absurd (cc)
@@ -94,7 +91,7 @@ pub not_true : (failed : Bool) → (failed ≡ true → ⊥) → failed ≡ fals
 not_true false none = refl
 not_true true none = absurd (none refl)
 
--- If a run ended with a refusal, neither the reader nor the writer has failed.
+-- If the result of a run is `Refused`, neither the reader nor the writer has failed.
 pub refused_fine : (at : Position) (r : Refusal) (reader writer : Bool)
     → ((stopped (faults.Refused at r) ≡ Err faults.Io) ↔ ((reader ≡ true) ⊎ (writer ≡ true)))
     → (reader ≡ true → ⊥) × (writer ≡ false)

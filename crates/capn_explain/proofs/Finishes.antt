@@ -21,12 +21,10 @@ use Rattle.capn_explain.specs.inner.Closing.{PutsClosing, PutsFault}
 use Rattle.capn_explain.proofs.Closings.{Ending, done_fine, io_is_not_memory, refused_fine}
 use Rattle.capn_explain.proofs.Closings.{stopped}
 
--- The part that was read of a message, with no bytes.
+-- No bytes of a message or a group.
 nothing : Came
 nothing = record { rest = []; group = [] }
 
--- If `came` is the part that was read of a refused message for the state `y` after the loop, it is also that part for
--- the state `z` before the fault.
 tells_left : {X : Type 0} (f : Fold X) (x : X) (form : Form) (input : List ℕ) (fault : RunFault) (came : Came) (z y : X)
     → Leaves f z fault y → TellsInput f x form input fault came y → TellsInput f x form input fault came z
 tells_left f x form input fault came z y (inl same) tells =
@@ -35,12 +33,12 @@ tells_left f x forms.Stream input fault came z y (inr refuses) tells = inl (z, r
 tells_left f x forms.Packed input fault came z y (inr refuses) tells = inl (z, refuses)
 tells_left f x forms.Bare input fault came z y (inr refuses) tells = tt
 
--- The result of a run that ended with the fault `e`.
+-- The result of a run that ends with the fault `e`.
 abbrev pub answered : {E : Type 0} → E → Result (Unit {0}) E
 answered e = Err e
 
--- The result of a run is the fault `Io` or `Memory` if and only if the ending of the run is. The state after a fault
--- gives the same result as the state before the fault.
+-- The result of a run is that for `Io` or `Memory` exactly if its ending is that fault, and these two results differ.
+-- If `Leaves` holds for the states `z` and `y` and the fault `e`, both states give one result for `e`.
 pub record IsFaithful {X E : Type 0} (f : Fold X) (answer : Answer X E) : Type 0 where
   pub io_by : (y : X) → answer.by y (stopped faults.Io) ≡ answered (answer.of faults.Io)
   pub memory_by : (y : X) → answer.by y (stopped faults.Memory) ≡ answered (answer.of faults.Memory)
@@ -49,7 +47,6 @@ pub record IsFaithful {X E : Type 0} (f : Fold X) (answer : Answer X E) : Type 0
   pub parted : answered (answer.of faults.Io) ≡ answered (answer.of faults.Memory) → ⊥
   pub left : (z y : X) (e : RunFault) → Leaves f z e y → answer.by z (stopped e) ≡ answer.by y (stopped e)
 
--- `IsFaithful` holds if the result of a run is its ending.
 pub plain_faithful : {X : Type 0} (f : Fold X) → IsFaithful f plain
 plain_faithful f = record {
   io_by = λ y. refl;
@@ -62,15 +59,16 @@ plain_faithful f = record {
 
 module _ {X E : Type 0} (f : Fold X) (x : X) (finish : Finish X) (answer : Answer X E) (faithful : IsFaithful f answer)
     (form : Form) where
-  -- All texts of the messages of `input` were written, `last` is the text that follows the messages, and `ending` is
-  -- the result.
+  -- `text`, the text of the messages of `input`, was written, and `served` is the result of the loop. `last` is the
+  -- text after the messages, and `ending` is the result of the run.
   abbrev pub Serves : Option (List ℕ) → Option (List ℕ) → Ending → List ℕ → Result (Unit {0}) E → List ℕ → Type 0
   Serves c m served last ending input =
       (text : List ℕ) × (z : X) × (came : Came) × (AreMessages f x form input text served z
       × TellsEnd f x form input served came z) × Appends c m text
       × (last_text f x finish served z came ≡ last) × (answer.by z (last_ending f x finish served z) ≡ ending)
 
-  -- The messages ended in a way that lets a text follow them.
+  -- The loop over the messages ended with `served`, and the reader has not failed. `last` is the text after the
+  -- messages, and `ending` is the result of the run.
   pub record IsOver (a b c m : Option (List ℕ)) (reader before : Bool) (served : Ending) (last : List ℕ)
       (ending : Result (Unit {0}) E) : Type 0 where
     pub state : X
@@ -227,7 +225,6 @@ module _ {X E : Type 0} (f : Fold X) (x : X) (finish : Finish X) (answer : Answe
       closing_text z came d text same (begun_after c m d text last count first wrote),
     )
 
-    -- The text that follows the messages is not empty.
     closes_by : (input : Option (List ℕ)) → IfSome input (Serves c m served last ending) → last ≢ []
         → HasClosing f x finish form input
     closes_by None is some = (served, over.state, over.came, tt, λ h. some (sym over.same ∙ h))
@@ -240,7 +237,7 @@ module _ {X E : Type 0} (f : Fold X) (x : X) (finish : Finish X) (answer : Answe
         let e : true ≡ false = sym failed ∙ fine ∙ over.writer_fine in
         absurd (cc)
 
-    -- Case: the text that follows was written in whole.
+    -- Case: `last`, the text after the messages, was written.
     pub finished_written : (d : Option (List ℕ)) (after : Bool) → Appends m d last → after ≡ before
         → Answered f x finish answer form a b c d reader after ending
     finished_written d after wrote fine = record {
@@ -257,7 +254,7 @@ module _ {X E : Type 0} (f : Fold X) (x : X) (finish : Finish X) (answer : Answe
       memory = λ h. inr (inr (over.for_memory h));
     }
 
-    -- Case: an allocation was refused for the text that follows.
+    -- Case: an allocation was refused for `last`, the text after the messages.
     unclosed : (d : Option (List ℕ)) (after : Bool) → d ≡ m → after ≡ before → last ≢ []
         → Answered f x finish answer form a b c d reader after (answered (answer.of faults.Memory))
     unclosed d after same fine some = record {
@@ -274,7 +271,7 @@ module _ {X E : Type 0} (f : Fold X) (x : X) (finish : Finish X) (answer : Answe
       memory = λ h. inr (inl (closes_by a over.exact some));
     }
 
-    -- Case: the writer failed within the text that follows.
+    -- Case: the writer failed while `last`, the text after the messages, was written.
     broken : (d : Option (List ℕ)) (after : Bool) → HasBegun m d last → after ≡ true
         → Answered f x finish answer form a b c d reader after (answered (answer.of faults.Io))
     broken d after begun failed = record {
@@ -303,7 +300,7 @@ module _ {X E : Type 0} (f : Fold X) (x : X) (finish : Finish X) (answer : Answe
 
 module _ {X E : Type 0} (f : Fold X) (x : X) (finish : Finish X) (answer : Answer X E) (faithful : IsFaithful f answer)
     (form : Form) (a b c m : Option (List ℕ)) (reader before : Bool) (y : X) where
-  -- Case: all messages were served, and the closing text was written, or failed.
+  -- Case: all messages were served, and the closing text was written.
   pub finished_closed : (d : Option (List ℕ)) (after : Bool) → (finish.ending y ≡ Err faults.Io → ⊥)
       → ServesMessages f x form a b c m reader before (Ok tt) y
       → PutsClosing (finish.closing y) m d before after (Ok tt)
@@ -334,7 +331,7 @@ module _ {X E : Type 0} (f : Fold X) (x : X) (finish : Finish X) (answer : Answe
         (answer.by y (stopped e))) (sym same)
         (finished_stopped f x finish answer faithful form a b c m reader before e y came none run tells))
 
-    -- Case: a fault ended the messages, and its lines were written, if it has any.
+    -- Case: the fault `e` ended the loop over the messages, and its text, if it has one, was written.
     pub finished_told : (d : Option (List ℕ)) (after : Bool) (e : RunFault)
         → ServesMessages f x form a b c m reader before (Err e) y
         → IfSome a (λ input. TellsEnd f x form input (Err e) came y)
@@ -350,7 +347,7 @@ module _ {X E : Type 0} (f : Fold X) (x : X) (finish : Finish X) (answer : Answe
     finished_told d after faults.InputTooLong run tells (done, same, fine) =
         still d after faults.InputTooLong refl same fine run tells
 
-    -- Case: a fault ended the messages, and its lines were not written.
+    -- Case: the fault `e` ended the loop over the messages, and its text was not written, because of `fault`.
     pub finished_untold : (d : Option (List ℕ)) (after : Bool) (e fault : RunFault)
         → ServesMessages f x form a b c m reader before (Err e) y
         → IfSome a (λ input. TellsEnd f x form input (Err e) came y)

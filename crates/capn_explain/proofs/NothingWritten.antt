@@ -1,4 +1,4 @@
--- Lemmas for `run_explain`: if an allocation is refused, nothing is written.
+-- Lemmas for `run_explain`: a run that ends with `Memory` has written nothing.
 use Rattle.std.proofs.Common.{◌≡◌, inl, inr, ℕ, List, [], ◌∷◌, ◌++◌, take, Bool, true, false, Option, None, Some}
 use Rattle.std.proofs.Common.{Ok, Err, refl, ap, sym, subst, ◌∙◌}
 use Rattle.std.proofs.Math.Seq.{take-nil}
@@ -42,7 +42,6 @@ messages_none order x (p ∷ ps) y (mid, part, step, rest) =
     let others = messages_none order mid ps y rest in
     λ i. first i ++ others i
 
--- A prefix of an empty text is empty.
 begun_none : (c d : Option (List ℕ)) (text : List ℕ) (count : ℕ) → text ≡ [] → Appends c d (take count text)
     → Appends c d []
 begun_none c d text count none wrote =
@@ -73,11 +72,10 @@ closing_none outcomes.Nothing lines number first count is = rest_none number fir
 closing_none (outcomes.Refused at s) lines number first count is = absurd (cc)
 closing_none outcomes.Accepted lines number first count is = absurd (cc)
 
--- If nothing was written before `m`, and nothing after `m`, then nothing was written in all.
 pub nothing_then : (c m d : Option (List ℕ)) → Appends c m [] → d ≡ m → Appends c d []
 nothing_then c m d wrote same = subst (λ (n : Option (List ℕ)). Appends c n []) (sym same) wrote
 
--- Case: all messages were served, the text after them was written, and the run ends with `Memory`.
+-- Case: all messages were served, the closing text was written, and the ending is `Memory`.
 pub closed_none : (run : Run Reporting) (c m d : Option (List ℕ)) (before after : Bool) → Appends c m []
     → PutsClosing (closing_by run.service.outcome run.service.lines run.service.order.number run.service.first
     run.at.index) m d before after (Ok tt)
@@ -87,7 +85,7 @@ closed_none run c m d before after wrote (closed, fine) is =
     Appends-trans c m d [] [] wrote
     (subst (Appends m d) (closing_none s.outcome s.lines s.order.number s.first run.at.index is) closed)
 
--- Case: the text was not written, because an allocation was refused.
+-- Case: an allocation was refused for `text`, and `text` was not written.
 pub unclosed_none : (text : List ℕ) (c m d : Option (List ℕ)) (before after : Bool) (fault : RunFault) → Appends c m []
     → PutsClosing text m d before after (Err fault) → stopped fault ≡ Err faults.Memory → Appends c d []
 unclosed_none text c m d before after fault wrote (some, inl (memory, same, fine)) is = nothing_then c m d wrote same
@@ -95,7 +93,7 @@ unclosed_none text c m d before after fault wrote (some, inr (io, begun, failed)
     let k : stopped faults.Io ≡ Err faults.Memory = sym (ap stopped io) ∙ is in
     absurd (cc)
 
--- Case: a fault ended the messages, and its lines were written, if it has any.
+-- Case: `fault` ended the loop over the messages, and its text, if it has one, was written.
 pub told_none : (told : Position → Refusal → List ℕ) (c m d : Option (List ℕ)) (before after : Bool) (fault : RunFault)
     → Appends c m [] → PutsFault told fault m d before after (Ok tt) → stopped fault ≡ Err faults.Memory
     → Appends c d []
@@ -104,7 +102,7 @@ told_none told c m d before after faults.Memory wrote (done, same, fine) is = no
 told_none told c m d before after faults.Io wrote put is = absurd (cc)
 told_none told c m d before after faults.InputTooLong wrote put is = absurd (cc)
 
--- Case: a fault ended the messages, and an allocation was refused for its lines.
+-- Case: the fault `ended` ended the loop over the messages, and an allocation was refused for the text of `ended`.
 pub untold_none : (told : Position → Refusal → List ℕ) (c m d : Option (List ℕ)) (before after : Bool)
     (ended fault : RunFault) → Appends c m [] → PutsFault told ended m d before after (Err fault)
     → stopped fault ≡ Err faults.Memory → Appends c d []

@@ -18,7 +18,7 @@ use Rattle.capn_explain.specs.inner.Closing.{PutsFault, told_by}
 use Rattle.capn_explain.proofs.Closings.{Ending, rest_not_io, stopped}
 use Rattle.capn_explain.proofs.Finishes.{IsFaithful, answered}
 
--- The result of a run that a fault of the reader, the writer or the memory ended.
+-- The result of a run whose fault is `Ended e`.
 abbrev ended : RunFault → Result (Unit {0}) ReportFault
 ended e = answered (faults.Ended e)
 
@@ -30,7 +30,6 @@ memory_by : (s : Option SkippedSoFar) (n : ℕ) → answer_by s n (stopped run_f
 memory_by None n = refl
 memory_by (Some s) n = refl
 
--- Two faults are the same if their results are.
 one_fault : (e g : RunFault) → ended e ≡ ended g → stopped e ≡ stopped g
 one_fault e g is = let k : e ≡ g = cc in ap stopped k
 
@@ -58,7 +57,7 @@ io_is_not_memory : ended run_faults.Io ≡ ended run_faults.Memory → ⊥
 io_is_not_memory is = absurd (cc)
 
 module _ (order : ExplainRefused) where
-  -- No refusal of a message ends the loop, so the states before and after a fault give the same result.
+  -- The states before and after a fault give one result, since no refused message ends the loop.
   left : (z y : Run RefusedReporting) (e : RunFault) → Leaves (refused_fold order) z e y
       → refused_answer.by z (stopped e) ≡ refused_answer.by y (stopped e)
   left z y e (inl same) = ap (λ (w : Run RefusedReporting). refused_answer.by w (stopped e)) same
@@ -74,13 +73,11 @@ module _ (order : ExplainRefused) where
     left = left;
   }
 
--- The ending of a run after all messages is not `Io`.
 pub ending_not_io : (skipped : Option SkippedSoFar) (first : Option First)
     → ending_by skipped first ≡ Err run_faults.Io → ⊥
 ending_not_io None first is = rest_not_io None first is
 ending_not_io (Some s) first is = absurd (cc)
 
--- The text written for a fault with the options `each` is the text that `refused_finish` gives.
 pub by_order : (order : ExplainRefused) (each : Explain) → each ≡ each_of order → (came : Came) (e : RunFault)
     (old new : Option (List ℕ)) (before after : Bool) (r : Ending)
     → PutsFault (λ at r. told_by true each at r came) e old new before after r

@@ -1,4 +1,4 @@
--- Lemmas for `put_apart`, `report` and `serve`: a message that the reporter of every refused message serves.
+-- Lemmas for `put_apart`, `report` and `serve`: the effect of one message on the reporter of every refused message.
 use Rattle.std.proofs.Common.{◌≡◌, ℕ, List, [], ◌++◌, codes, Option, Result, Ok, Err, refl, ap, sym, subst}
 use Rattle.std.proofs.Common.{◌∙◌, append-nil, inr}
 use Rattle.capn_walk.specs.Accepted.{IsAccepted}
@@ -12,7 +12,6 @@ use Rattle.capn_explain.specs.RefusedReports.{PutsToldApart, RefusedReporting, r
 use Rattle.capn_explain.specs.Reports.{First, IsFirst, IsTold, Puts, PutsText}
 use Rattle.capn_explain.specs.declared.explain.Explain.{Explain}
 
--- If the text appended is `lines` with an empty line, the message was explained. Or an allocation was refused.
 pub puts_apart : (order : Explain) (at : Position) (message : List (List ℕ)) (stopped : Stopped)
     (lines text old new : List ℕ) (r : Result (Unit {0}) ServeFault) → IsTold order at message stopped lines
     → text ≡ lines ++ codes "\n" → PutsText text old new r → PutsToldApart order at message old new r
@@ -20,7 +19,7 @@ puts_apart order at message stopped lines text old new (Ok u) told is same =
     (text, (stopped, lines, told, is), same)
 puts_apart order at message stopped lines text old new (Err fault) told is put = put
 
--- The state of the service with `order`, `skipped` and `first`.
+-- The state of the service that has `order`, `skipped` and `first`.
 abbrev pub state : Explain → Option SkippedSoFar → Option First → RefusedReporting
 state order skipped first = record { order = order; skipped = skipped; first = first }
 
@@ -42,7 +41,6 @@ tells_none s t order skipped kept before first view at message old accepted is o
       sym (append-nil old),
     )
 
--- The text that the call appended is the text for the message.
 pub puts_message : (s t : RefusedReporting) (at : Position) (frame : List ℕ) (message : List (List ℕ))
     (old new : List ℕ) (r : Result (Unit {0}) ServeFault) → Puts (serves s at [] message) old new r t
     → PutsMessage serves refuses s at frame message old new r t

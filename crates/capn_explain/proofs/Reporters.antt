@@ -1,4 +1,4 @@
--- Lemmas for `serve`: a message that the reporter serves.
+-- Lemmas for `serve`: the effect of one message on a reporter.
 use Rattle.std.proofs.Common.{ℕ, List, [], Result, Ok, Err, refl, sym, append-nil}
 use Rattle.capn_serve.specs.declared.fault.ServeFault.{ServeFault}
 use Rattle.capn_serve.specs.declared.fault.ServeFault.TheVariants as faults
@@ -6,7 +6,6 @@ use Rattle.capn_serve.specs.declared.position.Position.{Position}
 use Rattle.capn_serve.specs.Service.{PutsMessage}
 use Rattle.capn_explain.specs.Reports.{Keeps, Reporting, ServesBy, is_before, refuses, serves}
 
--- The call appends nothing to the text.
 pub puts_message : (s t : Reporting) (at : Position) (frame : List ℕ) (message : List (List ℕ)) (old : List ℕ)
     (r : Result (Unit {0}) ServeFault) → Keeps (ServesBy (is_before at s.order.number) s at message) r t
     → PutsMessage serves refuses s at frame message old old r t

@@ -12,7 +12,7 @@ use Rattle.capn_explain.specs.WhatCame.{least_length}
 abbrev pub ReadSame : List ℕ → List ℕ → Type 0
 ReadSame xs ys = (i : ℕ) → slice_index xs i ≡ slice_index ys i
 
--- Zeros at the end change no byte that is read.
+-- Zeros after `xs` change no byte that is read of `xs`.
 pub same-zeros : (xs : List ℕ) (n : ℕ) → ReadSame (xs ++ replicate n 0) xs
 same-zeros [] zero i = refl
 same-zeros [] (suc n) zero = refl
@@ -34,7 +34,7 @@ same-entries (suc n) xs ys same =
     let rest = same-entries n (drop 4 xs) (drop 4 ys) (same-drop 4 xs ys same) in
     rw (first, rest) refl
 
--- Zeros at the end do not change the length that a table announces.
+-- Zeros after `rest` do not change the length that its table announces.
 pub frame_length-zeros : (rest : List ℕ) (n : ℕ) → frame_length (rest ++ replicate n 0) ≡ frame_length rest
 frame_length-zeros rest n =
     let same = same-zeros rest n in
@@ -45,7 +45,6 @@ frame_length-zeros rest n =
     ap (λ (c : ℕ). head_length c + 8 * sum (entries c (drop 4 (rest ++ replicate n 0)))) count
     ∙ ap (λ (ns : List ℕ). head_length (announced_segments rest) + 8 * sum ns) sizes
 
--- The number of an entry, computed from its four bytes.
 pub entry-bytes : (k : ℕ) (bs : List ℕ) → entry_number (drop k bs) ≡ slice_index bs k
     + 256 * (slice_index bs (k + 1) + 256 * (slice_index bs (k + 2) + 256 * slice_index bs (k + 3)))
 unfolding entry_number
@@ -55,12 +54,10 @@ entry-bytes k bs =
     get_or-drop k bs 0 0 ∙ ap (λ (j : ℕ). slice_index bs j) here in
     omega (arith, first, get_or-drop k bs 1 0, get_or-drop k bs 2 0, get_or-drop k bs 3 0)
 
--- The number of an entry without bytes is zero.
 entry-nothing : entry_number [] ≡ 0
 unfolding entry_number
 entry-nothing = refl
 
--- The sizes after the bytes that were read are zero.
 pub sum-behind : (n k : ℕ) (bs : List ℕ) → length bs ≤ 4 * n → sum (entries (n + k) bs) ≡ sum (entries n bs)
 sum-behind n zero bs all = let e : n + zero ≡ n = omega arith in rw e refl
 sum-behind n (suc k) bs all =
@@ -75,28 +72,22 @@ sum-more : (n k : ℕ) (bs : List ℕ) → (0 < k → length bs ≤ 4 * n) → s
 sum-more n zero bs all = let e : n + zero ≡ n = omega arith in rw e refl
 sum-more n (suc k) bs all = sum-behind n (suc k) bs (all (omega arith))
 
--- The sizes that begin within the bytes read have the same sum as all sizes.
 pub sum-begun : (begun count : ℕ) (bs : List ℕ) → begun ≤ count → (begun < count → length bs ≤ 4 * begun)
     → sum (entries count bs) ≡ sum (entries begun bs)
 sum-begun begun count bs few all =
     let e : count ≡ begun + (count - begun) = omega arith in
     ap (λ (n : ℕ). sum (entries n bs)) e ∙ sum-more begun (count - begun) bs (λ h. all (omega (arith, h)))
 
--- The length of a table, in whole words.
 pub head-words : (count : ℕ) → 8 * (count / 2 + 1) ≡ head_length count
 head-words count = grind arith
 
--- The least length of a frame is the length that `rest` announces without the appended zeros, or 2^64 - 1 if that is
--- less.
 pub same_least : (rest : List ℕ) → least_length rest ≡ min (frame_length rest) (2 ^ 64 - 1)
 same_least rest = ap (λ (n : ℕ). min n (2 ^ 64 - 1))
     (frame_length-zeros rest (head_length (announced_segments (rest ++ replicate 4 0))))
 
--- A count that stops at `most` twice is the same as one that stops once.
 stops : (n m most : ℕ) → min (min n most + m) most ≡ min (n + m) most
 stops n m most = grind arith
 
--- The least length of a frame, computed from the number of words and the length of the table.
 pub least-words : (rest : List ℕ) (words table : ℕ) → words ≡ announced_words rest
     → table ≡ head_length (announced_segments rest)
     → min (min (words * 8) (2 ^ 64 - 1) + table) (2 ^ 64 - 1) ≡ least_length rest
@@ -104,7 +95,6 @@ least-words rest words table is head =
     let all : frame_length rest ≡ words * 8 + table = omega (arith, is, head) in
     stops (words * 8) table (2 ^ 64 - 1) ∙ ap (λ (n : ℕ). min n (2 ^ 64 - 1)) (sym all) ∙ sym (same_least rest)
 
--- The first eight entries, one by one.
 pub eight : (bs : List ℕ) → entries 8 bs ≡ entry_number bs ∷ entry_number (drop 4 bs) ∷ entry_number (drop 8 bs)
     ∷ entry_number (drop 12 bs) ∷ entry_number (drop 16 bs) ∷ entry_number (drop 20 bs) ∷ entry_number (drop 24 bs)
     ∷ entry_number (drop 28 bs) ∷ []

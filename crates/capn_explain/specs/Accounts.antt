@@ -29,21 +29,22 @@ module _ {A : Type 0} where
     lines = lines;
   }
 
-  -- `account` is the account of `message`, which is accepted within `limits`: the price, visits and depth of the
-  -- message, and whether it is canonical or why not.
+  -- `message` at `at` is accepted within `limits`, and `account` has its figures `m` (`IsMeasure`). `account.lines` are
+  -- the lines about its canonical form (`AreLinesOf`).
   abbrev pub IsAccount : Form → Position → List (List ℕ) → Bounds → Account A → Type 0
   IsAccount form at message limits account =
       (m : MeasuredBare) × IsMeasure message limits m
       × AreLinesOf message limits at.offset (table_words form message) account.lines
       × (account ≡ account_by at message m account.lines)
 
-  -- The lines of an account.
+  -- The lines of the account `a`, as bytes.
   abbrev pub account_text : Account A → List ℕ
   account_text a =
       head_lines a.head ++ (codes "accepted: paid " ++ (decimal a.paid ++ (codes " visits " ++ (decimal a.visits
       ++ (codes " depth " ++ (decimal a.depth ++ (codes "\n" ++ canonical_lines a.lines)))))))
 
--- `text` has the lines of the account of `message`, which do not depend on the allocator of the paths.
+-- `text` is the lines of an `account` of `message` at `at`, within `limits`. The type of the allocator is `Unit`, since
+-- the lines do not depend on it.
 abbrev pub IsAccountText : Form → Position → List (List ℕ) → Bounds → List ℕ → Type 0
 IsAccountText form at message limits text =
     (account : Account (Unit {0})) × IsAccount form at message limits account × (text ≡ account_text account)

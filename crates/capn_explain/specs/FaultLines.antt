@@ -22,9 +22,8 @@ use Rattle.capn_diagnostics.specs.declared.message_text.MessageHead.{MessageHead
 use Rattle.capn_diagnostics.specs.declared.segments_text.SegmentsText.{SegmentsText}
 use Rattle.capn_explain.specs.WhatCame.{group, segments, there}
 
--- The figures of a refused frame, of which `rest` was read. If the number of segments or words in the table is too
--- great, the figures are that number and the limit. If the frame is cut, the figures are the number of bytes read and
--- the least number of bytes that the whole frame can have.
+-- The figures of a refused frame. For too many segments or words, the figures are their number and the limit. For `Cut`
+-- they are `there rest`, and any other fault has none.
 abbrev pub frame_key : FrameFault → ℕ → List ℕ → FrameKey
 frame_key (frames.TooManySegments count) most_words rest = keys.Announced count most_segments
 frame_key (frames.TooManyWords count) most_words rest = keys.Announced count most_words
@@ -33,51 +32,52 @@ frame_key frames.Memory most_words rest = keys.Nothing
 frame_key frames.Empty most_words rest = keys.Nothing
 frame_key frames.Failed most_words rest = keys.Nothing
 
--- The figures of a cut group, of which `came` was read.
+-- The figures of a group that is cut off, at offset `at`, after the bytes `came`. Any other fault has no figures.
 abbrev pub packed_key : UnpackFault → List ℕ → FrameKey
 packed_key (packings.Cut at) came = group at came
 packed_key packings.Memory came = keys.Nothing
 packed_key (packings.TooLong at) came = keys.Nothing
 packed_key packings.Failed came = keys.Nothing
 
--- The number of bytes of a bare input that is refused. The number stops at 2^64 - 1, far above what a bare input can
--- have.
+-- The number of bytes of a bare input that is refused, at most 2^64 - 1.
 abbrev pub bare_key : BareFault → FrameKey
 bare_key (bares.NotWhole bytes) = keys.There bytes
 bare_key (bares.TooLong words) = keys.There (min (8 * words) (2 ^ 64 - 1))
 
--- The figures that follow the name of a refusal, where `rest` was read of the message, and `came` of a group.
+-- The figures that follow the name of a refusal. `rest` is the bytes that were read of the message, and `came` is the
+-- bytes that were read of a group.
 abbrev pub key_of : Refusal → ℕ → List ℕ → List ℕ → FrameKey
 key_of (refusals.Frame fault) most_words rest came = frame_key fault most_words rest
 key_of (refusals.Packed fault) most_words rest came = packed_key fault came
 key_of (refusals.Bare fault) most_words rest came = bare_key fault
 key_of _ most_words rest came = keys.Nothing
 
--- The segments of a message whose frame is refused, if `rest` has the sizes of all segments and there are not too many
--- segments.
+-- The segments that `segments rest` gives for a message whose frame is refused, or `None` if the fault is
+-- `TooManySegments`.
 abbrev pub frame_segments : FrameFault → List ℕ → Option SegmentsText
 frame_segments (frames.TooManySegments count) rest = None
 frame_segments _ rest = segments rest
 
--- The segments of a message that is refused for its frame or its packing, if `rest` has the sizes of all segments and
--- there are not too many segments.
+-- The segments of a message that is refused for its frame (`frame_segments`) or its packing (`segments rest`). For any
+-- other refusal it is `None`.
 abbrev pub segments_at : Refusal → List ℕ → Option SegmentsText
 segments_at (refusals.Frame fault) rest = frame_segments fault rest
 segments_at (refusals.Packed fault) rest = segments rest
 segments_at _ rest = None
 
--- The position `at` of a message, and its segments.
+-- The position `at` of a refused message, and its segments, if `segments_at` gives them.
 abbrev pub head_at : Position → Refusal → List ℕ → MessageHead
 head_at at refusal rest = record { index = at.index; offset = at.offset; segments = segments_at refusal rest }
 
--- All lines of a message that `refusal` refuses at `at`, where `rest` was read of the message, and `came` of a group.
+-- All lines of the message at `at`, which is refused with `refusal`. `rest` is the bytes that were read of the message,
+-- and `came` is the bytes that were read of a group.
 abbrev pub fault_lines : Bounds → Position → Refusal → List ℕ → List ℕ → List ℕ
 fault_lines limits at refusal rest came =
     frame_lines (head_at at refusal rest) (refusal_text refusal) (key_of refusal limits.message_words rest came)
 
--- Examples of each kind.
+-- Examples of refused frames, groups and bare inputs.
 
--- Two segments, of 3 and 4 words.
+-- Example: a frame of two segments, of 3 and 4 words, with a limit of 6 words.
 too_many_words : fault_lines (record { message_words = 6; budget = 0; depth = 1; tariff = tariffs.Strict })
     (record { index = 2; offset = 40 }) (refusals.Frame (frames.TooManyWords 7))
     (1 ∷ 0 ∷ 0 ∷ 0 ∷ 3 ∷ 0 ∷ 0 ∷ 0 ∷ 4 ∷ 0 ∷ 0 ∷ 0 ∷ 0 ∷ 0 ∷ 0 ∷ 0 ∷ []) []

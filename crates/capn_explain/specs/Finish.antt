@@ -1,4 +1,4 @@
--- Runs over an input that explain messages: their whole text, their result, and what every run has read and written.
+-- Runs that explain messages of an input: their complete text, their result, and the bytes that they read and write.
 -- (Our own.)
 use Rattle.std.specs.Prelude.{◌≡◌, ◌≢◌, ◌⊎◌, ◌↔◌, ℕ, List, [], ◌++◌, Bool, true, Option, IfSome, Result, Ok, Err}
 use Rattle.std.specs.Prelude.{IfErr}
@@ -14,71 +14,73 @@ use Rattle.capn_serve.specs.FormRun.{AreMessages, HasWritten, IsNeededSoFar, IsR
 use Rattle.capn_serve.specs.FormRun.{MayNeedMemory}
 use Rattle.capn_serve.specs.WhatCame.{Came, TellsInput}
 
--- The text for a fault that ended the messages. For a refusal the text is `told`, where `came` was read of the refused
--- message. For any other fault the text is empty.
+-- The text for a fault that ended the loop over the messages. For `Refused` it is what `told` gives, where `came` has
+-- the bytes that were read of the refused message. For any other fault it is empty.
 abbrev pub fault_text : (Position → Refusal → Came → List ℕ) → RunFault → Came → List ℕ
 fault_text told (faults.Refused at r) came = told at r came
 fault_text told faults.Memory came = []
 fault_text told faults.Io came = []
 fault_text told faults.InputTooLong came = []
 
--- The end of a run after its messages. `closing` and `ending` give the text and the result from the state after the
--- last message. `told` gives the text of a refusal from the part that was read of the refused message.
+-- The end of a run. `closing` and `ending` give the text and the result from the state after the last message. `told`
+-- gives the text for a refused message.
 pub record Finish (X : Type 0) : Type 0 where
   pub closing : X → List ℕ
   pub ending : X → Result (Unit {0}) RunFault
   pub told : Position → Refusal → Came → List ℕ
 
--- The result of a run. `by` gives the result from the state of the run and its ending, and `of` gives the result for a
--- fault that ends the run at once.
+-- The fault and the result of a run whose faults have the type `E`. `of` gives the fault of the run for a fault of the
+-- loop. `by` gives the result of the run from its last state and its ending.
 pub record Answer (X E : Type 0) : Type 0 where
   pub of : RunFault → E
   pub by : X → Result (Unit {0}) RunFault → Result (Unit {0}) E
 
--- The result of a run is its ending.
+-- The `Answer` of a run whose result is its ending.
 abbrev pub plain : {X : Type 0} → Answer X RunFault
 plain = record { of = λ e. e; by = λ y r. r }
 
--- `came` is the part that was read of the message whose refusal ended the messages of `input`, in the state `y`. If
--- `served` is `Ok`, nothing is said of `came`.
+-- If `served` is `Err fault`, `TellsInput` holds for `input`, `fault`, `came` and `y`. If `served` is `Ok`, nothing is
+-- stated.
 abbrev pub TellsEnd : {X : Type 0} → Fold X → X → Form → List ℕ → Result (Unit {0}) RunFault → Came → X → Type 0
 TellsEnd f x form input served came y = IfErr served (λ fault. TellsInput f x form input fault came y)
 
 module _ {X : Type 0} (f : Fold X) (x : X) (finish : Finish X) where
-  -- The text that follows the messages, which ended with the first argument in the state `y`.
+  -- The text after the messages. If the loop over the messages ended with `Ok`, it is the closing text for the state
+  -- `y`. Otherwise it is the text of the fault of the loop.
   abbrev pub last_text : Result (Unit {0}) RunFault → X → Came → List ℕ
   last_text (Ok u) y came = finish.closing y
   last_text (Err fault) y came = fault_text finish.told fault came
 
-  -- The ending of a run whose messages ended with the first argument in the state `y`.
+  -- The ending of a run. If the loop over the messages ended with `Ok`, it is `finish.ending y`. Otherwise it is the
+  -- fault of the loop.
   abbrev pub last_ending : Result (Unit {0}) RunFault → X → Result (Unit {0}) RunFault
   last_ending (Ok u) y = finish.ending y
   last_ending (Err fault) y = Err fault
 
-  -- The messages of the input were served, and a prefix of their text and of the text that follows them was written. If
-  -- the input is not known, the end of the messages, the state after them and the part that was read may be any.
+  -- A prefix of `messages ++ last_text served y came` was written, which took the output from `old` to `new`. If
+  -- `input` is known, `messages` is the text of its messages, and `served` and `y` are the result and the state after
+  -- them.
   abbrev pub HasBegunClosing : Form → Option (List ℕ) → Option (List ℕ) → Option (List ℕ) → Type 0
   HasBegunClosing form input old new =
       (messages : List ℕ) × (served : Result (Unit {0}) RunFault) × (y : X) × (came : Came)
       × IfSome input (λ bytes. AreMessages f x form bytes messages served y × TellsEnd f x form bytes served came y)
       × HasBegun old new (messages ++ last_text served y came)
 
-  -- The messages of the input were served, and the text that follows them is not empty. If the input is not known, the
-  -- end of the messages may be any.
+  -- `last_text`, the text after the messages, is not empty. If `input` is known, `served` and `y` are the result and
+  -- the state after its messages.
   abbrev pub HasClosing : Form → Option (List ℕ) → Type 0
   HasClosing form input = (served : Result (Unit {0}) RunFault) × (y : X) × (came : Came)
       × IfSome input (λ bytes. (messages : List ℕ) × AreMessages f x form bytes messages served y
       × TellsEnd f x form bytes served came y) × (last_text served y came ≢ [])
 
-  -- All messages of the input were served, and the state after them makes the run end with `Memory`. If the input is
-  -- not known, the state may be any.
+  -- `finish.ending y` is `Memory`. If `input` is known, all its messages were served, and `y` is the state after them.
   abbrev pub EndsForMemory : Form → Option (List ℕ) → Type 0
   EndsForMemory form input = (y : X)
       × IfSome input (λ bytes. (messages : List ℕ) × AreMessages f x form bytes messages (Ok tt) y)
       × (finish.ending y ≡ Err faults.Memory)
 
-  -- The reader gave `bytes`: not more than a run may read, and nothing after a chunk that ends the run. The writer took
-  -- a prefix of the text of `bytes`.
+  -- The reader returned `bytes`, no more than `IsReadSoFar` and `IsNeededSoFar` allow. A prefix of the text of the
+  -- messages was written (`HasWritten`), or a prefix of that text and the text after it (`HasBegunClosing`).
   pub record Begins (form : Form) (a b c d : Option (List ℕ)) : Type 0 where
     pub bytes : List ℕ
     pub read : Consumes a b bytes
@@ -87,7 +89,8 @@ module _ {X : Type 0} (f : Fold X) (x : X) (finish : Finish X) where
     pub written : HasWritten f x form bytes c d ⊎ HasBegunClosing form a c d
 
 module _ {X E : Type 0} (f : Fold X) (x : X) (finish : Finish X) (answer : Answer X E) where
-  -- `text` is the whole text of `input`, and `ending` is the result of a run over `input`.
+  -- `text` is the complete text of a run on `input`: `messages`, the text of its messages, and then `last_text`.
+  -- `ending` is the result of that run.
   abbrev pub IsWholeText : Form → List ℕ → List ℕ → Result (Unit {0}) E → Type 0
   IsWholeText form input text ending =
       (messages : List ℕ) × (served : Result (Unit {0}) RunFault) × (y : X) × (came : Came)
@@ -95,15 +98,15 @@ module _ {X E : Type 0} (f : Fold X) (x : X) (finish : Finish X) (answer : Answe
       × (text ≡ messages ++ last_text f x finish served y came)
       × (ending ≡ answer.by y (last_ending f x finish served y))
 
-  -- A run has written the whole text of `input`, and `r` is the result that belongs to that text. Or `r` is the result
-  -- for `Memory`, or `r` is the result for `Io`.
+  -- `r` is the result for `Memory` or the result for `Io`, or `IsWholeText` holds for `input`, `r` and some `text`. In
+  -- the last case `text` was written, which took the output from `old` to `new`.
   abbrev pub AnswersAs : Form → Option (List ℕ) → Option (List ℕ) → Result (Unit {0}) E → List ℕ → Type 0
   AnswersAs form old new r input =
       (r ≡ Err (answer.of faults.Memory))
       ⊎ ((r ≡ Err (answer.of faults.Io)) ⊎ ((text : List ℕ) × IsWholeText form input text r × Appends old new text))
 
-  -- A run takes the reader from `a` to `b` and the writer from `c` to `d`, and returns `r`. `reader_failed` and
-  -- `writer_failed` say whether the reader and the writer failed.
+  -- A run has the result `r`. Before and after the run, the bytes left in the reader are `a` and `b`, and the contents
+  -- of the writer are `c` and `d`.
   pub record Answered (form : Form) (a b c d : Option (List ℕ)) (reader_failed writer_failed : Bool)
       (r : Result (Unit {0}) E) : Type 0 where
     pub exact : IfSome a (AnswersAs form c d r)
@@ -113,7 +116,7 @@ module _ {X E : Type 0} (f : Fold X) (x : X) (finish : Finish X) (answer : Answe
     pub memory : r ≡ Err (answer.of faults.Memory)
         → MayNeedMemory form a b ⊎ (HasClosing f x finish form a ⊎ EndsForMemory f x finish form a)
 
--- A run has the effect that `Answered` states, and its result is its ending.
+-- `Answered` holds for a run whose result is its ending (`plain`).
 abbrev pub Finished : {X : Type 0} → Fold X → X → Finish X → Form → Option (List ℕ) → Option (List ℕ)
     → Option (List ℕ) → Option (List ℕ) → Bool → Bool → Result (Unit {0}) RunFault → Type 0
 Finished f x finish = Answered f x finish plain

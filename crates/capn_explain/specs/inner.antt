@@ -1,3 +1,3 @@
--- Definitions that no public clause cites.
+-- Definitions that are not used in the contract of any public function.
 pub mod Closing
 pub mod Figures

@@ -98,7 +98,7 @@ pub(crate) fn rest_lines<B: Allocator, A: Allocator>(
     Ok(Some(lines))
 }
 
-/// Writes `lines`, which explain a message, unless they are empty.
+/// Writes `lines`, which explain a message. If `lines` is empty, nothing is written.
 fn write_kept<W: Write>(lines: &[u8], writer: &mut Watched<W>) -> Result<(), RunFault>
     requires { has_failed writer.old ≡ false }
     ensures { PutsClosing lines.now (W.contents (inner_of writer.old)) (W.contents (inner_of writer.new))
@@ -128,7 +128,7 @@ fn write_rest<W: Write, B: Allocator, A: Allocator>(
     }
 }
 
-/// Writes the text that follows the last message.
+/// Writes the closing text of `run` to `writer`.
 pub(crate) fn write_closing<W: Write, B: Allocator + Copy, A: Allocator + Copy>(
     alloc: A,
     run: &Run<Reporter<B>>,
@@ -148,7 +148,7 @@ pub(crate) fn write_closing<W: Write, B: Allocator + Copy, A: Allocator + Copy>(
     }
 }
 
-/// Returns `lines` with an empty line behind them.
+/// Returns `lines`, followed by an empty line.
 fn with_empty_line<A: Allocator>(mut lines: String<A>) -> Result<String<A>, RunFault>
     ensures found { IfOk result (λ more. string_bytes more ≡ string_bytes lines ++ codes "\n") }
     ensures only { IfErr result (λ e. e ≡ faults.Memory) }

@@ -1,4 +1,4 @@
-//! The call `run_explain`, which does a whole run that explains one message of an input.
+//! The call `run_explain`, a run that explains one message of an input.
 
 ghost use Rattle.std.specs.Prelude.{◌≡◌, false, IfSome};
 ghost use Rattle.capn_words.specs.Watched.{inner_of, has_failed};
@@ -51,23 +51,24 @@ pub(crate) fn serve_messages<S: Service, R: Read, W: Write, A: Allocator + Copy>
     serve_form_with(alloc, form, most, run, begun, reader, writer)
 }
 
-/// Explains one message of the input of `reader`, which is the first refused one, or the one with the number in
-/// `order`. Writes the lines to `writer`.
+/// Explains one message of the input of `reader`: the first refused message, or the message with the number in `order`.
+/// Writes the lines to `writer`.
 ///
-/// Without a number, the first message is explained whose frame, packing, length or walk is refused, and nothing is
-/// read after the chunk that has this message. If no message is refused, the only message is explained. If the input
-/// has no message or several, a line shows the number of messages. With a number, the message with that number is
-/// explained, refused or accepted. The messages before that one are not walked. If the input is refused before the
-/// message with that number, this refusal is explained instead. If there are fewer messages, a line shows the number of
-/// messages.
+/// Without a number, the first refused message is explained. A message may be refused for its frame, packing, length or
+/// walk. Nothing is read after the chunk in which the refusal is found. If no message is refused and the input has one
+/// message, that message is explained. If the input has no message or several, a line shows the number of messages.
 ///
-/// Input is read as [`serve_form`] reads it. The run ends with `Refused` if the explained message is refused, after its
-/// lines have been written, and with `Ok` otherwise. The run ends with `InputTooLong`, with `Io` if and only if the
-/// reader or the writer failed, or with `Memory` if an allocation on `alloc` was refused. If an allocation was refused
-/// for the account of the first message, the run ends with `Memory` only if there is no second message. After
-/// `InputTooLong` or `Memory` no explanation has been written, and after `Io` at most a part of it, because the lines
-/// are kept and written at the end. A run holds in memory what the loop over the messages holds, the canonical bytes of
-/// the explained message, the paths of its account, and the lines.
+/// With a number, the message with that number is explained, refused or accepted. The messages before that one are not
+/// walked. If the input is refused before the message with that number, this refusal is explained instead. If there are
+/// fewer messages, a line shows the number of messages.
+///
+/// Input is read as [`serve_form`] reads it. If the explained message is refused, the run ends with `Refused`, after
+/// its lines have been written. The other faults are `InputTooLong`, `Io` if and only if the reader or the writer
+/// failed, and `Memory` if an allocation on `alloc` was refused. If an allocation was refused for the account of the
+/// first message, the run ends with `Memory` only if there is no second message. After `InputTooLong` or `Memory` no
+/// explanation has been written. After `Io` at most a part of it has been written, because the lines are kept and
+/// written at the end. A run holds in memory what the loop over the messages holds, the canonical bytes of the
+/// explained message, the paths of its account, and the lines.
 pub fn run_explain<R: Read, W: Write, A: Allocator + Copy>(
     alloc: A,
     order: Explain,

@@ -12,17 +12,16 @@ use std::io::Write;
 /// The reason why a run that explains every refused message does not end with `Ok`.
 #[derive(Clone, Copy, Debug, PartialEq, Eq)]
 pub enum ReportFault {
-    /// The loop over the messages ended with this fault. The fault is a refusal only if no message was refused by its
-    /// walk before.
+    /// The run ended with this fault. The fault is a refusal only if no earlier message was refused by its walk.
     Ended(RunFault),
     /// All of the input was served. The count says how many messages were refused by their walk and explained.
     Skipped(Skipped),
-    /// The frame or the packed bytes at this position are refused. The first field counts the messages before that were
-    /// refused by their walk and explained.
+    /// The frame or the packed bytes at this position are refused. The first field counts the earlier messages that
+    /// were refused by their walk and explained.
     RefusedAfterSkipped(Skipped, Position, Refusal),
 }
 
-/// Says how many messages were `skipped`, and on a line of its own the fault that ended the run.
+/// Says how many messages were `skipped`, and then, on a line of its own, the `fault` that ended the run.
 fn say_after_skipped<E: Write>(
     skipped: &Skipped,
     fault: &RunFault,

@@ -14,8 +14,8 @@ use capn_words::{BareFault, MOST_SEGMENTS};
 use std::alloc::Allocator;
 
 /// Returns the figures for a refused frame, of which `rest` was read. If the number of segments or words in the table
-/// is too great, the figures are that number and the limit. If the frame is cut, the figures are the number of bytes
-/// read and the least number of bytes that the whole frame can have.
+/// is too great, the figures are that number and the limit. If the frame is cut off, the figures are the number of
+/// bytes read and the least number of bytes that the complete frame can have.
 fn frame_key(fault: FrameFault, most_words: u32, rest: &[u8]) -> FrameKey
     ensures { result ≡ spec.frame_key fault most_words rest.now }
 {
@@ -29,7 +29,7 @@ fn frame_key(fault: FrameFault, most_words: u32, rest: &[u8]) -> FrameKey
     }
 }
 
-/// Returns the figures for a cut group, of which `came` was read. For any other fault there are no figures.
+/// Returns the figures for a group that is cut off, of which `came` was read. For any other fault there are no figures.
 fn packed_key(fault: UnpackFault, came: &[u8]) -> FrameKey
     ensures { result ≡ spec.packed_key fault came.now }
 {
@@ -41,7 +41,7 @@ fn packed_key(fault: UnpackFault, came: &[u8]) -> FrameKey
     }
 }
 
-/// Returns the number of bytes of a bare input that is refused.
+/// Returns the number of bytes of a bare input that is refused, but at most 2^64 - 1.
 fn bare_key(fault: BareFault) -> FrameKey
     ensures { result ≡ spec.bare_key fault }
 {
@@ -51,8 +51,8 @@ fn bare_key(fault: BareFault) -> FrameKey
     }
 }
 
-/// Returns the figures that follow the name of `refusal`. `rest` is what was read of the message, and `came` what was
-/// read of a group.
+/// Returns the figures that follow the name of `refusal`. `rest` has the bytes that were read of the message, and
+/// `came` the bytes that were read of a group.
 fn key_of(refusal: &Refusal, most_words: u32, rest: &[u8], came: &[u8]) -> FrameKey
     ensures { result ≡ spec.key_of refusal.now most_words rest.now came.now }
 {
@@ -64,8 +64,8 @@ fn key_of(refusal: &Refusal, most_words: u32, rest: &[u8], came: &[u8]) -> Frame
     }
 }
 
-/// Returns the segments of a message whose frame is refused, if `rest` has the sizes of all segments and there are not
-/// too many segments.
+/// Returns the segments of a message whose frame is refused. `None` means that there are too many segments, or that
+/// `rest` does not have all their sizes.
 fn frame_segments(fault: FrameFault, rest: &[u8]) -> Option<SegmentsText>
     ensures { result ≡ spec.frame_segments fault rest.now }
 {
@@ -75,8 +75,8 @@ fn frame_segments(fault: FrameFault, rest: &[u8]) -> Option<SegmentsText>
     }
 }
 
-/// Returns the segments of a message that `refusal` refuses for its frame or its packing, if `rest` has the sizes of
-/// all segments and there are not too many segments.
+/// Returns the segments of a message that is refused for its frame or its packing. `None` means another `refusal`, too
+/// many segments, or that `rest` does not have all their sizes.
 fn segments_at(refusal: &Refusal, rest: &[u8]) -> Option<SegmentsText>
     ensures { result ≡ spec.segments_at refusal.now rest.now }
 {
@@ -87,8 +87,8 @@ fn segments_at(refusal: &Refusal, rest: &[u8]) -> Option<SegmentsText>
     }
 }
 
-/// Returns the lines of the message at `at`, which is refused before its walk. `rest` is what was read of the message,
-/// and `came` what was read of a group.
+/// Returns the lines of the message at `at`, which is refused before its walk. `rest` has the bytes that were read of
+/// the message, and `came` the bytes that were read of a group.
 pub(crate) fn fault_lines<A: Allocator>(
     alloc: A,
     limits: Limits,

@@ -13,7 +13,7 @@ use capn_words::Watched;
 use std::alloc::Allocator;
 use std::io::Write;
 
-/// Returns the result of `run`, whose loop ended without a fault, before the refused messages are counted.
+/// Returns the ending of `run`, whose loop ended without a fault. Refused messages do not make this ending a fault.
 pub(crate) fn ending_of<A: Allocator>(run: &Run<RefusedReporter<A>>) -> Result<(), RunFault>
     ensures { result ≡ spec.ending run.now }
 {
@@ -24,7 +24,7 @@ pub(crate) fn ending_of<A: Allocator>(run: &Run<RefusedReporter<A>>) -> Result<(
     }
 }
 
-/// Returns the text that follows the last message, or `None` if no text follows.
+/// Returns the closing text of `run`, or `None` if that text is empty.
 fn closing_lines<B: Allocator, A: Allocator>(
     alloc: A,
     run: &Run<RefusedReporter<B>>,
@@ -38,7 +38,7 @@ fn closing_lines<B: Allocator, A: Allocator>(
     }
 }
 
-/// Writes the text that follows the last message.
+/// Writes the closing text of `run` to `writer`.
 pub(crate) fn write_closing<W: Write, B: Allocator, A: Allocator + Copy>(
     alloc: A,
     run: &Run<RefusedReporter<B>>,

@@ -108,7 +108,7 @@ impl<B: Allocator + Copy> RefusedReporter<B> {
         self.first = first;
     }
 
-    /// Walks `message`. If the walk refuses the message, appends its explanation to `text` and counts it.
+    /// Walks `message`. If the walk refuses the message, appends the explanation to `text` and counts the message.
     fn report<S: Space, A: Allocator + Copy>(
         &mut self,
         alloc: A,

@@ -18,12 +18,12 @@ use std::marker::Model;
 
 /// The service that finds the message to explain.
 ///
-/// Without a number the service walks each message. The first refused message is explained, and then the service is
-/// done. With a number the service skips the messages before the one with that number, which are not walked. The
-/// message with that number is explained, refused or accepted, and then the service is done. A refused message does not
-/// end the loop with a fault. During the loop nothing is written, because the lines are kept and written at the end.
-/// Until the second message is served, the service also keeps the account of the first message, or the fact that an
-/// allocation was refused for that account.
+/// Without a number the service walks each message, explains the first refused message, and then serves no further
+/// message. With a number the service skips the messages before that number, and does not walk them. It explains the
+/// message with that number, refused or accepted, and then serves no further message. A refused message does not end
+/// the loop with a fault. During the loop nothing is written, because the lines are kept and written at the end.
+/// Without a number the service also keeps the account of an accepted first message, until a later message is accepted.
+/// If an allocation was refused for that account, the service keeps this fact.
 #[derive(Drop)]
 pub struct Reporter<A: Allocator = Global> {
     alloc: A,
@@ -46,7 +46,7 @@ impl<A: Allocator> Model for Reporter<A> {
     } };
 }
 
-/// Tests whether the message at `at` comes before the one with the number `number`.
+/// Returns `true` if a `number` is given, and the message at `at` is before the message with that number.
 fn is_before(at: Position, number: Option<u64>) -> bool
     ensures { result ≡ spec.is_before at number }
 {
@@ -107,8 +107,8 @@ impl<B: Allocator + Copy> Reporter<B> {
         &self.lines
     }
 
-    /// Returns the account of the first message, if that message is accepted, no other has been served, and the order
-    /// has no number.
+    /// Returns the account of the first message, if that message is accepted, no later message has been accepted, and
+    /// the order has no number.
     pub(crate) fn first(&self) -> &Option<Result<Account<B>, Memory>>
         ensures { spec.lines_first result.now ≡ self.now.first }
     {

@@ -80,8 +80,8 @@ fn least_of(rest: &[u8]) -> u64
     words_of(rest).saturating_mul(8).saturating_add(table)
 }
 
-/// Returns the figures of a cut frame, of which `rest` was read: the number of bytes read, and the least number of
-/// bytes that the frame can have.
+/// Returns the figures of a frame that is cut off, of which `rest` was read: the number of bytes read, and the least
+/// number of bytes that the frame can have.
 pub(crate) fn there(rest: &[u8]) -> FrameKey
     ensures { result ≡ spec.there rest.now }
 {
@@ -144,8 +144,8 @@ fn needs_of(came: &[u8]) -> u64
     len_of(came)
 }
 
-/// Returns the figures of a cut group at byte `at` of the packed input, of which `came` was read: `at`, the tag of the
-/// group, the least number of bytes that the group can have, and the number of bytes read.
+/// Returns the figures of a group that is cut off, of which `came` was read. They are the offset `at` in the packed
+/// input, the tag, the least number of bytes that the group can have, and the number of bytes read.
 pub(crate) fn group(at: u64, came: &[u8]) -> FrameKey
     ensures { result ≡ spec.group at came.now }
 {

@@ -1,5 +1,5 @@
--- Lemmas that other crates may cite: the lengths of a layout and of the kept parts, the room for a layout, and the
--- words that are copied from a message.
+-- Lemmas that other crates may cite: on the lengths of a layout, on `kept_words` and `kept_slots`, and on words that
+-- are copied from a message.
 pub mod Fronts
 pub mod KeptLengths
 pub mod LayLengths

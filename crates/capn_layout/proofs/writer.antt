@@ -1,4 +1,5 @@
--- The one writer: the buffers of words, the layout to which a buffer grows, and the slots of a tree and of a message.
+-- Lemmas on the writer of layouts: its buffers of words, the steps of a layout, and the slots of a tree and of a
+-- message.
 pub mod Bytes
 pub mod PackedBits
 pub mod PackedBytes

@@ -1,10 +1,10 @@
--- The text of a refusal, as it is displayed. (Our own.)
+-- The text that displays a `LayoutFault`. (Our own.)
 use Rattle.std.specs.Prelude.{ℕ, List, ◌++◌, codes}
 use Rattle.std.specs.Fmt.{decimal}
 use Rattle.capn_layout.specs.declared.tree_layout.LayoutFault.{LayoutFault}
 use Rattle.capn_layout.specs.declared.tree_layout.LayoutFault.TheVariants as layouts
 
--- the reason why a tree has no layout
+-- The code points of the text that displays a `LayoutFault`.
 abbrev pub layout_text : LayoutFault → List ℕ
 layout_text layouts.Memory = codes "out of memory"
 layout_text (layouts.Capability index) = codes "capability " ++ decimal index

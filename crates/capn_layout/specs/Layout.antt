@@ -12,13 +12,13 @@ use Rattle.capn_value.specs.Tree.{Trees, no_trees, tree, Bodies, no_bodies, body
 use Rattle.capn_value.specs.Trim.{kept_words, kept_slots, kept_words_of_rows, kept_slots_of_rows}
 use Rattle.capn_target.specs.Target.{content_words, list_width}
 
--- the number of words that each row of a list of structs takes, if all rows are cut to the same size (Page:
+-- The number of words of each row of `bs` in the canonical layout, where all rows have the same size. (Page:
 -- canonicalization.)
 abbrev pub row_size : Bodies → ℕ
 row_size bs = kept_words_of_rows bs + kept_slots_of_rows bs
 
--- the number of words of a value's own content: the kept part of a struct, the elements of a list, or the tag and the
--- rows (pages: structs, lists)
+-- The number of words in a value's own content. Contents that the value's pointers name are not counted. (Pages:
+-- structs, lists.)
 abbrev pub own : Tree → ℕ
 own (node ws ss) = kept_words ws + kept_slots ss
 own (numbers width xs) = content_words (list_width width) (length xs)
@@ -26,7 +26,8 @@ own (links ts) = count ts
 own (rows bs) = 1 + count_rows bs * row_size bs
 own _ = 0
 
--- the number of words of a value's content and of everything below (Our own.)
+-- The number of words in a value's own content and in all contents below it. `sizes` and `sizes_in_rows` are the sums
+-- of `size` for the values of slots and of rows. (Our own.)
 abbrev mutual
   pub size : Tree → ℕ
   size (node ws ss) = own (node ws ss) + sizes ss
@@ -42,18 +43,18 @@ abbrev mutual
   sizes_in_rows no_bodies = 0
   sizes_in_rows (body ws ss bs) = sizes ss + sizes_in_rows bs
 
--- the pointer at word `from` to a list whose content starts at word `to`; the offset counts from the word after the
--- pointer (Page: lists.)
+-- The pointer at word `from` to a list of `n` elements whose content starts at word `to`. The offset counts from the
+-- word after the pointer. (Page: lists.)
 abbrev pub list_to : (from to : ℕ) → Width → (n : ℕ) → ℕ
 list_to from to width n = word_of (Many (pos (to - suc from)) width n)
 
--- the pointer at word `from` to a struct whose content starts at word `to`; the pointer to a struct without words and
--- pointers has offset -1, so that the pointer isn't null (Page: canonicalization.)
+-- The pointer at word `from` to a struct whose content starts at word `to`. If `data_words` and `pointers` are 0, the
+-- offset is -1, so that the pointer isn't null. (Page: canonicalization.)
 abbrev pub struct_to : (from to data_words pointers : ℕ) → ℕ
 struct_to from to data_words pointers = word_of (if (data_words == 0) && (pointers == 0) then Node (negsuc 0) 0 0
     else Node (pos (to - suc from)) data_words pointers)
 
--- the pointer at word `from` to the value whose content starts at word `to` (pages: structs, lists, capabilities)
+-- The pointer at word `from` to a value whose content starts at word `to`. (Pages: structs, lists, capabilities.)
 unfoldable pub point : Tree → (from to : ℕ) → ℕ
 point nil from to = 0
 point (node ws ss) from to = struct_to from to (kept_words ws) (kept_slots ss)
@@ -63,24 +64,25 @@ point (links ts) from to = list_to from to Link (count ts)
 point (rows bs) from to = list_to from to Rows (count_rows bs * row_size bs)
 point (cap k) from to = word_of (Cap k)
 
--- the pointers, from word `from` on, to consecutive values, whose contents with everything below start at word `to` and
--- follow one another (Page: canonicalization, preorder.)
+-- The pointers to consecutive values, at the words from `from` on. The first value's content starts at word `to`. Each
+-- value's content and all contents below it precede the next value's content. (Page: canonicalization, preorder.)
 abbrev pub points : Trees → (from to : ℕ) → List ℕ
 points no_trees from to = []
 points (tree t ts) from to = point t from to ∷ points ts (suc from) (to + size t)
 
--- the number whose digits in the base are the list, the first digit lowest (Page: lists.)
+-- The number with the digits `xs` in base `base`, the lowest digit first. (Page: lists.)
 abbrev pub number : ℕ → List ℕ → ℕ
 number base [] = 0
 number base (x ∷ xs) = x + base * number base xs
 
--- n words, each of which packs `many` elements of `bits` bits; missing bits of the last word are 0 (Our own.)
+-- `n` words that pack the elements `xs`, `many` to a word and `bits` bits each. Bits after the last element are 0.
+-- (Our own.)
 abbrev pub packed : (many bits n : ℕ) → List ℕ → List ℕ
 packed many bits zero xs = []
 packed many bits (suc n) xs = number (2 ^ bits) (take many xs) ∷ packed many bits n (drop many xs)
 
--- the own content of rows that start at word `from` and are cut to `data_words` words and `pointers` pointers; the
--- contents that the slots name start at word `to` (Page: lists, composite.)
+-- The words of the rows, which start at word `from`: the first `data_words` words and the first `pointers` pointers of
+-- each row. The contents that the pointers name start at word `to`. (Page: lists, composite.)
 abbrev pub row_contents : (data_words pointers : ℕ) → Bodies → (from to : ℕ) → List ℕ
 row_contents data_words pointers no_bodies from to = []
 row_contents data_words pointers (body ws ss bs) from to =
@@ -88,7 +90,8 @@ row_contents data_words pointers (body ws ss bs) from to =
     ++ (take pointers (points ss (from + data_words) to)
     ++ row_contents data_words pointers bs (from + data_words + pointers) (to + sizes ss))
 
--- the content of a value at word `at`, followed by the contents of everything below (Page: canonicalization, preorder.)
+-- The value's own content, laid out from word `at` on, and then all contents below it, in preorder. (Page:
+-- canonicalization, preorder.)
 abbrev mutual
   pub lay : Tree → ℕ → List ℕ
   lay (node ws ss) at =
@@ -112,11 +115,10 @@ abbrev mutual
   lays_in_rows no_bodies at = []
   lays_in_rows (body ws ss bs) at = lays ss at ++ lays_in_rows bs (at + sizes ss)
 
--- the canonical words of a value: the pointer to the root in word 0, and the root's content from word 1 on (Page:
--- canonicalization.)
+-- The canonical words of `v`: the pointer to `v` in word 0, and the contents from word 1 on. (Page: canonicalization.)
 unfoldable pub words : Tree → List ℕ
 words v = point v 0 1 ∷ lay v 1
 
--- the canonical bytes of a value (Page: canonicalization.)
+-- The canonical bytes of `v`. (Page: canonicalization.)
 abbrev pub canon : Tree → List ℕ
 canon v = bytes (words v)

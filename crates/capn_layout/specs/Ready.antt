@@ -1,4 +1,4 @@
--- Slots and rows whose values have room in a buffer of words, and the buffer after these values are laid out.
+-- Slots and rows whose values fit in a buffer of words, and the buffer after these values are laid out.
 use Rattle.std.specs.Prelude.{◌≡◌, ℕ, suc, ◌+◌, ◌*◌, ◌^◌, ◌<◌, ◌≤◌, List, ◌++◌, length, set}
 use Rattle.capn_value.specs.Tree.{Tree, Trees, count, tree_at, Bodies, count_rows}
 use Rattle.capn_value.specs.Trim.{kept_slots_of_rows}
@@ -7,14 +7,14 @@ use Rattle.capn_layout.specs.Layout.{size, sizes, sizes_in_rows, point, row_cont
 use Rattle.capn_layout.specs.LayoutSteps.{laid, laid_slots, laid_rows, AreRowsOver, past, rows_past}
 use Rattle.capn_layout.specs.Sound.{AreWide, Sound, Sounds, SoundRows}
 
--- the buffer q is the buffer p after the pointer to `v` is written over word `from`, and the content of `v` and of
--- everything below is appended (Our own.)
+-- The buffer `q` is `p` after two steps. The pointer to `v` is written over word `from`. The content of `v` and all
+-- contents below it are appended. (Our own.)
 abbrev pub IsLaidAs : Tree → ℕ → List ℕ → List ℕ → Type 0
 IsLaidAs v from p q = q ≡ laid v (set p from (point v from (length p)))
 
 module _ {S : Type 0} (has : S → ℕ → Tree → Type 0) where
-  -- the slot has a value at most `depth` objects high, and there is room for the value's content and everything below
-  -- after n of `most` words (Our own.)
+  -- The slot `slot` of `source` has a `Sound` value at most `depth` objects high. The size of this value plus `n` is at
+  -- most `most` words. (Our own.)
   pub record IsReadyIn (source : S) (slot depth n most : ℕ) : Type 0 where
     pub value : Tree
     pub is : has source slot value
@@ -22,8 +22,8 @@ module _ {S : Type 0} (has : S → ℕ → Tree → Type 0) where
     pub low : height value ≤ depth
     pub room : n + size value ≤ most
 
-  -- the slot has a value at most `depth` objects high, and there is room for the value's content and everything below
-  -- after n of 2^29 words, which is as far as a pointer reaches (Our own.)
+  -- The slot `slot` of `source` has a `Sound` value at most `depth` objects high. The size of this value plus `n` is at
+  -- most 2^29 words, the reach of a pointer. (Our own.)
   pub record IsReady (source : S) (slot depth n : ℕ) : Type 0 where
     pub value : Tree
     pub is : has source slot value
@@ -31,8 +31,8 @@ module _ {S : Type 0} (has : S → ℕ → Tree → Type 0) where
     pub low : height value ≤ depth
     pub room : n + size value ≤ 2 ^ 29
 
-  -- the first `number` slots have values at most `depth` objects high; after n of `most` words there is room for the
-  -- values of the slots past the first i (Our own.)
+  -- The first `number` slots of `source` have `Sound` values at most `depth` objects high. The sizes of the values from
+  -- slot `i` on, plus `n`, are at most `most` words. (Our own.)
   pub record AreReady (source : S) (i number depth n most : ℕ) : Type 0 where
     pub values : Trees
     pub are : (k : ℕ) → k < number → has source k (tree_at values k)
@@ -41,20 +41,21 @@ module _ {S : Type 0} (has : S → ℕ → Tree → Type 0) where
     pub low : greatest values ≤ depth
     pub room : n + sizes (past i values) ≤ most
 
-  -- the buffer q is the buffer p after the pointer to the value in `slot` is written over word `from`, and the value's
-  -- content and everything below is appended (Our own.)
+  -- For each value in `slot` of `source`, the buffer `q` is `p` after two steps. The pointer to the value is written
+  -- over word `from`. The value's content and all contents below it are appended. (Our own.)
   abbrev pub IsLaid : S → ℕ → ℕ → List ℕ → List ℕ → Type 0
   IsLaid source slot from p q = (v : Tree) → has source slot v → q ≡ laid v (set p from (point v from (length p)))
 
-  -- the buffer q is the buffer p after the pointers to the values in the first `number` slots are written over the
-  -- words from `first` on, and the contents of the values and everything below are appended (Our own.)
+  -- For any values in the first `number` slots of `source`, the buffer `q` is `p` after these values are laid out. The
+  -- pointers are written over the words from `first` on. (Our own.)
   abbrev pub AreLaid : S → ℕ → ℕ → List ℕ → List ℕ → Type 0
   AreLaid source number first p q = (ts : Trees) → number ≤ count ts
       → ((k : ℕ) → k < number → has source k (tree_at ts k)) → q ≡ laid_slots number ts first p
 
 module _ {R : Type 0} (are : R → Bodies → Type 0) where
-  -- each row has at least a words and b slots; after n of `most` words there is room for the contents below the rows
-  -- past the first i (Our own.)
+  -- Each of the `number` rows has at least `a` words and `b` slots, and `kept_slots_of_rows` is at most `b`. The values
+  -- in the slots are `Sound` and at most `depth` objects high. The sizes below the rows from row `i` on, plus `n`, are
+  -- at most `most` words. (Our own.)
   pub record RowsReady (rows : R) (i number a b depth n most : ℕ) : Type 0 where
     pub values : Bodies
     pub is : are rows values
@@ -65,13 +66,14 @@ module _ {R : Type 0} (are : R → Bodies → Type 0) where
     pub low : greatest_in_rows values ≤ depth
     pub room : n + sizes_in_rows (rows_past i values) ≤ most
 
-  -- the buffer q is the buffer p after the first b slots of each row are laid out (Our own.)
+  -- Let `rows` be `number` rows of `Sound` values, with at least `a` words and `b` slots each. The buffer `q` is `p`
+  -- after the first `b` slots of each row are laid out. The rows start at word `first`. (Our own.)
   abbrev pub RowsLaid : R → ℕ → ℕ → ℕ → ℕ → List ℕ → List ℕ → Type 0
   RowsLaid rows number a b first p q = (bs : Bodies) → are rows bs → count_rows bs ≡ number
       → AreWide a b bs → SoundRows bs → q ≡ laid_rows a b bs first p
 
--- the content of `v` is the tag, if `v` has one, then the rows `bs` of a words and b slots each, and then the contents
--- below the rows (Our own.)
+-- The layout of `v` is `tag`, then the first `a` words and `b` slots of each row of `bs`, then all contents below the
+-- rows. (Our own.)
 pub record IsBlock (v : Tree) (tag : List ℕ) (a b : ℕ) (bs : Bodies) : Type 0 where
   pub sound : SoundRows bs
   pub wide : AreWide a b bs
@@ -82,8 +84,8 @@ pub record IsBlock (v : Tree) (tag : List ℕ) (a b : ℕ) (bs : Bodies) : Type 
       ++ (row_contents a b bs (at + length tag) (at + length tag + count_rows bs * (a + b))
       ++ lays_in_rows bs (at + length tag + count_rows bs * (a + b)))
 
--- the buffer q is the buffer p after the pointer to `v` is written over word `from`, and the tag and the rows of `v`
--- are appended, with any words in place of the slots (Our own.)
+-- The buffer `q` is `p` after two steps. The pointer to `v` is written over word `from`. The tag of `v` and its rows
+-- are appended, the first row at word `first`, with any words in place of the slots. (Our own.)
 pub record IsOpened (v : Tree) (bs : Bodies) (from : ℕ) (p q : List ℕ) (first a b : ℕ) : Type 0 where
   pub tag : List ℕ
   pub block : IsBlock v tag a b bs

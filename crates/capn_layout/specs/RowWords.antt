@@ -4,14 +4,14 @@ use Rattle.capn_value.specs.Trim.{kept_words}
 use Rattle.capn_walk.specs.ValueAt.{words_from}
 
 module _ (m : List (List ℕ)) where
-  -- the greatest length that is kept of one part of n rows; the parts begin every `step` words from word w of segment s
-  -- on, and each has `size` words (Our own.)
+  -- The greatest `kept_words` of `n` stretches of `size` words in message `m`. The stretches begin at word `w` of
+  -- segment `s`, `step` words apart. (Our own.)
   abbrev pub kept_each : ℕ → ℕ → ℕ → ℕ → ℕ → ℕ
   kept_each s w size step zero = 0
   kept_each s w size step (suc n) = max (kept_words (take size (words_from m s w))) (kept_each s (w + step) size step n)
 
-  -- for each of n rows, the first a words and then the first b words of the part that begins `inset` words into the row
-  -- (Our own.)
+  -- For each of `n` rows, the `a` words from its start and then the `b` words that begin `inset` words after its start.
+  -- The rows begin at word `w` of segment `s`, `step` words apart. (Our own.)
   abbrev pub row_cells : ℕ → ℕ → ℕ → ℕ → ℕ → ℕ → ℕ → List ℕ
   row_cells s w step inset a b zero = []
   row_cells s w step inset a b (suc n) =

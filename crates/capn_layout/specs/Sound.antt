@@ -6,17 +6,17 @@ use Rattle.capn_value.specs.Tree.{no_trees, tree, Bodies, no_bodies, body, count
 use Rattle.capn_value.specs.Trim.{kept_words_of_rows, kept_slots_of_rows}
 use Rattle.capn_layout.specs.Layout.{row_size}
 
--- each row has at least a words and b slots (Our own.)
+-- Each row has at least `a` words and `b` slots. (Our own.)
 abbrev pub AreWide : ℕ → ℕ → Bodies → Type 0
 AreWide a b no_bodies = ⊤
 AreWide a b (body ws ss bs) = (a ≤ length ws) × (b ≤ count ss) × AreWide a b bs
 
--- each number is below `bound` (Our own.)
+-- 0 and each number of `xs` are below `bound`. (Our own.)
 abbrev pub AreBelow : ℕ → List ℕ → Type 0
 AreBelow bound xs = (i : ℕ) → slice_index xs i < bound
 
--- each count, size and index fits in the fields of a pointer, each element fits in the bits of an element, and each row
--- of a list has at least the lengths that are kept (Our own.)
+-- The counts, sizes and indices in a value fit in the fields of pointers, and each number in a list fits in its bits.
+-- Each row of a list has at least `kept_words_of_rows` words and `kept_slots_of_rows` slots. (Our own.)
 abbrev mutual
   pub Sound : Tree → Type 0
   Sound nil = ⊤

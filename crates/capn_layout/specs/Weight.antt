@@ -4,8 +4,8 @@ use Rattle.capn_value.specs.Tree.{Tree, node, links, rows, Trees, no_trees, tree
 use Rattle.capn_value.specs.Tree.{count_rows, row_words}
 use Rattle.capn_layout.specs.Layout.{own}
 
--- the number of words of a value's objects before any cut; a list of structs counts the number of rows instead of the
--- words of the rows, if there are more rows than words (Our own.)
+-- The number of words in all objects of a value, before trailing zeros are cut off. A list of structs counts its rows
+-- instead of the rows' words if it has more rows than words. (Our own.)
 abbrev mutual
   pub weight : Tree → ℕ
   weight (node ws ss) = length ws + count ss + weights ss

@@ -52,8 +52,8 @@ fn write_paid(out: &mut [u8], at: usize, xs: PaidBytes<'_>)
     xs.copy_to(&mut out[at..end]);
 }
 
-/// Appends whole words of a message, given by their bytes `xs`, after the first `len` words of `out`. Returns the new
-/// number of words.
+/// Appends the bytes `xs` of a message after the first `len` words of `out`. The number of bytes is a multiple of 8.
+/// Returns the new number of words.
 #[inline(always)]
 pub fn extend(out: &mut [u8], len: usize, xs: PaidBytes<'_>) -> usize
     requires whole { length xs % 8 ≡ 0 }

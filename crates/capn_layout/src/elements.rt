@@ -7,7 +7,7 @@ ghost use Rattle.capn_layout.specs.inner.PaddedBytes.{pad, padded};
 use capn_value::Memory;
 use std::alloc::Allocator;
 
-/// Appends `size` zeros to `bytes`, and further zeros up to a whole word. Returns the offset of the first zero.
+/// Appends `size` zeros to `bytes`, and further zeros up to a complete word. Returns the offset of the first zero.
 fn append_room<A: Allocator>(bytes: &mut Vec<u8, A>, size: usize) -> Result<usize, Memory>
     ensures start { IfOk result (λ start. start ≡ length bytes.old.items) }
     ensures small { OnOk result (length bytes.old.items + size < 2 ^ 63) }
@@ -20,7 +20,8 @@ fn append_room<A: Allocator>(bytes: &mut Vec<u8, A>, size: usize) -> Result<usiz
     Ok(start)
 }
 
-/// Appends the bytes `xs` to `bytes`, and then zeros up to a whole word.
+/// Appends the bytes `xs` to `bytes`, and then zeros up to a complete word. If an allocation was refused, returns
+/// `Memory` and leaves `bytes` unchanged.
 pub fn append_bytes<A: Allocator>(bytes: &mut Vec<u8, A>, xs: &[u8]) -> Result<(), Memory>
     ensures ok { OnOk result (bytes.new.items ≡ bytes.old.items ++ padded xs.now) }
     ensures err { OnErr result (bytes.new.items ≡ bytes.old.items) }

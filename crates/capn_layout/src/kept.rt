@@ -1,4 +1,4 @@
-//! The lengths to which structs and rows are cut, read from the words of a message. Any change here that alters
+//! The lengths to which structs and rows are shortened, read from the words of a message. Any change here that alters
 //! canonical bytes makes a new version of the canonical form.
 
 ghost use Rattle.std.specs.Prelude.{◌≡◌, ◌+◌, ◌*◌, ◌<◌, ◌≤◌, max, take};
@@ -12,8 +12,8 @@ use capn_target::counted::{CountedSpace, Reads};
 use capn_words::{Place, Space};
 use std::sync::ledger::Ledger;
 
-/// Returns the number of words that are kept of the `count` words from `at` on. Zeros at the end are cut, but at least
-/// `least` words are kept. In most cases all words are kept.
+/// Returns the number of words that are kept of the `count` words from `at` on. Zeros at the end are cut off, but at
+/// least `least` words are kept.
 #[inline(always)]
 pub fn kept_above<S: Space, L: Ledger>(
     space: &CountedSpace<'_, S, L>,
@@ -42,9 +42,8 @@ pub fn kept_above<S: Space, L: Ledger>(
     kept_below(space.again(), at, count - 1, least, reads)
 }
 
-/// Returns the number of words that are kept of the `count` words from `at` on, by a loop. The result is that of
-/// [`kept_above`]. The loop is a call of its own, so that the loop's variables don't lie on the stack at each level of
-/// depth.
+/// Returns the result of [`kept_above`], found by a loop. The loop has a function of its own, so that its variables
+/// don't lie on the stack at each level of depth.
 #[inline(never)]
 fn kept_below<S: Space, L: Ledger>(
     space: CountedSpace<'_, S, L>,
@@ -74,8 +73,8 @@ fn kept_below<S: Space, L: Ledger>(
     kept
 }
 
-/// Returns the greatest length that is kept of one part of `count` rows, which begin every `step` words from `start`
-/// on. The part begins `inset` words into the row and has `size` words. `reads` counts each read and each row.
+/// Returns the greatest number of words that a row keeps of the `size` words from its word `inset` on. There are
+/// `count` rows, one every `step` words from `start` on. `reads` counts each read and each row.
 pub fn kept_each_counted<S: Space, L: Ledger>(
     space: CountedSpace<'_, S, L>,
     start: Place,

@@ -63,8 +63,8 @@ pub fn target_at<S: Space, L: Ledger>(
     }
 }
 
-/// Returns the target of the pointer at `at`, of any kind. The result of the call has a variable of its own. So only
-/// that result passes through memory, and takes space on the stack only in this function.
+/// Returns the target of the pointer at `at`, which [`resolved`] finds. The result has a variable of its own, so that
+/// it takes space on the stack only in this function.
 #[inline(always)]
 fn followed<S: Space, L: Ledger>(
     space: &CountedSpace<'_, S, L>,
@@ -81,7 +81,8 @@ fn followed<S: Space, L: Ledger>(
     target
 }
 
-/// Returns the target of the pointer at `at`, of any kind, as a call of its own. The pointer is known to have a target.
+/// Returns the target of the pointer at `at`, whatever its kind. The function is not inlined. The pointer is known to
+/// have a target.
 #[inline(never)]
 fn resolved<S: Space, L: Ledger>(
     space: CountedSpace<'_, S, L>,
@@ -141,8 +142,8 @@ fn resolved<S: Space, L: Ledger>(
     }
 }
 
-/// Returns the content that `pointer`, to a struct or a list, names from `word` of `segment`. That word is the slot
-/// itself, or a landing pad of one word. The pointer is known to name content, so nothing is tested again.
+/// Returns the struct or list that `pointer` names. `pointer` is read from `word` of `segment`, which is a slot or a
+/// landing pad of one word. The pointer is known to name content, so nothing is tested again.
 #[inline(always)]
 fn content_of<S: Space, L: Ledger>(
     space: &CountedSpace<'_, S, L>,

@@ -1,5 +1,5 @@
 //! The canonical layout of values and messages: one segment with the objects in preorder. A struct is cut after the
-//! last word that is not zero and the last pointer that is not null, and all rows of a list are cut to one size.
+//! last word that is not zero and the last pointer that is not null, and all rows of a list are shortened to one size.
 //!
 //! - [`layout`] writes the canonical bytes of a tree. A tree with a capability has no canonical bytes, and is refused
 //!   with the index of the first capability.
@@ -50,6 +50,6 @@ pub use patch::Patch;
 pub use pointer_words::{list_pointer, tag_word};
 pub use tree_layout::{LayoutFault, layout};
 
-// The types in the signatures above.
+// The types that the signatures of this crate name.
 pub use capn_value::{Memory, Tree};
 pub use capn_words::{Place, Space, Width};

@@ -6,7 +6,8 @@ ghost use Rattle.capn_layout.specs.Patch.{is_marked};
 use capn_value::Memory;
 use std::alloc::Allocator;
 
-/// Grows `marks` until each of `words` words has a mark. The marks that are added are not set.
+/// Grows `marks` until each of `words` words has a mark. The marks that are added are not set. Returns `Memory` if an
+/// allocation was refused.
 #[inline(always)]
 pub fn cover<A: Allocator>(marks: &mut Vec<u64, A>, words: usize) -> Result<(), Memory>
     ensures same { (i : ℕ) → is_marked marks.new.items i ≡ is_marked marks.old.items i }

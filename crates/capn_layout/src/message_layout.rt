@@ -24,7 +24,7 @@ use std::sync::ledger::{Blank, Ledger};
 /// Returns the number of words in the canonical bytes of the value at the root of `space`. The message was surveyed:
 /// the value is at most `depth` objects deep and has no capability.
 ///
-/// The message is read in the order of the layout, and no memory is taken. (Page: canonicalization.)
+/// The message is read in the sequence of the layout, and no memory is allocated. (Page: canonicalization.)
 pub fn surveyed_length<S: Space>(space: &S, depth: u32) -> u32
     requires { IsReady (HasSlot (S.message space.now)) 0 0 depth 1 }
     ensures { (v : Value) → IsAt (S.message space.now) root v → 8 * result ≡ length (canon v) }
@@ -48,7 +48,7 @@ fn length_with_ledger<S: Space, L: Ledger>(space: &S, depth: u32, blank: Blank) 
 /// turns in `reads`. The value is at most `depth` objects deep and has no capability.
 ///
 /// The count grows by at most twenty for each word that the value costs, under either tariff, plus eleven. A walk pays
-/// at least that cost. No memory is taken.
+/// at least that cost. No memory is allocated.
 pub fn surveyed_length_counted<S: Space, L: Ledger>(
     space: &CountedSpace<'_, S, L>,
     depth: u32,
@@ -56,7 +56,7 @@ pub fn surveyed_length_counted<S: Space, L: Ledger>(
 ) -> u32
     requires { IsReady (HasSlot space.now) 0 0 depth 1 }
     ensures length { (v : Value) → IsAt space.now root v → 8 * result ≡ length (canon v) }
-    // The count of reads and turns grows by at most twenty for each word of the cost, plus eleven.
+    // The count of reads and loop turns grows by at most twenty for each word of the cost, plus eleven.
     ensures reads { (v : Value) → IsAt space.now root v → (base : ℕ)
         → reads.new ≤ reads.old + 20 * cost base v + 11 }
 {
@@ -72,7 +72,7 @@ pub fn surveyed_length_counted<S: Space, L: Ledger>(
 /// objects deep and has no capability.
 ///
 /// The message is read in place, and nothing is tested again. Reads and loop turns are counted in `reads`, with the
-/// bound of [`surveyed_length_counted`]. No memory is taken except the stack. (Page: canonicalization.)
+/// bound of [`surveyed_length_counted`]. No memory is allocated. (Page: canonicalization.)
 pub fn surveyed_layout_into_counted<S: Space, L: Ledger>(
     space: &CountedSpace<'_, S, L>,
     depth: u32,
@@ -83,7 +83,7 @@ pub fn surveyed_layout_into_counted<S: Space, L: Ledger>(
     requires fits { (v : Value) → IsAt space.now root v → length (canon v) ≤ length out.old }
     ensures written { (v : Value) → IsAt space.now root v
         → (result ≡ length (canon v)) × (out.new ≡ canon v ++ drop (length (canon v)) out.old) }
-    // The count of reads and turns grows by at most twenty for each word of the cost, plus eleven.
+    // The count of reads and loop turns grows by at most twenty for each word of the cost, plus eleven.
     ensures reads { (v : Value) → IsAt space.now root v → (base : ℕ)
         → reads.new ≤ reads.old + 20 * cost base v + 11 }
 {
@@ -96,9 +96,9 @@ pub fn surveyed_layout_into_counted<S: Space, L: Ledger>(
     8 * words
 }
 
-/// Returns a number of bytes that is enough for the canonical bytes of a message that was surveyed. The number is the
-/// size of `paid + 1` words, if `paid + 1` is at most twice the number of words in the first `paid` segments. Otherwise
-/// the number is exactly that of the canonical bytes.
+/// Returns a number of bytes that is enough for the canonical bytes of the value at the root of `space`. If `paid + 1`
+/// is at most twice the number of words in the first `paid` segments, the result is the size of `paid + 1` words.
+/// Otherwise the result is exactly the number of canonical bytes.
 fn room_for<S: Space, L: Ledger>(
     space: &CountedSpace<'_, S, L>,
     depth: u32,
@@ -122,7 +122,7 @@ fn room_for<S: Space, L: Ledger>(
     8 * surveyed_length_counted(space, depth, reads) as usize
 }
 
-/// Writes the canonical bytes of the value at the root of `space`. The message was surveyed: the value is at most
+/// Returns the canonical bytes of the value at the root of `space`. The message was surveyed: the value is at most
 /// `depth` objects deep and has no capability, and `paid` is the number of words that the walk pays.
 ///
 /// The message is read in place, and nothing is tested again. The memory is allocated on `alloc` at once: `paid + 1`
@@ -141,7 +141,7 @@ pub fn surveyed_layout<S: Space, A: Allocator>(
     layout_with_ledger::<S, A, Brand>(alloc, space, depth, paid, Blank::new(1))
 }
 
-/// Writes the canonical bytes of [`surveyed_layout`], and counts reads in the new ledger `blank`.
+/// Returns the result of [`surveyed_layout`], and counts reads in the new ledger `blank`.
 fn layout_with_ledger<S: Space, A: Allocator, L: Ledger>(
     alloc: A,
     space: &S,
@@ -160,9 +160,9 @@ fn layout_with_ledger<S: Space, A: Allocator, L: Ledger>(
     surveyed_layout_counted(alloc, &space, depth, paid, &mut reads)
 }
 
-/// Writes the canonical bytes of the value at the root of `space`, and counts reads and loop turns in `reads`. The
+/// Returns the canonical bytes of the value at the root of `space`, and counts reads and loop turns in `reads`. The
 /// value is at most `depth` objects deep and has no capability, and `paid` is the number of words that the walk pays.
-/// The memory is that of [`surveyed_layout`].
+/// Memory is allocated as by [`surveyed_layout`].
 ///
 /// The count grows by at most two for each of the `paid` words, plus forty for each word that the value costs, plus 23.
 pub fn surveyed_layout_counted<S: Space, A: Allocator, L: Ledger>(
@@ -175,8 +175,8 @@ pub fn surveyed_layout_counted<S: Space, A: Allocator, L: Ledger>(
     requires ready { IsReady (HasSlot space.now) 0 0 depth 1 }
     requires paid { (v : Value) → IsAt space.now root v → length (canon v) ≤ 8 * (paid + 1) }
     ensures laid { IfOk result (λ bytes. (v : Value) → IsAt space.now root v → bytes.items ≡ canon v) }
-    // The count of reads and turns grows by at most two for each word paid, plus forty for each word of the cost, plus
-    // 23, for any result.
+    // For any result, the count of reads and loop turns grows by at most two for each word paid, plus forty for each
+    // word of the cost, plus 23.
     ensures reads { (v : Value) → IsAt space.now root v → (base : ℕ)
         → reads.new ≤ reads.old + 2 * paid + 40 * cost base v + 23 }
 {

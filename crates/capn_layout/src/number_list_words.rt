@@ -31,7 +31,7 @@ pub fn bits_of(width: Width) -> u64
 }
 
 /// Copies the first `bits` bits of the message's words from `start` on. The bits are written after the first `len`
-/// words of `out`, and further bits, up to a whole word, are 0. Returns the new number of words.
+/// words of `out`, and further bits, up to a complete word, are 0. Returns the new number of words.
 pub fn append_bits<S: Space, L: Ledger>(
     space: &CountedSpace<'_, S, L>,
     start: Place,

@@ -24,8 +24,9 @@ use capn_value::Memory;
 use capn_words::{Pointer, join};
 use std::alloc::Allocator;
 
-/// Returns the canonical bytes of the value in the first slot of `source`, which is at most `depth` objects deep. The
-/// bytes are counted first, and the memory for all bytes is allocated on `alloc` at once.
+/// Returns the canonical bytes of the value in the first slot of `source`. The value is at most `depth` objects deep.
+/// The bytes are counted first, and the memory for all bytes is allocated on `alloc` at once. `Memory` is returned only
+/// if that allocation was refused.
 pub fn canonical_bytes<S: Source, A: Allocator>(
     alloc: A,
     source: S,
@@ -55,7 +56,7 @@ pub fn lay_root<S: Source>(source: &S, depth: u32, out: &mut [u8], reads: &mut S
     lay_slot(source, 0, 0, depth, out, len, reads)
 }
 
-/// Writes the pointer to the value in `slot` over word `from`, and appends the value's content and everything below.
+/// Writes the pointer to the value in `slot` over word `from`, and appends the value's content and everything below it.
 /// The value is at most `depth` objects deep.
 #[cycle(objects)]
 #[inline(always)]
@@ -120,8 +121,8 @@ fn lay_slot<S: Source>(
 }
 
 /// Writes the pointer to a list of `count` structs over word `from`, and appends the list's content and everything
-/// below, at most `depth` objects deep. The function is a call of its own, so that its stack frame is not kept at each
-/// level of depth.
+/// below it. The structs are at most `depth` objects deep. The function is not inlined, so that its stack frame does
+/// not stay on the stack at each level of depth.
 #[cycle(objects)]
 #[inline(never)]
 fn lay_list<S: Source>(
@@ -159,7 +160,7 @@ fn lay_list<S: Source>(
 }
 
 /// Writes the pointers of the first `count` slots of `source` over the words from `first` on, and appends the contents
-/// of the slots and everything below.
+/// of the slots and everything below them.
 #[cycle(objects)]
 #[inline(always)]
 fn lay_each<S: Source>(
@@ -212,7 +213,7 @@ fn lay_slots<S: Source>(
 }
 
 /// Writes the pointers of the slots of `count` rows over the slots' words, row by row, and appends the contents of the
-/// slots and everything below. The rows begin at word `first`, and each has `words` words and `slots` slots.
+/// slots and everything below them. The rows begin at word `first`, and each has `words` words and `slots` slots.
 #[cycle(objects)]
 #[inline(always)]
 fn lay_rows<S: Source>(

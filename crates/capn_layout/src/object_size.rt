@@ -1,5 +1,5 @@
-//! The sizes of the contents of values, including everything below. Any change here that alters canonical bytes makes a
-//! new version of the canonical form.
+//! The sizes of values: the words of their contents and of everything below them. Any change here that alters canonical
+//! bytes makes a new version of the canonical form.
 
 ghost use Rattle.std.specs.Prelude.{◌≡◌, ℕ, ◌+◌, ◌*◌, ◌^◌, ◌<◌, ◌≤◌};
 ghost use Rattle.capn_value.specs.Tree.{Tree, Trees, Bodies, tree_at, count as count_of, count_rows, row_words};
@@ -12,8 +12,8 @@ ghost use Rattle.capn_layout.specs.Ready.{IsReady, AreReady, RowsReady};
 
 use crate::source::{Item, Source};
 
-/// Returns the number of words in the content of the value in `slot` of `source` and in everything below. The value is
-/// at most `depth` objects deep. Reads are counted in `reads`.
+/// Returns the number of words in the content of the value in `slot` of `source` and in everything below that value.
+/// The value is at most `depth` objects deep. Reads are counted in `reads`.
 #[cycle(sizes)]
 #[inline(always)]
 pub fn size_of_slot<S: Source>(source: &S, slot: u32, depth: u32, reads: &mut S::Reads) -> u32
@@ -42,7 +42,7 @@ pub fn size_of_slot<S: Source>(source: &S, slot: u32, depth: u32, reads: &mut S:
     }
 }
 
-/// Returns the number of words in the contents of the first `number` slots of `source` and in everything below.
+/// Returns the number of words in the contents of the first `number` slots of `source` and in everything below them.
 #[cycle(sizes)]
 #[inline(never)]
 fn size_of_slots<S: Source>(source: S, number: u32, depth: u32, reads: &mut S::Reads) -> u32

@@ -26,8 +26,8 @@ pub struct Opened {
     pub slots: u32,
 }
 
-/// Writes the pointer to the struct `row` over word `from`, and appends the kept part of the struct after the first
-/// `len` words of `out`.
+/// Writes the pointer to the struct `row` over word `from`. Appends the kept words of the struct, and words in place of
+/// its kept slots, after the first `len` words of `out`. Returns the opened struct.
 #[inline(always)]
 pub fn open_struct<S: Source>(
     row: &S::Rows,
@@ -60,8 +60,8 @@ pub fn open_struct<S: Source>(
     }
 }
 
-/// Writes the pointer to a list of `count` pointers over word `from`, and appends words in place of the list's elements
-/// after the first `len` words of `out`.
+/// Writes the pointer to a list of `count` pointers over word `from`. Appends words in place of the elements of the
+/// list after the first `len` words of `out`. Returns the opened list.
 #[inline(always)]
 pub fn open_links<S: Source>(
     row: &S::Rows,
@@ -92,9 +92,11 @@ pub fn open_links<S: Source>(
     }
 }
 
-/// Writes the pointer to the list of `count` structs `rows` over word `from`, and appends the tag and the kept part of
-/// each row after the first `len` words of `out`. All rows are cut to the same size. The function is a call of its own,
-/// so that its stack frame is not kept at each level of depth.
+/// Writes the pointer to the list of `count` structs `rows` over word `from`. Appends the tag and the kept words of
+/// each row, with words in place of the kept slots, after the first `len` words of `out`. Returns the opened list.
+///
+/// All rows are shortened to the same size. The function is not inlined, so that its stack frame does not stay on the
+/// stack at each level of depth.
 #[inline(never)]
 pub fn open_rows<S: Source>(
     rows: &S::Rows,

@@ -44,7 +44,7 @@ pub(crate) fn bytes_of(word: u64) -> [u8; 8]
     bytes
 }
 
-/// Writes `word` over the 8 bytes from offset `start` on.
+/// Writes `word` over the 8 bytes of `bytes` from offset `start` on.
 pub(crate) fn write_at<A: Allocator>(bytes: &mut Vec<u8, A>, start: usize, word: u64)
     requires { start + 8 ≤ length bytes.old.items }
     ensures { bytes.new.items
@@ -55,7 +55,7 @@ pub(crate) fn write_at<A: Allocator>(bytes: &mut Vec<u8, A>, start: usize, word:
 }
 
 impl<A: Allocator + Copy> Patch<A> {
-    /// Returns an empty buffer, which takes no memory on `alloc` until something is appended.
+    /// Returns an empty buffer. No memory is allocated on `alloc` until something is appended.
     pub fn new(alloc: A) -> Patch<A>
         ensures { result ≡ [] }
     {
@@ -155,8 +155,8 @@ impl<A: Allocator> Patch<A> {
 
     /// Returns the bytes of the words, if no hole is left.
     ///
-    /// The buffer is moved, so nothing is copied and no memory is taken. An `Err`, which would return the buffer with
-    /// `Memory`, never occurs.
+    /// The buffer is moved, so nothing is copied and no memory is allocated. An `Err`, which would return the buffer
+    /// with `Memory`, never occurs.
     pub fn finish(self) -> Result<Vec<u8, A>, (Patch<A>, Memory)>
         requires { IsWhole self }
         ensures ok { IfOk result (λ v. v.items ≡ bytes_of_words (filled self)) }

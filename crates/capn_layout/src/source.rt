@@ -37,7 +37,7 @@ pub trait Source: Drop {
     type Numbers: Drop;
     /// The type that refers to rows of equal sizes, each with words and slots.
     type Rows: Drop;
-    /// The type that counts reads of the message, which takes no bytes.
+    /// The type that counts reads of the message. A value of the type takes no bytes.
     type Reads;
 
     /// The statement that a slot has a value.
@@ -49,7 +49,7 @@ pub trait Source: Drop {
     /// The statement that rows have words, and slots with values.
     ghost are: { Self.Rows → Bodies → Type 0 };
 
-    /// The number of reads and turns that were counted.
+    /// The number of reads and loop turns that were counted.
     ghost spent: { Self.Reads → ℕ };
 
     /// Counts one more turn of a loop in `reads`.
@@ -83,14 +83,14 @@ pub trait Source: Drop {
         requires { (ws : List ℕ) × packs numbers.now ws × (length ws ≤ 2 ^ 29) }
         ensures { (ws : List ℕ) → packs numbers.now ws → result ≡ length ws };
 
-    /// Returns the number of words that are kept of each of `rows`, if all rows are cut to the same size.
+    /// Returns the number of words that are kept of each row of `rows`. All rows are shortened to the same size.
     fn kept_words(rows: &Self::Rows, reads: &mut Self::Reads) -> u32
         requires { (bs : Bodies) × are rows.now bs }
         ensures kept { (bs : Bodies) → are rows.now bs → result ≡ kept_words_of_rows bs }
         ensures reads { (bs : Bodies) → are rows.now bs
             → spent reads.new ≤ spent reads.old + count_rows bs + 2 * row_words bs };
 
-    /// Returns the number of slots that are kept of each of `rows`, if all rows are cut to the same size.
+    /// Returns the number of slots that are kept of each row of `rows`. All rows are shortened to the same size.
     fn kept_slots(rows: &Self::Rows, reads: &mut Self::Reads) -> u32
         requires { (bs : Bodies) × are rows.now bs }
         ensures kept { (bs : Bodies) → are rows.now bs → result ≡ kept_slots_of_rows bs }
@@ -120,6 +120,6 @@ pub trait Source: Drop {
         ensures { (bs : Bodies) → are rows.now bs → (k : ℕ) → k < count (slots_at bs row)
             → has result k (tree_at (slots_at bs row) k) };
 
-    /// The proof that a slot has no two values.
+    /// The proof that a slot has at most one value.
     ghost one: { (slots : Self) (k : ℕ) (v w : Tree) → has slots k v → has slots k w → v ≡ w };
 }

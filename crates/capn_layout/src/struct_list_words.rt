@@ -1,5 +1,5 @@
-//! The kept parts of rows, copied from the message. Any change here that alters canonical bytes makes a new version of
-//! the canonical form.
+//! The kept words and slots of rows, copied from the message. Any change here that alters canonical bytes makes a new
+//! version of the canonical form.
 
 ghost use Rattle.std.specs.Prelude.{◌≡◌, ◌+◌, ◌*◌, ◌^◌, ◌<◌, ◌≤◌, ◌++◌, take, length};
 ghost use Rattle.capn_words.specs.Message.{IsMessage};
@@ -13,8 +13,8 @@ use capn_target::counted::{CountedSpace, Reads};
 use capn_words::{Place, Space};
 use std::sync::ledger::Ledger;
 
-/// Appends the first `words` words and the first `slots` slots of the row at `start`. The row has `size` data words
-/// before the slots. If all `size` words are kept, both parts are copied at once.
+/// Appends the first `words` words and the first `slots` slots of the row at `start` after the first `len` words of
+/// `out`. The row has `size` words before its slots. If `words` equals `size`, words and slots are copied at once.
 #[inline(always)]
 fn push_parts<S: Space, L: Ledger>(
     space: &CountedSpace<'_, S, L>,
@@ -46,9 +46,9 @@ fn push_parts<S: Space, L: Ledger>(
     extend(out, end, space.bytes(below, 8 * slots as usize, reads))
 }
 
-/// Appends the first `kept` of the `words` words and the first `below` of the `slots` slots of each of `count` rows,
-/// unchanged, after the first `len` words of `out`. Returns the new number of words. Rows that are kept whole are
-/// copied at once.
+/// Appends `count` rows of the message, from `start` on, after the first `len` words of `out`. Of each row, the first
+/// `kept` of the `words` words are appended, and then the first `below` of the `slots` slots. Returns the new number of
+/// words. If all words and slots are kept, all rows are copied at once.
 #[inline(always)]
 pub fn push_rows<S: Space, L: Ledger>(
     space: &CountedSpace<'_, S, L>,

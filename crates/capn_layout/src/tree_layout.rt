@@ -42,12 +42,12 @@ impl Error for LayoutFault {}
 /// The greatest height of a tree.
 const MOST_HEIGHT: u32 = 256;
 
-/// Writes the canonical bytes of `tree`: one segment with the objects in preorder. A struct is cut after the last word
-/// that is not zero and the last pointer that is not null, and all rows of a list are cut to one size.
+/// Returns the canonical bytes of `tree`: one segment with the objects in preorder. A struct is cut after the last word
+/// that is not zero and the last pointer that is not null, and all rows of a list are shortened to one size.
 ///
-/// `Capability` is returned exactly if the tree has a capability, before any memory is taken, with the index of the
-/// first capability in preorder. `Memory` is returned only if the one allocation on `alloc`, for all bytes, was
-/// refused.
+/// `Capability` is returned if and only if the tree has a capability, with the index of the first capability in
+/// preorder. The test is made before any memory is allocated. `Memory` is returned only if the one allocation on
+/// `alloc`, for all bytes, was refused.
 ///
 /// Page: canonicalization. Our own: bits past a list's last element are 0, and a list without content points at the
 /// next free word.

@@ -29,7 +29,7 @@ pub enum TreeNumbers<'a> {
     Octs(&'a [u64]),
 }
 
-/// The rows of a list of structs, or one row: a struct, or only slots.
+/// The rows of a list of structs, or one row. The one row is a struct, or has only slots.
 #[derive_where(Clone, Copy)]
 pub enum TreeRows<'a, B: Allocator> {
     Bodies(&'a [Body<B>]),
@@ -37,7 +37,7 @@ pub enum TreeRows<'a, B: Allocator> {
     Slots(&'a [Value<B>]),
 }
 
-/// The slots of a value, or one slot with a value.
+/// The slots of a value, or the root, which counts as one slot.
 #[derive_where(Clone, Copy)]
 pub enum TreeSlots<'a, B: Allocator> {
     Root(&'a Value<B>),

@@ -1,4 +1,5 @@
--- Lemmas for the law `following`: no fault after texts that are made is at a line before the end of those texts.
+-- Lemmas for the law `following`: a fault after the texts at the front of an input names no line before the end of
+-- these texts.
 use Rattle.std.proofs.Common.{◌≡◌, inl, inr, ℕ, ◌+◌, ◌≤◌, List, [], ◌∷◌, ◌++◌, length, Err}
 use Rattle.std.proofs.Common.{refl, sym, ap, subst, ◌∙◌, append_assoc, arith}
 use Rattle.capn_value.specs.Tree.{Tree}
@@ -62,7 +63,7 @@ from_less line at (faults.Capability n index) less h = omega arith
 from_less line at (faults.Another n) less h = omega arith
 from_less line at faults.NoText less h = tt
 
--- ---- texts that are made
+-- ---- texts at the front of an input
 
 module _ (apart : TextsAreApart) (shows : FittingIsShowable) where
   later : (vs ws : List Tree) (input rest left : List ℕ) → AreFirst vs input rest → AreFirst ws input left
@@ -74,7 +75,7 @@ module _ (apart : TextsAreApart) (shows : FittingIsShowable) where
   pub unended_is_last : UnendedIsLast
   unended_is_last vs ws input rest left h k none = later vs ws input rest left h k (unended_stuck shows left none)
 
-  -- The case of form `Bare`: at most one text is made, and another follows.
+  -- Case: form `Bare`. `vs` has at most one value.
   of_one : (vs : List Tree) (v : Tree) (input rest left : List ℕ) → length vs ≤ 1 → AreFirst vs input rest
       → AreFirst (v ∷ []) input left → line_after vs ≤ line_after (v ∷ [])
   of_one [] v input rest left few h k = lines_of_more [] (v ∷ [])

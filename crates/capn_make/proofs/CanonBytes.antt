@@ -1,4 +1,4 @@
--- Lemmas for `canonical`: the length of canonical bytes, and that of their frame.
+-- Lemmas for `canonical`: the length of the canonical bytes of a value.
 use Rattle.std.proofs.Common.{◌≡◌, ℕ, ◌*◌, ◌/◌, ◌%◌, ◌^◌, ◌<◌, List, ◌++◌, length, replicate, arith, ap}
 use Rattle.std.proofs.Common.{length-append, refl}
 use Rattle.std.specs.Int.{to_le_bytes, w32}
@@ -14,12 +14,11 @@ use Rattle.capn_canon.specs.Layout.{canon}
 use Rattle.capn_canon.specs.Laws.{CanonIsForm}
 use Rattle.capn_make.specs.WrittenValue.{framed}
 
--- Limits within which a value is accepted.
 limits_of : Tree → Bounds
 limits_of v = record { message_words = 1; budget = cost 0 v; depth = height v; tariff = Plain }
 
 module _ (law : CanonIsForm) (v : Tree) (fits : Fits v) (range : InRange v) where
-  -- Canonical bytes are no more words than a message may have.
+  -- If `v` fits and is in range, its canonical bytes are the bytes of some words `ws`, as `IsBare` states.
   pub canon_bare : (ws : List ℕ) × IsBare (canon v) ws
   unfolding limits_of
   canon_bare =
@@ -36,7 +35,6 @@ module _ (law : CanonIsForm) (v : Tree) (fits : Fits v) (range : InRange v) wher
   pub canon_whole : length (canon v) % 8 ≡ 0
   canon_whole = let e = canon_length in omega arith
 
--- The frame of whole words is whole words.
 pub framed_whole : (bytes : List ℕ) → length bytes % 8 ≡ 0 → length (framed bytes) % 8 ≡ 0
 framed_whole bytes whole =
     let head = to_le_bytes w32 (length bytes / 8) in

@@ -1,4 +1,5 @@
--- Lemmas for the laws `deciding` and `stuck`: the texts that are whole in some bytes, and in more bytes.
+-- Lemmas for the laws `deciding` and `stuck`: the values of the complete texts of some bytes, before and after more
+-- bytes are added.
 use Rattle.std.proofs.Common.{◌≡◌, ℕ, List, [], ◌∷◌, ◌++◌, Err, refl, sym, ap₂, subst, ◌∙◌}
 use Rattle.std.specs.List.{AllByRecursion}
 use Rattle.capn_value.specs.Tree.{Tree}

@@ -1,4 +1,4 @@
--- Lemmas for the law `refusing`: an input ends in one way.
+-- Lemmas for the law `refusing`: a run on an input has one result.
 use Rattle.std.proofs.Common.{◌≡◌, ℕ, List, [], Result, Ok, Err, refl, sym, subst, ◌∙◌}
 use Rattle.capn_text.specs.Laws.{TextsAreApart, FittingIsShowable, OneWrongLine, WrongIsNotDeep, DeepIsHigh}
 use Rattle.capn_canon.specs.Layout.{canon}
@@ -11,7 +11,7 @@ use Rattle.capn_make.proofs.OneReading.{stuck_after, same_firsts}
 use Rattle.capn_make.proofs.OneRefusal.{one_ending as one_after}
 use Rattle.capn_make.proofs.OneBare.{one_bare}
 
--- The bytes that are made of an input in form `Bare` with a given result.
+-- Bytes `text` that a run on `input` in form `Bare` writes, if `r` is its result.
 text_of : (input : List ℕ) (r : Result (Unit {0}) MakeFault) → EndsOnly input r
     → (text : List ℕ) × MakesOne input text r
 text_of input (Ok u) h = (canon h.0, (h.0, h.1, refl))

@@ -1,5 +1,5 @@
--- Lemmas on the texts at the front of an input, and one text more. (For `AfterTexts`, `FoundRefusal`, `NextTexts` and
--- others.)
+-- Lemmas on the texts at the front of an input, and on one more text after them. (For `AfterTexts`, `FoundRefusal`,
+-- `NextTexts` and others.)
 use Rattle.std.proofs.Common.{◌≡◌, Bool, true, false, ℕ, ◌+◌, ◌^◌, ◌≤◌, ◌<◌, ◌==◌, List, [], ◌∷◌, ◌++◌, length, cond}
 use Rattle.std.proofs.Common.{refl, sym, ap, ◌∙◌, append_assoc, arith}
 use Rattle.std.proofs.lemmas.List.{append-nil, length-append}
@@ -31,8 +31,6 @@ lines_within (c ∷ cs) =
     let k : cond (c == 10) 1 0 ≤ 1 = one_at_most (c == 10) in
     omega arith
 
--- The numbers of the lines after the texts of `vs` are below 2^64, if `input` is shorter than 2^64 and `rest` shorter
--- than 2^63.
 pub room_after : (vs : List Tree) (input rest : List ℕ) → AreFirst vs input rest → length input < 2 ^ 64
     → length rest < 2 ^ 63 → HasRoom (line_after vs) rest
 room_after [] input rest first all left = let none : ended_lines (stream_text []) ≡ 0 = refl in omega arith
@@ -61,7 +59,6 @@ stream_more (u ∷ us) v rest =
     ∙ ap (λ x. show_text u ++ (end_line ++ x)) (stream_more us v rest)
     ∙ sym (append_assoc (show_text u) (end_line ++ stream_text (us ++ v ∷ [])) rest)
 
--- One more text is at the front of the input.
 pub first_more : (vs : List Tree) (v : Tree) (input rest more : List ℕ) → AreFirst vs input rest → IsMakeable v
     → rest ≡ show_text v ++ (end_line ++ more) → AreFirst (vs ++ v ∷ []) input more
 first_more vs v input rest more first one is = record {
@@ -69,7 +66,6 @@ first_more vs v input rest more first one is = record {
   are = first.are ∙ ap (λ r. stream_text vs ++ r) is ∙ stream_more vs v more;
 }
 
--- The bytes of one more value are appended.
 pub made_more : (form : Form) (vs : List Tree) (text : List ℕ) (v : Tree) (piece : List ℕ) → AreMade form vs text
     → IsWrittenValue form v piece → AreMade form (vs ++ v ∷ []) (text ++ piece)
 made_more form [] text v piece made is = (piece, [], is, refl, ap (λ t. t ++ piece) made ∙ sym (append-nil piece))

@@ -1,4 +1,5 @@
--- Lemmas for `find_refusal` and `finish`: whether an input is refused for good, by the result of its texts.
+-- Lemmas for `find_refusal` and `finish`: the result of parsing the texts of an input tells whether the input is
+-- refused for good.
 use Rattle.std.proofs.Common.{◌≡◌, inl, inr, ℕ, ◌+◌, ◌≤◌, List, [], ◌∷◌, ◌++◌, length, take, drop, Bool, true, false}
 use Rattle.std.proofs.Common.{Some, None, Option, Result, Ok, Err, refl, sym, ap, subst, ◌∙◌, append_assoc, arith}
 use Rattle.std.proofs.lemmas.List.{append-nil, length-append, take-append-drop, take-append-le}
@@ -28,7 +29,6 @@ use Rattle.capn_make.proofs.Unended.{nothing_unended}
 use Rattle.capn_make.proofs.OneText.{none_at, none_yet, one_at, whole_input}
 use Rattle.capn_make.proofs.WhateverFollows.{first_on, whole_from, whole_to}
 
--- The result of what was made is the result of the input.
 pub so_ends : (form : Form) (input made : List ℕ) (r : Result (Unit {0}) MakeFault) → IsMadeSo form input made r
     → Ends form input r
 so_ends forms.Stream input made r h = (h.0, h.1, h.2, h.4)
@@ -36,7 +36,6 @@ so_ends forms.Packed input made r h = (h.0, h.1, h.2, h.4)
 so_ends forms.Bare input made (Ok u) h = (h.0, h.1)
 so_ends forms.Bare input made (Err fault) h = h
 
--- Unless an allocation was refused, the bytes that were made are the bytes that `input` makes.
 pub so_made : (form : Form) (input made : List ℕ) (place : Place) (fault : MakeFault) → (fault ≡ faults.Memory → ⊥)
     → GoesOn form input place made (Err fault) → IsMadeSo form input made (Err fault)
 so_made form input made place fault other (inl memory) = absurd (other memory)
@@ -99,7 +98,7 @@ lost_made form input made place n more m (inr follows) =
 
 -- ---- a fault that more bytes may take away
 
--- The result after texts and one text more.
+-- A run on `input` has some result `r` other than a wrong line (`NotText`).
 abbrev Decided : Form → List ℕ → Type 0
 Decided form input = (r : Result (Unit {0}) MakeFault) × Ends form input r
     × ((n : ℕ) → r ≡ Err (faults.NotText n) → ⊥)
@@ -206,13 +205,12 @@ nothing_left forms.Bare input made place m ends =
     let parts = ap length m.first.are ∙ length-append (stream_text m.values) place.rest in
     none_left place.rest (omega arith)
 
--- In form `Bare`, no text was made if the place is at line 1.
 none_of : (form : Form) (input made : List ℕ) (place : Place) → (m : HasMade form input place made)
     → (form ≡ forms.Bare → place.line ≡ 1) → form ≡ forms.Bare → m.values ≡ []
 none_of form input made place m first bare = none_at m.values place.line m.line (first bare)
 
 module _ (one : OneEnding) (form : Form) where
-  -- An input is not lost if a prefix of it, with other bytes after it, has another result.
+  -- If `few` or more bytes of `input` follow its first `n` bytes, `IsLostForGood` does not hold for these `n` bytes.
   abbrev IsNotLost : List ℕ → Type 0
   IsNotLost input = (n : ℕ) → n + few ≤ length input → IsLostForGood form (take n input) → ⊥
 
@@ -274,7 +272,7 @@ module _ (one : OneEnding) (form : Form) where
     open_end n m (inl o) ends = may_go_on n m o.0 o.1 ends
     open_end n m (inr o) ends = after_one n m o.0 o.1 o.2 ends
 
-    -- ---- by the fault of what was made
+    -- ---- by the fault
 
     found_by : (fault : MakeFault) (cut : Bool) → HasMade form input place made → TellsCut form place cut fault
         → is_lost fault cut ≡ true → (more : List ℕ) → IsMadeSo form (input ++ more) made (Err fault)
@@ -302,7 +300,6 @@ module _ (one : OneEnding) (form : Form) where
     unfinished_by (faults.Another n) cut m tells final half ends = absurd (half tt)
     unfinished_by faults.NoText cut m tells final half ends = λ n far good. nothing_read form input ends n far
 
-    -- If a wrong line is cut, no text with its end is at `place`.
     unended_by : (fault : MakeFault) (cut : Bool) → HasMade form input place made → TellsCut form place cut fault
         → is_lost fault cut ≡ false → (IsWholeFrom place.line place.rest fault → ⊥) → Ends form input (Err fault)
         → IsUnended place.rest
@@ -319,7 +316,8 @@ module _ (one : OneEnding) (form : Form) where
 
     module _ (fault : MakeFault) (cut : Bool) (other : fault ≡ faults.Memory → ⊥)
         (h : GoesOn form input place made (Err fault)) (tells : TellsCut form place cut fault) where
-      -- An input is refused for good if the part that causes its fault is complete.
+      -- Case: the bytes at `place` that cause `fault` are complete. `input` is refused with `fault` whatever bytes
+      -- follow.
       pub found : FaultStays → IsWholeFrom place.line place.rest fault
           → TellsRefusal form input place made (Some fault)
       found stays whole = elim h [
@@ -332,7 +330,7 @@ module _ (one : OneEnding) (form : Form) where
             so)
       ]
 
-      -- An input is refused for good if it has a wrong line that is not cut.
+      -- Case: `is_lost fault cut` is true. `input` is refused with `fault` whatever bytes follow.
       pub found_lost : is_lost fault cut ≡ true → TellsRefusal form input place made (Some fault)
       found_lost final = elim h [
         | inl memory ↦ absurd (other memory)
@@ -340,7 +338,8 @@ module _ (one : OneEnding) (form : Form) where
         | inr (inr m, so) ↦ found_by fault cut m tells final
       ]
 
-      -- In all other cases, an input is not refused for good.
+      -- Case: the bytes that cause `fault` are not complete, and `is_lost fault cut` is false. `input` is not refused
+      -- yet.
       pub unfinished : (IsWholeFrom place.line place.rest fault → ⊥) → is_lost fault cut ≡ false
           → TellsRefusal form input place made None
       unfinished half final = elim h [

@@ -1,4 +1,4 @@
--- Lemmas for the law `framing`: the bytes written for a value in frames are a frame.
+-- Lemmas for the law `framing`: `framed` of canonical bytes is the frame of one message.
 use Rattle.std.proofs.Common.{◌≡◌, ℕ, zero, suc, ◌/◌, ◌^◌, ◌<◌, List, [], ◌∷◌, ◌++◌, length, replicate}
 use Rattle.std.proofs.Common.{slice_index, refl, sym, ap, ap₂, ◌∙◌, arith}
 use Rattle.std.proofs.lemmas.List.{append-nil}

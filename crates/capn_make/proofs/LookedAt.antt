@@ -1,4 +1,4 @@
--- Lemmas for `look` and `end`: the rest of an input is read again, or the input has ended.
+-- Lemmas for `look` and `end`: `rest` is parsed again because bytes were added to it, or because the input has ended.
 use Rattle.std.proofs.Common.{◌≡◌, ◌≢◌, inl, inr, ℕ, zero, suc, ◌+◌, ◌*◌, ◌-◌, ◌^◌, ◌≤◌, ◌<◌, List, [], ◌∷◌, ◌++◌}
 use Rattle.std.proofs.Common.{length, take, drop, Bool, true, false, Option, Some, None, Result, Ok, Err, OnOk, OnErr}
 use Rattle.std.proofs.Common.{IsOkUnless, refl, sym, ap, ap₂, subst, ◌∙◌, append_assoc, arith}
@@ -23,7 +23,6 @@ use Rattle.capn_make.proofs.TestedInput.{all_tested, some_left}
 use Rattle.capn_make.proofs.WhateverFollows.{first_on}
 use Rattle.capn_make.proofs.UnderWay.{all_begun}
 
--- If `line` and the length of `rest` together reach 2^64, the input has at least as many bytes.
 many_bytes : (form : Form) (input made rest : List ℕ) (line : ℕ)
     → HasMade form input (record { rest = rest; line = line }) made → 2 ^ 64 ≤ line + length rest
     → length rest < 2 ^ 63 → 2 ^ 64 ≤ length input
@@ -42,7 +41,6 @@ take_past (x ∷ xs) ys n =
     let more : length (x ∷ xs) + n ≡ suc (length xs + n) = omega arith in
     ap (λ m. take m (x ∷ xs ++ ys)) more ∙ ap (λ t. x ∷ t) (take_past xs ys n)
 
--- A first part of a text, after what was written.
 begun_on : (c d e : Option (List ℕ)) (written text : List ℕ) → Appends c d written → HasBegun d e text
     → HasBegun c e (written ++ text)
 begun_on c d e written text wrote begun = (
@@ -57,7 +55,7 @@ kept_on forms.Stream written made text new old kept = kept
 kept_on forms.Packed written made text new old kept = kept
 kept_on forms.Bare written made text new old kept = ap₂ (λ x y. x ++ y) old kept
 
--- ---- the end of what was made
+-- ---- the result and the messages
 
 none_of_none : (n : ℕ) → take {A = ℕ} n [] ≡ []
 none_of_none zero = refl
@@ -97,7 +95,6 @@ made_well forms.Stream input made u so = so
 made_well forms.Packed input made u so = so
 made_well forms.Bare input made u so = so
 
--- The messages of an input that is refused were written, except in form `Bare`.
 refused_ends : (form : Form) (input written new : List ℕ) (fault : MakeFault) → IsKept form written new
     → IsMadeSo form input (written ++ new) (Err fault) → Makes form input written (Err fault)
 refused_ends forms.Stream input written new fault kept so =
@@ -112,7 +109,6 @@ err_of x = Err x
 err_inj : (x y : MakeFault) → err_of x ≡ err_of y → x ≡ y
 err_inj x y e = cc
 
--- A first part of the frames that were made was written.
 so_begun : (form : Form) (input made : List ℕ) (c d : Option (List ℕ)) (fault : MakeFault) → (form ≡ forms.Bare → ⊥)
     → IsMadeSo form input made (Err fault) → HasBegun c d made → HasBegunText form input c d
 so_begun forms.Stream input made c d fault framed so begun =
@@ -138,7 +134,8 @@ refused_begun forms.Bare input more made place c d None framed tells begun = abs
 
 module _ (form : Form) (input : List ℕ) (c d : Option (List ℕ)) (made rest : List ℕ) (line tested before : ℕ)
     (h : HasCome form input c d made rest line tested before) where
-  -- No text has ended, and the rest is not much longer than before.
+  -- Case: the line `end` is not in the added bytes, and `rest` has at most 4 `tested` bytes. `rest` is not parsed
+  -- again.
   pub goes_on_at : HoldsNoEnd (drop (before - 3) rest) → length rest ≤ 4 * tested
       → IsUnderWay form input c d made rest line tested
   goes_on_at none few = record {
@@ -186,12 +183,11 @@ module _ (form : Form) (input : List ℕ) (c d : Option (List ℕ)) (made rest :
       broken_writes io w,
     )
 
-    -- The messages that were made were written.
     pub made_writes : (u : Unit {0}) (r : Result (Unit {0}) MakeFault) → WritesMade form d e broken after new (Ok u)
         → (r ≡ Err faults.Io → ⊥) → Writes faults.Io d e broken r
     made_writes u r w other = ((w.1, w.2), (λ is. absurd (other is), λ f. let fine = w.0 in absurd cc))
 
-    -- The messages were written, and the whole input is refused.
+    -- Case: the messages were written, and `input ++ more` is refused with `fault`.
     refused_so : (more : List ℕ) (fault : MakeFault) (u : Unit {0})
         → IsMadeSo form (input ++ more) (h.written ++ after) (Err fault) → WritesMade form d e broken after new (Ok u)
         → GivesMade form input more c e (Err fault) × Writes faults.Io d e broken (Err fault)
@@ -213,7 +209,7 @@ module _ (form : Form) (input : List ℕ) (c d : Option (List ℕ)) (made rest :
               (subst (λ f. Makes form all (h.written ++ text) (Err f)) (err_inj fault faults.Io is) makes)),
         )
 
-    -- The messages were written, and the input is refused whatever follows.
+    -- Case: the messages were written, and `input` is refused with `fault` whatever bytes follow.
     pub refuses_at : (fault : MakeFault) (u : Unit {0})
         → TellsRefusal form input place (h.written ++ after) (Some fault)
         → WritesMade form d e broken after new (Ok u)
@@ -221,7 +217,6 @@ module _ (form : Form) (input : List ℕ) (c d : Option (List ℕ)) (made rest :
     refuses_at fault u tells w =
         (λ more. (refused_so more fault u (tells more) w).0, (refused_so [] fault u (tells []) w).1)
 
-    -- An input that has ended is refused.
     ended_so : (fault : MakeFault) → (fault ≡ faults.Memory → ⊥)
         → GoesOn form input place (h.written ++ after) (Err fault)
         → IsMadeSo form (input ++ []) (h.written ++ after) (Err fault)
@@ -234,7 +229,7 @@ module _ (form : Form) (input : List ℕ) (c d : Option (List ℕ)) (made rest :
         → GivesMade form input [] c e (Err fault) × Writes faults.Io d e broken (Err fault)
     ended_refused fault u other goes w = refused_so [] fault u (ended_so fault other goes) w
 
-    -- An input that has ended is refused, but the writer failed before that.
+    -- Case: the input has ended and is refused with `fault`, but the writer failed with `io`.
     pub ended_broken : (fault io : MakeFault) → (fault ≡ faults.Memory → ⊥)
         → GoesOn form input place (h.written ++ after) (Err fault) → WritesMade form d e broken after new (Err io)
         → GivesMade form input [] c e (Err io) × Writes faults.Io d e broken (Err io)
@@ -272,7 +267,7 @@ module _ (form : Form) (input : List ℕ) (c d : Option (List ℕ)) (made rest :
       ((take begun.0 after, begun.1), (λ is. failed, λ f. ap err_of only)),
     )
 
-    -- The messages of the whole input were written, or the writer failed at them.
+    -- Case: the input has ended, and `GoesOn` holds with `Ok`. All messages were written, or the writer failed.
     pub ended_as : (u : Unit {0}) (r : Result (Unit {0}) MakeFault)
         → GoesOn form input place (h.written ++ after) (Ok u)
         → OnOk r (Appends d e after) → HasBegun d e after → OnOk r (broken ≡ false) → OnErr r (broken ≡ true)

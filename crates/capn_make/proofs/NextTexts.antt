@@ -1,4 +1,4 @@
--- Lemmas for `next_text.rt`, `progress.rt` and `whole_texts.rt`: the texts of an input are made one after the other.
+-- Lemmas for `next_text.rt`, `progress.rt` and `whole_texts.rt`: the texts of an input are parsed one after the other.
 use Rattle.std.specs.Prelude.{IfErr}
 use Rattle.std.proofs.Common.{◌≡◌, ◌≢◌, ◌⊎◌, Bool, true, false, inl, inr}
 use Rattle.std.proofs.Common.{ℕ, ◌+◌, ◌≤◌, List, [], ◌∷◌, ◌++◌, length, drop}
@@ -59,7 +59,6 @@ left_before old new h some none =
     let empty = ap length none in
     some (none_left new.rest (omega arith))
 
--- A text with its end is not empty.
 pub text_left : (v : Tree) (old rest : List ℕ) → old ≡ show_text v ++ (end_line ++ rest) → old ≢ []
 text_left v old rest is none =
     let all = length-append (show_text v) (end_line ++ rest) in
@@ -77,7 +76,6 @@ dropped_after old new count h size =
 
 -- ---- texts
 
--- In frames everything that was made is written, whatever the result.
 made_so : (form : Form) (input made : List ℕ) (r : Result (Unit {0}) MakeFault) → (form ≡ forms.Bare → ⊥)
     → MakesEach form input made r → IsMadeSo form input made r
 made_so forms.Stream input made r framed h = h
@@ -145,7 +143,7 @@ pub wrong_on : (line : ℕ) (rest more : List ℕ) (n : ℕ) → rest ≢ [] →
 wrong_on line rest more n some h =
     record { some = λ e. some (nil_front rest more (sym e)); none = h.0; first = (h.1, h.2, h.3) }
 
--- The refusal of the next text, from the fault of reading it.
+-- If `e` is the fault of parsing the next text, `unread line e` is `Memory`, or `rest` is refused with `unread line e`.
 pub refused_text : (line : ℕ) (rest : List ℕ) (e : TextFault) → rest ≢ []
     → ((n : ℕ) → Names e n → (v : Tree) (more : List ℕ) → IsShowable v → height v ≤ most_height
     → rest ≢ show_text v ++ (end_line ++ more))
@@ -161,7 +159,6 @@ refused_text line rest (texts.Cut n) some none first mis =
     inr (record { some = some; none = none n (inr refl); first = first n (inr refl) })
 refused_text line rest (texts.Misfit m) some none first mis = inr (refl, mis m refl)
 
--- The kind of the fault from reading, if the fault of the run is a wrong line `n`.
 pub named_line : (line : ℕ) (e : TextFault) (n : ℕ) → unread line e ≡ faults.NotText n
     → (is_cut e ≡ true → e ≡ texts.Cut n) × (is_cut e ≡ false → e ≡ texts.Line n)
 named_line line texts.Memory n is = absurd cc
@@ -175,14 +172,12 @@ pub refused_next : (old new : Place) (fault : MakeFault) → new ≡ old
 refused_next old new fault kept (inl memory) = inl memory
 refused_next old new fault kept (inr refused) = inr (inr kept, refused)
 
--- After a wrong line the place is unchanged.
 pub kept_for : (A : Type 0) (form : Form) (old new : Place) (fault : MakeFault) (n : ℕ)
     → MakesNext {A = A} form old new (Err fault) → fault ≡ faults.NotText n → new ≡ old
 kept_for A form old new fault n (inl memory) is = let same = sym memory ∙ is in absurd cc
 kept_for A form old new fault n (inr (inl c, refused)) is = let same = sym c.2 ∙ is in absurd cc
 kept_for A form old new fault n (inr (inr same, refused)) is = same
 
--- A finding on the bytes after the only text is a finding on their place.
 pub end_tells : (place : Place) (cut : Bool) (r : Result (Unit {0}) MakeFault) → (place.line ≡ 1 → ⊥)
     → IfErr r (λ e. TellsEnd place cut e) → IfErr r (λ e. TellsCut forms.Bare place cut e)
 end_tells place cut (Ok u) later h = tt

@@ -1,4 +1,4 @@
--- Lemmas for the law `making`: in form `Bare`, too, an input has one result.
+-- Lemmas for the law `making`: a run on an input in form `Bare` has one result.
 use Rattle.std.proofs.Common.{◌≡◌, inl, inr, ℕ, List, [], ◌∷◌, Ok, Err, refl, sym, ap, subst, ◌∙◌}
 use Rattle.capn_value.specs.Tree.{Tree}
 use Rattle.capn_text.specs.Laws.{TextsAreApart, FittingIsShowable, OneWrongLine, WrongIsNotDeep, DeepIsHigh}
@@ -10,7 +10,6 @@ use Rattle.capn_make.specs.declared.fault.MakeFault.TheVariants as faults
 use Rattle.capn_make.proofs.OneReading.{nothing_stuck, next_same, shown, next_of, refused_stuck}
 use Rattle.capn_make.proofs.OneRefusal.{nothing_refused, nothing_follows, one_fault}
 
--- The bytes after the only text are refused for one reason.
 one_follows : (line : ℕ) (rest : List ℕ) (f g : MakeFault) → Follows line rest f → Follows line rest g → f ≡ g
 one_follows line rest faults.Memory g h k = absurd h
 one_follows line rest faults.Io g h k = absurd h
@@ -37,7 +36,6 @@ one_follows line rest (faults.Another n) (faults.Another i) h k = ap (λ a. faul
 
 module _ (apart : TextsAreApart) (shows : FittingIsShowable) (one_line : OneWrongLine) (not_deep : WrongIsNotDeep)
     (high : DeepIsHigh) (input : List ℕ) where
-  -- A first text that can be made is not refused.
   not_stuck : (v : Tree) (rest : List ℕ) → AreFirst (v ∷ []) input rest → IsStuck input → ⊥
   not_stuck v rest first stuck = stuck v rest first.each.0 (first.are ∙ next_of apart shows v [] rest)
 
@@ -47,7 +45,6 @@ module _ (apart : TextsAreApart) (shows : FittingIsShowable) (one_line : OneWron
       next_same apart shows v w x y input (shown apart shows v a.each.0) (shown apart shows w b.each.0)
       (a.are ∙ next_of apart shows v [] x) (b.are ∙ next_of apart shows w [] y)
 
-  -- The bytes after the first text are refused for one reason.
   follows_it : (v w : Tree) (x y : List ℕ) (f g : MakeFault) → AreFirst (v ∷ []) input x → AreFirst (w ∷ []) input y
       → Follows (line_after (v ∷ [])) x f → Follows (line_after (w ∷ [])) y g → f ≡ g
   follows_it v w x y f g a b h k =
@@ -70,7 +67,6 @@ module _ (apart : TextsAreApart) (shows : FittingIsShowable) (one_line : OneWron
       absurd (not_stuck h.0 h.1 h.2 (refused_stuck apart shows high 1 input g k))
   one_reason f g (inr (inr h)) (inr (inr k)) = follows_it h.0 k.0 h.1 k.1 f g h.2 k.2 h.3 k.3
 
-  -- An input of exactly one text is not refused.
   made_or_not : (v : Tree) (f : MakeFault) → AreFirst (v ∷ []) input [] → IsNotOne input f → ⊥
   made_or_not v f first (inl h) = not_stuck v [] first (subst IsStuck (sym h.0) nothing_stuck)
   made_or_not v f first (inr (inl h)) = not_stuck v [] first (refused_stuck apart shows high 1 input f h)

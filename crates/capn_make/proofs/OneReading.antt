@@ -1,5 +1,5 @@
--- Lemmas on the reading of an input: its texts are those of one list of values, and the rest is refused for one reason.
--- (For `AfterTexts`, `Decided`, `Endings` and others.)
+-- Lemmas on the texts at the front of an input: they determine the list of their values. (For `AfterTexts`, `Decided`,
+-- `Endings` and others.)
 use Rattle.std.proofs.Common.{◌≡◌, inl, inr, ℕ, List, [], ◌∷◌, ◌++◌, length}
 use Rattle.std.proofs.Common.{Some, Result, Ok, Err, refl, sym, ap, ap₂, subst}
 use Rattle.std.proofs.Common.{◌∙◌, append_assoc, arith}
@@ -36,7 +36,6 @@ unfolding Fits
 fit_not v m fits e = absurd cc
 
 module _ (apart : TextsAreApart) (shows : FittingIsShowable) where
-  -- Two values whose texts are next are equal.
   pub next_same : (v w : Tree) (x y t : List ℕ) → IsShowable v → IsShowable w → t ≡ show_text v ++ (end_line ++ x)
       → t ≡ show_text w ++ (end_line ++ y) → (v ≡ w) × (x ≡ y)
   next_same v w x y t sv sw e f =
@@ -79,7 +78,6 @@ module _ (apart : TextsAreApart) (shows : FittingIsShowable) where
       → stream_text (v ∷ vs) ++ rest ≡ show_text v ++ (end_line ++ (stream_text vs ++ rest))
   next_of v vs rest = append_assoc (show_text v) (end_line ++ stream_text vs) rest
 
-  -- The texts at the front of an input are the texts of one list of values.
   pub same_firsts : (vs ws : List Tree) (x y : List ℕ) → AllByRecursion IsMakeable vs
       → AllByRecursion IsMakeable ws → IsStuck x → IsStuck y → stream_text vs ++ x ≡ stream_text ws ++ y
       → (vs ≡ ws) × (x ≡ y)

@@ -1,4 +1,4 @@
--- Lemmas for `end_of_one`: the rest after the texts of an input is refused for one reason.
+-- Lemmas for `end_of_one`: the bytes after the texts at the front of an input are refused with one fault.
 use Rattle.std.proofs.Common.{◌≡◌, inl, inr, ℕ, ◌≤◌, List, [], ◌∷◌, ◌++◌, length}
 use Rattle.std.proofs.Common.{Some, Result, Ok, Err, refl, sym, ap, ap₂, subst}
 use Rattle.std.proofs.Common.{◌∙◌, arith}
@@ -72,7 +72,6 @@ nothing_follows line faults.NoText h = h
 
 module _ (apart : TextsAreApart) (shows : FittingIsShowable) (one_line : OneWrongLine) (not_deep : WrongIsNotDeep)
     (high : DeepIsHigh) where
-  -- If the rest goes too deep, it does not begin with the text of a value of at most 256 levels.
   too_high : (rest more : List ℕ) (v : Tree) → GoesTooDeep rest → IsShowable v → height v ≤ most_height
       → rest ≡ show_text v ++ (end_line ++ more) → ⊥
   too_high rest more v deep s low e =

@@ -1,4 +1,4 @@
--- Lemmas for `make_first` and `make_one`: the only text that form `Bare` takes, and what follows it.
+-- Lemmas for `make_first` and `make_one`: the only text that form `Bare` takes, and the bytes after that text.
 use Rattle.std.proofs.Common.{◌≡◌, inl, inr, ℕ, ◌+◌, ◌≤◌, List, [], ◌∷◌, ◌++◌, length, Some}
 use Rattle.std.proofs.Common.{Result, Ok, Err, refl, sym, ap, subst, ◌∙◌, arith, Vec}
 use Rattle.std.proofs.lemmas.List.{append-nil}
@@ -14,7 +14,6 @@ use Rattle.capn_make.specs.declared.fault.MakeFault.TheVariants as faults
 use Rattle.capn_make.proofs.FirstTexts.{lines_append}
 use Rattle.capn_make.proofs.NextTexts.{one_more}
 
--- A text and its end have at least one line.
 line_more : (v : Tree) (vs : List Tree) → 1 ≤ ended_lines (stream_text (v ∷ vs))
 line_more v vs =
     let a = lines_append (show_text v) (end_line ++ stream_text vs) in
@@ -22,19 +21,16 @@ line_more v vs =
     let one : ended_lines end_line ≡ 1 = refl in
     omega arith
 
--- At line 1 no text has been made.
 pub none_at : (vs : List Tree) (line : ℕ) → line ≡ line_after vs → line ≡ 1 → vs ≡ []
 none_at [] line is first = refl
 none_at (v ∷ vs) line is first = let more = line_more v vs in absurd (omega arith)
 
--- At any later line one text has been made.
 pub one_at : (vs : List Tree) (line : ℕ) → line ≡ line_after vs → (line ≡ 1 → ⊥) → length vs ≤ 1
     → (v : Tree) × (vs ≡ v ∷ [])
 one_at [] line is later few = absurd (later is)
 one_at (v ∷ []) line is later few = (v, refl)
 one_at (v ∷ w ∷ vs) line is later few = absurd (omega arith)
 
--- The bytes after the only text are never refused with `Memory`.
 pub ends_for_a_reason : (place : Place) (r : Result (Unit {0}) MakeFault) → EndsOne place r → r ≡ Err faults.Memory → ⊥
 ends_for_a_reason place (Ok u) h e = absurd cc
 ends_for_a_reason place (Err faults.Memory) h e = h
@@ -50,7 +46,6 @@ module _ (input : List ℕ) (place : Place) (made : List ℕ) (h : HasMade forms
   pub none_yet : place.line ≡ 1 → h.values ≡ []
   none_yet first = none_at h.values place.line h.line first
 
-  -- Before the first text, the whole input is left.
   pub whole_input : h.values ≡ [] → input ≡ place.rest
   whole_input none = h.first.are ∙ ap (λ vs. stream_text vs ++ place.rest) none
 
@@ -72,7 +67,7 @@ module _ (input : List ℕ) (place : Place) (made : List ℕ) (h : HasMade forms
             ))),
       )
 
-  -- The only text was made, and what follows it decides the result.
+  -- Case: the only text was parsed before. The bytes at `place`, which follow that text, decide the result `r`.
   pub ends_so : (r : Result (Unit {0}) MakeFault) → (place.line ≡ 1 → ⊥) → EndsOne place r
       → GoesOn forms.Bare input place made r
   ends_so (Ok u) later over =
@@ -95,7 +90,7 @@ later_line v old new is counted first again =
     let one : ended_lines end_line ≡ 1 = refl in
     absurd (omega arith)
 
--- The first text was made, and what follows it decides the result.
+-- Case: the first text is parsed now. The bytes at `new`, which follow that text, decide the result `r`.
 pub first_made : (A : Type 0) (input : List ℕ) (old new : Place) (made after : List ℕ) (piece : Vec ℕ A)
     → HasMade forms.Bare input old made → old.line ≡ 1 → MakesNext {A = A} forms.Bare old new (Ok (Some piece))
     → after ≡ made ++ piece.items → (r : Result (Unit {0}) MakeFault) → EndsOne new r

@@ -12,7 +12,7 @@ use Rattle.capn_make.specs.declared.fault.MakeFault.TheVariants as faults
 use Rattle.capn_make.proofs.SinkRuns.{ahead_of, exactly, here}
 use Rattle.capn_make.proofs.UnderWay.{begun_by, served, timely}
 
--- The state of the sink for texts, as a statement on the bytes that it took.
+-- `IsUnderWay` holds for `bytes` and some state of the sink for texts.
 abbrev pub UnderWay : Form → Taking
 UnderWay form bytes c d = (made : List ℕ) × (rest : List ℕ) × (line : ℕ) × (tested : ℕ)
     × IsUnderWay form bytes c d made rest line tested

@@ -1,4 +1,4 @@
--- Lemmas for `UnderTexts`: the plain form of the text with quotes that was read so far, and its lines.
+-- Lemmas for `UnderTexts`: the plain form of the bytes that were read, and its lines.
 use Rattle.std.proofs.Common.{◌≡◌, ◌≢◌, ℕ, ◌+◌, ◌≤◌, Bool, true, false, cond, List, [], ◌++◌, length}
 use Rattle.std.proofs.Common.{Result, Ok, Err}
 use Rattle.std.proofs.Common.{refl, sym, ap, ap₂, ◌∙◌, append_assoc, arith}
@@ -51,7 +51,6 @@ same_digits q r more through line front =
     ap (λ (b : Bool). cond b (digits_through r.line more) (digits_after r.line r.front more)) through
     ∙ ap₂ (λ (n : ℕ) (l : List ℕ). cond q.through (digits_through n more) (digits_after n l more)) line front
 
--- The bytes that are left at the end of a text.
 last_by : (b : Bool) (front : List ℕ) → (b ≡ true → front ≡ []) → cond b [] front ≡ front
 last_by true front empty = sym (empty refl)
 last_by false front empty = refl
@@ -60,7 +59,7 @@ no_digits : (b : Bool) (x : List ℕ) → x ≡ [] → cond b x x ≡ []
 no_digits true x e = e
 no_digits false x e = e
 
--- If lines of digits before a later line are forgotten, `HasSeen` holds for that line.
+-- `HasSeen` stays true for a later line `at` if the converter forgets the lines of digits before `at`.
 pub forgotten_on : (q r : Unquoting) (line at : ℕ) (bytes input : List ℕ) → line ≤ at → HasSeen q line bytes input
     → Forgets at q r → HasSeen r at bytes input
 forgotten_on q r line at bytes input further h f =
@@ -132,7 +131,6 @@ same_fault f g line (faults.Capability n index) same from = ap (λ k. faults.Cap
 same_fault f g line (faults.Another n) same from = ap (λ m. faults.Another m) (same n from)
 same_fault f g line faults.NoText same from = refl
 
--- The messages of the plain form are those of the input, if the fault names no line that was forgotten.
 pub of_lines : (form : Form) (own : ℕ → ℕ) (line : ℕ) (bytes all text : List ℕ) (r : Result (Unit {0}) MakeFault)
     → ((n : ℕ) → line ≤ n → own n ≡ own_line bytes n)
     → ((fault : MakeFault) → Makes form (plain all) text (Err fault) → IsFrom line fault)

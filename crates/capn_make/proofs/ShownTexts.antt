@@ -1,4 +1,4 @@
--- Lemmas for the laws `making` and `showing`: the texts that `show` writes are made, and nothing else is made of them.
+-- Lemmas for the laws `making` and `showing`: the messages and the result of a run on texts that `show` writes.
 use Rattle.std.proofs.Common.{◌≡◌, ℕ, List, [], ◌∷◌, ◌++◌, Result, Ok, Err, refl, sym, ap₂, subst}
 use Rattle.std.proofs.Common.{◌∙◌}
 use Rattle.std.proofs.lemmas.List.{append-nil}

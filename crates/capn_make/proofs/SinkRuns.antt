@@ -8,7 +8,7 @@ use Rattle.std.proofs.KnownBytes.{Appends-nil, Consumes-trans, Consumes-whole}
 use Rattle.capn_make.specs.MakeRun.{IsAhead}
 use Rattle.capn_make.specs.inner.SinkRun.{Feeds, Giving, IsTakenAhead, ReadsPiece, Runs, Taking, Writes}
 
--- The sink took the bytes that were read, and `taken` is their number.
+-- `bytes` are the bytes that were read, from `a` to `b`, and `taken` is their number. `Takes` holds for them.
 pub record HasTaken (Takes : Taking) (a b c d : Option (List ℕ)) (taken : ℕ) : Type 0 where
   pub bytes : List ℕ
   pub read : Consumes a b bytes
@@ -19,12 +19,10 @@ none_of : (xs : List ℕ) → length xs ≡ 0 → xs ≡ []
 none_of [] e = refl
 none_of (x ∷ xs) e = absurd (omega arith)
 
--- Neither the reader nor the writer has failed, so it is false that one of them has.
 nobody : (read wrote : Bool) → read ≡ false → wrote ≡ false → (read ≡ true) ⊎ (wrote ≡ true) → ⊥
 nobody read wrote fine kept (inl r) = absurd cc
 nobody read wrote fine kept (inr w) = absurd cc
 
--- If one of the two has failed, and the reader has not, the writer has.
 only_writer : (read wrote : Bool) → read ≡ false → (read ≡ true) ⊎ (wrote ≡ true) → wrote ≡ true
 only_writer read wrote fine (inl r) = absurd cc
 only_writer read wrote fine (inr w) = w
@@ -38,7 +36,6 @@ done_well u = Ok u
 stop_inj : {F : Type 0} (x y : F) → stop x ≡ stop y → x ≡ y
 stop_inj x y e = cc
 
--- The writer did not fail in a call that ended well.
 pub not_broken : {F : Type 0} (io : F) (wrote : Bool) (u : Unit {0}) → ((done_well u ≡ stop io) ↔ (wrote ≡ true))
     → wrote ≡ false
 not_broken io false u h = refl
@@ -124,7 +121,6 @@ module _ {S F : Type 0} (Takes : S → Taking) (Gives : Giving F) (io : F) (s : 
 
 -- ---- the promises of a run on an input
 
--- A statement that holds whatever follows the bytes that were read holds of the input.
 known_whole : (a b : Option (List ℕ)) (bytes : List ℕ) (P : List ℕ → Type 0) → Consumes a b bytes
     → ((more : List ℕ) → P (bytes ++ more)) → IfSome a P
 known_whole None b bytes P consumed h = tt
@@ -137,7 +133,6 @@ any_known (Some x) P h = h x
 
 module _ {S F : Type 0} (Takes : S → Taking) (Gives : Giving F) (io : F) (last : S) (a b c d : Option (List ℕ))
     (read wrote : Bool) (r : Result (Unit {0}) F) (h : Runs Takes Gives io last a b c d read wrote r) where
-  -- If the input is known, `P` holds of it, unless the reader failed.
   pub exactly : (P : List ℕ → Type 0) → (r ≡ Err io → (input : List ℕ) → P input)
       → ((more : List ℕ) → Gives h.bytes more c d r → P (h.bytes ++ more)) → IfSome a P
   exactly P unread so = elim h.ended [
@@ -147,7 +142,6 @@ module _ {S F : Type 0} (Takes : S → Taking) (Gives : Giving F) (io : F) (last
     | inr (inr good) ↦ known_whole a b h.bytes P h.read (λ more. so more (good more))
   ]
 
-  -- `P` holds of the bytes that were read, if it holds of an input that has ended, and of bytes that were taken.
   pub here : (P : Type 0) → (Takes last h.bytes c d → r ≡ Err io → P) → (Gives h.bytes [] c d r → P) → P
   here P unread so = elim h.ended [
     | inl failed ↦ unread (h.heard failed) (h.broken.1 (inl failed))
@@ -155,7 +149,8 @@ module _ {S F : Type 0} (Takes : S → Taking) (Gives : Giving F) (io : F) (last
     | inr (inr good) ↦ so (good [])
   ]
 
-  -- If `W` holds of all bytes that are taken, it held before the last chunk was read.
+  -- If `W` holds for all bytes that a sink takes, `W` held for the bytes before the last chunk when that chunk was
+  -- read.
   pub ahead_of : (W : Taking) → ((s : S) (bytes : List ℕ) (e f : Option (List ℕ)) → Takes s bytes e f → W bytes e f)
       → IsAhead W h.bytes c d
   ahead_of W so = let p = h.ahead in (p.0, p.1, p.3, p.4, p.5, p.6, so p.2 p.0 c p.3 p.7, p.8)

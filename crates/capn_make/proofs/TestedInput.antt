@@ -1,4 +1,4 @@
--- Lemmas for `UnderTexts` and `UnderWay`: an input that is made, and tested, as it grows.
+-- Lemmas for `UnderTexts` and `UnderWay`: an input to which bytes are added while its texts are parsed and tested.
 use Rattle.std.proofs.Common.{◌≡◌, ◌≢◌, inl, inr, ℕ, ◌+◌, ◌*◌, ◌≤◌, List, [], ◌++◌, length, take, drop}
 use Rattle.std.proofs.Common.{Ok, Err, refl, sym, ap, subst, ◌∙◌, append_assoc, arith}
 use Rattle.std.proofs.lemmas.Bool.{cases_lt}
@@ -15,7 +15,6 @@ use Rattle.capn_make.specs.declared.fault.MakeFault.TheVariants as faults
 use Rattle.capn_make.proofs.NextTexts.{none_left}
 use Rattle.capn_make.proofs.WhateverFollows.{first_on}
 
--- An empty input is not refused for good.
 nothing_refused : OneEnding → (form : Form) → IsRefusedForGood form [] → ⊥
 nothing_refused one forms.Stream h =
     let e = one forms.Stream [] (Ok tt) (Err h.0) ([], [], record { each = tt; are = refl }, refl) h.1 in absurd cc
@@ -62,7 +61,6 @@ more_tested form tested input rest more h =
       not_yet = h.not_yet;
     }
 
--- A place after which more bytes have arrived.
 pub made_on : (form : Form) (input made rest more : List ℕ) (line : ℕ)
     → HasMade form input (record { rest = rest; line = line }) made
     → HasMade form (input ++ more) (record { rest = rest ++ more; line = line }) made
@@ -95,8 +93,7 @@ some_after xs ys some none =
 module _ (stays : RefusalStays) (form : Form) (tested : ℕ) (input made rest : List ℕ) (line : ℕ)
     (m : HasMade form input (record { rest = rest; line = line }) made) (h : HasTested form tested input rest)
     (short : length rest ≤ 4 * tested) where
-  -- If the bytes that are left are at most four times as many as those that were tested, the bytes that were read, with
-  -- those of one more call, are in time.
+  -- If `rest` has at most 4 `tested` bytes, `AreInTime` holds for `input` and one more chunk `more`.
   pub in_time : (more : List ℕ) → length more ≤ 65536 → AreInTime form (input ++ more)
   in_time more small n =
       let cut = ap (λ t. t ++ more) h.are ∙ append_assoc h.front h.more more in

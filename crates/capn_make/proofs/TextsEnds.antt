@@ -15,7 +15,7 @@ use Rattle.capn_make.specs.declared.fault.MakeFault.TheVariants as faults
 use Rattle.capn_make.proofs.SinkRuns.{ahead_of, exactly, here}
 use Rattle.capn_make.proofs.UnderTexts.{begun_at, served, timely}
 
--- The state of the sink for texts with quotes, as a statement on the bytes that it took.
+-- `IsUnderTexts` holds for `bytes` and some state of the sink for texts with lists between quotes.
 abbrev pub UnderTexts : Form → Taking
 UnderTexts form bytes c d = (made : List ℕ) × (rest : List ℕ) × (line : ℕ) × (tested : ℕ) × (q : Unquoting)
     × IsUnderTexts form bytes c d made rest line tested q

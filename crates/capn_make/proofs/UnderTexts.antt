@@ -54,7 +54,6 @@ unended_before rest front quiet none v after shows low e =
 
 -- ---- a fault at another line
 
--- If a fault with its line replaced is `Io`, the fault is `Io`.
 io_back : (own : ℕ → ℕ) (f : MakeFault) → at_own own f ≡ faults.Io → f ≡ faults.Io
 io_back own faults.Memory e = absurd cc
 io_back own faults.Io e = refl
@@ -166,7 +165,6 @@ module _ (form : Form) (bytes : List ℕ) (c d : Option (List ℕ)) (made rest :
         (timely_plain form u.input c d made rest line tested u.way stays [] (omega arith)),
   )
 
-  -- A first part of the messages was written, whatever follows.
   pub begun_at : (more : List ℕ) → HasBegunText form (plain (bytes ++ more)) c d
   begun_at more =
       subst (λ t. HasBegunText form t c d) (sym (u.seen.plain more))
@@ -180,7 +178,7 @@ module _ (form : Form) (bytes : List ℕ) (c d : Option (List ℕ)) (made rest :
       → GivesTexts form (bytes ++ piece) more c d (Err faults.Memory)
   unheld piece some more = (inl refl, begun_past piece more, λ e. some_after bytes piece some)
 
-  -- An allocation was refused for the unfinished line at the end.
+  -- Case: the input has ended, and an allocation was refused for the unfinished line `q.front`.
   pub unheld_last : q.front ≢ [] → GivesTexts form bytes [] c d (Err faults.Memory)
   unheld_last some = (inl refl, begun_at [], λ e. some_seen q line bytes u.input u.seen some)
 
@@ -190,7 +188,7 @@ module _ (form : Form) (bytes : List ℕ) (c d : Option (List ℕ)) (made rest :
       let all = length-append (bytes ++ piece) more in
       (inr (inr (inl (refl, omega arith))), begun_past piece more, λ e. absurd cc)
 
-  -- A chunk was read.
+  -- Case: a chunk `piece` was read, and the converter gave `added` for it.
   module _ (v : Unquoting) (piece added : List ℕ) (some : piece ≢ []) (next : Unquotes q v piece added)
       (quiet : ended_lines v.front ≡ 0) (empty : v.through ≡ true → v.front ≡ []) where
     seen : HasSeen v line (bytes ++ piece) (u.input ++ added)

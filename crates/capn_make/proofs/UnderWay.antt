@@ -1,4 +1,4 @@
--- Lemmas for `feed`, `finish` and `make`: an input that is made, and whose messages are written, between two chunks.
+-- Lemmas for `feed`, `finish` and `make`: the state of a run between two chunks.
 use Rattle.std.proofs.Common.{◌≡◌, ◌≢◌, inl, inr, ℕ, ◌^◌, ◌≤◌, List, [], ◌++◌, length, Bool, false, Option}
 use Rattle.std.proofs.Common.{Result, Err, refl, sym, ap, subst, ◌∙◌, append_assoc, arith}
 use Rattle.std.proofs.lemmas.List.{append-nil, length-append}

@@ -1,5 +1,5 @@
--- Lemmas on bytes that do not begin with the text and end of a value. (For `look`, `end_of_one`, `AfterTexts`,
--- `Decided` and others.)
+-- Lemmas on bytes that do not begin with the text and the line `end` of a value. (For `look`, `end_of_one`,
+-- `AfterTexts`, `Decided` and others.)
 use Rattle.std.proofs.Common.{◌≡◌, inl, inr, ℕ, ◌≤◌, ◌-◌, List, [], ◌∷◌, ◌++◌, length, drop, refl, sym}
 use Rattle.std.proofs.Common.{zero, suc, Bool, true, false, cond, ◌*◌, replicate, ap, ap₂, ◌∙◌, append_assoc, arith}
 use Rattle.std.proofs.lemmas.Bool.{cases_lt}
@@ -22,7 +22,6 @@ nothing_unended v more shows low e =
     let z : length {A = ℕ} [] ≡ 0 = refl in
     absurd (omega arith)
 
--- If no text of any value is next with its end, no text of a value that can be made is.
 pub unended_stuck : FittingIsShowable → (rest : List ℕ) → IsUnended rest → IsStuck rest
 unended_stuck shows rest none v more one e =
     none v more (shows v one.fits one.in_range) (fit_parts v one.fits).low e
@@ -52,7 +51,6 @@ text_some (links ts) = first_some 0 _ _
 text_some (rows bs) = first_some 0 _ _
 text_some (cap k) = line_some 0 _
 
--- If the first line begins no value, no text is next.
 pub begins_none : (rest : List ℕ) → ((v : Tree) → BeginsAs rest v → ⊥) → IsUnended rest
 begins_none rest none v more shows low e =
     let some = text_some v in
@@ -60,7 +58,6 @@ begins_none rest none v more shows low e =
 
 -- ---- more bytes have arrived
 
--- Bytes that end before a place were there before.
 pub front_of : (x y a b : List ℕ) → x ++ y ≡ a ++ b → length a ≤ length x → (left : List ℕ) × (x ≡ a ++ left)
 front_of x y [] b e short = (x, refl)
 front_of [] y (c ∷ a) b e short = absurd (omega arith)
@@ -71,13 +68,11 @@ front_of (d ∷ x) y (c ∷ a) b e short =
     let same : d ≡ c = cc in
     (p.0, ap₂ (λ h t. h ∷ t) same p.1)
 
--- The rest of a front that is longer.
 back_of : (n : ℕ) (a b : List ℕ) → n ≤ length a → drop n (a ++ b) ≡ drop n a ++ b
 back_of zero a b le = refl
 back_of (suc n) [] b le = absurd (omega arith)
 back_of (suc n) (c ∷ a) b le = back_of n a b (omega arith)
 
--- Bytes with the line `end` at any place.
 either : (b t : Bool) → t ≡ true → cond b true t ≡ true
 either true t is = refl
 either false t is = is
@@ -91,8 +86,8 @@ stands_in (c ∷ front) rest =
 pub no_end : (bytes : List ℕ) → holds_end bytes ≡ false → HoldsNoEnd bytes
 no_end bytes none front rest is = let some = ap holds_end is ∙ stands_in front rest in absurd cc
 
--- No text becomes whole by the bytes that were added, if the line `end` is at no place in these and the 3 bytes before
--- them.
+-- `IsUnended` stays true if bytes `more` are added, and no line `end` begins in the last 3 bytes of `rest` or in
+-- `more`.
 pub unended_on : (rest more : List ℕ) → IsUnended rest → HoldsNoEnd (drop (length rest - 3) (rest ++ more))
     → IsUnended (rest ++ more)
 unended_on rest more none no_end v after shows low e =

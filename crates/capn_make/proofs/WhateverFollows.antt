@@ -1,4 +1,4 @@
--- Lemmas for the law `refusing`: a fault of a complete part of an input stays, whatever follows.
+-- Lemmas for the law `refusing`: if the bytes that cause a fault are complete, the fault stays whatever bytes follow.
 use Rattle.std.proofs.Common.{◌≡◌, inl, inr, ℕ, ◌≤◌, List, [], ◌∷◌, ◌++◌, Err, refl, sym, ap, subst, ◌∙◌}
 use Rattle.std.proofs.Common.{append_assoc, arith}
 use Rattle.capn_value.specs.Tree.{Tree}

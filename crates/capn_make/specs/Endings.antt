@@ -1,5 +1,4 @@
--- The result of a run on an input of texts, and the cases in which the input is refused whatever bytes follow. (Our
--- own.)
+-- The result of a run on an input of texts, and the inputs that are refused whatever bytes follow them. (Our own.)
 use Rattle.std.specs.Prelude.{◌≤◌, ℕ, ⊤, List, [], ◌∷◌, ◌++◌, Result, Ok, Err}
 use Rattle.capn_value.specs.Tree.{Tree}
 use Rattle.capn_text.specs.Streams.{ended_lines}
@@ -9,24 +8,25 @@ use Rattle.capn_make.specs.MadeInput.{AreFirst, EndsAfter, IsNotOne}
 use Rattle.capn_make.specs.declared.fault.MakeFault.{MakeFault}
 use Rattle.capn_make.specs.declared.fault.MakeFault.TheVariants as faults
 
--- A run that makes messages of each text of `input` has the result `ending`. The run ends well, or at the first text
--- that is refused.
+-- `ending` is the result of a run that reads the texts of `input` one after the other. It is `Ok` if `input` is the
+-- texts of some values `vs`. It is a fault if the text after those of `vs` is refused with that fault.
 abbrev pub EndsEach : List ℕ → Result (Unit {0}) MakeFault → Type 0
 EndsEach input ending = (vs : List Tree) × (rest : List ℕ) × AreFirst vs input rest × EndsAfter vs rest ending
 
--- A run that takes only one text has the given result. Either `input` is one text that can be made, or `input` is
--- refused.
+-- A run on `input` in form `Bare` has the given result. It is `Ok` if `input` is the text of one value, as `AreFirst`
+-- states. It is `Err fault` if `IsNotOne input fault` holds.
 abbrev pub EndsOnly : List ℕ → Result (Unit {0}) MakeFault → Type 0
 EndsOnly input (Ok u) = (v : Tree) × AreFirst (v ∷ []) input []
 EndsOnly input (Err fault) = IsNotOne input fault
 
--- A run on `input` in a form has the result `ending`.
+-- `ending` is the result of a run on `input` in the given form.
 abbrev pub Ends : Form → List ℕ → Result (Unit {0}) MakeFault → Type 0
 Ends forms.Stream input ending = EndsEach input ending
 Ends forms.Packed input ending = EndsEach input ending
 Ends forms.Bare input ending = EndsOnly input ending
 
--- The part of `input` that causes a fault is complete. A wrong line is complete if it has its newline.
+-- The bytes of `input` that cause the fault are complete. If the fault is `NotText n`, line `n` of `input` has its
+-- newline. `NoText` has no such bytes.
 abbrev pub IsWhole : List ℕ → MakeFault → Type 0
 IsWhole input faults.Memory = ⊤
 IsWhole input faults.Io = ⊤
@@ -37,15 +37,16 @@ IsWhole input (faults.Capability n index) = ⊤
 IsWhole input (faults.Another n) = ⊤
 IsWhole input faults.NoText = ⊥
 
--- `input` is refused because of a part that is complete, and therefore whatever bytes follow.
+-- A run on `input` in `form` ends with some `fault`, and the bytes of `input` that cause `fault` are complete
+-- (`IsWhole`).
 abbrev pub IsRefusedForGood : Form → List ℕ → Type 0
 IsRefusedForGood form input = (fault : MakeFault) × Ends form input (Err fault) × IsWhole input fault
 
--- `input` has the same fault whatever bytes follow.
+-- A run on `input ++ more` in `form` ends with one `fault`, whatever bytes `more` are.
 abbrev pub IsLostForGood : Form → List ℕ → Type 0
 IsLostForGood form input = (fault : MakeFault) × ((more : List ℕ) → Ends form (input ++ more) (Err fault))
 
--- A fault names no line before `line`.
+-- If the fault has a line `n`, `line` is at most `n`.
 abbrev pub IsFrom : ℕ → MakeFault → Type 0
 IsFrom line faults.Memory = ⊤
 IsFrom line faults.Io = ⊤

@@ -1,4 +1,4 @@
--- The text of a fault, and the exit status of a run that ends with the fault. (Our own.)
+-- The text of a fault, and the exit status of a run that ends with that fault. (Our own.)
 use Rattle.std.specs.Prelude.{ℕ, List, ◌++◌, codes}
 use Rattle.std.specs.Fmt.{decimal}
 use Rattle.capn_value.specs.Display.{misfit_name}
@@ -6,7 +6,7 @@ use Rattle.capn_serve.specs.Ending.{out_of_memory}
 use Rattle.capn_make.specs.declared.fault.MakeFault.{MakeFault}
 use Rattle.capn_make.specs.declared.fault.MakeFault.TheVariants as faults
 
--- The reason why a run ended, as it is printed.
+-- The text that a program prints for the fault.
 abbrev pub fault_text : MakeFault → List ℕ
 fault_text faults.Memory = out_of_memory
 fault_text faults.Io = codes "input or output failed"
@@ -17,8 +17,8 @@ fault_text (faults.Capability n index) = codes "line " ++ (decimal n ++ (codes "
 fault_text (faults.Another n) = codes "line " ++ (decimal n ++ codes ": another text")
 fault_text faults.NoText = codes "line 1: no text"
 
--- The exit status of a run with a fault. It is 1 if the input is refused, and 3 if an allocation was refused, the
--- reader or the writer failed, or the input is too long.
+-- The exit status of a run that ends with the fault. It is 3 for `Memory`, `Io` and `InputTooLong`, and 1 for each
+-- other fault, which refuses the input.
 abbrev pub status_of : MakeFault → ℕ
 status_of faults.Memory = 3
 status_of faults.Io = 3

@@ -1,4 +1,4 @@
--- The laws that follow from the definitions. (Our own.)
+-- Laws on texts, the messages that a run writes for them, and the result of the run. (Our own.)
 use Rattle.std.specs.Prelude.{◌≡◌, ◌↔◌, ◌≤◌, ◌<◌, ◌^◌, ℕ, List, [], ◌∷◌, ◌++◌, length, Result, Ok, Err}
 use Rattle.std.specs.List.{AllByRecursion}
 use Rattle.capn_words.specs.Message.{IsBare}
@@ -18,104 +18,113 @@ use Rattle.capn_make.specs.MadeInput.{AreFirst, IsStuck, IsUnended, Makes, Makes
 use Rattle.capn_make.specs.Endings.{Ends, IsFrom, IsWhole, IsRefusedForGood}
 use Rattle.capn_make.specs.declared.fault.MakeFault.{MakeFault}
 
--- The texts that `show` writes for values that can be made are all made.
+-- Let `text` be what `form` writes for `vs`. If `IsMakeable` holds for each value of `vs`, a run on their texts writes
+-- `text` and ends with `Ok` (`MakesEach`).
 abbrev pub ShownAreMade : Type 0
 ShownAreMade = (form : Form) (vs : List Tree) (text : List ℕ) → AllByRecursion IsMakeable vs → AreMade form vs text
     → MakesEach form (stream_text vs) text (Ok tt)
 
--- Only the messages of the values are made of the texts that `show` writes for values that can be made.
+-- Let `IsMakeable` hold for each value of `vs`. If a run on their texts writes `text` and has the result `ending`, then
+-- `ending` is `Ok`, and `text` is what `form` writes for `vs`.
 abbrev pub ShownAreMadeOnly : Type 0
 ShownAreMadeOnly = (form : Form) (vs : List Tree) (text : List ℕ) (ending : Result (Unit {0}) MakeFault)
     → AllByRecursion IsMakeable vs → MakesEach form (stream_text vs) text ending
     → (ending ≡ Ok tt) × AreMade form vs text
 
--- The text that `show` writes for one value that can be made is made into its canonical bytes.
+-- If `IsMakeable` holds for `v`, a run in form `Bare` on the text of `v` writes the canonical bytes of `v` and ends
+-- with `Ok`.
 abbrev pub OneShownIsMade : Type 0
 OneShownIsMade = (v : Tree) → IsMakeable v → MakesOne (stream_text (v ∷ [])) (canon v) (Ok tt)
 
--- Only its canonical bytes are made of the text that `show` writes for one value that can be made, and the run ends
--- well.
+-- Let `IsMakeable` hold for `v`. If a run in form `Bare` on the text of `v` writes `text` and has the result `ending`,
+-- then `ending` is `Ok`, and `text` is the canonical bytes of `v`.
 abbrev pub OneShownIsMadeOnly : Type 0
 OneShownIsMadeOnly = (v : Tree) (text : List ℕ) (ending : Result (Unit {0}) MakeFault) → IsMakeable v
     → MakesOne (stream_text (v ∷ [])) text ending → (ending ≡ Ok tt) × (text ≡ canon v)
 
--- An input has one result. Whatever is made of it is made of the texts of one list of values, and the run ends in one
--- way.
+-- Let `MakesEach` hold for `input`, `text` and `r`. If it also holds for `input`, `other` and `s`, then `r` is `s`, and
+-- `text` and `other` are both written for one list `vs` of values.
 abbrev pub OneMaking : Type 0
 OneMaking = (form : Form) (input text other : List ℕ) (r s : Result (Unit {0}) MakeFault)
     → MakesEach form input text r → MakesEach form input other s
     → (vs : List Tree) × (rest : List ℕ) × AreFirst vs input rest × AreMade form vs text × AreMade form vs other
     × (r ≡ s)
 
--- An input in form `Bare` has one result, and one sequence of bytes is made of the input.
+-- Let `MakesOne` hold for `input`, `text` and `r`. If it also holds for `input`, `other` and `s`, then `text` is
+-- `other`, and `r` is `s`.
 abbrev pub OneBareMaking : Type 0
 OneBareMaking = (input text other : List ℕ) (r s : Result (Unit {0}) MakeFault) → MakesOne input text r
     → MakesOne input other s → (text ≡ other) × (r ≡ s)
 
--- If the part of an input that causes its fault is complete, the fault and the messages made before it stay the same
--- whatever bytes follow.
+-- Let the bytes of `input` that cause `fault` be complete (`IsWhole`). If a run on `input` writes `text` and ends with
+-- `fault`, a run on `input ++ more` also writes `text` and ends with `fault`.
 abbrev pub FaultStays : Type 0
 FaultStays = (form : Form) (input more text : List ℕ) (fault : MakeFault) → IsWhole input fault
     → Makes form input text (Err fault) → Makes form (input ++ more) text (Err fault)
 
--- An input that is refused for good is refused for good whatever bytes follow.
+-- If `input` is refused for good in `form`, `input ++ more` is refused for good in `form`.
 abbrev pub RefusalStays : Type 0
 RefusalStays = (form : Form) (input more : List ℕ) → IsRefusedForGood form input
     → IsRefusedForGood form (input ++ more)
 
--- The whole texts at the front of some bytes are the texts of one list of values.
+-- Let `bytes` be the texts of `vs` and then `rest`, and also the texts of `ws` and then `left` (`AreFirst`). If
+-- `IsStuck` holds for `rest` and for `left`, then `vs` is `ws`, and `rest` is `left`.
 abbrev pub OneDeciding : Type 0
 OneDeciding = (vs ws : List Tree) (bytes rest left : List ℕ) → AreFirst vs bytes rest → IsStuck rest
     → AreFirst ws bytes left → IsStuck left → (vs ≡ ws) × (rest ≡ left)
 
--- The values of the whole texts at the front of some bytes come first among those of longer bytes.
+-- Let `bytes` be the texts of `vs` and then `rest`, and `bytes ++ more` the texts of `ws` and then `left` (`AreFirst`).
+-- If `IsStuck` holds for `rest` and for `left`, then `ws` begins with `vs`.
 abbrev pub DecidedStay : Type 0
 DecidedStay = (vs ws : List Tree) (bytes more rest left : List ℕ) → AreFirst vs bytes rest → IsStuck rest
     → AreFirst ws (bytes ++ more) left → IsStuck left → (us : List Tree) × (ws ≡ vs ++ us)
 
--- If `rest` does not begin with the text and end of any value, it does not begin with those of a value that can be
--- made.
+-- If `IsUnended` holds for `rest`, `IsStuck` holds for `rest`.
 abbrev pub UnendedIsStuck : Type 0
 UnendedIsStuck = (rest : List ℕ) → IsUnended rest → IsStuck rest
 
--- If an input is refused for good, no further text of a value that can be made comes after its texts, whatever bytes
--- follow.
+-- Let `input` be refused for good in a `form` other than `Bare`, and let `rest` follow the texts of `vs` in `input`. If
+-- `IsStuck` holds for `rest`, it holds for `rest ++ more`.
 abbrev pub RefusedIsStuck : Type 0
 RefusedIsStuck = (form : Form) (vs : List Tree) (input rest more : List ℕ) → (form ≡ forms.Bare → ⊥)
     → IsRefusedForGood form input → AreFirst vs input rest → IsStuck rest → IsStuck (rest ++ more)
 
--- A fault after texts that are made names no line before the end of those texts.
+-- If `input` begins with the texts of `vs`, at most one text in form `Bare`, and a run on `input` ends with `fault`,
+-- then `fault` names no line before `line_after vs`.
 abbrev pub RefusedAfter : Type 0
 RefusedAfter = (form : Form) (vs : List Tree) (input rest text : List ℕ) (fault : MakeFault) → AreFirst vs input rest
     → (form ≡ forms.Bare → length vs ≤ 1) → Makes form input text (Err fault) → IsFrom (line_after vs) fault
 
--- If no text of any value is next with its end after the texts of `ws`, no list of texts that are made ends later.
+-- If `input` begins with the texts of `vs` and also with those of `ws`, and `IsUnended` holds for the bytes after the
+-- texts of `ws`, then `line_after vs` is at most `line_after ws`.
 abbrev pub UnendedIsLast : Type 0
 UnendedIsLast = (vs ws : List Tree) (input rest left : List ℕ) → AreFirst vs input rest → AreFirst ws input left
     → IsUnended left → line_after vs ≤ line_after ws
 
--- An input has one result.
+-- If `r` and `s` are results of a run on `input` in `form`, `r` is `s`.
 abbrev pub OneEnding : Type 0
 OneEnding = (form : Form) (input : List ℕ) (r s : Result (Unit {0}) MakeFault) → Ends form input r → Ends form input s
     → r ≡ s
 
--- If messages are made of an input with some result, the input has that result.
+-- If a run on `input` in `form` writes `text` and has the result `r`, `Ends form input r` holds.
 abbrev pub MakingEnds : Type 0
 MakingEnds = (form : Form) (input text : List ℕ) (r : Result (Unit {0}) MakeFault) → Makes form input text r
     → Ends form input r
 
--- The bytes that are written in frames for a value are a frame of one segment with the canonical bytes of the value.
+-- If `Fits` and `InRange` hold for `v`, its canonical bytes are the bytes of some words `ws`. `framed` of these bytes
+-- is the frame of a message whose only segment is `ws`.
 abbrev pub FramedAreFrames : Type 0
 FramedAreFrames = (v : Tree) → Fits v → InRange v
     → (ws : List ℕ) × IsBare (canon v) ws × Frames (framed (canon v)) (ws ∷ [])
 
--- A list of values has one text in frames.
+-- If `text` and `other` are both written for `vs` in form `Stream`, `text` is `other`.
 abbrev pub OneTextInFrames : Type 0
 OneTextInFrames = (vs : List Tree) (text other : List ℕ) → AreMade forms.Stream vs text
     → AreMade forms.Stream vs other → text ≡ other
 
--- The texts shown with lists between quotes are made, in their plain form, into the same messages as the texts shown
--- without.
+-- Let `IsShowable` hold for the values of `vs`, and let their texts with lists between quotes have fewer than 2^64
+-- bytes. A run on the plain form of these texts writes `text` and has the result `r` exactly if a run on the texts
+-- without quotes does.
 abbrev pub QuotedAreMade : Type 0
 QuotedAreMade = (form : Form) (vs : List Tree) (text : List ℕ) (r : Result (Unit {0}) MakeFault)
     → AllByRecursion IsShowable vs → length (quoted_stream vs) < 2 ^ 64

@@ -1,4 +1,4 @@
--- The messages that are made of an input of texts, each with its line `end`, and the result of the run. (Our own.)
+-- Inputs of texts, each with its line `end`: the messages that a run writes for an input, and its result. (Our own.)
 use Rattle.std.specs.Prelude.{◌≡◌, ◌≢◌, ◌⊎◌, ℕ, ◌+◌, ◌≤◌, List, [], ◌∷◌, ◌++◌, Some, Result, Ok, Err}
 use Rattle.std.specs.List.{AllByRecursion}
 use Rattle.capn_value.specs.Tree.{Tree}
@@ -17,35 +17,35 @@ use Rattle.capn_make.specs.WrittenValue.{IsMakeable, AreMade}
 use Rattle.capn_make.specs.declared.fault.MakeFault.{MakeFault}
 use Rattle.capn_make.specs.declared.fault.MakeFault.TheVariants as faults
 
--- `input` begins with the texts of `vs`, and `rest` follows them. Each of these values can be made.
+-- `input` is the texts of `vs`, each with its line `end`, and then `rest`. `IsMakeable` holds for each value of `vs`.
 pub record AreFirst (vs : List Tree) (input rest : List ℕ) : Type 0 where
   pub each : AllByRecursion IsMakeable vs
   pub are : input ≡ stream_text vs ++ rest
 
--- The line after the texts of `vs`.
+-- The number of the line after the texts of `vs`, if these texts begin at line 1.
 abbrev pub line_after : List Tree → ℕ
 line_after vs = 1 + ended_lines (stream_text vs)
 
--- `rest` does not begin with the text and end of a value that can be made.
+-- `rest` does not begin with the text and the line `end` of a value for which `IsMakeable` holds.
 abbrev pub IsStuck : List ℕ → Type 0
 IsStuck rest = (v : Tree) (more : List ℕ) → IsMakeable v → rest ≡ show_text v ++ (end_line ++ more) → ⊥
 
--- `rest` does not begin with the text and end of any value of at most 256 levels, even of a value that does not fit.
+-- `rest` does not begin with the text and the line `end` of a value of at most 256 levels for which `IsShowable` holds.
 abbrev pub IsUnended : List ℕ → Type 0
 IsUnended rest = (v : Tree) (more : List ℕ) → IsShowable v → height v ≤ most_height
     → rest ≢ show_text v ++ (end_line ++ more)
 
--- `rest`, which begins at `line`, is not empty, and does not begin with the text and end of any value of at most 256
--- levels. Line `n` is its first wrong line.
+-- `rest`, which begins at `line`, is not empty, and `IsUnended` holds for `rest`. Line `n` is the first wrong line of
+-- `rest`.
 pub record IsWrong (line : ℕ) (rest : List ℕ) (n : ℕ) : Type 0 where
   pub some : rest ≢ []
   pub none : (v : Tree) (more : List ℕ) → IsShowable v → height v ≤ most_height
       → rest ≢ show_text v ++ (end_line ++ more)
   pub first : (k : ℕ) × (n + 1 ≡ line + k) × IsFirstWrong ended_text k rest
 
--- The text at the front of `rest`, which begins at `line`, is refused with the given fault. Either a line is wrong, or
--- the text goes too deep whatever follows, or its value is of at most 256 levels and has a misfit, or its value fits
--- and has a capability.
+-- The text at the front of `rest`, which begins at `line`, is refused with the given fault. `NotText` is for a wrong
+-- line, and `Capability` for a value that has a capability. `Misfit` is for a value that does not fit, or a text that
+-- goes too deep.
 abbrev pub IsTextRefused : ℕ → List ℕ → MakeFault → Type 0
 IsTextRefused line rest faults.Memory = ⊥
 IsTextRefused line rest faults.Io = ⊥
@@ -60,18 +60,20 @@ IsTextRefused line rest (faults.Capability n index) = (n ≡ line)
 IsTextRefused line rest (faults.Another n) = ⊥
 IsTextRefused line rest faults.NoText = ⊥
 
--- After the texts of `vs` nothing is left in `rest`, or the next text is refused.
+-- A run has the given result, if `rest` follows the texts of `vs` in its input. If the result is `Ok`, `rest` is empty.
+-- If it is `Err fault`, the text at the front of `rest` is refused with `fault`.
 abbrev pub EndsAfter : List Tree → List ℕ → Result (Unit {0}) MakeFault → Type 0
 EndsAfter vs rest (Ok u) = rest ≡ []
 EndsAfter vs rest (Err fault) = IsTextRefused (line_after vs) rest fault
 
--- `text` is made of each text of `input`, up to the end or to the first text that is refused.
+-- A run on `input` in `form` writes `text` and has the result `ending`. `text` is the messages of the texts of `input`,
+-- up to its end or to the first text that is refused.
 abbrev pub MakesEach : Form → List ℕ → List ℕ → Result (Unit {0}) MakeFault → Type 0
 MakesEach form input text ending = (vs : List Tree) × (rest : List ℕ) × AreFirst vs input rest × AreMade form vs text
     × EndsAfter vs rest ending
 
--- Bytes `rest`, which begin at `line`, follow the only text that the form takes, and are refused. The fault depends on
--- whether their first line begins another text.
+-- `rest`, which begins at `line`, follows the only text that form `Bare` takes, and is refused with the given fault.
+-- The fault is `Another` if the first line of `rest` begins a text, and otherwise `NotText`.
 abbrev pub Follows : ℕ → List ℕ → MakeFault → Type 0
 Follows line rest faults.Memory = ⊥
 Follows line rest faults.Io = ⊥
@@ -82,17 +84,19 @@ Follows line rest (faults.Capability n index) = ⊥
 Follows line rest (faults.Another n) = (n ≡ line) × (v : Tree) × BeginsAs rest v
 Follows line rest faults.NoText = ⊥
 
--- `input` is not exactly one text. It is empty, its first text is refused, or something follows the first text.
+-- A run on `input` in form `Bare` ends with `fault`. Either `input` is empty, or its first text is refused, or bytes
+-- follow its first text.
 abbrev pub IsNotOne : List ℕ → MakeFault → Type 0
 IsNotOne input fault = ((input ≡ []) × (fault ≡ faults.NoText)) ⊎ (IsTextRefused 1 input fault
     ⊎ ((v : Tree) × (rest : List ℕ) × AreFirst (v ∷ []) input rest × Follows (line_after (v ∷ [])) rest fault))
 
--- `text` is made of `input` if `input` is exactly one text. Otherwise nothing is made, and `input` is refused.
+-- A run on `input` in form `Bare` writes `text` and has the given result. If it is `Ok`, `input` is the text of one
+-- value, and `text` its canonical bytes. If it is `Err fault`, `text` is empty.
 abbrev pub MakesOne : List ℕ → List ℕ → Result (Unit {0}) MakeFault → Type 0
 MakesOne input text (Ok u) = (v : Tree) × AreFirst (v ∷ []) input [] × (text ≡ canon v)
 MakesOne input text (Err fault) = (text ≡ []) × IsNotOne input fault
 
--- `text` is made of `input` in a form, with the result `ending`.
+-- A run on `input` in the given form writes `text` and has the result `ending`.
 abbrev pub Makes : Form → List ℕ → List ℕ → Result (Unit {0}) MakeFault → Type 0
 Makes forms.Stream input text ending = MakesEach forms.Stream input text ending
 Makes forms.Packed input text ending = MakesEach forms.Packed input text ending

@@ -1,4 +1,4 @@
--- A run of `make`. (Our own.)
+-- A run of `make`: its result, and the bytes that it reads and writes. (Our own.)
 use Rattle.std.specs.Prelude.{◌≡◌, ◌≢◌, ◌⊎◌, ◌↔◌, ◌≤◌, ◌+◌, ◌*◌, ◌^◌, ℕ, List, [], ◌∷◌, ◌++◌, length, take, Bool, true}
 use Rattle.std.specs.Prelude.{Option, IfSome, Result, Ok, Err}
 use Rattle.std.specs.Io.KnownBytes.{Appends, Consumes}
@@ -14,72 +14,79 @@ use Rattle.capn_make.specs.Endings.{IsRefusedForGood, IsLostForGood}
 use Rattle.capn_make.specs.declared.fault.MakeFault.{MakeFault}
 use Rattle.capn_make.specs.declared.fault.MakeFault.TheVariants as faults
 
--- A first part of the messages of the first texts of `input` was written.
+-- A prefix of some `text` was written, which took the output from `c` to `d`. `text` is what the form writes for values
+-- `vs` whose texts are at the front of `input`.
 abbrev pub HasBegunEach : Form → List ℕ → Option (List ℕ) → Option (List ℕ) → Type 0
 HasBegunEach form input c d = (vs : List Tree) × (rest : List ℕ) × (text : List ℕ) × AreFirst vs input rest
     × AreMade form vs text × HasBegun c d text
 
--- Nothing was written, or a first part of the message of the only text of `input`.
+-- Either nothing was written, or `input` is the text of some `v`, and a prefix of the canonical bytes of `v` was
+-- written. The output is `c` before that, and `d` after it.
 abbrev pub HasBegunOne : List ℕ → Option (List ℕ) → Option (List ℕ) → Type 0
 HasBegunOne input c d = Appends c d [] ⊎ ((v : Tree) × AreFirst (v ∷ []) input [] × HasBegun c d (canon v))
 
--- A first part of the messages of `input` in a form was written.
+-- A prefix of the messages that the form gives for the texts of `input` was written. This took the output from `c` to
+-- `d`.
 abbrev pub HasBegunText : Form → List ℕ → Option (List ℕ) → Option (List ℕ) → Type 0
 HasBegunText forms.Stream input c d = HasBegunEach forms.Stream input c d
 HasBegunText forms.Packed input c d = HasBegunEach forms.Packed input c d
 HasBegunText forms.Bare input c d = HasBegunOne input c d
 
--- The messages of the values `vs` were written. In form `Bare` there is at most one value, and nothing was written.
+-- In a form other than `Bare`, the messages of `vs` were written, which took the output from `c` to `d`. In form
+-- `Bare`, `vs` has at most one value, and nothing was written.
 abbrev pub IsServed : Form → List Tree → Option (List ℕ) → Option (List ℕ) → Type 0
 IsServed forms.Stream vs c d = (text : List ℕ) × AreMade forms.Stream vs text × Appends c d text
 IsServed forms.Packed vs c d = (text : List ℕ) × AreMade forms.Packed vs text × Appends c d text
 IsServed forms.Bare vs c d = (length vs ≤ 1) × Appends c d []
 
--- The messages of all texts that are whole in `bytes` were written. The bytes after those texts begin with no text and
--- end.
+-- `IsServed` holds for values `vs` whose texts are at the front of `bytes`. The bytes `rest` after those texts do not
+-- begin with a text and its line `end` (`IsUnended`).
 abbrev pub HasServed : Form → List ℕ → Option (List ℕ) → Option (List ℕ) → Type 0
 HasServed form bytes c d = (vs : List Tree) × (rest : List ℕ) × AreFirst vs bytes rest × IsUnended rest
     × IsServed form vs c d
 
--- The last chunk of `bytes` has at most 65,536 bytes. When that chunk was read, `Written` held of the bytes before it.
+-- `bytes` end with a chunk `piece` of at most 65,536 bytes. `Written` held for the bytes before `piece`, with the
+-- output `mid`. Then `more` was written, which took the output from `mid` to `d`.
 abbrev pub IsAhead : (List ℕ → Option (List ℕ) → Option (List ℕ) → Type 0) → List ℕ → Option (List ℕ)
     → Option (List ℕ) → Type 0
 IsAhead Written bytes c d = (before : List ℕ) × (piece : List ℕ) × (mid : Option (List ℕ)) × (more : List ℕ)
     × (bytes ≡ before ++ piece) × (length piece ≤ 65536) × Written before c mid × Appends mid d more
 
--- The messages of all of `input` were written, and the run had their result. Or an allocation was refused, or the
--- reader or the writer failed, or the input is too long.
+-- The `text` that `Makes` gives for `input` and the given result was written, which took the output from `c` to `d`.
+-- Otherwise the result is the fault `Memory` or `Io`, or `InputTooLong` if `input` has 2^64 bytes or more.
 abbrev pub EndsAs : Form → Option (List ℕ) → Option (List ℕ) → Result (Unit {0}) MakeFault → List ℕ → Type 0
 EndsAs form c d (Ok u) input = (text : List ℕ) × Makes form input text (Ok u) × Appends c d text
 EndsAs form c d (Err fault) input = (fault ≡ faults.Memory) ⊎ ((fault ≡ faults.Io)
     ⊎ (((fault ≡ faults.InputTooLong) × (2 ^ 64 ≤ length input))
     ⊎ ((text : List ℕ) × Makes form input text (Err fault) × Appends c d text)))
 
--- A run has the result `r`. The rest of the reader went from `a` to `b`, and the content of the writer from `c` to `d`.
+-- A run of `make` has the result `r`. Before and after the run, the bytes left in the reader are `a` and `b`, and the
+-- contents of the writer are `c` and `d`.
 pub record Made (form : Form) (a b c d : Option (List ℕ)) (reader_failed writer_failed : Bool)
     (r : Result (Unit {0}) MakeFault) : Type 0 where
-  -- If the rest of the reader is known, the run has written the messages of that rest, and had their result.
+  -- If `a` is known, `EndsAs` holds for `r` and for the complete input, the bytes of `a`.
   pub exact : IfSome a (EndsAs form c d r)
   -- The result is `Io` if and only if the reader or the writer has failed.
   pub io : (r ≡ Err faults.Io) ↔ ((reader_failed ≡ true) ⊎ (writer_failed ≡ true))
-  -- However the run ended, a first part of the messages of the bytes that were read was written.
+  -- `HasBegunText` holds for the `bytes` that were read: a prefix of their messages was written.
   pub begun : (bytes : List ℕ) × Consumes a b bytes × HasBegunText form bytes c d
-  -- If the reader failed, the messages of the texts that are whole in the bytes that were read were written.
+  -- If the reader failed, `HasServed` holds for the `bytes` that were read: the messages of their complete texts were
+  -- written, except in form `Bare`.
   pub heard : reader_failed ≡ true → (bytes : List ℕ) × Consumes a b bytes × HasServed form bytes c d
-  -- However the run ended, it has read at most one chunk after the bytes whose messages were written.
+  -- When the last chunk of `bytes` was read, `HasServed` held for the bytes before that chunk.
   pub ahead : (bytes : List ℕ) × Consumes a b bytes × IsAhead (HasServed form) bytes c d
 
--- If the first `n` of `bytes` have a complete part that refuses them, the length of `bytes` is at most 4 `n` + 65,536.
--- If the first `n` have one fault whatever follows, even by a line without its newline, the length is at most 4 (`n` +
--- 2,048) + 65,536. Only a line of digits has more than 2,048 bytes.
+-- If the first `n` bytes of `bytes` are refused for good, `bytes` has at most 4 `n` + 65,536 bytes. If `IsLostForGood`
+-- holds for these `n` bytes, `bytes` has at most 4 (`n` + `few`) + 65,536 bytes.
 abbrev pub AreInTime : Form → List ℕ → Type 0
 AreInTime form bytes = (n : ℕ) → (IsRefusedForGood form (take n bytes) → length bytes ≤ 4 * n + 65536)
     × (IsLostForGood form (take n bytes) → length bytes ≤ 4 * (n + few) + 65536)
 
--- The bytes that were read are no more than `AreInTime` allows.
+-- The reader returned some `bytes`, and `AreInTime` holds for them. Its remaining input was `a` before that, and is `b`
+-- after it.
 abbrev pub StopsInTime : Form → Option (List ℕ) → Option (List ℕ) → Type 0
 StopsInTime form a b = (bytes : List ℕ) × Consumes a b bytes × AreInTime form bytes
 
--- Some bytes were read.
+-- The reader returned at least one byte. Its remaining input was `a` before that, and is `b` after it.
 abbrev pub TakesBytes : Option (List ℕ) → Option (List ℕ) → Type 0
 TakesBytes a b = (bytes : List ℕ) × Consumes a b bytes × (bytes ≢ [])

@@ -1,4 +1,5 @@
-//! The test whether an unfinished text has to be read again, by the lines `end` in the bytes that were added.
+//! Tests whether an unfinished text has to be parsed again. The test looks for the line `end` in the bytes that were
+//! added.
 
 ghost use Rattle.std.specs.Prelude.{◌≡◌, ◌≤◌, ◌*◌, ◌-◌, ◌⊎◌, length, drop, true, false};
 ghost use Rattle.capn_text.specs.Streams.{end_line};
@@ -39,9 +40,9 @@ fn holds_end(bytes: &[u8]) -> bool
     false
 }
 
-/// Returns `true` if `rest`, the unread part of an input, has to be read again. That is so if a text may have ended in
-/// the bytes after the first `before`, or if `rest` has at least four times `tested` bytes. `tested` is the length of
-/// `rest` at the last reading.
+/// Returns `true` if `rest`, the bytes of an input that have no message yet, has to be parsed again. That is so if a
+/// line `end` may end after the first `before` bytes of `rest`, or if `rest` has at least four times `tested` bytes.
+/// `tested` is the length that `rest` had when it was last parsed.
 pub(crate) fn is_due(rest: &[u8], before: usize, tested: usize) -> bool
     requires { before ≤ length rest.now }
     ensures due { result ≡ true

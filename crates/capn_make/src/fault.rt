@@ -13,8 +13,8 @@ use std::error::Error;
 use std::fmt;
 use std::io::Write;
 
-/// The reason why a run ends before all of its input was made into messages. Lines are counted from 1 over the whole
-/// input.
+/// The reason why a run ends before it has written the messages of its complete input. Lines are counted from 1, from
+/// the beginning of the input.
 #[derive(Clone, Copy, Debug, PartialEq, Eq)]
 pub enum MakeFault {
     /// An allocation was refused.
@@ -23,8 +23,8 @@ pub enum MakeFault {
     Io,
     /// The input has 2^64 bytes or more.
     InputTooLong,
-    /// The number of the first wrong line, with which no text and its end can continue. If a line is missing, the
-    /// number is that of the line after the last.
+    /// The number of the first wrong line: no text with its line `end` can continue with that line. If a line is
+    /// missing, the number is that of the line after the last.
     NotText(u64),
     /// The value of the text that begins at this line fits into no message.
     Misfit(u64, Misfit),

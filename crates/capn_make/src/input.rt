@@ -8,7 +8,8 @@ use capn_words::Watched;
 use std::alloc::Allocator;
 use std::io::Write;
 
-/// A sink for texts, which makes messages of the texts that have arrived, and writes the messages before more is read.
+/// A sink for texts. Before more input is read, it writes the messages of all complete texts. In form `Bare` it writes
+/// only at the end of the input.
 impl<A: Allocator + Copy> Sink for Progress<A> {
     ghost use Rattle.capn_make.specs.inner.RunParts.{GivesMade, IsUnderWay};
     ghost use Rattle.capn_make.specs.declared.fault.MakeFault.TheVariants as faults;

@@ -1,4 +1,4 @@
-//! The laws of the messages that are made of texts, as the clauses of functions that do nothing.
+//! Laws of the messages that are written for texts, as contracts of functions that do nothing.
 
 ghost use Rattle.capn_make.specs.Laws.{ShownAreMade, ShownAreMadeOnly, OneShownIsMade, OneShownIsMadeOnly};
 ghost use Rattle.capn_make.specs.Laws.{FramedAreFrames, OneMaking, OneBareMaking, OneTextInFrames};
@@ -9,8 +9,9 @@ ghost use Rattle.capn_make.specs.Laws.{OneDeciding, DecidedStay, UnendedIsStuck,
 use capn_canon::laws::canonicity;
 use capn_text::laws::{plain_forms, refusals, texts, whole_lines};
 
-/// States that the texts which [`capn_value::show`] writes, each with its line `end`, are made into messages again. If
-/// the values fit and have no capability, their canonical bytes are made, in order, and nothing else.
+/// States that [`crate::make`] parses the texts that [`capn_value::show`] writes for values, each with its line `end`.
+/// It writes exactly the messages of these values, in order. The values have to fit, be in range and have no
+/// capability.
 pub fn showing()
     ensures made { ShownAreMade }
     ensures only { ShownAreMadeOnly }
@@ -21,8 +22,7 @@ pub fn showing()
     refusals();
 }
 
-/// States that an input has one result: the messages that are made of the input, and the fault with which the run ends,
-/// if there is one.
+/// States that a run on an input has one result, and writes the messages of one list of values.
 pub fn making()
     ensures one { OneMaking }
     ensures bare { OneBareMaking }
@@ -32,8 +32,8 @@ pub fn making()
     refusals();
 }
 
-/// States that an input is refused whatever bytes follow, if the part that causes the refusal is complete. A whole text
-/// is complete, and so is a wrong line with its newline.
+/// States that an input is refused whatever bytes follow, if the bytes that cause the fault are complete. These are a
+/// text with its line `end`, or a wrong line with its newline.
 pub fn refusing()
     ensures stays { FaultStays }
     ensures goes_on { RefusalStays }
@@ -45,8 +45,8 @@ pub fn refusing()
     whole_lines();
 }
 
-/// States that the whole texts at the front of some bytes have one list of values. If more bytes follow, the list of
-/// the longer bytes begins with that list.
+/// States that the complete texts at the front of some bytes have one list of values. If more bytes follow, the list of
+/// all these bytes begins with that list.
 pub fn deciding()
     ensures one { OneDeciding }
     ensures stay { DecidedStay }
@@ -55,7 +55,7 @@ pub fn deciding()
     texts();
 }
 
-/// States that if the texts of some bytes are refused for good, no further text becomes whole, whatever bytes follow.
+/// States that no further text becomes complete in an input that is refused for good, whatever bytes follow.
 pub fn stuck()
     ensures { RefusedIsStuck }
 {
@@ -64,7 +64,7 @@ pub fn stuck()
     whole_lines();
 }
 
-/// States that a fault after texts that are made names no line before the end of those texts.
+/// States that a fault after the texts at the front of an input names no line before the end of those texts.
 pub fn following()
     ensures after { RefusedAfter }
     ensures last { UnendedIsLast }
@@ -81,7 +81,7 @@ pub fn framing()
     canonicity();
 }
 
-/// States that texts shown with lists between quotes are made into the same messages as those shown without.
+/// States that texts shown with lists between quotes have the same messages as the texts without quotes.
 pub fn quoting()
     ensures { QuotedAreMade }
 {

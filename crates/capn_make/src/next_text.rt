@@ -1,4 +1,4 @@
-//! Reads the next text of an input by `capn_text`, and makes its message.
+//! Parses the next text of an input, and returns the bytes of its message.
 
 ghost use Rattle.std.specs.Prelude.{◌≡◌, ◌≢◌, [], None, Some, IfErr, IsErrOf};
 ghost use Rattle.capn_make.specs.inner.RunParts as spec;
@@ -49,8 +49,8 @@ fn made<A: Allocator + Copy>(
     }
 }
 
-/// Reads the next text and returns the bytes of its message in this `form`, or `None` at the end of the input. If a
-/// line is wrong, sets `cut` if more bytes may mend the line, and clears `cut` otherwise.
+/// Parses the next of the `texts` and returns the bytes of its message in this `form`, or `None` at the end of the
+/// input. If a line is wrong, sets `cut` if more bytes may mend the line, and clears `cut` otherwise.
 pub(crate) fn next_piece<A: Allocator + Copy>(
     alloc: A,
     form: Form,

@@ -1,4 +1,4 @@
-//! The writing of messages that were made.
+//! Writes messages to a writer that is watched.
 
 ghost use Rattle.std.specs.Prelude.{◌≡◌, true, false, OnOk, OnErr, IsOkUnless};
 ghost use Rattle.std.specs.Io.KnownBytes.{Appends};
@@ -8,7 +8,7 @@ use crate::fault::MakeFault;
 use capn_words::Watched;
 use std::io::Write;
 
-/// Writes all of `text`. If the writer fails, the fault is `Io`, and the writer has taken a first part of `text`.
+/// Writes all of `text`. If the writer fails, the fault is `Io`, and a prefix of `text` was written.
 pub(crate) fn write_all<W: Write>(writer: &mut Watched<W>, text: &[u8]) -> Result<(), MakeFault>
     requires { has_failed writer.old ≡ false }
     ensures ok { OnOk result (Appends (W.contents (inner_of writer.old)) (W.contents (inner_of writer.new)) text.now) }

@@ -1,4 +1,4 @@
-//! The state of a run between two chunks of its input, and the steps that make and write messages.
+//! The state of a run between two chunks of its input, and the steps that parse texts and write their messages.
 
 ghost use Rattle.std.specs.Prelude.{◌≡◌, ◌≢◌, ◌≤◌, ◌+◌, ◌^◌, ℕ, List, [], ◌++◌, length, drop, true, false};
 ghost use Rattle.std.specs.Prelude.{Option, IfOk, IfErr, IsErrOf, OnErr};
@@ -19,19 +19,19 @@ use capn_words::Watched;
 use std::alloc::{AllocError, Allocator};
 use std::io::Write;
 
-/// The state of a run: the messages that were made but not written, and the part of the input that is not made.
+/// The state of a run: the messages that are not written yet, and the bytes of the input that have no message yet.
 #[derive(Drop)]
 pub(crate) struct Progress<A: Allocator> {
     alloc: A,
     /// The form in which the messages are written.
     pub(crate) form: Form,
-    /// The messages that were made and are not written yet.
+    /// The messages that are not written yet.
     pub(crate) made: Vec<u8, A>,
-    /// The bytes of the input after the texts that were made.
+    /// The bytes of the input after the texts that have a message.
     pub(crate) rest: Vec<u8, A>,
     /// The line of the input at which `rest` begins.
     pub(crate) line: u64,
-    /// The length that `rest` had when its texts were last read.
+    /// The length that `rest` had when its texts were last parsed.
     pub(crate) tested: usize,
 }
 
@@ -45,7 +45,8 @@ fn drop_front<A: Allocator>(bytes: &mut Vec<u8, A>, count: usize)
     bytes.truncate(len - count);
 }
 
-/// Returns `true` if the numbers of all lines of `rest`, which begins at `line` of the input, are below 2^64.
+/// Tests whether the sum of `line` and the length of `rest` is below 2^64. If it is, and `rest` begins at `line` of the
+/// input, the numbers of all lines of `rest` are below 2^64.
 fn has_room(line: u64, rest: &[u8]) -> bool
     ensures room { result ≡ true → HasRoom line rest.now }
     ensures none { result ≡ false → 2 ^ 64 ≤ line + length rest.now }
@@ -99,9 +100,9 @@ impl<A: Allocator + Copy> Progress<A> {
         }
     }
 
-    /// Makes messages of the texts that are complete, and keeps the bytes after those texts. Returns the result that
-    /// the run has if no bytes follow. If a line is wrong, sets `cut` if more bytes may mend the line, and clears `cut`
-    /// otherwise.
+    /// Parses the complete texts in `rest`, adds their messages to `made`, and leaves the bytes after these texts in
+    /// `rest`. Returns the result that the run has if no bytes follow. If a line is wrong, sets `cut` if more bytes may
+    /// mend the line, and clears `cut` otherwise.
     fn go_on(&mut self, cut: &mut bool) -> Result<(), MakeFault>
         requires { HasRoom self.old.line self.old.rest.items }
         ensures made { (input : List ℕ) (written : List ℕ)
@@ -125,8 +126,8 @@ impl<A: Allocator + Copy> Progress<A> {
         ending
     }
 
-    /// Makes messages of the texts that are complete, and keeps the bytes after those texts. Returns the fault of the
-    /// input if the input is refused whatever bytes follow.
+    /// Parses the complete texts in `rest`, adds their messages to `made`, and leaves the bytes after these texts in
+    /// `rest`. If the call returns a fault, the input is refused with that fault, whatever bytes follow.
     fn find_refusal(&mut self) -> Result<Option<MakeFault>, AllocError>
         requires { HasRoom self.old.line self.old.rest.items }
         ensures found { IfOk result (λ told. (input : List ℕ) (written : List ℕ)
@@ -156,8 +157,8 @@ impl<A: Allocator + Copy> Progress<A> {
         }
     }
 
-    /// Writes the messages that were made. In form `Bare` they are kept, since nothing is written before the end of the
-    /// input.
+    /// Writes the messages in `made`. In form `Bare` they stay in `made`, since nothing is written before the end of
+    /// the input.
     fn write_made<W: Write>(&mut self, writer: &mut Watched<W>) -> Result<(), MakeFault>
         requires { has_failed writer.old ≡ false }
         ensures wrote { WritesMade self.old.form (W.contents (inner_of writer.old)) (W.contents (inner_of writer.new))
@@ -172,10 +173,10 @@ impl<A: Allocator + Copy> Progress<A> {
         Ok(())
     }
 
-    /// Reads `rest` again after bytes were added behind its first `before` bytes. This is left out unless a text may
-    /// have ended or `rest` has four times as many bytes as at the last reading. Makes messages of the complete texts
-    /// and writes the messages, or keeps them in form `Bare`. Returns the fault of an input that is refused whatever
-    /// bytes follow.
+    /// Looks at the bytes that were added to `rest` after its first `before` bytes. Parses `rest` again if a text may
+    /// have ended, or if `rest` has at least four times the bytes that it had when it was last parsed. Writes the
+    /// messages of the complete texts, or keeps them in form `Bare`. Returns the fault of an input that is refused
+    /// whatever bytes follow.
     pub(crate) fn look<W: Write>(
         &mut self,
         before: usize,
@@ -207,7 +208,7 @@ impl<A: Allocator + Copy> Progress<A> {
         Ok(())
     }
 
-    /// Makes messages of the texts of an input that has ended, and writes the messages that are not written yet.
+    /// Parses `rest` at the end of the input, and writes the messages that are not written yet.
     pub(crate) fn end<W: Write>(&mut self, writer: &mut Watched<W>) -> Result<(), MakeFault>
         requires { has_failed writer.old ≡ false }
         ensures { (input : List ℕ) (c : Option (List ℕ)) (before : ℕ)

@@ -1,8 +1,8 @@
 //! The trait of sinks, which take an input in chunks, and the loop of this crate that reads for them.
 //!
-//! This file names nothing else of the crate, so that it can stand below everything that reads an input. Its ghost
-//! members state what is true after the bytes that a sink took ([`Sink::takes`]) and at the end of an input
-//! ([`Sink::gives`]). [`run`] promises for every run the facts that follow from them.
+//! This file uses nothing else of the crate, so that everything that reads an input can use it. The ghost members of a
+//! sink state what is true after the bytes that the sink took ([`Sink::takes`]) and at the end of an input
+//! ([`Sink::gives`]). The clauses of [`run`] follow from these statements.
 
 ghost use Rattle.std.specs.Prelude.{◌≡◌, ◌≢◌, ◌≤◌, ◌<◌, ◌+◌, ◌^◌, ◌++◌, ℕ, false, List, [], length};
 ghost use Rattle.std.specs.Prelude.{Option, Result, Err, MatchOption};
@@ -15,23 +15,22 @@ use std::io::{Read, Write};
 /// The greatest number of bytes that one call of a reader may return.
 const CHUNK: usize = 65_536;
 
-/// A machine that takes an input in chunks, and writes its output to a writer.
+/// A consumer that takes an input in chunks, and writes its output to a writer.
 pub(crate) trait Sink {
     /// The reason why a run ends early.
     type Fault;
 
-    /// The type of the part of a sink that does not change during a run, such as the form of the output.
+    /// The type of the task of a sink, for example the form of the output. The task does not change during a run.
     type Task;
 
     /// The task of the sink.
     ghost task: { Self → Self.Task };
 
-    /// The statement that the sink took the given bytes, while the content of the writer went from the first given one
-    /// to the second.
+    /// States that the sink took the given bytes. The two options are the contents of the writer before and after that.
     ghost takes: { Self → List ℕ → Option (List ℕ) → Option (List ℕ) → Type 0 };
 
-    /// The statement on a run with the given task: the run read the first bytes, and the second bytes were left in the
-    /// input. The content of the writer went from the first given one to the second, and the run had the given result.
+    /// States that a run with the given task read the first bytes, and left the second bytes in the input. The two
+    /// options are the contents of the writer before and after the run. The last argument is the result of the run.
     ghost gives: { Self.Task → List ℕ → List ℕ → Option (List ℕ) → Option (List ℕ) → Result (Unit {0}) Self.Fault
         → Type 0 };
 
@@ -93,7 +92,7 @@ fn counted(taken: u64, count: usize) -> Option<u64>
 }
 
 /// Reads an input in chunks of at most 65,536 bytes, and has `sink` take each chunk before the next is read. Stops when
-/// `sink` refuses the input, or when the input ends. Takes no memory.
+/// `sink` returns a fault, when the reader fails, or when the input ends. The loop itself takes no memory.
 pub(crate) fn run<S: Sink, R: Read, W: Write>(
     sink: &mut S,
     reader: &mut Watched<R>,

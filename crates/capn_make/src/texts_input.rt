@@ -1,4 +1,4 @@
-//! The sink for texts with lists of bytes between quotes, which gives their plain form to the sink for texts.
+//! The sink for texts with lists of bytes between quotes. It passes their plain form to the sink for texts.
 
 ghost use Rattle.std.specs.Prelude.{◌≡◌};
 ghost use Rattle.capn_text.specs.Unquoting.{first_unquoting, own_at};
@@ -15,15 +15,15 @@ use capn_words::Watched;
 use std::alloc::Allocator;
 use std::io::Write;
 
-/// A sink for texts with lists of bytes between quotes. The sink converts each whole line to its plain form, and gives
-/// that to a sink for texts.
+/// A sink for texts with lists of bytes between quotes. The sink converts each complete line to its plain form, and
+/// passes the plain form to a sink for texts.
 #[derive(Drop)]
 pub(crate) struct QuotedTexts<A: Allocator + Copy> {
     unquoter: Unquoter<A>,
     texts: Progress<A>,
 }
 
-/// Returns `fault` with the line that it names, a line of the plain form, replaced by the line of the input.
+/// Returns `fault`, with its line of the plain form replaced by the line of the input.
 fn at_own<A: Allocator + Copy>(unquoter: &Unquoter<A>, fault: MakeFault) -> MakeFault
     ensures { result ≡ texts.at_own (own_at unquoter.now) fault }
 {

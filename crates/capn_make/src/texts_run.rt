@@ -1,4 +1,4 @@
-//! The run that makes messages of texts in which lists of bytes may stand between quotes.
+//! The run that parses texts in which lists of bytes may stand between quotes, and writes their messages.
 
 ghost use Rattle.std.specs.Prelude.{◌≡◌, false};
 ghost use Rattle.capn_words.specs.Watched.{inner_of, has_failed};
@@ -13,16 +13,16 @@ use capn_words::Watched;
 use std::alloc::Allocator;
 use std::io::{Read, Write};
 
-/// Makes messages of the plain form of the input of `reader`, and writes them to `writer` in this `form`. In the input
-/// a list of bytes may stand on one line between quotes, as `bytes N "T"` or `bytes "T"` (see
+/// Parses the plain form of the texts of `reader`, and writes their messages to `writer` in this `form`. In the input a
+/// list of bytes may stand on one line between quotes, as `bytes N "T"` or `bytes "T"` (see
 /// [`capn_text::plain_text`]). Whatever [`crate::make`] refuses in the plain form is refused, and the fault names the
 /// line of the input.
 ///
-/// The call reads, writes and takes memory like [`crate::make`]. In addition it holds eight bytes for each line between
-/// quotes of the texts that are not made yet, to find the line of the input that is refused. The unfinished line is
-/// also held while its first 1,024 bytes may begin a line between quotes, that is, while they are an indent, `bytes `
-/// and a quote or a digit, or a prefix of these. Such a line may be of any length, and is not read before its end. Any
-/// other line is read as it arrives.
+/// The call reads, writes and takes memory like [`crate::make`]. In addition it stores eight bytes for each line
+/// between quotes in the texts that have no message yet. They serve to find the line of the input that is refused. The
+/// unfinished line is also stored while its first 1,024 bytes may begin a line between quotes. Such a beginning is an
+/// indent, `bytes ` and a quote or a digit, or a prefix of these. A line between quotes may be of any length, and is
+/// not read before its end. Any other line is read as it arrives.
 pub fn make_texts<R: Read, W: Write, A: Allocator + Copy>(
     alloc: A,
     form: Form,

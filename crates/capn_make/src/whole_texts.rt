@@ -1,4 +1,4 @@
-//! Makes messages of the complete texts in the rest of an input.
+//! Parses the complete texts in the remaining bytes of an input, and makes the bytes of their messages.
 
 ghost use Rattle.std.specs.Prelude.{◌≡◌, ◌≢◌, ℕ, List, [], ◌++◌, IfErr, IsErrOf};
 ghost use Rattle.capn_canon.specs.declared.form.Form.TheVariants as forms;
@@ -10,7 +10,7 @@ use capn_canon::Form;
 use capn_text::Texts;
 use std::alloc::Allocator;
 
-/// Makes the message of each text, up to the end of the input or to the first text that is refused.
+/// Parses each text and appends its message to `made`, up to the end of the input or to the first text that is refused.
 fn make_each<A: Allocator + Copy>(
     alloc: A,
     form: Form,
@@ -48,7 +48,7 @@ fn end_of_one(texts: &Texts, cut: &mut bool) -> Result<(), MakeFault>
     }
 }
 
-/// Makes the message of the first text of an input, and refuses any bytes that follow the text.
+/// Parses the first text of an input, appends its message to `made`, and refuses any bytes that follow the text.
 fn make_first<A: Allocator + Copy>(
     alloc: A,
     texts: &mut Texts,
@@ -69,8 +69,8 @@ fn make_first<A: Allocator + Copy>(
     end_of_one(texts, cut)
 }
 
-/// Makes the message of the only text of an input, unless it was made before, and refuses any bytes that follow the
-/// text.
+/// Parses the only text of an input and appends its message to `made`, unless the text was parsed before. Refuses any
+/// bytes that follow the text.
 fn make_one<A: Allocator + Copy>(
     alloc: A,
     texts: &mut Texts,
@@ -83,15 +83,15 @@ fn make_one<A: Allocator + Copy>(
     ensures cut { IfErr result (λ e. TellsCut forms.Bare texts.new cut.new e) }
     ensures memory { IsErrOf result MakeFault.Memory → texts.old.rest ≢ [] }
 {
-    // A text has two lines or more, so at line 1 none has been made.
+    // A text has two lines or more, so at line 1 no text has been parsed.
     if texts.line() == 1 {
         return make_first(alloc, texts, made, cut);
     }
     end_of_one(texts, cut)
 }
 
-/// Makes the messages of the next texts, of only one in form `Bare`. Returns the result that the run has if no bytes
-/// follow.
+/// Parses the next texts, and appends their messages to `made`. In form `Bare` only one text is parsed. Returns the
+/// result that the run has if no bytes follow.
 pub(crate) fn make_texts<A: Allocator + Copy>(
     alloc: A,
     form: Form,

@@ -14,7 +14,7 @@ use capn_pack::{PackFault, pack};
 use capn_value::Tree;
 use std::alloc::{AllocError, Allocator};
 
-/// Returns the frame of one segment whose content is `bytes`, which are whole words.
+/// Returns the frame of one segment whose content is `bytes`, which are complete words.
 fn framed<A: Allocator>(alloc: A, bytes: &[u8]) -> Result<Vec<u8, A>, AllocError>
     requires { length bytes.now < 2 ^ 35 }
     ensures { IfOk result (λ text. text.items ≡ spec.framed bytes.now) }
@@ -41,7 +41,7 @@ fn packed<A: Allocator + Copy>(alloc: A, bytes: &[u8]) -> Result<Vec<u8, A>, All
     }
 }
 
-/// Returns the canonical bytes of `tree`. They are whole words, and no more than a message may have.
+/// Returns the canonical bytes of `tree`. They are complete words, and no more than a message may have.
 fn canonical<A: Allocator + Copy, B: Allocator>(
     alloc: A,
     tree: &Tree<B>,

@@ -1,4 +1,4 @@
--- Lemmas for `mark_there` and `without_marks`: the text by the rule of marks is the text with these marks.
+-- The text that `rule_of marks` emits is the text with `marks`. (For `mark_there` and `without_marks`.)
 use Rattle.std.proofs.Common.{◌≡◌, ℕ, zero, suc, ◌+◌, List, [], ◌∷◌, ◌++◌, Bool, true, false, length, codes, map}
 use Rattle.std.proofs.Common.{refl, sym, ap, ap₂, if◌then◌else◌}
 use Rattle.std.specs.Prelude.{⊤}
@@ -21,7 +21,7 @@ use Rattle.capn_marks.specs.Marked.{mark, offset_mark, path_mark, below, byte_at
 use Rattle.capn_marks.specs.Marked.{marked_digits, marked_numbers, digit_lines, text_or_digits, word_line, number_line}
 use Rattle.capn_marks.specs.Marked.{unmarked, marked_slots, marked_rows}
 
--- The paths `v` and `w` give the same mark: they are equal, or no mark shows them.
+-- The paths `v` and `w` are equal, or `ways` is false, so that no mark shows them.
 abbrev pub Agree : Bool → List ℕ → List ℕ → Type 0
 Agree true v w = v ≡ w
 Agree false v w = ⊤

@@ -1,4 +1,5 @@
--- Lemmas for `byte_of` and `words_before`: the number of words before each segment, one segment after the other.
+-- The list of the numbers of words before each segment, made one segment after another. (For `byte_of` and
+-- `words_before`.)
 use Rattle.std.proofs.Common.{◌≡◌, ℕ, zero, suc, ◌+◌, ◌<◌, ◌≤◌, nat_lt, Bool, true, false, List, [], ◌∷◌, ◌++◌, length}
 use Rattle.std.proofs.Common.{take, slice_index, refl, ap, subst, ◌∙◌, arith}
 use Rattle.std.proofs.lemmas.Bool.Decides.{nat_tests}
@@ -10,15 +11,13 @@ use Rattle.capn_words.specs.Message.{segment_at, total}
 use Rattle.capn_marks.specs.MarkedPlaces.{CountsBefore}
 
 module _ (m : List (List ℕ)) (s : ℕ) (below : s < length m) where
-  -- The words before the next segment are the words before segment `s` and those in segment `s`.
   pub next : total (take (s + 1) m) ≡ total (take s m) + length (segment_at m s)
   next = sum_by_more length m s [] below
 
-  -- The words before segment `s` and those in it are no more than the words of the message.
   pub within : total (take s m) + length (segment_at m s) ≤ total m
   within = sum_by_more_le length m s [] below
 
--- The first `n` counts of words are right: `xs` holds the number of words before each of the first `n` segments.
+-- The `n` elements of `xs` are the numbers of words of `m` before each of its first `n` segments.
 pub record AreBefore (m : List (List ℕ)) (xs : List ℕ) (n : ℕ) : Type 0 where
   pub count : length xs ≡ n
   pub each : (s : ℕ) → s < n → slice_index xs s ≡ total (take s m)
@@ -52,6 +51,5 @@ first : (m : List (List ℕ)) (s : ℕ) → s < 1 → slice_index (0 ∷ []) s �
 first m zero below = refl
 first m (suc s) below = absurd (omega arith)
 
--- For a message of one segment, the only count of words is 0.
 pub alone : (m : List (List ℕ)) → 1 ≡ length m → CountsBefore m (0 ∷ [])
 alone m one = record { count = one; each = λ s below. first m s (omega arith) }

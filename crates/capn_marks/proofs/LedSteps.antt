@@ -1,4 +1,4 @@
--- Lemmas for `lead` and `mark_part`: a step of a path, and where it leads in a message.
+-- A step of a path from a value to a value below it. (For `lead` and `mark_part`.)
 use Rattle.std.proofs.Common.{◌≡◌, ℕ, suc, ◌+◌, ◌<◌, ◌≤◌, List, [], ◌∷◌, length, drop, get_or, Some, None, Option}
 use Rattle.std.proofs.Common.{refl, subst, sym, ap, ap₂, ◌∙◌, arith}
 use Rattle.std.specs.Prelude.{IfSome}
@@ -18,7 +18,6 @@ use Rattle.capn_marks.specs.MarkedPlaces.{IsLed, IsLedMarked}
 abbrev pub somewhere : Tree → Place → Target → List ℕ → There
 somewhere v a f w = record { at = a; found = f; value = v; path = w }
 
--- Two parts are equal if their fields are.
 pub there-is : (v : Tree) (a b : Place) (f g : Target) (x y : List ℕ) → a ≡ b → f ≡ g → x ≡ y
     → Some (somewhere v a f x) ≡ Some (somewhere v b g y)
 there-is v a b f g x y e h k =

@@ -1,8 +1,8 @@
--- Lemmas for `name_block`, `put_block` and `put_named`: a name in a block of tabs, and the digits before it.
+-- A block that is filled with tabs, and then overwritten in part by digits and by a name. (For `name_block`,
+-- `put_block` and `put_named`.)
 use Rattle.std.proofs.Common.{◌≡◌, ℕ, zero, suc, ◌+◌, ◌-◌, ◌≤◌, List, [], ◌∷◌, ◌++◌, length, take, drop, replicate}
 use Rattle.std.proofs.Common.{sym, ap, ap₂, ◌∙◌, arith, append_assoc}
 
--- A first part of the bytes behind the digits `d` is the digits followed by a first part of those bytes.
 behind : (d x : List ℕ) (j : ℕ) → take (length d + j) (d ++ x) ≡ d ++ take j x
 behind [] x j =
     let same : 0 + j ≡ j = omega arith in
@@ -11,7 +11,6 @@ behind (c ∷ d) x j =
     let same : length (c ∷ d) + j ≡ suc (length d + j) = omega arith in
     ap (λ (n : ℕ). take n (c ∷ (d ++ x))) same ∙ ap (λ (l : List ℕ). c ∷ l) (behind d x j)
 
--- The tabs that are left after `k` of them are dropped.
 tabs-left : (k n : ℕ) → drop {A = ℕ} k (replicate (k + suc n) 9) ≡ 9 ∷ replicate n 9
 tabs-left zero n =
     let same : 0 + suc n ≡ suc n = omega arith in
@@ -23,7 +22,6 @@ tabs-left (suc k) n =
 name-and-tab : (name rest : List ℕ) → take (length name + 1) (name ++ 9 ∷ rest) ≡ name ++ 9 ∷ []
 name-and-tab name rest = behind name (9 ∷ rest) 1
 
--- The name and a tab stand at the front of 43 bytes that were tabs, once the name is written there.
 pub in-block : (name part : List ℕ) (k : ℕ) → length name ≤ 42 → part ≡ name → k ≡ length name
     → take (1 + length name) (part ++ drop {A = ℕ} k (replicate 43 9)) ≡ name ++ 9 ∷ []
 in-block name part k short is same =
@@ -35,7 +33,6 @@ in-block name part k short is same =
     (ap (λ (j : ℕ). drop {A = ℕ} k (replicate j 9)) all ∙ tabs-left k n))
     ∙ name-and-tab name (replicate n 9)
 
--- The digits, a tab, the name and a tab are the bytes of the block from the first digit on.
 pub before-name : (d b b' name : List ℕ) (start : ℕ) → start + length d ≡ 20 → drop start b' ≡ d ++ drop 20 b
     → drop 20 b ≡ 9 ∷ drop 21 b → take (1 + length name) (drop 21 b) ≡ name ++ 9 ∷ []
     → take (22 + length name - start) (drop start b') ≡ (d ++ 9 ∷ []) ++ (name ++ 9 ∷ [])

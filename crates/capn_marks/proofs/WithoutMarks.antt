@@ -1,4 +1,4 @@
--- Lemmas for the law `without_marks`: a text with marks of no kind is the text in lines.
+-- A text with neither offsets nor paths is the text without marks. (For the law `without_marks`.)
 use Rattle.std.proofs.Common.{◌≡◌, ℕ, List, [], ◌∷◌, ◌++◌, Bool, true, false, codes}
 use Rattle.std.proofs.Common.{refl, sym, ap, ap₂, ◌∙◌, if◌then◌else◌, Option, Some, None}
 use Rattle.capn_value.specs.Tree.{Tree}
@@ -30,7 +30,6 @@ module _ (marks : Marks) (no_offsets : marks.offsets ≡ false) (no_ways : marks
 
     -- ---- the value at a path
 
-    -- The text of a value is the text in the style.
     bare-chosen-style : (quoted : Bool) (t : Tree)
         → shown_by (bytes_of quoted) 0 t ≡ part_in (lines_style quoted) (Some t)
     bare-chosen-style true t = refl
@@ -69,7 +68,6 @@ module _ (marks : Marks) (no_offsets : marks.offsets ≡ false) (no_ways : marks
         ∙ ap (λ (t : Option Tree). part_in (lines_style marks.quoted) (follow path t))
         (value-stepped there i (step_down there.value i))
 
-    -- The text of the part at a path is the text in the style.
     pub bare-text : (path : List ℕ) (t : Tree)
         → marked_at m marks path t ≡ styled (lines_style marks.quoted) path t
     bare-text path t = bare-led path (Some (at_root m t))

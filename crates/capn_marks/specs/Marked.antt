@@ -1,4 +1,5 @@
--- The text of a message with marks: before each line stand the byte of its subject, and the path to it. (Our own.)
+-- The text of a message with marks. A mark before each line shows the offset of the line's subject, the path to the
+-- subject, or both. (Our own.)
 use Rattle.std.specs.Prelude.{◌≡◌, ℕ, zero, suc, ◌+◌, ◌*◌, ◌/◌, Bool, true, false, List, [], ◌∷◌, ◌++◌}
 use Rattle.std.specs.Prelude.{length, take, map, codes, if◌then◌else◌, refl}
 use Rattle.std.specs.Fmt.{decimal, digits}
@@ -20,74 +21,77 @@ use Rattle.capn_marks.specs.declared.marks.Marks.{Marks}
 
 -- ---- paths and places
 
--- The text of a path, from the text of the path above it and its last number `i`.
+-- The text of a path with the number `i` appended, given the text of the path without `i`. A dot stands before `i`
+-- unless `i` is the first number.
 abbrev pub below : List ℕ → ℕ → List ℕ
 below [] i = decimal i
 below (c ∷ path) i = (c ∷ path) ++ 46 ∷ decimal i
 
--- The text that stands for a path in a mark.
+-- The name of `path` in a mark, which is `root` for the empty path.
 abbrev pub path_name : List ℕ → List ℕ
 path_name [] = codes "root"
 path_name (c ∷ path) = c ∷ path
 
--- The offset in bytes of the first word of a message, which follows the table.
+-- The offset in bytes of the first word of a message, which follows the table of the message.
 abbrev pub first_byte : Marks → ℕ
 first_byte marks = marks.offset + 8 * marks.table
 
--- The offset in bytes of the word at `at` of a message `m` whose first word lies at `start`. The segments lie one after
--- the other.
+-- The offset in bytes of the word of `m` at `at`, if the first word of `m` lies at the offset `start`. Each word of `m`
+-- before that word adds 8.
 abbrev pub byte_of : ℕ → List (List ℕ) → Place → ℕ
 byte_of start m at = start + 8 * (total (take at.segment m) + at.word)
 
 -- ---- marks
 
--- The mark with the offset of a line's subject, which is empty if `offsets` is not set.
+-- The offset `lies` in digits and a tab, or no text if `offsets` is false.
 abbrev pub offset_mark : Bool → ℕ → List ℕ
 offset_mark offsets lies = if offsets then decimal lies ++ 9 ∷ [] else []
 
--- The mark with the path to a line's subject, which is empty if `ways` is not set.
+-- The name of `path` and a tab, or no text if `ways` is false.
 abbrev pub path_mark : Bool → List ℕ → List ℕ
 path_mark ways path = if ways then path_name path ++ 9 ∷ [] else []
 
--- The marks of a line whose subject lies at the byte `lies` and has the path `path`.
+-- The marks of a line whose subject lies at the offset `lies` and has the path `path`.
 abbrev pub mark : Marks → ℕ → List ℕ → List ℕ
 mark marks lies path = offset_mark marks.offsets lies ++ path_mark marks.ways path
 
 -- ---- lines with marks
 
--- The line of a data word.
+-- The line of the data word `w`, indented by `level`.
 abbrev pub word_line : ℕ → ℕ → List ℕ
 word_line level w = line level (codes "word " ++ hex16 w)
 
--- The line of a number in a list.
+-- The line of the number `n` of a list, indented by `level`.
 abbrev pub number_line : ℕ → ℕ → List ℕ
 number_line level n = line level (decimal n)
 
 module _ (marks : Marks) where
-  -- A line with its marks for each number. The first number lies at the byte `first`, and each takes `size` bytes.
+  -- One line with marks for each number of a list. The first number lies at the offset `first`, and each number fills
+  -- `size` bytes.
   abbrev pub marked_lines : ℕ → (ℕ → List ℕ) → List ℕ → ℕ → List ℕ → List ℕ
   marked_lines size line_of path first [] = []
   marked_lines size line_of path first (x ∷ xs) =
       mark marks first path ++ (line_of x ++ marked_lines size line_of path (first + size) xs)
 
-  -- The digits of a list whose first element lies at the byte `first`: one line, unless the list is empty.
+  -- The line with marks that shows `digits`, the digits of a list, or no line if the list is empty. The first element
+  -- lies at the offset `first`.
   abbrev pub marked_digits : ℕ → List ℕ → ℕ → ℕ → List ℕ → List ℕ
   marked_digits level path first zero digits = []
   marked_digits level path first (suc n) digits = mark marks first path ++ line level digits
 
-  -- The lines of a list of bytes in digits, without the mark of the first line.
+  -- The lines of the list of bytes `xs` in digits, where the first line has no mark.
   abbrev pub digit_lines : ℕ → List ℕ → ℕ → List ℕ → List ℕ
   digit_lines level path first xs =
       line level (named (codes "bytes") (length xs))
       ++ marked_digits (level + 1) path first (length xs) (encode_lower xs)
 
-  -- The lines of the list of bytes `xs`, without the mark of the first line. They show a text between quotes if `xs` is
-  -- one, and digits otherwise.
+  -- The lines of the list of bytes `xs`, where the first line has no mark. If `xs` is a text, the text stands between
+  -- quotes. Otherwise the lines show digits.
   abbrev pub text_or_digits : ℕ → List ℕ → ℕ → List ℕ → List ℕ
   text_or_digits level path first xs =
       if is_text xs then quoted_line level xs else digit_lines level path first xs
 
-  -- The lines of a list of numbers, without the mark of the first line.
+  -- The lines of the list of numbers `xs`, where the first line has no mark.
   abbrev pub marked_numbers : NumberWidth → ℕ → List ℕ → ℕ → List ℕ → List ℕ
   marked_numbers bit level path first xs =
       line level (named (codes "bits") (length xs))
@@ -101,12 +105,12 @@ module _ (marks : Marks) where
 -- ---- the text
 
 module _ (m : List (List ℕ)) (marks : Marks) where
-  -- The offset in bytes of the word at `at`.
+  -- The offset in bytes of the word of `m` at `at`.
   abbrev pub byte_at : Place → ℕ
   byte_at at = byte_of (first_byte marks) m at
 
   abbrev mutual
-    -- The lines of the value with the target `found`, without the mark of the first line, and with all lines below.
+    -- The lines of a value whose slot has the target `found`, where the first line has no mark.
     pub unmarked : ℕ → List ℕ → Target → Tree → List ℕ
     unmarked level path found nil = line level (codes "null")
     unmarked level path found (node ws ss) =
@@ -121,8 +125,8 @@ module _ (m : List (List ℕ)) (marks : Marks) where
         line level (named (codes "rows") (count_rows bs)) ++ marked_rows (level + 1) path (row_of found) 0 bs
     unmarked level path found (cap k) = line level (named (codes "capability") k)
 
-    -- The lines of the values in slots, from item `i` on. `place` gives the place of each slot, and the mark of the
-    -- slot has the offset of that place.
+    -- The lines of the values in consecutive slots, of which the first is item `i` of an object. The slot of item `i`
+    -- lies at `place i`, and its mark has the offset of that place.
     pub marked_slots : ℕ → List ℕ → (ℕ → Place) → ℕ → Trees → List ℕ
     marked_slots level path place i no_trees = []
     marked_slots level path place i (tree t ts) =
@@ -130,7 +134,8 @@ module _ (m : List (List ℕ)) (marks : Marks) where
         ++ unmarked level (below path i) (named_by (target m (place i))) t)
         ++ marked_slots level path place (suc i) ts
 
-    -- The lines of rows, from item `i` on. The mark of a row has the offset at which the row begins.
+    -- The lines of consecutive rows, of which the first is item `i` of a list. The mark of item `i` has the offset at
+    -- which `row i` begins.
     pub marked_rows : ℕ → List ℕ → (ℕ → Target) → ℕ → Bodies → List ℕ
     marked_rows level path row i no_bodies = []
     marked_rows level path row i (body ws ss bs) =
@@ -140,12 +145,12 @@ module _ (m : List (List ℕ)) (marks : Marks) where
         ++ marked_slots (level + 1) (below path i) (step_place (row i)) 0 ss)))
         ++ marked_rows level path row (suc i) bs
 
-  -- The lines of the value in the slot at `at`.
+  -- The lines with marks of the value `t` in the slot at `at`, which has the path `path`.
   abbrev pub marked_slot : ℕ → List ℕ → Place → Tree → List ℕ
   marked_slot level path at t =
       mark marks (byte_at at) path ++ unmarked level path (named_by (target m at)) t
 
-  -- The lines of the value at the root.
+  -- The lines with marks of the value `t` at the root.
   abbrev pub marked_text : Tree → List ℕ
   marked_text t = marked_slot 0 [] root t
 

@@ -1,4 +1,4 @@
--- The text with marks of the part of a message's value at a path of numbers. (Our own.)
+-- The text with marks of the value at a path of numbers in a message. (Our own.)
 use Rattle.std.specs.Prelude.{◌≡◌, ℕ, List, [], ◌∷◌, ◌++◌, Option, Some, None, codes, if◌then◌else◌, Bool, true}
 use Rattle.std.specs.Prelude.{false, refl}
 use Rattle.capn_words.specs.declared.space.Place.{Place}
@@ -14,20 +14,21 @@ use Rattle.capn_marks.specs.declared.marks.Marks.{Marks}
 use Rattle.capn_show.specs.declared.style.Style.{Style}
 use Rattle.capn_show.specs.declared.style.Style.TheVariants as styles
 
--- A part of a message: the place of its slot or of the first word of a row, its target, its value, and the path to it.
+-- A value in a message: the place `at` of the value's slot or row, the target `found`, the value itself, and the text
+-- of the path to the value.
 pub record There : Type 0 where
   pub at : Place
   pub found : Target
   pub value : Tree
   pub path : List ℕ
 
--- The line for no part. Each of its marks is only a tab.
+-- The line `none` for a path that leads nowhere, with an empty mark before it for each kind of mark that `marks` has.
 abbrev pub none_line : Marks → List ℕ
 none_line marks =
     (if marks.offsets then 9 ∷ [] else []) ++ ((if marks.ways then 9 ∷ [] else []) ++ line 0 (codes "none"))
 
 module _ (m : List (List ℕ)) where
-  -- The part one step, with the number `i`, below the part `there`, if there is a value at the end of the step.
+  -- The value to which the number `i` leads from the value `there`, or `None` if `i` leads nowhere.
   abbrev pub stepped : There → ℕ → Option Tree → Option There
   stepped there i None = None
   stepped there i (Some t) = Some (record {
@@ -37,28 +38,28 @@ module _ (m : List (List ℕ)) where
     path = below there.path i;
   })
 
-  -- The part that a path leads to from `there`, or `None` if a step leads nowhere.
+  -- The value to which a path of numbers leads from `there`, or `None` if a number of the path leads nowhere.
   abbrev pub led : List ℕ → Option There → Option There
   led [] there = there
   led (i ∷ numbers) None = None
   led (i ∷ numbers) (Some there) = led numbers (stepped there i (step_down there.value i))
 
-  -- The part at the root, with the value `t`.
+  -- The value `t` at the root, with the root's place, its target, and the empty path.
   abbrev pub at_root : Tree → There
   at_root t = record { at = root; found = named_by (target m root); value = t; path = [] }
 
   module _ (marks : Marks) where
-    -- The lines of a part, or the line for no part.
+    -- The lines with marks of the value `there`, or the line `none` if there is no value.
     abbrev pub there_text : Option There → List ℕ
     there_text None = none_line marks
     there_text (Some there) =
         mark marks (byte_at m marks there.at) there.path ++ unmarked m marks 0 there.path there.found there.value
 
-    -- The lines of the part at the path `numbers` from the root, whose value is `t`.
+    -- The lines with marks of the value at the path `numbers`, given the value `t` at the root.
     abbrev pub marked_at : List ℕ → Tree → List ℕ
     marked_at numbers t = there_text (led numbers (Some (at_root t)))
 
--- The style of a text without marks.
+-- The style of lines without marks, in which texts stand between quotes if `quoted` is true.
 abbrev pub lines_style : Bool → Style
 lines_style quoted = if quoted then styles.Quoted else styles.Lines
 

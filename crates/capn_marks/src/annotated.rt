@@ -11,12 +11,12 @@ use capn_words::{Place, Space, Watched};
 use std::alloc::Allocator;
 use std::io::Write;
 
-/// The emitter of lines, each with its marks before it.
+/// An emitter that writes the marks of each line before the line.
 #[derive(Drop)]
 pub struct Annotated<'a, A: Allocator> {
     /// The marks that each line gets.
     pub marks: Marks,
-    /// For each segment, the number of words of the message before it.
+    /// The number of words of the message before each of its segments.
     pub before: &'a [u32],
     /// The path to the value that is being written, as text.
     pub path: Vec<u8, A>,

@@ -1,9 +1,8 @@
-//! The law of texts with marks, as the clause of an empty function.
+//! The law of texts with marks, as the contract of an empty function.
 
 ghost use Rattle.capn_marks.specs.Laws.{WithoutMarks};
 
-/// States that a text with marks, taken without them, is the text in lines. Marks stand before lines, and change none
-/// of them.
+/// States that the text with marks equals the text in lines if the marks have neither offsets nor paths.
 pub fn without_marks()
     ensures { WithoutMarks }
 {}

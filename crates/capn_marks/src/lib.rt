@@ -1,8 +1,9 @@
-//! The text of a message with marks: before each line stands the offset of its subject, the path to it, or both.
+//! The text of a message with marks. Before each line stands the offset of the line's subject, the path to the subject,
+//! or both.
 //!
-//! [`show_marked`] surveys a message and appends the text of the value at a path, which without marks is the text that
-//! `capn_show::show_part` appends. The offset of a line is a byte of the stream in which the message's table begins at
-//! [`Marks::offset`].
+//! [`show_marked`] surveys a message and appends the text of the value at a path. Without marks that text is the text
+//! that `capn_show::show_part` appends. Offsets are counted in bytes from the start of the stream, and
+//! [`Marks::offset`] is the offset of the message's table.
 #![tactic(auto)]
 
 mod annotated;

@@ -25,13 +25,13 @@ use capn_words::{Place, Space, Watched};
 use std::alloc::Allocator;
 use std::io::Write;
 
-/// Appends the text of the value at a `path` of numbers from the root of `message` to `text`, with `marks` before each
-/// line.
+/// Appends to `text` the text of the value to which the numbers `path` lead from the root of `message`. Each line has
+/// `marks` before it.
 ///
 /// Without the marks, the text is what `capn_show::show_part` writes in lines. The message is surveyed within `limits`
-/// first. The caller keeps `text` between calls, and `text` is written to `writer` and emptied whenever it has 65,536
-/// bytes or more. A call also takes memory of `alloc` for the path to the current line. If the message has several
-/// segments, the call takes 4 bytes more for each segment.
+/// first. The caller can use one `text` for several calls. Whenever `text` has 65,536 bytes or more, it is written to
+/// `writer` and emptied. The path to the current line is allocated on `alloc`. If the message has several segments, 4
+/// bytes more are allocated for each segment.
 pub fn show_marked<S: Space, W: Write, A: Allocator + Copy>(
     alloc: A,
     text: &mut Vec<u8, A>,
@@ -45,9 +45,8 @@ pub fn show_marked<S: Space, W: Write, A: Allocator + Copy>(
     ensures shown { OnOk result (IsWritten (S.message message.now) limits
         (marked_at (S.message message.now) marks path.now)
         (outgoing W.contents writer.old text.old.items) (outgoing W.contents writer.new text.new.items)) }
-    // If the survey returns a refusal, `result` is that refusal (`Stopped`), and nothing was added. Any other refusal
-    // is of an accepted message: the writer failed after a first part of the text, or an allocation was refused after a
-    // first part was added.
+    // If the error is `Stopped`, the error has the stop of the survey, and nothing was added. If the error is `Io` or
+    // `Memory`, the message is accepted, and the text breaks off: the writer failed, or an allocation was refused.
     ensures refused { IfErr result (λ fault. IsUnwritten (S.message message.now) limits
         (marked_at (S.message message.now) marks path.now) fault
         (outgoing W.contents writer.old text.old.items) (outgoing W.contents writer.new text.new.items)) }
@@ -61,7 +60,8 @@ pub fn show_marked<S: Space, W: Write, A: Allocator + Copy>(
     }
 }
 
-/// Appends the text with marks of the value at the path of `numbers` from the root to `text`.
+/// Follows `numbers` from the root, and appends to `text` the value found there, as text with `marks`. If the numbers
+/// lead to no value, the line `none` is appended.
 fn mark_part<S: Space, W: Write, A: Allocator + Copy>(
     alloc: A,
     text: &mut Vec<u8, A>,
@@ -89,8 +89,8 @@ fn mark_part<S: Space, W: Write, A: Allocator + Copy>(
     mark_counted(alloc, text, writer, space, &before, marks, numbers, depth)
 }
 
-/// Appends the text with marks of the value at the path of `numbers` from the root to `text`. Element `s` of `before`
-/// is the number of words before segment `s`.
+/// Follows `numbers` from the root, and appends to `text` the value found there, as text with `marks`. If the numbers
+/// lead to no value, the line `none` is appended. Element `s` of `before` is the number of words before segment `s`.
 fn mark_counted<S: Space, W: Write, A: Allocator>(
     alloc: A,
     text: &mut Vec<u8, A>,
@@ -126,8 +126,8 @@ fn mark_counted<S: Space, W: Write, A: Allocator>(
     }
 }
 
-/// Appends the text with marks of the value `found` to `text`, or the line for no value. The path of `annotated` leads
-/// to the value.
+/// Appends to `text` the text with marks of the value `found`, or the line `none` if `found` is `None`. The path of
+/// `annotated` leads to the value.
 fn mark_led<S: Space, W: Write, A: Allocator>(
     text: &mut Vec<u8, A>,
     writer: &mut Watched<W>,
@@ -155,8 +155,8 @@ fn mark_led<S: Space, W: Write, A: Allocator>(
     }
 }
 
-/// Follows `numbers` from the root, and appends their path to `path`, which is empty at first. Returns the value at the
-/// end of the path, or `None` if a step leads nowhere.
+/// Follows `numbers` from the root, and writes them to `path`, which is empty at first. Returns the value to which
+/// `numbers` lead, or `None` if a number leads nowhere.
 fn lead<S: Space, A: Allocator>(
     path: &mut Vec<u8, A>,
     space: &S,
@@ -187,7 +187,7 @@ fn lead<S: Space, A: Allocator>(
     Ok(Some(part))
 }
 
-/// Appends the text with marks of the value `part` to `text`. The path of `annotated` leads to the value.
+/// Appends to `text` the text with marks of the value `part`. The path of `annotated` leads to the value.
 fn mark_there<S: Space, W: Write, A: Allocator>(
     text: &mut Vec<u8, A>,
     writer: &mut Watched<W>,
@@ -215,7 +215,7 @@ fn mark_there<S: Space, W: Write, A: Allocator>(
     show_found(text, writer, annotated, space, part.found, 0, depth)
 }
 
-/// Appends a tab to `text` if `marked`.
+/// Appends a tab to `text` if `marked` is true.
 fn put_tab<W: Write, A: Allocator>(
     text: &mut Vec<u8, A>,
     writer: &mut Watched<W>,
@@ -233,7 +233,7 @@ fn put_tab<W: Write, A: Allocator>(
     }
 }
 
-/// Appends the line for no value to `text`, with an empty mark for each kind that `marks` has.
+/// Appends the line `none` to `text`, and before it a tab for each kind of mark that `marks` asks for.
 fn mark_none<W: Write, A: Allocator>(
     text: &mut Vec<u8, A>,
     writer: &mut Watched<W>,

@@ -1,4 +1,4 @@
-//! The marks before a line of a text, and the path that they show.
+//! The marks before a line of a text, and the path that the marks show.
 
 ghost use Rattle.std.specs.Prelude.{◌≡◌, ◌≤◌, ◌+◌, [], ◌∷◌, ◌++◌, IfErr, OnOk, drop, length, take};
 ghost use Rattle.std.specs.Prelude.{if◌then◌else◌};
@@ -13,23 +13,24 @@ use itoa::Buffer;
 use std::alloc::Allocator;
 use std::io::Write;
 
-/// The marks that stand before each line of a text. The subject of a line is the value or the word that it shows.
+/// The marks that stand before each line of a text. The subject of a line is the value or the word that the line shows.
 #[derive(Clone, Copy, Debug, PartialEq, Eq)]
 pub struct Marks {
     /// Set if a line begins with the offset of its subject, in decimal digits, and a tab.
     pub offsets: bool,
-    /// Set if the path to the subject of a line, and a tab, stand before the line. The path follows the offset, if
-    /// there is one.
+    /// Set if the path to the subject of a line, and a tab, stand before the line. If there is an offset, the path
+    /// follows the offset.
     pub ways: bool,
     /// Set if a list of bytes that is a text is written between quotes, as in `capn_show::Style::Quoted`.
     pub quoted: bool,
     /// The offset in bytes at which the message's table begins in its stream.
     pub offset: u64,
-    /// The number of words of the table, which is 0 for a message without one.
+    /// The number of words of the table, or 0 if the message has no table.
     pub table: u32,
 }
 
-/// Appends the decimal digits of `byte`, an offset of 2^64 or more, and a tab to `text`.
+/// Appends the decimal digits of the byte offset `byte` and a tab to `text`. Only offsets of 2^64 or more need this
+/// function.
 #[cold]
 fn put_wide<W: Write, A: Allocator>(
     text: &mut Vec<u8, A>,
@@ -47,7 +48,7 @@ fn put_wide<W: Write, A: Allocator>(
     put(text, writer, b"\t")
 }
 
-/// Appends the decimal digits of `byte` and a tab to `text`.
+/// Appends the decimal digits of the byte offset `byte` and a tab to `text`.
 #[inline(always)]
 fn put_digits<W: Write, A: Allocator>(
     text: &mut Vec<u8, A>,
@@ -64,7 +65,7 @@ fn put_digits<W: Write, A: Allocator>(
     put(text, writer, &digits[start..])
 }
 
-/// Appends the decimal digits of an offset `byte` of any size and a tab to `text`.
+/// Appends the decimal digits of the byte offset `byte`, which may be of any size, and a tab to `text`.
 #[inline(always)]
 fn put_byte<W: Write, A: Allocator>(
     text: &mut Vec<u8, A>,
@@ -83,7 +84,7 @@ fn put_byte<W: Write, A: Allocator>(
     }
 }
 
-/// Appends the offset `byte` and a tab to `text`, if `offsets`.
+/// Appends the decimal digits of the byte offset `byte` and a tab to `text` if `offsets` is true.
 #[inline(always)]
 fn put_offset<W: Write, A: Allocator>(
     text: &mut Vec<u8, A>,
@@ -103,7 +104,7 @@ fn put_offset<W: Write, A: Allocator>(
     }
 }
 
-/// Returns the text that stands for `path` in a mark, which is `root` for the empty path.
+/// Returns the name of `path` in a mark, which is `root` for the empty path.
 #[inline(always)]
 fn path_name(path: &[u8]) -> &[u8]
     ensures { result.now ≡ spec.path_name path.now }
@@ -111,10 +112,10 @@ fn path_name(path: &[u8]) -> &[u8]
     if path.is_empty() { b"root" } else { path }
 }
 
-/// The longest name, in bytes, that fits into a block.
+/// The greatest length in bytes of a name that fits into a block of `name_block`.
 const MOST: usize = 42;
 
-/// Returns a block with `name` from byte 21 on. Byte 20, before the name, and the byte behind the name are tabs.
+/// Returns a block of 64 bytes with `name` from byte 21 on. Byte 20 and the byte after `name` are tabs.
 #[inline(always)]
 fn name_block(name: &[u8]) -> [u8; 64]
     requires short { length name.now ≤ 42 }
@@ -143,7 +144,7 @@ fn put_named<W: Write, A: Allocator>(
     put(text, writer, b"\t")
 }
 
-/// Appends the digits of `byte`, a tab, `name` and a tab to `text` by a single call, from one block of bytes.
+/// Appends the digits of the byte offset `byte`, a tab, `name` and a tab to `text` by a single call of `put`.
 #[inline(always)]
 fn put_block<W: Write, A: Allocator>(
     text: &mut Vec<u8, A>,
@@ -162,8 +163,8 @@ fn put_block<W: Write, A: Allocator>(
     put(text, writer, &block[start..22 + name.len()])
 }
 
-/// Appends the digits of `byte`, a tab, `name` and a tab to `text` one by one. This is for numbers and names that are
-/// too long for a block.
+/// Appends the digits of the byte offset `byte`, a tab, `name` and a tab to `text` by several calls of `put`. Only an
+/// offset or a name that is too long for a block of `name_block` needs this function.
 #[cold]
 fn put_apart<W: Write, A: Allocator>(
     text: &mut Vec<u8, A>,
@@ -181,7 +182,7 @@ fn put_apart<W: Write, A: Allocator>(
     put_named(text, writer, name)
 }
 
-/// Appends the digits of `byte`, a tab, `name` and a tab to `text`.
+/// Appends the digits of the byte offset `byte`, a tab, `name` and a tab to `text`.
 #[inline(always)]
 fn put_both<W: Write, A: Allocator>(
     text: &mut Vec<u8, A>,
@@ -201,7 +202,8 @@ fn put_both<W: Write, A: Allocator>(
     }
 }
 
-/// Appends the `marks` of a line to `text`. The subject of the line lies at `byte`, and `path` leads to it.
+/// Appends the `marks` of a line to `text`. The subject of the line lies at the byte offset `byte`, and `path` leads to
+/// the subject.
 #[inline(always)]
 pub fn put_mark<W: Write, A: Allocator>(
     text: &mut Vec<u8, A>,
@@ -224,7 +226,7 @@ pub fn put_mark<W: Write, A: Allocator>(
     }
 }
 
-/// Returns the length of `path` in bytes.
+/// Returns the length in bytes of `path`.
 #[inline(always)]
 pub fn path_length<A: Allocator>(path: &Vec<u8, A>) -> usize
     ensures { result ≡ length path.now.items }
@@ -252,7 +254,7 @@ fn push_digits<A: Allocator>(path: &mut Vec<u8, A>, number: u64) -> Result<(), B
     }
 }
 
-/// Appends `number` to `path`, with a dot before it unless `path` is empty.
+/// Appends `number` to `path`. If `path` is not empty, a dot is written before the number.
 pub fn push_number<A: Allocator>(path: &mut Vec<u8, A>, number: u64) -> Result<(), Broken>
     ensures below { OnOk result (path.new.items ≡ spec.below path.old.items number) }
     ensures memory { IfErr result (λ e. e ≡ broken.Memory) }
@@ -265,7 +267,7 @@ pub fn push_number<A: Allocator>(path: &mut Vec<u8, A>, number: u64) -> Result<(
     push_digits(path, number)
 }
 
-/// Appends `number` to `path` if `ways` is set. Otherwise `path` is not changed, since no mark shows it.
+/// Appends `number` to `path` if `ways` is true. Otherwise `path` is unchanged, since no mark shows it.
 #[inline(always)]
 pub fn step_below<A: Allocator>(
     path: &mut Vec<u8, A>,

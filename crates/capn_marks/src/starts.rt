@@ -1,5 +1,4 @@
-//! The offsets in bytes, in the stream of a message, at which the words of the message lie, and the number of words
-//! before each segment.
+//! The offsets, in bytes of a stream, of the words of a message, and the number of words before each segment.
 
 ghost use Rattle.std.specs.Prelude.{◌≡◌, ◌≤◌, ◌<◌, ◌^◌, length, IfOk};
 ghost use Rattle.capn_words.specs.Message.{IsMessage, segment_at};
@@ -30,7 +29,7 @@ pub fn words_before<S: Space, A: Allocator>(alloc: A, space: &S) -> Result<Vec<u
     Ok(before)
 }
 
-/// Returns the offset in bytes, in its stream, of the first word of a message. That word follows the table.
+/// Returns the offset in bytes, in the stream, of the first word after the table that `marks` describes.
 #[inline(always)]
 fn first_byte(marks: &Marks) -> u128
     ensures is { result ≡ spec.first_byte marks.now }

@@ -1,4 +1,5 @@
--- The owner of a word of canonical bytes, if the message has the same words before that word. (For `Leaving`.)
+-- Suppose that all words before word `k` are the same in the message and in the canonical words. Then word `k` is the
+-- same too, or the visits include the visit of the slot that owns it (`Told`). (For `Leaving`.)
 use Rattle.std.proofs.Common.{◌≡◌, ◌⊎◌, inl, inr, ℕ, suc, ◌+◌, ◌-◌, ◌*◌, ◌^◌, ◌<◌, ◌≤◌}
 use Rattle.std.proofs.Common.{List, [], ◌∷◌, ◌++◌, length, slice_index}
 use Rattle.std.proofs.Common.{refl, ap, sym, subst, ◌∙◌, arith}
@@ -28,7 +29,6 @@ use Rattle.capn_mismatch.proofs.NumbersTold.{numbers-told, words-told}
 module _ (ws cs : List ℕ) (base k : ℕ) (small : length cs ≤ 2 ^ 29)
     (same : (j : ℕ) → j < k → slice_index ws j ≡ slice_index cs j)
     (each : (j : ℕ) → slice_index ws j < 2 ^ 64) where
-  -- the message with the segment ws, and the message with the canonical words as its segment
   abbrev pub n : List (List ℕ)
   n = ws ∷ []
 

@@ -1,4 +1,4 @@
--- The find of a search in a message that has a capability. (For `first_capability`.)
+-- The search for the first capability of a message. (For `first_capability`.)
 use Rattle.std.proofs.Common.{◌≡◌, ℕ, List, [], ◌∷◌, ◌++◌, length, Option, Some, None, Ok, Err, Result, refl, ap, ap₂}
 use Rattle.std.proofs.Common.{sym, ◌∙◌}
 use Rattle.std.specs.Option.{option_or}
@@ -22,7 +22,6 @@ use Rattle.capn_path.specs.Finds.{IsPassed, IsFirstFind, IsWithoutFind}
 use Rattle.capn_mismatch.specs.Capability.{IsFirstCapability}
 use Rattle.capn_mismatch.specs.inner.Search.{capability, same}
 
--- a slot that names a capability has that capability as its target
 names-cap : (r : Result Target Fault) (k : ℕ) → cap_of r ≡ Some k → r ≡ Ok (targets.Cap k)
 names-cap (Ok targets.Nil) k e = absurd cc
 names-cap (Ok (targets.Cap j)) k e = cc
@@ -30,14 +29,12 @@ names-cap (Ok (targets.Content s start shape pads)) k e = absurd cc
 names-cap (Err f) k e = absurd cc
 
 module _ {G : Type 0} (m : List (List ℕ)) where
-  -- if a search for a capability finds nothing at visits that pay, the visits meet no capability
   none-of : (aim after : G) (vs : List Visit) → AllPay vs → IsPassed m capability same aim vs after
       → first_cap_of m vs ≡ None
   none-of aim after [] all h = refl
   none-of aim after (pays at n ∷ vs) all h = ap₂ option_or h.0 (none-of aim after vs all h.1)
   none-of aim after (fails at e ∷ vs) all h = absurd all
 
-  -- if a capability is found at a visit and at no visit before, the capability is the first capability of all visits
   next-is : (aim last : G) (before : List Visit) (here : Visit) (behind : List Visit) (k : ℕ)
       → AllPay (before ++ here ∷ behind) → IsPassed m capability same aim before last
       → cap_of (target m (place_of here)) ≡ Some k → first_cap_of m (before ++ here ∷ behind) ≡ Some k
@@ -51,7 +48,7 @@ module _ {G : Type 0} (m : List (List ℕ)) (limits : Bounds) (aim : G) where
   abbrev b : ℕ
   b = base limits.tariff
 
-  -- the visits of the root's slot
+  -- The visits of the walk of `m` from the root.
   abbrev all : List Visit
   all = visits m b limits.depth root
 
@@ -61,7 +58,6 @@ module _ {G : Type 0} (m : List (List ℕ)) (limits : Bounds) (aim : G) where
   caps-are : (v : Tree) → IsValueOf m limits v → first_cap_of m all ≡ first_cap v
   caps-are v i = caps-at m b v root limits.depth i.is (at-root v i).all
 
-  -- a search through all visits finds a capability if the value has a capability
   pub some-found : (v : Tree) (k : ℕ) → IsValueOf m limits v → first_cap v ≡ Some k
       → IsWithoutFind m capability same limits.depth root aim → ⊥
   some-found v k i e f =
@@ -70,7 +66,6 @@ module _ {G : Type 0} (m : List (List ℕ)) (limits : Bounds) (aim : G) where
       absurd cc
 
   module _ (path : List ℕ) (index : ℕ) (f : IsFirstFind m capability same limits.depth root aim path index) where
-    -- the capability that is found is the first of the value
     pub index-is : (v : Tree) → IsValueOf m limits v → first_cap v ≡ Some index
     index-is v i =
         let g = f b in
@@ -79,7 +74,7 @@ module _ {G : Type 0} (m : List (List ℕ)) (limits : Bounds) (aim : G) where
         ∙ next-is m aim g.last g.before g.here g.behind index (rw g.visits at r) g.passed
         (ap (λ (p : Place). cap_of (target m p)) g.place ∙ g.found)
 
-    -- the capability that is found is the first that the walk visits
+    -- The capability that the search finds is the first that the walk visits.
     pub is-first : (v : Tree) → IsValueOf m limits v → IsFirstCapability m limits index path
     is-first v i =
         let g = f b in

@@ -1,4 +1,4 @@
--- The test of the only segment of a message for canonical form. (For `is_canonical`.)
+-- A message of one segment is canonical if and only if the survey of that segment says so. (For `is_canonical`.)
 use Rattle.std.proofs.Common.{◌≡◌, ◌↔◌, ℕ, List, [], ◌∷◌, length, Option, Some, None, IsSome, ap, sym, subst}
 use Rattle.std.proofs.Common.{◌∙◌}
 use Rattle.std.specs.Bool.{IsTrue}
@@ -13,11 +13,10 @@ use Rattle.capn_canon.specs.Measure.{IsCanonicalOf}
 use Rattle.capn_canon.specs.declared.surveyed_bare.SurveyedBare.{SurveyedBare}
 use Rattle.capn_mismatch.proofs.Mismatching.{one-value}
 
--- the value has no capability, and the canonical bytes are the bytes of the words
+-- `v` has no capability, and the canonical bytes of `v` are the bytes of `ws`.
 abbrev Is : List ℕ → Tree → Type 0
 Is ws v = (first_cap v ≡ None) × (canon v ≡ bytes ws)
 
--- a message of several segments isn't canonical
 pub several : (m : List (List ℕ)) (v : Tree) → (length m ≡ 1 → ⊥) → IsCanonicalOf m v → ⊥
 several m v not (words, e, free, same) = not (ap length e)
 
@@ -33,7 +32,7 @@ module _ (m : List (List ℕ)) (limits : Bounds) (ws : List ℕ) (one : m ≡ ws
   of-words : IsValueOf (ws ∷ []) limits v
   of-words = subst (λ (x : List (List ℕ)). IsValueOf x limits v) one i
 
-  -- the message is canonical exactly if the pass says so
+  -- The message is canonical exactly if the survey `c` of its segment says so.
   pub is-found : (c : SurveyedBare) → IsBareSurvey ws limits c → IsTrue c.is_canonical ↔ IsCanonicalOf m v
   is-found c found =
       let same = one-value (ws ∷ []) limits v found.value of-words found.is in (
@@ -41,7 +40,6 @@ module _ (m : List (List ℕ)) (limits : Bounds) (ws : List ℕ) (one : m ≡ ws
         λ h. found.answer.1 (subst (Is ws) same (here h)),
       )
 
-  -- the message isn't canonical if the pass finds nothing
   pub not-found : (r : Option SurveyedBare) → r ≡ None
       → ((w : Tree) → IsValueOf (ws ∷ []) limits w → first_cap w ≡ None → canon w ≡ bytes ws → IsSome r)
       → IsCanonicalOf m v → ⊥

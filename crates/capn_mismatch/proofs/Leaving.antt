@@ -1,4 +1,4 @@
--- The first word at which a message leaves its canonical words. (For `apart`.)
+-- The first word that differs between a message and its canonical words has an owner. (For `apart`.)
 use Rattle.std.proofs.Common.{◌≡◌, ◌⊎◌, inl, inr, ℕ, ◌^◌, ◌<◌, ◌≤◌, List, [], ◌∷◌, length, take, slice_index}
 use Rattle.std.proofs.Common.{ap, sym, subst, ◌∙◌, arith}
 use Rattle.std.proofs.lemmas.List.{take_all, get_or-take}
@@ -52,7 +52,6 @@ module _ (m : List (List ℕ)) (limits : Bounds) (ws cs : List ℕ) (message : I
   each : (j : ℕ) → slice_index ws j < 2 ^ 64
   each j = subst (λ (n : List (List ℕ)). slice_index (segment_at n 0) j < 2 ^ 64) c.one (message.each 0 j)
 
-  -- the claim for word k, if the words before word k are the same
   told-of : (k : ℕ) → take k ws ≡ take k cs → k < length cs
       → Told ws cs b k (visits (cs ∷ []) b limits.depth root)
   told-of k same lt =
@@ -61,7 +60,6 @@ module _ (m : List (List ℕ)) (limits : Bounds) (ws cs : List ℕ) (message : I
       (λ j l. sym (get_or-take k ws j 0 l) ∙ ap (λ (xs : List ℕ). slice_index xs j) same ∙ get_or-take k cs j 0 l)
       each v limits.depth are-words (sound v fits range) at-root low some lt
 
-  -- the first word that differs is a pointer, a tag or the last word of a list of small numbers
   pub has-owner : (k x y : ℕ) → Differ ws cs k x y → HasOwner cs limits k
   has-owner k x y d = from (told-of k d.before d.in_other).1
     where
@@ -71,7 +69,7 @@ module _ (m : List (List ℕ)) (limits : Bounds) (ws cs : List ℕ) (message : I
       from (inl s) = absurd (d.differ (d.one ∙ s ∙ sym d.other))
       from (inr o) = o
 
-  -- the message doesn't end before the canonical words end
+  -- The message doesn't end before the canonical words end.
   pub not-short : (k y : ℕ) → GoesOn cs ws k y → ⊥
   not-short k y g =
       let e = g.ended in

@@ -1,4 +1,5 @@
--- Words that lie at a place in a list of words. (For `Belonging`, `NumbersTold`, `RowsTold` and others.)
+-- Lemmas on `Lies`: words that a list of words has from a given index on. (For `Belonging`, `NumbersTold`, `RowsTold`
+-- and others.)
 use Rattle.std.proofs.Common.{◌≡◌, ℕ, ◌+◌, ◌<◌}
 use Rattle.std.proofs.Common.{List, ◌++◌, length, slice_index}
 use Rattle.std.proofs.Common.{ap, subst, ◌∙◌, arith, length-append}
@@ -7,7 +8,7 @@ use Rattle.std.proofs.Math.Seq.{get_or-append-add}
 use Rattle.capn_layout.specs.Layout.{size}
 
 module _ (cs : List ℕ) where
-  -- ---- words that lie at a place
+  -- ---- `xs` are the words of `cs` from index `at` on
 
   abbrev pub Lies : ℕ → List ℕ → Type 0
   Lies at xs = (j : ℕ) → j < length xs → slice_index cs (at + j) ≡ slice_index xs j

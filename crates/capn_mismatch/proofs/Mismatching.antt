@@ -1,4 +1,4 @@
--- A mismatch of one kind excludes a mismatch of another kind. (For `finding_of`, `is_canonical` and `lengths_of`.)
+-- The statements that a mismatch makes about its message are true. (For `finding_of`, `is_canonical` and `lengths_of`.)
 use Rattle.std.proofs.Common.{◌≡◌, ◌≢◌, ◌↔◌, ℕ, List, length, Bool, false, Result, IfOk, ap, sym, subst}
 use Rattle.std.proofs.Common.{◌∙◌, arith}
 use Rattle.std.proofs.lemmas.Result.{IfOk-weaker}
@@ -17,21 +17,17 @@ use Rattle.capn_mismatch.specs.declared.answer.Mismatch.TheVariants.{Canonical, 
 use Rattle.capn_mismatch.specs.declared.answer.Mismatch.TheVariants.{Word, After}
 use Rattle.capn_mismatch.specs.Mismatches.{IsMismatch, AnswersCanonical, AnswersSegments, Compares, HasCanonicalBytes}
 
--- a test that fails is not true
 pub not-so : (b : Bool) → b ≡ false → IsTrue b → ⊥
 not-so b e h = absurd cc
 
 module _ (m : List (List ℕ)) (limits : Bounds) where
-  -- a message has one value
   pub one-value : (v w : Tree) → IsValueOf m limits v → IsValueOf m limits w → v ≡ w
   one-value v w i j = unique m v w root i.is j.is
 
-  -- if the message is canonical for one value, the message is canonical for every value of the message
   pub all-canonical : (v w : Tree) → IsValueOf m limits v → IsCanonicalOf m v → IsValueOf m limits w → IsCanonicalOf m w
   all-canonical v w i c j = subst (IsCanonicalOf m) (one-value v w i j) c
 
   module _ {A : Type 0} where
-    -- a mismatch says that the message is canonical exactly if the message is canonical
     pub says-canonical : (d : Mismatch A) (v : Tree) → IsMismatch m limits d → IsValueOf m limits v
         → (IsCanonicalOf m v → AnswersCanonical d) → AnswersCanonical d ↔ IsCanonicalOf m v
     says-canonical Canonical v f i h =
@@ -41,7 +37,6 @@ module _ (m : List (List ℕ)) (limits : Bounds) where
     says-canonical (Word w is c whose) v f i h = ((λ t. absurd t), h)
     says-canonical (After w is) v f i h = ((λ t. absurd t), h)
 
-    -- a mismatch of a message of one segment doesn't say that there are more segments
     pub says-one : (d : Mismatch A) → IsMismatch m limits d → length m ≡ 1
         → AnswersSegments d ↔ (length m ≢ 1)
     says-one (Segments n) f o = ((λ t. absurd (let e = f.2 in let g = f.3 in omega arith)), (λ h. absurd (h o)))
@@ -50,7 +45,6 @@ module _ (m : List (List ℕ)) (limits : Bounds) where
     says-one (Word w is c whose) f o = ((λ t. absurd t), (λ h. absurd (h o)))
     says-one (After w is) f o = ((λ t. absurd t), (λ h. absurd (h o)))
 
-    -- a finding of a message that isn't canonical doesn't say that the message is canonical
     pub finds-canonical : {B : Type 0} (r : Result (Finding A) B) → IfOk r (λ f. IsMismatch m limits f.mismatch)
         → ((v : Tree) → IsValueOf m limits v → IsCanonicalOf m v → ⊥)
         → IfOk r (λ f. (v : Tree) → IsValueOf m limits v → AnswersCanonical f.mismatch ↔ IsCanonicalOf m v)
@@ -58,7 +52,7 @@ module _ (m : List (List ℕ)) (limits : Bounds) where
 
   module _ (h : HasCanonicalBytes m limits) (cs other : List ℕ) (laid : cs ≡ canon h.0.value) (bare : IsBare cs other)
     where
-      -- the words of a message of one segment are compared with the message's canonical words
+      -- `Compares` holds of the message's only segment and its canonical words `other`.
       pub compared : Compares m limits (segment_at m 0) other
       compared = record {
         value = h.0.value;
@@ -68,6 +62,5 @@ module _ (m : List (List ℕ)) (limits : Bounds) where
         bare = subst (λ (bs : List ℕ). IsBare bs other) laid bare;
       }
 
-      -- the words of the message are not its canonical words
       pub different : segment_at m 0 ≢ other
       different e = h.0.not (segment_at m 0, only-segment m h.0.one, h.1, sym laid ∙ bare.same ∙ ap bytes (sym e))

@@ -1,4 +1,4 @@
--- The owner of a word of a list of numbers. (For `Belonging`.)
+-- The case of `Belonging` in which word `k` belongs to a list of numbers. (For `Belonging`.)
 use Rattle.std.proofs.Common.{◌≡◌, ◌⊎◌, inl, inr, ℕ, ◌+◌, ◌-◌, ◌*◌, ◌/◌, ◌%◌, ◌^◌, ◌<◌, ◌≤◌, ◌==◌}
 use Rattle.std.proofs.Common.{◌&&◌, nat_lt, true, List, [], ◌∷◌, length, take, drop, slice_index}
 use Rattle.std.proofs.Common.{Some, Ok, ap, ap₂, sym, subst, ◌∙◌, arith, length-append}
@@ -35,7 +35,6 @@ use Rattle.capn_mismatch.proofs.StructsTold.{Both, both-within}
 module _ (ws cs : List ℕ) (base k : ℕ) (small : length cs ≤ 2 ^ 29)
     (same : (j : ℕ) → j < k → slice_index ws j ≡ slice_index cs j)
     (each : (j : ℕ) → slice_index ws j < 2 ^ 64) where
-  -- the message with the segment ws, and the message with the canonical words as its segment
   abbrev pub n : List (List ℕ)
   n = ws ∷ []
 
@@ -95,7 +94,7 @@ module _ (ws cs : List ℕ) (base k : ℕ) (small : length cs ≤ 2 ^ 29)
         let l = length-drop to ws in
         (list-of n (list_width a) (length xs) 0 to (plain a) below-64 (omega arith) (numbers a xs) numbers-inside).0 to
 
-    -- the word has only bits of elements
+    -- Case: all bits of word `k` are bits of elements.
     pub whole-word : k < to + bits / 64 → Same ws cs base k
     whole-word lt =
         let j = k - to in
@@ -114,7 +113,7 @@ module _ (ws cs : List ℕ) (base k : ℕ) (small : length cs ≤ 2 ^ 29)
         let z = get_or-drop to ws j 0 in
         ap (slice_index ws) (sym e) ∙ sym z ∙ sym y ∙ sym x ∙ sym c ∙ ap (slice_index cs) e
 
-    -- the word is the last one
+    -- Case: the elements are small (`is_small`), and word `k` is the last word of the list.
     pub last-word : is_small (list_width a) ≡ true → k + 1 ≡ to + taken → Owned cs base k (visits m base d (here p))
     last-word small e =
         let s = h.starts in

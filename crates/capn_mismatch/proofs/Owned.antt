@@ -20,22 +20,21 @@ use Rattle.capn_path.specs.Finds.{IsPassed}
 use Rattle.capn_path.proofs.shared.Passing.{passed-both, begins}
 use Rattle.capn_mismatch.proofs.Pointed.{here}
 
--- an aim that no visit changes is the same after all visits
 pub same-after : {G F : Type 0} (m : List (List ℕ)) (finds : G → Place → Result Target Fault → Option F)
     (aim after : G) (vs : List Visit) → IsPassed m finds same aim vs after → after ≡ aim
 same-after m finds aim after [] h = h
 same-after m finds aim after (v ∷ vs) h = same-after m finds aim after vs h.1
 
 module _ (cs : List ℕ) (base k : ℕ) where
-  -- the canonical bytes as a message
+  -- The message with the only segment `cs`.
   abbrev pub m : List (List ℕ)
   m = cs ∷ []
 
-  -- the aim that finds the owner of the word
+  -- The aim of the search for the owner of word `k`.
   abbrev pub aim : Owner
   aim = record { word = here k }
 
-  -- the kind of the word at a slot
+  -- The kind of word `k`, if the slot at `at` owns word `k`.
   abbrev pub found : Place → Option WordKind
   found at = finds (here k) at (target m at)
 
@@ -67,11 +66,9 @@ module _ (cs : List ℕ) (base k : ℕ) where
       let b = begins m base d at in
       owned-as _ _ b.is (owned-here b.head b.rest x (ap found b.place ∙ e))
 
-  -- the visits of the slot that holds the word
   pub owned-slot : (d : ℕ) → Owned (visits m base d (here k))
   owned-slot d = found-begins d (here k) finding.Pointer pointer-here
 
-  -- the visits of slots include the visit of the slot that owns the word, if one of the slots is at the word
   pub owned-among : (p c d : ℕ) → p ≤ k → k < p + c → Owned (flat_map (visits m base d) (places 0 p c))
   owned-among p c d le lt =
       let i = k - p in

@@ -1,4 +1,4 @@
--- The owner of a word that a search has found. (For `owner`.)
+-- If a search finds a word, the path that it finds leads to the slot that owns the word. (For `owner`.)
 use Rattle.std.proofs.Common.{◌≡◌, ℕ, ◌+◌, ◌<◌, ◌≤◌, ◌==◌, ◌&&◌, nat_lt, Bool, true, false, List, [], ◌∷◌}
 use Rattle.std.proofs.Common.{Option, Some, None, Ok, Err, Result, refl, ap₂, arith, if◌then◌else◌}
 use Rattle.std.proofs.lemmas.Bool.{and_parts, eqb-true}
@@ -22,13 +22,13 @@ use Rattle.capn_mismatch.specs.inner.Search.{is_at, is_small, ends_at, found_in,
 use Rattle.capn_mismatch.specs.inner.Reached.{Reaches}
 use Rattle.capn_path.specs.Paths.{IsPathTo}
 
--- the word is of the kind that was found at the slot at `at`, whose pointer has the target or fault `r`
+-- The slot at `at` owns the word `word`, which has the given kind. `r` is the target of the slot's pointer, or the
+-- fault of that pointer.
 abbrev pub Tells : ℕ → Place → Result Target Fault → WordKind → Type 0
 Tells word at r found.Pointer = at ≡ place word
 Tells word at r found.Tag = (t : Target) × (r ≡ Ok t) × IsTag word t
 Tells word at r found.LastWord = (t : Target) × (r ≡ Ok t) × IsLastWord word t
 
--- if a choice returns `Some y`, the condition holds and y is x
 chosen : (b : Bool) (x y : WordKind) → (if b then Some x else None) ≡ Some y → (b ≡ true) × (x ≡ y)
 chosen true x y e = (refl, cc)
 chosen false x y e = absurd cc

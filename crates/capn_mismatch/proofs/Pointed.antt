@@ -1,4 +1,4 @@
--- The targets of the pointers of a layout in words of one segment. (For `Belonging`, `NumbersTold`, `Owned` and
+-- The targets of the pointers that a layout writes in one segment. (For `Belonging`, `NumbersTold`, `Owned` and
 -- others.)
 use Rattle.std.proofs.Common.{◌≡◌, ℕ, zero, suc, ◌+◌, ◌-◌, ◌*◌, ◌^◌, ◌<◌, ◌≤◌, ◌==◌, ◌&&◌, nat_lt, List, [], ◌∷◌}
 use Rattle.std.proofs.Common.{length, slice_index, Ok, Err, Result, pos, refl, ap, ◌∙◌, arith}
@@ -20,16 +20,15 @@ use Rattle.capn_words.proofs.shared.Pointers.{pointer_of-word_of}
 use Rattle.capn_target.specs.Target.{content_words, tagged, if_inside, target_of_pointer, target}
 use Rattle.capn_layout.specs.Layout.{struct_to, list_to}
 
--- the place of a word of the one segment
+-- The place of word `w` of the only segment.
 abbrev pub here : ℕ → Place
 here w = record { segment = 0; word = w }
 
--- the width is not `Rows`
+-- The width is not `Rows`.
 abbrev pub IsFlat : Width → Type 0
 IsFlat Rows = ⊥
 IsFlat width = Unit {0}
 
--- the word of a pointer to a struct that isn't empty
 struct-word : (p to a b : ℕ) → 0 < a + b → struct_to p to a b ≡ word_of (Node (pos (to - suc p)) a b)
 struct-word p to zero zero h = absurd (omega arith)
 struct-word p to (suc a) b h = ap word_of (if-no ((suc a == 0) && (b == 0)) _ _ (grind (arith, nat_tests)))
@@ -39,13 +38,11 @@ module _ (ws : List ℕ) where
   abbrev only : List (List ℕ)
   only = ws ∷ []
 
-  -- the target of the pointer at a word, given the pointer
   names : (from : ℕ) (p : Pointer) → pointer_of (slice_index ws from) ≡ p
       → target only (here from) ≡ target_of_pointer only 0 from p
   unfolding target
   names from p e = ap (target_of_pointer only 0 from) e
 
-  -- content that has room in the segment is in range
   pub has-room : (start n : ℕ) (r : Result Target Fault) → start + n ≤ length ws → if_inside only 0 start n r ≡ r
   has-room start n r h = if-no (nat_lt (length ws) (start + n)) _ _ (le-ltb (length ws) (start + n) h)
 
@@ -56,7 +53,6 @@ module _ (ws : List ℕ) where
       (nat_lt (length ws) (start + n)) (Err faults.Range) r (λ t e. absurd cc)
       (λ t e. (omega (arith, ltb-false (length ws) (start + n) t), e))
 
-  -- the target of the pointer to a struct that isn't empty
   pub struct-named : (p to a b : ℕ) → p < to → to < 2 ^ 29 → a < 2 ^ 16 → b < 2 ^ 16 → 0 < a + b
       → slice_index ws p ≡ struct_to p to a b
       → target only (here p) ≡ if_inside only 0 to (a + b) (Ok (targets.Content 0 to (shapes.Node a b) 0))
@@ -79,7 +75,6 @@ module _ (ws : List ℕ) where
   listed start n Link p = refl
   listed start n Rows p = absurd p
 
-  -- the target of the pointer to a list that is not of structs
   pub list-named : (p to n : ℕ) (k : Width) → IsFlat k → p < to → to < 2 ^ 29 → n < 2 ^ 29
       → slice_index ws p ≡ list_to p to k n
       → target only (here p) ≡ if_inside only 0 to (content_words k n) (Ok (targets.Content 0 to (shapes.Many k n) 0))
@@ -90,7 +85,6 @@ module _ (ws : List ℕ) where
       ∙ listed (p + 1 + o) n k flat
       ∙ ap (λ (q : ℕ). if_inside only 0 q (content_words k n) (Ok (targets.Content 0 q (shapes.Many k n) 0))) z
 
-  -- the target of the pointer to a list of structs, given the list's tag
   pub rows-named : (p to d : ℕ) → p < to → to < 2 ^ 29 → d < 2 ^ 29 → slice_index ws p ≡ list_to p to Rows d
       → target only (here p) ≡ if_inside only 0 to (1 + d) (tagged only 0 to 0 d (slice_index ws to))
   rows-named p to d order small hd e =
@@ -99,7 +93,6 @@ module _ (ws : List ℕ) where
       names p (Many (pos o) Rows d) (ap pointer_of e ∙ pointer_of-word_of (Many (pos o) Rows d) (omega arith, hd))
       ∙ ap (λ (q : ℕ). if_inside only 0 q (1 + d) (tagged only 0 q 0 d (slice_index ws q))) z
 
-  -- the target of a list of structs whose tag is w
   pub tag-named : (to c a b d w : ℕ) → w ≡ word_of (Node (pos c) a b) → c < 2 ^ 30 → a < 2 ^ 16 → b < 2 ^ 16
       → c * (a + b) ≤ d → tagged only 0 to 0 d w ≡ Ok (targets.Content 0 to (shapes.Rows c a b d) 0)
   tag-named to c a b d w i hc ha hb fit =

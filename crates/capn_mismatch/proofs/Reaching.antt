@@ -21,14 +21,13 @@ use Rattle.capn_mismatch.specs.inner.Search.{finds, owned, same}
 use Rattle.capn_mismatch.specs.inner.Reached.{rows_of, place_in, numbers, Reaches, ReachesBelow}
 use Rattle.capn_mismatch.proofs.Owned.{same-after}
 
--- a slot is one of the slots of an object, namely slot `number` of row `row`
+-- `at` is the place of slot `number` of row `row` of the object of `shape` at word `start` of segment `s`.
 pub record AreIn (s start : ℕ) (shape : Shape) (row number : ℕ) (at : Place) : Type 0 where
   pub before : List Place
   pub behind : List Place
   pub slots : slots s start shape ≡ before ++ at ∷ behind
   pub named : AreNumbersIn shape (length before) (numbers shape row number)
 
--- one of consecutive slots
 one-among : (s w n i v : ℕ) → i < n → v ≡ w + i
     → places s w n ≡ places s w i ++ slot s v ∷ places s (w + i + 1) (n - suc i)
 one-among s w n i v lt e = rw e (places-split s w i n lt)
@@ -92,7 +91,6 @@ module _ (m : List (List ℕ)) (base : ℕ) (word : Place) where
     leads = stays m base d at;
   }
 
-  -- if the word's owner is reached from an object, the owner is reached from the slot that names the object
   pub reaches-object : (d : ℕ) (at : Place) (s start pads : ℕ) (shape : Shape) (old new : List ℕ) (x : WordKind)
       → target m at ≡ Ok (targets.Content s start shape pads) → 0 < d
       → ReachesBelow m base word (d - 1) (slot s start) shape old new x → Reaches m base word d at old new x
@@ -106,7 +104,6 @@ module _ (m : List (List ℕ)) (base : ℕ) (word : Place) where
         leads = goes-down m base d at s start pads shape h.rest h.to h.number e some h.leads;
       }
 
-  -- if the word's owner is reached from a slot of an object, the owner is reached from the object
   pub reaches-below : (d s start row i : ℕ) (shape : Shape) (at : Place) (old pushed new : List ℕ) (x : WordKind)
       → AreIn s start shape row i at → pushed ≡ old ++ numbers shape row i → Reaches m base word d at pushed new x
       → ReachesBelow m base word d (slot s start) shape old new x
@@ -133,7 +130,6 @@ module _ (m : List (List ℕ)) (base : ℕ) (word : Place) where
         };
       }
 
-  -- the slot that a search among visits finds is reached
   pub reaches-met : (d : ℕ) (at : Place) (path : List ℕ) (x : WordKind)
       → Meets m owned same (visits m base d at) (Leads m base d at) (record { word = word }) path x
       → Reaches m base word d at [] path x

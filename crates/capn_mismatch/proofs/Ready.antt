@@ -1,4 +1,4 @@
--- The value of an accepted message, which is ready to be laid out. (For `canonical_length` and `from_canonical`.)
+-- The value of an accepted message can be laid out. (For `canonical_length` and `from_canonical`.)
 use Rattle.std.proofs.Common.{◌≡◌, ℕ, ◌+◌, ◌*◌, ◌≤◌, List, length, Result, Ok, Err, refl, arith}
 use Rattle.capn_words.specs.Message.{IsBare, IsMessage}
 use Rattle.capn_value.specs.Tree.{Tree}
@@ -28,7 +28,6 @@ module _ (m : List (List ℕ)) (limits : Bounds) (message : IsMessage m) (cheap 
     low : height v ≤ limits.depth
     low = (root-costs m (base limits.tariff) limits.depth v is.is is.accepted.within.all).1
 
-    -- a writer has room for the value
     pub ready : IsReady (HasSlot m) 0 0 limits.depth 1
     ready =
         let k = room v fits range in
@@ -40,7 +39,7 @@ module _ (m : List (List ℕ)) (limits : Bounds) (message : IsMessage m) (cheap 
           room = let a = k.0 in let b = k.2 in omega arith;
         }
 
-    -- the canonical bytes are at most 8 for each word that the walk pays, and 8 more
+    -- There are at most 8 canonical bytes for each word that the walk pays, and 8 more.
     pub short : length (canon v) ≤ 8 * (paid m limits + 1)
     short =
         let c = (root-costs m (base limits.tariff) limits.depth v is.is is.accepted.within.all).0 in
@@ -48,11 +47,9 @@ module _ (m : List (List ℕ)) (limits : Bounds) (message : IsMessage m) (cheap 
         let l = length-canon v (sound v fits range) in
         omega arith
 
-    -- the canonical bytes are the bytes of the canonical words
     pub bare : IsBare (canon v) (words v)
     bare = record { same = refl; each = words_are_words v fits range; room = (room v fits range).2 }
 
--- an `Err` is not an `Ok`
 pub no-answer : {A B : Type 0} (r : Result A B) (x : A) (e : B) → r ≡ Err e → r ≡ Ok x → ⊥
 no-answer (Ok y) x e p q = absurd cc
 no-answer (Err f) x e p q = absurd cc

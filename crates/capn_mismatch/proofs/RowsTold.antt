@@ -1,4 +1,4 @@
--- The owner of a word of a list of structs, or of a word below the list. (For `Belonging`.)
+-- The case of `Belonging` in which word `k` belongs to a list of structs, or lies below that list. (For `Belonging`.)
 use Rattle.std.proofs.Common.{◌≡◌, ◌⊎◌, inl, inr, ℕ, suc, ◌+◌, ◌-◌, ◌*◌, ◌^◌, ◌<◌, ◌≤◌, ◌==◌}
 use Rattle.std.proofs.Common.{◌&&◌, List, [], ◌∷◌, ◌++◌, length, slice_index}
 use Rattle.std.proofs.Common.{Some, Ok, Result, pos, refl, ap, ap₂, sym, subst, ◌∙◌, arith}
@@ -32,7 +32,6 @@ use Rattle.capn_mismatch.proofs.Told.{OwnRows, Slot, Told, rows-own, RowSlots, b
 
 module _ (ws cs : List ℕ) (base k : ℕ) (small : length cs ≤ 2 ^ 29)
     (same : (j : ℕ) → j < k → slice_index ws j ≡ slice_index cs j) where
-  -- the message with the segment ws, and the message with the canonical words as its segment
   abbrev pub n : List (List ℕ)
   n = ws ∷ []
 
@@ -89,7 +88,7 @@ module _ (ws cs : List ℕ) (base k : ℕ) (small : length cs ≤ 2 ^ 29)
         let x = found n (here p) (rows bs) h.is in
         (had-room ws to (1 + span) tagged-there x.0 (sym rows-within ∙ x.1)).0
 
-    -- the word is the tag
+    -- Case: word `k` is the tag.
     pub tag-told : k ≤ to → Told ws cs base k (visits m base d (here p))
     tag-told le =
         let s = h.starts in
@@ -101,7 +100,7 @@ module _ (ws cs : List ℕ) (base k : ℕ) (small : length cs ≤ 2 ^ 29)
               h.before rows-canonical (if-yes ((0 == 0) && (to == k)) _ _ (grind (arith, nat_tests))))),
         )
 
-    -- the word comes after the tag
+    -- Case: word `k` comes after the tag.
     module _ (lt : to < k) where
       rows-message : target n (here p) ≡ Ok (targets.Content 0 to shape 0)
       rows-message =

@@ -1,5 +1,5 @@
--- The owner of a word of a struct or of a list of pointers, or of a word below that object. (For `Belonging` and
--- `NumbersTold`.)
+-- The cases of `Belonging` in which word `k` belongs to a struct or to a list of pointers, or lies below that object.
+-- (For `Belonging` and `NumbersTold`.)
 use Rattle.std.proofs.Common.{◌≡◌, ◌⊎◌, inl, inr, ℕ, ◌+◌, ◌-◌, ◌^◌, ◌<◌, ◌≤◌}
 use Rattle.std.proofs.Common.{Bool, true, false, List, [], ◌∷◌, ◌++◌, length, take, slice_index}
 use Rattle.std.proofs.Common.{Ok, refl, ap, ap₂, sym, subst, ◌∙◌, arith}
@@ -33,7 +33,6 @@ none-kept b n e = grind (arith, nat_tests)
 some-kept : (n : ℕ) → kept_behind false n ≡ 0 → ⊥
 some-kept n e = grind (arith, nat_tests)
 
--- if no slot is kept, nothing is below the slots
 no-sizes : (ss : Trees) → kept_slots ss ≡ 0 → sizes ss ≡ 0
 no-sizes no_trees e = refl
 no-sizes (tree nil ts) e = let f = no-sizes ts (none-kept true (kept_slots ts) e) in omega arith
@@ -46,7 +45,6 @@ no-sizes (tree (rows bs) ts) e = absurd (some-kept (kept_slots ts) e)
 
 module _ (ws cs : List ℕ) (base k : ℕ) (small : length cs ≤ 2 ^ 29)
     (same : (j : ℕ) → j < k → slice_index ws j ≡ slice_index cs j) where
-  -- the message with the segment ws, and the message with the canonical words as its segment
   abbrev pub n : List (List ℕ)
   n = ws ∷ []
 
@@ -55,7 +53,8 @@ module _ (ws cs : List ℕ) (base k : ℕ) (small : length cs ≤ 2 ^ 29)
 
   -- ---- one object
 
-  -- the target of a slot is the same in the message and in the canonical words
+  -- In the message and in the canonical words, the pointer at word `p` names the same object: `shape` at word `to`. The
+  -- message has the object's `size` words.
   pub record Both (p to size : ℕ) (shape : Shape) : Type 0 where
     pub message : target n (here p) ≡ Ok (targets.Content 0 to shape 0)
     pub canonical : target m (here p) ≡ Ok (targets.Content 0 to shape 0)

@@ -26,15 +26,13 @@ pub decided : (x y : ℕ) → (x < y) ⊎ (y ≤ x)
 decided x y = grind arith
 
 module _ (ws cs : List ℕ) (base k : ℕ) where
-  -- the message with the segment ws, and the message with the canonical words as its segment
   abbrev pub n : List (List ℕ)
   n = ws ∷ []
 
   abbrev pub m : List (List ℕ)
   m = cs ∷ []
 
-  -- ---- the word is the same in the message and in the canonical words, or the visits include the visit of the slot
-  -- that owns the word
+  -- ---- word `k` is the same in `ws` and `cs`, or the visits include the visit of the slot that owns word `k`
 
   abbrev pub Same : Type 0
   Same = slice_index ws k ≡ slice_index cs k
@@ -46,7 +44,6 @@ module _ (ws cs : List ℕ) (base k : ℕ) where
   told vs us f (lt, inl s) = (lt, inl s)
   told vs us f (lt, inr o) = (lt, inr (f o))
 
-  -- a word of an object's own data is the same in the message and in the canonical words
   pub same-word : (at : ℕ) (xs : List ℕ) → AreWordsAt n 0 at xs → Lies cs at xs → at ≤ k → k < at + length xs → Same
   same-word at xs s h le lt =
       let j = k - at in
@@ -56,7 +53,7 @@ module _ (ws cs : List ℕ) (base k : ℕ) where
       let c = ap (λ (ys : List ℕ). slice_index ys j) s in
       ap (slice_index ws) (sym e) ∙ sym b ∙ sym a ∙ c ∙ sym (h j (omega arith)) ∙ ap (slice_index cs) e
 
-  -- ---- rows, split into the first row and the rest
+  -- ---- rows, split into the first row and the other rows
 
   module _ (a b : ℕ) (xs : List ℕ) (ss : Trees) (bs : Bodies) (p q : ℕ) (la : length xs ≡ a) (lb : count ss ≡ b)
       (h : Lies cs p (row_contents a b (body xs ss bs) p q)) where
@@ -80,7 +77,8 @@ module _ (ws cs : List ℕ) (base k : ℕ) where
     others-lie = lies-back cs (p + a) b (points ss (p + a) q) others (length-points ss (p + a) q ∙ lb)
         (lies-back cs p a xs (points ss (p + a) q ++ others) la parts)
 
-  -- the claim for a word of the rows themselves
+  -- Word `k` is the same in `ws` and `cs`, or the visits of the rows' slots include the visit of the slot that owns
+  -- word `k`.
   abbrev pub OwnRows : ℕ → ℕ → Bodies → ℕ → ℕ → Type 0
   OwnRows a b bs p d = Same ⊎ Owned cs base k (flat_map (visits m base d) (row_places 0 p a b (count_rows bs)))
 
@@ -118,7 +116,7 @@ module _ (ws cs : List ℕ) (base k : ℕ) where
       in-row a b xs ss bs p q d h c le (decided k (p + a)) (decided k (p + a + b)) (λ over.
       rows-own a b bs (p + a + b) (q + sizes ss) d h.4 (others-lie a b xs ss bs p q h.0 h.1 c) over (omega arith))
 
-  -- ---- the claim for a slot below which the word lies, for several slots, and for the slots of rows
+  -- ---- word `k` lies in the contents below one slot, below several slots, or below the slots of rows
 
   pub record Slot (t : Tree) (p to d : ℕ) : Type 0 where
     pub sound : Sound t
@@ -156,7 +154,6 @@ module _ (ws cs : List ℕ) (base k : ℕ) where
     pub ends : k < to + sizes_in_rows bs
     pub low : greatest_in_rows bs ≤ d
 
-  -- the claim for the visits below an object
   pub below : (p d s start pads : ℕ) (shape : Shape) → target m (here p) ≡ Ok (targets.Content s start shape pads) → 0
       < d
       → Told (flat_map (visits m base (d - 1)) (slots s start shape)) → Told (visits m base d (here p))
@@ -166,7 +163,6 @@ module _ (ws cs : List ℕ) (base k : ℕ) where
       told rest (visits m base d (here p)) (λ o. owned-as cs base k (visits m base d (here p)) (one ∷ rest)
       (visits-object m base (here p) s start pads shape e d deep) (owned-right cs base k (one ∷ []) rest o)) h
 
-  -- the claim for slots at the beginning of an object, or after the object's data words
   pub slots-told : (ts : Trees) (p d : ℕ) → AreAt n 0 p ts → Sounds ts
       → Lies cs p (points ts p (p + count ts) ++ lays ts (p + count ts)) → p + count ts + sizes ts ≤ length cs → p ≤ k
       → k < p + count ts + sizes ts → p + count ts ≤ length ws → greatest ts ≤ d

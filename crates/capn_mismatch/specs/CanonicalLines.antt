@@ -17,18 +17,18 @@ use Rattle.capn_mismatch.specs.declared.whose.Whose.TheVariants.{Pointer, Tag, L
 use Rattle.capn_mismatch.specs.declared.canonical_lines.CanonicalLines.{CanonicalLines}
 use Rattle.capn_mismatch.specs.Mismatches.{IsMismatch}
 
--- the byte of a stream at which `word` of a message's first segment begins, after `offset` bytes before the message and
--- `table` words of the segment table
+-- The byte of a stream at which `word` of a message's first segment begins. The message begins at byte `offset`, and
+-- its segment table has `table` words.
 abbrev pub byte_of : ℕ → ℕ → ℕ → ℕ
 byte_of offset table word = offset + 8 * (table + word)
 
--- the text that names a byte, the word at that byte, and the word in the canonical bytes
+-- The text that names `byte`, the `word` at that byte, and the `canonical` word.
 abbrev pub differs_text : ℕ → List ℕ → List ℕ → List ℕ
 differs_text byte word canonical =
     codes "no: at byte " ++ (decimal byte ++ (codes ": " ++ (word ++ (codes ", canonical " ++ canonical))))
 
 module _ {A : Type 0} where
-  -- the text `yes` if a message is canonical, else `no` with the reason
+  -- The text `yes` if the mismatch is `Canonical`, else `no` with the reason.
   abbrev pub mismatch_text : ℕ → ℕ → Mismatch A → List ℕ
   mismatch_text offset table Canonical = codes "yes"
   mismatch_text offset table (Segments count) = codes "no: " ++ (decimal count ++ codes " segments")
@@ -46,22 +46,23 @@ module _ {A : Type 0} where
   mismatch_text offset table (After word is) =
       differs_text (byte_of offset table word) (word_text is) (codes "nothing, after the value")
 
-  -- the lines `canonical` and `lengths`
+  -- The lines `canonical` and `lengths` of `lines`.
   abbrev pub canonical_lines : CanonicalLines A → List ℕ
   canonical_lines lines =
       codes "canonical: " ++ (mismatch_text lines.offset lines.table lines.mismatch ++ (codes "\n"
       ++ lengths_line lines.lengths))
 
--- the two lengths are the number of bytes of a message's contents and the number of canonical bytes; the lengths are
--- given if they differ, the message isn't canonical, and the value `v` has no capability
+-- `Some lengths` gives the number of bytes of `message` and the number of its canonical bytes, which differ. The
+-- message is then not canonical, and `v` has no capability. `None` holds in exactly these cases: the message is
+-- canonical, `v` has a capability, or both numbers are equal.
 abbrev pub AreLengths : List (List ℕ) → Tree → Option (ℕ × ℕ) → Type 0
 AreLengths message v (Some lengths) =
     (IsCanonicalOf message v → ⊥) × (first_cap v ≡ None) × (lengths.0 ≡ 8 * total message)
     × (lengths.1 ≡ length (canon v)) × (lengths.0 ≢ lengths.1)
 AreLengths message v None = IsCanonicalOf message v ⊎ (first_cap v ≢ None) ⊎ (8 * total message ≡ length (canon v))
 
--- the message is accepted and begins at byte `offset` with a table of `table` words, and `lines` are the lines about
--- the message
+-- The message is accepted within `limits`, and `lines` are the lines about it. Their fields `offset` and `table` have
+-- the given values.
 pub record AreLinesOf {A : Type 0} (message : List (List ℕ)) (limits : Bounds) (offset table : ℕ)
     (lines : CanonicalLines A) : Type 0 where
   pub value : Tree

@@ -7,8 +7,8 @@ use Rattle.capn_walk.specs.Limits.{Bounds}
 use Rattle.capn_walk.specs.Surveyed.{first_cap_of}
 use Rattle.capn_path.specs.Paths.{IsVisited}
 
--- the path leads to a slot that the walk visits, whose pointer is the capability `index`, and no slot visited before is
--- a capability
+-- `path` leads to a slot that the walk of `message` visits. The slot's pointer names the capability `index`. No slot
+-- that the walk visits before this slot names a capability.
 pub record IsFirstCapability (message : List (List ℕ)) (limits : Bounds) (index : ℕ) (path : List ℕ) : Type 0 where
   pub number : ℕ
   pub at : Place

@@ -1,7 +1,7 @@
 -- The difference of two lists of words. (Our own.)
 use Rattle.std.specs.Prelude.{◌≡◌, ◌≢◌, ℕ, ◌<◌, List, length, take, slice_index}
 
--- the lists xs and ys are the same before word k, word k is x in xs and y in ys, and x is not y
+-- `xs` and `ys` are the same before word `k`. Word `k` is `x` in `xs` and `y` in `ys`, and `x` is not `y`.
 pub record Differ (xs ys : List ℕ) (k x y : ℕ) : Type 0 where
   pub before : take k xs ≡ take k ys
   pub in_one : k < length xs
@@ -10,7 +10,7 @@ pub record Differ (xs ys : List ℕ) (k x y : ℕ) : Type 0 where
   pub other : y ≡ slice_index ys k
   pub differ : x ≢ y
 
--- the list xs begins with ys, which has k words, and continues with x
+-- `xs` begins with `ys`, which has `k` words, and word `k` of `xs` is `x`.
 pub record GoesOn (xs ys : List ℕ) (k x : ℕ) : Type 0 where
   pub before : take k xs ≡ ys
   pub ended : length ys ≡ k

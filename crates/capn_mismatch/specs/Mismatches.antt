@@ -1,5 +1,5 @@
--- The mismatch of a message with its canonical bytes: none, or the first reason why the message isn't canonical. (Our
--- own.)
+-- The mismatch of a message with its canonical bytes: none, or the first reason why the message isn't canonical.
+-- (Our own.)
 use Rattle.std.specs.Prelude.{◌≡◌, ℕ, ◌<◌, List, [], ◌∷◌, length, Some, None, ⊤}
 use Rattle.capn_words.specs.Message.{IsBare}
 use Rattle.capn_value.specs.Tree.{Tree}
@@ -15,8 +15,8 @@ use Rattle.capn_mismatch.specs.Difference.{Differ, GoesOn}
 use Rattle.capn_mismatch.specs.Capability.{IsFirstCapability}
 use Rattle.capn_mismatch.specs.Owner.{IsOwner}
 
--- the message is accepted and has one segment, `words`; the message's value has no capability, and the canonical bytes
--- are the bytes of the words `canonical`
+-- `message` is accepted within `limits` and has only the segment `words`. The message's value has no capability. The
+-- canonical bytes are the bytes of the words `canonical`.
 pub record Compares (message : List (List ℕ)) (limits : Bounds) (words canonical : List ℕ) : Type 0 where
   pub value : Tree
   pub is : IsValueOf message limits value
@@ -24,13 +24,13 @@ pub record Compares (message : List (List ℕ)) (limits : Bounds) (words canonic
   pub one : message ≡ words ∷ []
   pub bare : IsBare (canon value) canonical
 
--- the message has words and canonical words (`Compares`), and `Apart` holds of them
+-- The words and the canonical words of `message`, as in `Compares`, are in the relation `Apart`.
 abbrev pub Compared : List (List ℕ) → Bounds → (List ℕ → List ℕ → Type 0) → Type 0
 Compared message limits Apart =
     (words : List ℕ) × (canonical : List ℕ) × Compares message limits words canonical × Apart words canonical
 
 module _ {A : Type 0} where
-  -- the message is accepted, and the mismatch is true of the message
+  -- `message` is accepted within `limits`, and what the mismatch says of `message` is true.
   abbrev pub IsMismatch : List (List ℕ) → Bounds → Mismatch A → Type 0
   IsMismatch message limits Canonical = (v : Tree) × IsValueOf message limits v × IsCanonicalOf message v
   IsMismatch message limits (Segments n) =
@@ -43,23 +43,23 @@ module _ {A : Type 0} where
   IsMismatch message limits (After w is) =
       Compared message limits (λ words canonical. GoesOn words canonical w is)
 
-  -- the mismatch says that the message is canonical
+  -- The mismatch says that the message is canonical.
   abbrev pub AnswersCanonical : Mismatch A → Type 0
   AnswersCanonical Canonical = ⊤
   AnswersCanonical d = ⊥
 
-  -- the mismatch says that the message has more than one segment
+  -- The mismatch says that the message has more than one segment.
   abbrev pub AnswersSegments : Mismatch A → Type 0
   AnswersSegments (Segments n) = ⊤
   AnswersSegments d = ⊥
 
--- the message is accepted, has one segment, and isn't canonical
+-- `message` is accepted within `limits`, has one segment, and isn't canonical.
 pub record HasMismatch (message : List (List ℕ)) (limits : Bounds) : Type 0 where
   pub value : Tree
   pub is : IsValueOf message limits value
   pub one : length message ≡ 1
   pub not : IsCanonicalOf message value → ⊥
 
--- the message is accepted, has one segment and isn't canonical, and the message's value has no capability
+-- `message` is accepted within `limits`, has one segment and isn't canonical. The message's value has no capability.
 abbrev pub HasCanonicalBytes : List (List ℕ) → Bounds → Type 0
 HasCanonicalBytes message limits = (d : HasMismatch message limits) × (first_cap d.value ≡ None)

@@ -12,16 +12,16 @@ use Rattle.capn_path.specs.Paths.{IsPathTo}
 use Rattle.capn_mismatch.specs.declared.whose.Whose.{Whose}
 use Rattle.capn_mismatch.specs.declared.whose.Whose.TheVariants.{Pointer, Tag, LastWord}
 
--- the place of word w of a message's only segment
+-- The place of word `w` of a message's only segment.
 abbrev pub place : ℕ → Place
 place w = record { segment = 0; word = w }
 
--- the target is a list of structs, and the word is the tag of that list
+-- The target is a list of structs, and `word` is the tag of that list.
 abbrev pub IsTag : ℕ → Target → Type 0
 IsTag word (targets.Content s start (shapes.Rows n a b span) pads) = (s ≡ 0) × (start ≡ word)
 IsTag word found = ⊥
 
--- elements of the width share a word: bits, bytes, u16 and u32
+-- Several elements of the width share a word. This holds for `W1`, `W8`, `W16` and `W32`.
 abbrev pub IsSmall : Width → Type 0
 IsSmall W1 = ⊤
 IsSmall W8 = ⊤
@@ -29,13 +29,13 @@ IsSmall W16 = ⊤
 IsSmall W32 = ⊤
 IsSmall width = ⊥
 
--- the target is a list of small numbers, and the word is the last word of that list
+-- The target is a list of small numbers (`IsSmall`), and `word` is the last word of that list.
 abbrev pub IsLastWord : ℕ → Target → Type 0
 IsLastWord word (targets.Content s start (shapes.Many width n) pads) =
     IsSmall width × (s ≡ 0) × (start ≤ word) × (start + content_words width n ≡ word + 1)
 IsLastWord word found = ⊥
 
--- the path leads from the root to a slot, and `Is` holds of the slot's target
+-- `path` leads from the root to a slot, and `Is` holds of the slot's target.
 pub record LeadsTo (message : List (List ℕ)) (limits : Bounds) (path : List ℕ) (Is : Target → Type 0) : Type 0 where
   pub number : ℕ
   pub slot : Place
@@ -45,8 +45,8 @@ pub record LeadsTo (message : List (List ℕ)) (limits : Bounds) (path : List �
   pub is : Is found
 
 module _ {A : Type 0} where
-  -- the owner of a word of a message of one segment: the word is the pointer of the slot to which the path leads, or
-  -- the tag or the last word of that slot's target
+  -- The path leads to the slot that owns `word`. The word is that slot's pointer, or the tag or the last word of that
+  -- slot's target.
   abbrev pub IsOwner : List ℕ → Bounds → ℕ → Whose A → Type 0
   IsOwner words limits word (Pointer path) =
       (number : ℕ) × IsPathTo (words ∷ []) limits number path.items (place word)

@@ -1,4 +1,4 @@
-//! The lines of an accepted message.
+//! The function `lines_of_measured`, which finds the lines about the canonical form of an accepted message.
 
 ghost use Rattle.std.specs.Prelude.{IfOk, IfSome, IsErr};
 ghost use Rattle.capn_value.specs.Tree.{Tree as Value};
@@ -16,15 +16,17 @@ use capn_walk::Limits;
 use capn_words::{Memory, Space, total_words};
 use std::alloc::Allocator;
 
-/// Returns the lines about the canonical form of the accepted message `space`: whether the message is canonical, and
-/// the lengths of the message and of the canonical bytes.
+/// Returns the lines about the canonical form of the accepted message `space`. They say whether the message is
+/// canonical, and give the lengths of the message and of the canonical bytes.
 ///
 /// `measured` is the result of [`measure`](capn_canon::measure) for `space` within `limits`, so the message isn't
 /// surveyed again. `offset` is the byte of the stream at which the message begins. `table` is the number of words of
-/// the message's segment table, or 0 for a bare message. Canonical bytes are laid out once, and only for a message of
-/// one segment that is not canonical. If there are more segments, the canonical bytes are counted. `Memory` is returned
-/// only for a message of one segment that is not canonical, if an allocation on `alloc` was refused. Memory: that of
-/// [`mismatch`](crate::mismatch). (Our own.)
+/// the message's segment table, or 0 for a bare message.
+///
+/// Canonical bytes are laid out at most once, and only for a message of one segment that is not canonical. For a
+/// message of more segments, the canonical bytes are only counted. Memory is allocated as by
+/// [`mismatch`](crate::mismatch). `Memory` is returned only for a message of one segment that is not canonical, if an
+/// allocation on `alloc` was refused. (Our own.)
 pub fn lines_of_measured<S: Space, A: Allocator + Copy>(
     alloc: A,
     space: &S,
@@ -83,7 +85,7 @@ fn canonical_length<S: Space>(space: &S, limits: Limits, made: Option<u64>) -> u
     requires made { IfSome made (HasCanonicalLength (S.message space.now) limits) }
     ensures { HasCanonicalLength (S.message space.now) limits result }
 {
-    // These two calls give the prover the bounds of a message and of limits, which the count needs.
+    // The prover learns from these two calls how large a message and limits may be.
     let _segments = space.segments();
     let _budget = limits.budget();
     match made {

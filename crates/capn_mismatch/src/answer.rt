@@ -6,7 +6,7 @@ use std::alloc::{Allocator, Global};
 /// The mismatch of a message with its canonical bytes: none, or the first reason why the message isn't canonical.
 /// (Our own.)
 ///
-/// Words are numbered from 0, from the first word of the message's only segment on.
+/// The first word of the message's only segment has the number 0.
 #[derive(Debug, Drop)]
 pub enum Mismatch<A: Allocator = Global> {
     /// The message is canonical: its only segment has the canonical bytes.
@@ -27,11 +27,11 @@ pub enum Mismatch<A: Allocator = Global> {
         /// The owner of the word in the canonical bytes.
         whose: Whose<A>,
     },
-    /// A word follows after the end of the canonical bytes.
+    /// The message begins with its canonical bytes, and goes on after them.
     After {
-        /// The number of the word.
+        /// The number of the first word after the canonical bytes.
         word: u32,
-        /// The value of the word in the message.
+        /// The value of that word.
         is: u64,
     },
 }

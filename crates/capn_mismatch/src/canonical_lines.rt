@@ -11,8 +11,8 @@ use std::alloc::{Allocator, Global};
 use std::fmt;
 
 /// The lines about the canonical form of an accepted message. The line `canonical` says that the message is canonical,
-/// or why it isn't. The line `lengths` has the lengths of the message and of the canonical bytes, if `lengths` is
-/// `Some`. (Our own.)
+/// or why it isn't. The line `lengths` is shown if the field `lengths` is `Some`, and gives the lengths of the message
+/// and of the canonical bytes. (Our own.)
 #[derive(Debug, Drop)]
 pub struct CanonicalLines<A: Allocator = Global> {
     /// `Canonical`, or the first reason why the message isn't canonical.
@@ -66,8 +66,8 @@ impl<A: Allocator> CanonicalLines<A> {
     }
 }
 
-/// The line `lengths`, which shows the length of a message's contents and the length of the canonical bytes; empty for
-/// `None`.
+/// The line `lengths`, which shows the length of a message's contents and the length of the canonical bytes. The line
+/// is empty for `None`.
 #[derive(Drop)]
 struct LengthsLine(Option<(u64, u64)>);
 

@@ -12,7 +12,7 @@ use capn_walk::Limits;
 use capn_words::{Memory, Place, Space};
 use std::alloc::Allocator;
 
-/// The aim that finds a capability. The find is the capability's index.
+/// The aim of a search for a capability. The search returns the capability's index.
 #[derive(Drop)]
 struct Capability;
 
@@ -37,8 +37,8 @@ impl Aim for Capability {
     }
 }
 
-/// Finds the first capability of the message `space`, whose value has a capability. Returns the capability's index, and
-/// the path to the capability's slot.
+/// Finds the first capability of the message `space` in preorder. The message must have one. Returns the capability's
+/// index, and the path to the capability's slot. `Memory` is returned if an allocation on `alloc` was refused.
 pub fn first_capability<S: Space, A: Allocator + Copy>(
     alloc: A,
     space: &S,

@@ -11,11 +11,14 @@ use capn_target::{Shape, Target, resolve};
 use capn_words::{Memory, Place, Space};
 use std::alloc::Allocator;
 
-/// Descends from the slot at `at` to the slot that owns `word`. Returns the kind of the word there.
+/// Searches for the slot that owns `word`, from the slot at `at` downwards. Returns the kind of the word if that slot
+/// is found, and `None` otherwise.
 ///
-/// From an object the descent continues only to the likely slot, so few words are read. `None` says only that the
-/// descent met no owner. `path` has the numbers that lead to the slot at `at`. If the result is `Some`, `path` then
-/// leads to the slot that owns `word`. If the result is `None`, any numbers may have been appended to `path`.
+/// Below each object, only the likely slot is searched, so few words are read. The result may be `None` although a slot
+/// owns the word.
+///
+/// On entry, `path` leads to the slot at `at`. If the result is `Some`, `path` leads to the slot that owns `word`. If
+/// the result is `None`, `path` may have further numbers. `Memory` is returned if `path` cannot grow.
 #[cycle(descent)]
 pub fn descend<S: Space, A: Allocator>(
     space: &S,
@@ -58,8 +61,7 @@ pub fn descend<S: Space, A: Allocator>(
     }
 }
 
-/// Descends from the object of `shape` whose content starts at `start` to the slot that owns `word`. The results are
-/// those of [`descend`].
+/// Searches as [`descend`] does, from the object of `shape` whose content starts at `start`.
 #[cycle(descent)]
 fn descend_below<S: Space, A: Allocator>(
     space: &S,
@@ -82,7 +84,7 @@ fn descend_below<S: Space, A: Allocator>(
     Ok(found)
 }
 
-/// Appends the numbers that lead to slot `slot` of row `row` of an object of `shape` to `path`.
+/// Appends to `path` the numbers that lead to slot `slot` of row `row` in an object of `shape`.
 fn put_numbers<A: Allocator>(
     shape: Shape,
     row: u32,
@@ -103,7 +105,6 @@ fn put_numbers<A: Allocator>(
     }
 }
 
-/// Appends `number` to `path`.
 fn put_number<A: Allocator>(number: u32, path: &mut Vec<u32, A>) -> Result<(), Memory>
     ensures { IfOk result (λ r. path.new.items ≡ path.old.items ++ number ∷ []) }
 {

@@ -7,32 +7,33 @@ ghost use Rattle.capn_mismatch.specs.inner.Difference.{IsDifference};
 use capn_target::segment_length;
 use capn_words::{Bare, Place, Space};
 
-/// The first difference between the words of a message and other words.
+/// The first difference between the words of a message and the words of `other`, as [`first_difference`] finds it. The
+/// first word has the number 0.
 #[derive(Clone, Copy, Debug, PartialEq, Eq)]
 pub enum Difference {
-    /// The words are equal.
+    /// The words are equal, and there are equally many.
     None,
-    /// A word differs, and all words before are equal.
+    /// A word differs. All words before it are equal.
     Word {
         /// The number of the word.
         word: u32,
         /// The value of the word in the message.
         is: u64,
-        /// The value of the word in the other words.
+        /// The value of the word in `other`.
         other: u64,
     },
-    /// The other words end before the words of the message, and are equal up to their end.
+    /// The message begins with all words of `other`, and has further words.
     After {
-        /// The number of the word.
+        /// The number of the first further word.
         word: u32,
-        /// The value of the word in the message.
+        /// The value of that word.
         is: u64,
     },
-    /// The words of the message end before the other words, and are equal up to their end.
+    /// The words of `other` begin with all words of the message, and `other` has further words.
     Short {
-        /// The number of the word.
+        /// The number of the first further word.
         word: u32,
-        /// The value of the word in the other words.
+        /// The value of that word.
         other: u64,
     },
 }

@@ -16,7 +16,7 @@ pub struct Finding<A: Allocator = Global> {
 }
 
 impl<A: Allocator> Finding<A> {
-    /// Returns the finding with `mismatch`, which was found without canonical bytes.
+    /// Returns the finding of a `mismatch` for which no canonical bytes were made.
     pub fn without_bytes(mismatch: Mismatch<A>) -> Finding<A>
         ensures mismatch { result.mismatch ≡ mismatch }
         ensures length { result.length ≡ None }

@@ -4,8 +4,8 @@
 //!   more than one segment, a capability, a word that differs from the same word of the canonical bytes, and a word
 //!   after the end of the canonical bytes.
 //! - [`Whose`] is the owner of a word that differs, given by the path to a slot.
-//! - [`lines_of_measured`] returns the lines that explain the mismatch of an accepted message that was measured, as
-//!   [`CanonicalLines`]. [`measure_surveyed`] measures a message that was surveyed.
+//! - [`lines_of_measured`] returns [`CanonicalLines`], the lines that explain the mismatch of an accepted message. Its
+//!   argument `measured` is the measure of the message. [`measure_surveyed`] makes the measure from a survey.
 //!
 //! ```text
 //! match mismatch(alloc, &message, limits)? {

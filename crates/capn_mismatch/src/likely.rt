@@ -1,4 +1,4 @@
-//! The likely slot of an object for a descent to a word.
+//! The choice of the slot of an object at which a descent to a word continues.
 
 ghost use Rattle.std.specs.Prelude.{◌≡◌, ◌+◌, ◌*◌, ◌<◌, ◌≤◌, IfSome, length};
 ghost use Rattle.capn_words.specs.Message.{IsPlace};
@@ -9,7 +9,7 @@ use crate::slot_rows::{SlotRows, slot_rows};
 use capn_target::{Shape, Target, content_words, resolve};
 use capn_words::{Place, Space};
 
-/// A slot of an object, to which a descent leads.
+/// A slot of an object at which a descent continues.
 #[derive(Clone, Copy)]
 pub struct Step {
     /// The number of the slot's row.
@@ -20,11 +20,12 @@ pub struct Step {
     pub at: Place,
 }
 
-/// Returns the slot of the object of `shape` at `start` at or below which `word` is likely to be found.
+/// Returns the likely slot of the object of `shape` at `start`: `word` is probably at that slot or below it. Returns
+/// `None` if no slot is likely.
 ///
-/// If `word` is one of the object's own words, the likely slot is the slot at `word`. If `word` lies after the object,
-/// the likely slot is that of the last object that begins at or before `word`, since canonical bytes have the word
-/// below that slot. No clause promises so, since the caller tests every find.
+/// If one of the object's slots is at `word`, it is the likely slot. If `word` lies after the object, a binary search
+/// looks for the last slot whose target begins at or before `word`. In canonical bytes, the word then lies below that
+/// slot. The contract doesn't promise this, since the caller tests each slot.
 pub fn likely_step<S: Space>(space: &S, start: Place, shape: Shape, word: Place) -> Option<Step>
     requires content { IsContent (S.message space.now) start (extent shape) }
     requires rows { RowsFit shape }
@@ -77,7 +78,8 @@ fn likely_slot<S: Space>(space: &S, rows: SlotRows, word: Place) -> Option<(u32,
     Some((number / rows.slots, number % rows.slots))
 }
 
-/// Returns the number of the last slot whose object begins at or before `word`, if the objects begin in order.
+/// Returns the number of the last slot whose object begins at or before `word`. The objects are assumed to begin in the
+/// sequence of their slots.
 fn last_before<S: Space>(space: &S, rows: SlotRows, word: Place) -> Option<u32>
     requires within { AreWithin (S.message space.now) rows }
     requires some { 0 < rows.slots }
@@ -102,8 +104,8 @@ fn last_before<S: Space>(space: &S, rows: SlotRows, word: Place) -> Option<u32>
     low.checked_sub(1)
 }
 
-/// Finds the first of the slots from `from` up to but not including `to` whose object has any words. Returns the number
-/// of that slot, and the word at which the slot's object begins.
+/// Finds the first slot, from number `from` up to but not including `to`, whose object has any words. Returns the
+/// number of that slot, and the word at which the slot's object begins.
 fn next_start<S: Space>(space: &S, rows: SlotRows, from: u32, to: u32) -> Option<(u32, u32)>
     requires within { AreWithin (S.message space.now) rows }
     requires some { 0 < rows.slots }
@@ -145,7 +147,7 @@ fn start_at<S: Space>(space: &S, at: Place) -> Option<u32>
     }
 }
 
-/// Tests whether an object of `shape` takes any words.
+/// Tests whether an object of `shape` has any words.
 fn has_words(shape: Shape) -> bool {
     match shape {
         Shape::Node { words, slots } => words > 0 || slots > 0,

@@ -24,13 +24,14 @@ use capn_walk::Limits;
 use capn_words::{Bare, Memory, Space};
 use std::alloc::Allocator;
 
-/// Tests whether the message `space` is canonical within `limits`, and if not, finds the first reason: the number of
-/// segments, the first capability, or the first word that is not as in the canonical bytes.
+/// Tests whether the message `space` is canonical within `limits`. If it is not, finds the first reason: the number of
+/// segments, the first capability, the first word that differs from the canonical bytes, or the first word after them.
 ///
 /// `Walk` is returned if the message is not accepted within the limits. `Memory` is returned only for a message of one
-/// segment that is not canonical, if an allocation on `alloc` was refused. There is no other refusal. Memory: the
-/// canonical bytes during the search for the word, and the path, with at most two numbers for each level of the depth
-/// limit. (Our own.)
+/// segment that is not canonical, if an allocation on `alloc` was refused. No other error is returned.
+///
+/// The search for the word allocates memory for the canonical bytes. A path has at most two numbers for each level of
+/// the depth limit. (Our own.)
 pub fn mismatch<S: Space, A: Allocator + Copy>(
     alloc: A,
     space: &S,
@@ -46,7 +47,7 @@ pub fn mismatch<S: Space, A: Allocator + Copy>(
     // An accepted message gives `Ok`, unless an allocation is refused.
     ensures only { (v : Value) → IsValueOf (S.message space.now) limits v
         → MatchResult result (λ d. ⊤) (λ e. e ≡ refusals.Memory) }
-    // Any refusal is `Memory`, or `Walk` with the stop of the walk of `space`.
+    // Any error is `Memory`, or `Walk` with the stop of the walk of `space`.
     ensures refused { IfErr result (λ e. IsUnaccepted (S.message space.now) limits e) }
     // `Memory` is returned only for a message of one segment that is not canonical.
     ensures memory { IsErrOf result refusals.Memory → HasMismatch (S.message space.now) limits }
@@ -56,7 +57,8 @@ pub fn mismatch<S: Space, A: Allocator + Copy>(
     Ok(finding.mismatch)
 }
 
-/// Finds the mismatch of the message `space`, for which `measured` is the measure within `limits`.
+/// Finds the mismatch of the message `space`. `measured` is the measure of `space` within `limits`. `Memory` is
+/// returned only if an allocation on `alloc` was refused.
 pub fn finding_of<S: Space, A: Allocator + Copy>(
     alloc: A,
     space: &S,
@@ -104,7 +106,8 @@ fn from_only_segment<S: Space, A: Allocator + Copy>(
     from_canonical(alloc, &bare, limits, paid)
 }
 
-/// Finds the mismatch from the canonical bytes, which are laid out without another survey.
+/// Lays out the canonical bytes of the message `space` without another survey, and finds the mismatch by comparing
+/// `space` with these bytes.
 fn from_canonical<S: Space, A: Allocator + Copy>(
     alloc: A,
     space: &S,
@@ -116,7 +119,7 @@ fn from_canonical<S: Space, A: Allocator + Copy>(
     ensures found { IfOk result (λ f. IsMismatch (S.message space.now) limits f.mismatch) }
     ensures made { IfOk result (λ f. IfSome f.length (HasCanonicalLength (S.message space.now) limits)) }
 {
-    // These two calls give the prover the bounds of a message and of limits, which the layout needs.
+    // The prover learns from these two calls how large a message and limits may be.
     let _segments = space.segments();
     let _budget = limits.budget();
     let bytes = surveyed_layout(alloc, space, limits.depth(), paid)?;
@@ -130,7 +133,7 @@ fn from_canonical<S: Space, A: Allocator + Copy>(
     }
 }
 
-/// Finds the mismatch by comparing the message with its `canonical` bytes.
+/// Finds the mismatch of the message `space` by comparing its words with its `canonical` words.
 fn apart<S: Space, A: Allocator + Copy>(
     alloc: A,
     space: &S,
@@ -141,7 +144,7 @@ fn apart<S: Space, A: Allocator + Copy>(
     requires differs { segment_at (S.message space.now) 0 ≢ canonical.now }
     ensures { IfOk result (λ d. IsMismatch (S.message space.now) limits d) }
 {
-    // These four calls give the prover the bounds of the messages and of limits, which the clauses need.
+    // The prover learns from these four calls how large the messages and limits may be.
     let _segments = space.segments();
     let _other = canonical.segments();
     let _budget = limits.budget();

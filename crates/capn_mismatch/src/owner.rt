@@ -16,7 +16,7 @@ use capn_words::{Bare, Memory, Place};
 use std::alloc::Allocator;
 
 /// Finds the owner of `word` in the `canonical` bytes. The word is a pointer, a tag, or the last word of a list of
-/// small numbers.
+/// small numbers. `Memory` is returned only if an allocation on `alloc` was refused.
 pub fn owner<A: Allocator + Copy>(
     alloc: A,
     canonical: &Bare<'_>,
@@ -35,8 +35,8 @@ pub fn owner<A: Allocator + Copy>(
     }
 }
 
-/// Finds the slot that owns `word`. Returns the kind of the word there, and the path to the slot. The direct descent is
-/// tried first. If the descent finds no slot, a full search follows, which always finds the slot.
+/// Finds the slot that owns `word`. Returns the kind of the word, and the path to the slot. A direct descent is tried
+/// first. If it finds no slot, a full search follows, which always finds one.
 fn slot_of<A: Allocator + Copy>(
     alloc: A,
     canonical: &Bare<'_>,

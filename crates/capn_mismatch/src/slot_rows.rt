@@ -20,7 +20,7 @@ pub struct SlotRows {
 }
 
 impl SlotRows {
-    /// Returns the place of `slot` of `row`.
+    /// Returns the place of slot `slot` in row `row`.
     pub fn place(self, row: u32, slot: u32) -> Place
         requires row { row < self.count }
         requires slot { slot < self.slots }

@@ -18,7 +18,7 @@ use capn_words::Space;
 ///
 /// `surveyed` is the result of [`survey_depth`](capn_walk::survey_depth) for `space` within `limits`. A message of one
 /// segment is read once more, in one pass up to the word at which the message leaves the canonical form. No memory is
-/// taken. (Our own.)
+/// allocated. (Our own.)
 pub fn measure_surveyed<S: Space>(space: &S, limits: Limits, surveyed: Measured) -> MeasuredBare
     requires survey { IsSurvey (S.message space.now) limits surveyed.survey }
     requires depth { IsDepth (S.message space.now) limits surveyed.depth }
@@ -37,7 +37,7 @@ pub fn measure_surveyed<S: Space>(space: &S, limits: Limits, surveyed: Measured)
     }
 }
 
-/// Tests whether the accepted message `space` is canonical, in one pass over its only segment.
+/// Tests whether the accepted message `space` is canonical. A message of one segment is read in one pass.
 fn is_canonical<S: Space>(space: &S, limits: Limits) -> bool
     ensures { (v : Value) → IsValueOf (S.message space.now) limits v
         → IsTrue result ↔ IsCanonicalOf (S.message space.now) v }

@@ -1,4 +1,4 @@
-//! The kind of a word at the slot that owns it, and the aim that finds that slot.
+//! The kind of a word that a slot owns, and the search for the slot that owns a word.
 
 ghost use Rattle.std.specs.Prelude.{◌≡◌, ◌<◌, ◌^◌};
 ghost use Rattle.capn_mismatch.specs.inner.Search as search;
@@ -7,15 +7,15 @@ use capn_path::Aim;
 use capn_target::{Fault, Shape, Target, content_words};
 use capn_words::{Place, Width};
 
-/// The aim that finds the slot that owns a word. A slot owns the slot's pointer, and the tag or the last word of the
-/// object that the pointer names.
+/// The aim of a search for the slot that owns a word. A slot owns its pointer. It also owns the tag or the last word of
+/// the object that the pointer names.
 #[derive(Drop)]
 pub struct Owner {
     /// The place of the word.
     pub word: Place,
 }
 
-/// The kind of a word at the slot that owns it.
+/// The kind of a word that a slot owns.
 #[derive(Clone, Copy)]
 pub enum WordKind {
     /// The word is the slot's pointer.
@@ -38,8 +38,8 @@ impl Aim for Owner {
     }
 }
 
-/// Returns the kind of `word` at the slot at `at`, if the slot owns the word. `named` is the target or the fault of the
-/// slot's pointer.
+/// Returns the kind of `word` if the slot at `at` owns the word, and `None` otherwise. `named` is the target or the
+/// fault of the slot's pointer.
 pub fn finds(word: Place, at: Place, named: Result<Target, Fault>) -> Option<WordKind>
     ensures { result ≡ search.finds word at named }
 {
@@ -52,7 +52,8 @@ pub fn finds(word: Place, at: Place, named: Result<Target, Fault>) -> Option<Wor
     }
 }
 
-/// Returns the kind of `word` in the object that a slot names, if `word` is the object's tag or last word.
+/// Returns the kind of `word` if `word` is the tag of the list of structs `target`, or the last word of the list of
+/// small numbers `target`.
 fn found_in(word: Place, target: Target) -> Option<WordKind>
     ensures { result ≡ search.found_in word target }
 {
@@ -89,7 +90,7 @@ fn is_at(segment: u32, word: u32, place: Place) -> bool
     segment == place.segment && word == place.word
 }
 
-/// Tests whether the last of `words` words from word `start` of `segment` on is at `place`.
+/// Tests whether the word at `place` is the last of `words` words from word `start` of `segment` on.
 fn ends_at(segment: u32, start: u32, words: u64, place: Place) -> bool
     requires few { words < 2 ^ 40 }
     ensures { result ≡ search.ends_at segment start words place }

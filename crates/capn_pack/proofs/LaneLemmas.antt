@@ -1,5 +1,5 @@
--- Lemmas for `gather_table.rt`, `lanes.rt`, `pack_block.rt` and others: the tables satisfy their rules, and a vector
--- that is shuffled by a row is the word or the text of the group.
+-- Lemmas for `gather_table.rt`, `lanes.rt`, `pack_block.rt` and others: the tables satisfy their rules. Shuffling by a
+-- row gives the word of a group, or the group's text.
 use Rattle.std.proofs.Common.{◌≡◌, ℕ, zero, suc, ◌+◌, ◌*◌, ◌/◌, ◌%◌, ◌^◌, ◌<◌, ◌≤◌, Bool, true, false, cond, eqb, ltb}
 use Rattle.std.proofs.Common.{leb, ◌&&◌, ◌||◌, T, inl, inr, List, [], ◌∷◌, ◌++◌, map, length, take, drop, get_or}
 use Rattle.std.proofs.Common.{replicate, refl, sym, ap, ◌∙◌, subst, arith, append_assoc, take_all, w8}
@@ -164,7 +164,7 @@ gather_lanes xs (suc n) tag at i more long fits a b =
           (ap (λ l. get_or xs at 0 ∷ l) rest ∙ sym (named_one tag (get_or xs at 0) _ odd))
     ]
 
--- ---- the whole vector
+-- ---- all lanes of the vector
 
 swz_front : (xs : List ℕ) (i : ℕ) (js more : List ℕ)
     → take (length js) (swz_l w8 16 xs i (js ++ more)) ≡ swz_l w8 16 xs i js
@@ -223,7 +223,6 @@ gather_all tag word xs row h long from e =
     (ap (λ l. tag ∷ l) (gather_lanes xs 8 tag 0 1 (replicate 7 128) all (omega arith) (omega arith) (omega arith)
     ∙ ap (named_bytes tag) back))
 
--- the text after all lanes are appended and the surplus lanes are cut off
 pub pushed : (old lanes all new text : List ℕ) (end count : ℕ) → end ≡ length old + (1 + count) → all ≡ old ++ lanes
     → new ≡ take end all → take (1 + count) lanes ≡ text → new ≡ old ++ text
 pushed old lanes all new text end count at grown cut e = cut ∙ (λ i. take (at i) (grown i))
@@ -235,11 +234,9 @@ few_ones zero tag h =
     omega (arith, ap count_ones none, no_ones)
 few_ones (suc n) tag h = omega (arith, ones_half tag, few_ones n (tag / 2) (omega arith))
 
--- a byte has at most eight ones
 pub eight_ones : (tag : ℕ) → tag < 256 → count_ones tag ≤ 8
 eight_ones tag h = few_ones 8 tag (omega arith)
 
--- the front of a block after a store, if only the first `n` bytes of the store are kept
 pub stored : (old add new text : List ℕ) (at all n end : ℕ) → end ≡ at + n → at ≤ length old → n ≤ all
     → take (at + all) new ≡ take at old ++ add → take n add ≡ text → take end new ≡ take at old ++ text
 stored old add new text at all n end e inside few written is =

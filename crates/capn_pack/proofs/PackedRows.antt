@@ -1,4 +1,4 @@
--- Worked words and their packed texts from the encoding page: the definitions give the page's texts.
+-- Worked examples: for the words of the encoding page, `Chosen` holds of the page's packed texts.
 use Rattle.std.proofs.Common.{◌≡◌, ℕ, List, [], ◌∷◌, ◌++◌, get_or, replicate, refl, ap, arith}
 use Rattle.capn_pack.specs.Packed.Group.{Named, Raw, Zeros}
 use Rattle.capn_pack.specs.Chosen.{Chosen}
@@ -17,7 +17,6 @@ first_tag : tag_of first_word ≡ 81
 unfolding first_word
 first_tag = refl
 
--- if the tag names a byte, the condition that unnamed bytes are zero holds of that byte
 odd : (x : ℕ) → ◌≡◌ {A = ℕ} 1 0 → x ≡ 0
 odd x e = absurd (omega (arith, e))
 

@@ -14,7 +14,6 @@ use Rattle.capn_pack.proofs.RunLemmas.{tag_zero, named_exact}
 length_word : (bytes : List ℕ) (at : ℕ) → at + 8 ≤ length bytes → length (take 8 (drop at bytes)) ≡ 8
 length_word bytes at h = simp (length-take, length-drop) (omega arith)
 
--- the bytes from `at` on are one word and then the bytes from `at + 8` on
 word_then : (bytes : List ℕ) (at : ℕ) → drop at bytes ≡ take 8 (drop at bytes) ++ drop (at + 8) bytes
 word_then bytes at = sym (take-append-drop 8 (drop at bytes))
     ∙ ap (λ l. take 8 (drop at bytes) ++ l) (drop-drop 8 at bytes)
@@ -83,7 +82,7 @@ puts_named bytes at tag old new room is above below e =
 
 -- ---- groups one after another
 
--- a row of groups and one more group are a row of groups
+-- `PutsRow` still holds after one more group
 pub puts_more : (bytes : List ℕ) (at mid next : ℕ) (old out new : List ℕ) → PutsRow bytes at mid old out
     → Puts bytes mid next out new → PutsRow bytes at next old new
 puts_more bytes at mid next old out new r p = record {
@@ -101,7 +100,7 @@ puts_more bytes at mid next old out new r p = record {
       ∙ ap (λ l. old ++ l) (sym (texts_more r.groups p.group));
 }
 
--- a row of groups and a row that was gathered in a block and then appended are a row of groups
+-- `PutsRow` still holds after the text `block` of a further row is appended
 pub puts_join : (bytes : List ℕ) (at mid next : ℕ) (old out block new : List ℕ) → PutsRow bytes at mid old out
     → PutsRow bytes mid next [] block → new ≡ out ++ block → PutsRow bytes at next old new
 puts_join bytes at mid next old out block new r s grown = record {
@@ -120,7 +119,7 @@ puts_join bytes at mid next old out block new r s grown = record {
       ∙ ap (λ l. old ++ l) (sym (flat_map-append group_text r.groups s.groups));
 }
 
--- if a row of groups packs all words, it is the text that the packer chooses
+-- if `PutsRow` holds up to the end of `bytes`, `out` is the text that the packer chooses for `bytes`
 pub puts_all : (bytes : List ℕ) (at : ℕ) (out : List ℕ) → PutsRow bytes 0 at [] out → length bytes ≤ at
     → Chosen out bytes
 puts_all bytes at out r h =
@@ -132,7 +131,6 @@ puts_all bytes at out r h =
       content = r.content ∙ ap (λ l. contents r.groups ++ l) none ∙ append-nil (contents r.groups);
     }
 
--- four appends give the text of a raw group
 pub raw_text : (bytes : List ℕ) (at more : ℕ) (copied old a b c d : List ℕ) → a ≡ old ++ 255 ∷ []
     → b ≡ a ++ slice_range bytes at (at + 8) → c ≡ b ++ more ∷ [] → d ≡ c ++ copied
     → d ≡ old ++ (255 ∷ take 8 (drop at bytes) ++ more ∷ copied)

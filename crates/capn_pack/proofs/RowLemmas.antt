@@ -9,7 +9,7 @@ use Rattle.capn_pack.specs.inner.Steps.{Takes, TakesRow}
 use Rattle.capn_pack.proofs.shared.GroupLemmas.{texts_more, contents_more, each_more, rest_is, length_content}
 use Rattle.capn_pack.proofs.shared.GroupLemmas.{length_contents, each_append}
 
--- a row of groups and one more group are a row of groups
+-- `TakesRow` still holds after one more group
 pub row_more : (bytes : List ℕ) (at : ℕ) (old out : List ℕ) (room taken count : ℕ) (new : List ℕ)
     → TakesRow bytes at old out → Takes (slice_range bytes at (length bytes)) room taken count out new
     → TakesRow bytes (at + taken) old new
@@ -26,7 +26,6 @@ row_more bytes at old out room taken count new u t =
           ∙ ap (λ l. old ++ l) (sym (contents_more u.groups t.group));
     }
 
--- a row of groups and one more group, which ends at offset `next`, are a row of groups
 pub row_next : (bytes : List ℕ) (at next : ℕ) (old out : List ℕ) (room count : ℕ) (new : List ℕ) → at ≤ next
     → TakesRow bytes at old out → Takes (slice_range bytes at (length bytes)) room (next - at) count out new
     → TakesRow bytes next old new
@@ -34,7 +33,7 @@ row_next bytes at next old out room count new forward u t =
     let sum : at + (next - at) ≡ next = omega arith in
     subst (λ n. TakesRow bytes n old new) sum (row_more bytes at old out room (next - at) count new u t)
 
--- a row of groups and another row are a row of groups
+-- `TakesRow` still holds after another row of groups
 pub row_join : (bytes : List ℕ) (at : ℕ) (old out : List ℕ) (taken : ℕ) (new : List ℕ) → TakesRow bytes at old out
     → TakesRow (slice_range bytes at (length bytes)) taken out new → TakesRow bytes (at + taken) old new
 row_join bytes at old out taken new u t =
@@ -51,7 +50,6 @@ row_join bytes at old out taken new u t =
           ∙ ap (λ l. old ++ l) (sym (flat_map-append group_bytes u.groups t.groups));
     }
 
--- if the words of a row are gathered in a block and then appended to `old`, they were appended to `old`
 pub row_behind : (bytes : List ℕ) (taken : ℕ) (block old new : List ℕ) → TakesRow bytes taken [] block
     → new ≡ old ++ block → TakesRow bytes taken old new
 row_behind bytes taken block old new u e =
@@ -64,12 +62,12 @@ row_behind bytes taken block old new u e =
           ∙ ap (λ l. old ++ l) u.content;
     }
 
--- a row has whole words
+-- if `block` is the words of a row of groups, its length is a multiple of 8
 pub row_whole : (bytes : List ℕ) (taken : ℕ) (block : List ℕ) → TakesRow bytes taken [] block → (n : ℕ)
     × (length block ≡ 8 * n)
 row_whole bytes taken block u = (word_count u.groups, ap length u.content ∙ length_contents u.groups u.each)
 
--- the first `at` bytes are groups, their words are `out`, and `room` words are left of the maximum
+-- the first `at` bytes are groups, the words of these groups are `out`, and `room` words are left of the maximum `max`
 pub record Unpacked (bytes : List ℕ) (at : ℕ) (out : List ℕ) (room max : ℕ) : Type 0 where
   pub row : TakesRow bytes at [] out
   pub counted : length out + 8 * room ≡ 8 * max
@@ -98,7 +96,7 @@ unpacked_row bytes at out room max taken count new u t size fits = record {
   counted = omega (arith, u.counted);
 }
 
--- if the groups take all of `bytes`, then `bytes` pack `out`
+-- if `Unpacked` holds up to the end of `bytes`, then `bytes` pack `out`, which is at most `max` words
 pub unpacked_all : (bytes : List ℕ) (at : ℕ) (out : List ℕ) (room max : ℕ) → Unpacked bytes at out room max
     → length bytes ≤ at → Packs bytes out × (length out ≤ 8 * max)
 unpacked_all bytes at out room max u end = (
@@ -112,7 +110,7 @@ unpacked_all bytes at out room max u end = (
   omega (arith, u.counted),
 )
 
--- a fault of the rest after the groups so far is a fault of the text at offset `at`
+-- if the fault `Q` holds of the bytes after the groups, `Stands Q` holds of `bytes` at offset `at`
 pub stands : (Q : ℕ → List ℕ → Type 0) (bytes : List ℕ) (at : ℕ) (out : List ℕ) (room max : ℕ)
     → Unpacked bytes at out room max → Q room (slice_range bytes at (length bytes)) → Stands Q bytes max at
 stands Q bytes at out room max u q = record {

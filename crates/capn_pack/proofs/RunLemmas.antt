@@ -17,7 +17,7 @@ use Rattle.capn_pack.proofs.shared.SpreadLemmas.{ones_half, no_ones}
 nonzero : (x : ℕ) → (eqb (suc x) 0 ≡ false) × (ltb 0 (suc x) ≡ true)
 nonzero x = (ne_eqb (suc x) 0 (λ e. absurd (omega arith)), lt-ltb 0 (suc x) (omega arith))
 
--- the tag of bytes that begin with a zero byte, or with another byte
+-- if a zero byte is put before `xs`, the lowest bit of the tag is 0, and the higher bits are the tag of `xs`
 tag_none : (xs : List ℕ) → (tag_of (0 ∷ xs) % 2 ≡ 0) × (tag_of (0 ∷ xs) / 2 ≡ tag_of xs)
 tag_none xs = (omega arith, omega arith)
 
@@ -29,7 +29,7 @@ tag_zero [] h = refl
 tag_zero (zero ∷ xs) h = ap (λ l. 0 ∷ l) (tag_zero xs (omega arith))
 tag_zero (suc x ∷ xs) h = absurd (omega (arith, tag_some x xs))
 
--- the number of set bits of the tag plus the number of zero bytes is the number of bytes
+-- the number of set bits of the tag of `xs` plus the number of zero bytes of `xs` is the length of `xs`
 pub ones_tag : (xs : List ℕ) → count_ones (tag_of xs) + zero_count xs ≡ length xs
 ones_tag [] = omega (arith, no_ones)
 ones_tag (zero ∷ xs) =
@@ -41,7 +41,7 @@ ones_tag (suc x ∷ xs) =
     let low : (1 + 2 * t) / 2 ≡ t = omega arith in
     rw (tag_some x xs, (nonzero x).0) (omega (arith, ones_half (1 + 2 * t), odd, ap count_ones low, ones_tag xs))
 
--- the bytes that are not zero
+-- the bytes of `xs` that are not zero
 abbrev pub some : List ℕ → List ℕ
 some xs = filter (λ x. ltb 0 x) xs
 
@@ -103,7 +103,7 @@ dense_join (suc n) m bs cs h long d =
 one_dense : (w : List ℕ) → IsDense w → AllDense 1 w
 one_dense w d = (subst IsDense (sym (take_all 8 w (omega (arith, d.0)))) d, drop_all 8 w (omega (arith, d.0)))
 
--- a run of dense words and a run that follows it are a run
+-- `IsDenseRun` still holds after another run of dense words
 pub dense_steps : (bytes : List ℕ) (start limit count step : ℕ) → IsDenseRun bytes start limit count
     → IsDenseRun bytes (start + 8 * count) (limit - count) step → IsDenseRun bytes start limit (count + step)
 dense_steps bytes start limit count step d more =
@@ -125,7 +125,7 @@ dense_steps bytes start limit count step d more =
       dense = subst (AllDense (count + step)) (sym grown) (dense_join count step bs cs d.dense size more.dense);
     }
 
--- a run of dense words and one dense word that follows it are a run
+-- `IsDenseRun` still holds after one more dense word
 pub dense_more : (bytes : List ℕ) (start limit count : ℕ) → IsDenseRun bytes start limit count → count < limit
     → start + 8 * count + 8 ≤ length bytes → 7 ≤ count_ones (tag_of (take 8 (drop (start + 8 * count) bytes)))
     → IsDenseRun bytes start limit (count + 1)
@@ -146,7 +146,7 @@ zeros_split zero xs = omega arith
 zeros_split (suc n) [] = omega arith
 zeros_split (suc n) (x ∷ xs) = omega (arith, zeros_split n xs)
 
--- if every bit of the tag is set, no byte is zero
+-- if every bit of the tag of `xs` is set, no byte of `xs` is zero
 full_tag : (n : ℕ) (xs : List ℕ) → length xs ≡ n → 1 + tag_of xs ≡ 2 ^ n → zero_count xs ≡ 0
 full_tag n [] long h = refl
 full_tag zero (x ∷ xs) long h = absurd (omega arith)
@@ -173,7 +173,6 @@ four_dense bytes at room h =
     let none : zero_count xs ≡ 0 = full_tag 32 xs long (omega (arith, h)) in
     subst (AllDense 4) (sym (ap (λ n. take n (drop at bytes)) size)) (full_dense 4 xs long none)
 
--- if a run has no words, the word after it is the first word
 pub none_at : (bytes : List ℕ) (at n : ℕ) → n ≡ 0 → IsDense (take 8 (drop at bytes))
     → IsDense (take 8 (drop (at + 8 * n) bytes))
 none_at bytes at n none d =
@@ -182,7 +181,6 @@ none_at bytes at n none d =
 
 -- ---- the named bytes, and the end of the bytes
 
--- if fewer than eight bytes are left, there is no further word
 pub no_word : (bytes : List ℕ) (p : ℕ) → p ≤ length bytes → length bytes < p + 8 → length (take 8 (drop p bytes)) < 8
 no_word bytes p le short = simp (length-take, length-drop) (omega arith)
 

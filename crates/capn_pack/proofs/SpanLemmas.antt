@@ -8,14 +8,12 @@ use Rattle.capn_pack.specs.Packed.{named_bytes}
 use Rattle.capn_pack.proofs.shared.SpreadLemmas.{named_one}
 use Rattle.capn_pack.proofs.LaneLemmas.{stored}
 
--- a prefix of a range is a shorter range
 span_front : (xs : List ℕ) (a n m : ℕ) → n ≤ m → take n (slice_range xs a (a + m)) ≡ slice_range xs a (a + n)
 span_front xs a n m le =
     let big : a + m - a ≡ m = omega arith in
     let small : a + n - a ≡ n = omega arith in
     ap (λ k. take n (take k (drop a xs))) big ∙ take-take n m (drop a xs) le ∙ ap (λ k. take k (drop a xs)) (sym small)
 
--- the front of a block after the store of a span, if only the first `n` bytes of the span are used
 span_stored : (xs old new : List ℕ) (a at n : ℕ) → n ≤ 64 → a + 64 ≤ length xs → at ≤ length old
     → take (at + length (slice_range xs a (a + 64))) new ≡ take at old ++ slice_range xs a (a + 64)
     → take (at + n) new ≡ take at old ++ slice_range xs a (a + n)
@@ -26,7 +24,7 @@ span_stored xs old new a at n few far inside s =
     stored old span new (slice_range xs a (a + n)) at 64 n (at + n) (omega arith) inside few
     (ap (λ k. take k new) all ∙ s) (span_front xs a n 64 few)
 
--- a tag with all bits set names each byte
+-- if the lowest `n` bits of `tag` are set, `tag` names all `n` bytes of `xs`
 ones_name : (n tag : ℕ) (xs : List ℕ) → length xs ≡ n → tag + 1 ≡ 2 ^ n → named_bytes tag xs ≡ xs
 ones_name n tag [] long h = refl
 ones_name zero tag (x ∷ xs) long h = absurd (omega arith)
@@ -34,7 +32,6 @@ ones_name (suc n) tag (x ∷ xs) long h =
     named_one tag x xs (omega (arith, h, two-pow-succ n))
     ∙ ap (λ l. x ∷ l) (ones_name n (tag / 2) xs (omega arith) (omega (arith, h, two-pow-succ n)))
 
--- the front of a block after a store of sixteen lanes has the tag and the word
 pub raw_head : (bytes old lanes new : List ℕ) (at fill : ℕ) → at + 8 ≤ length bytes → fill ≤ length old
     → take (fill + 16) new ≡ take fill old ++ lanes
     → take (1 + count_ones 255) lanes ≡ 255 ∷ named_bytes 255 (take 8 (drop at bytes))
@@ -46,7 +43,6 @@ raw_head bytes old lanes new at fill room inside written front =
     let whole : 255 ∷ named_bytes 255 word ≡ 255 ∷ word = ap (λ l. 255 ∷ l) (ones_name 8 255 word long refl) in
     stored old lanes new (255 ∷ word) fill 16 9 (fill + 9) refl inside (omega arith) written (front ∙ whole)
 
--- the front of a block after three stores has the tag and the first word, the number of words after it, and those words
 pub raw_packed : (bytes old b c new : List ℕ) (at more fill : ℕ) → more ≤ 8 → at + 8 + 64 ≤ length bytes
     → fill + 10 ≤ length c → take (fill + 9) b ≡ take fill old ++ 255 ∷ take 8 (drop at bytes)
     → take (fill + 9 + 1) c ≡ take (fill + 9) b ++ more ∷ []
@@ -64,7 +60,6 @@ raw_packed bytes old b c new at more fill few far inside q r s =
     regroup : (xs ys zs : List ℕ) → ((xs ++ 255 ∷ ys) ++ more ∷ []) ++ zs ≡ xs ++ (255 ∷ ys ++ more ∷ zs)
     regroup xs ys zs = simp append_assoc
 
--- the front of a block after two stores has the first word and the words after it
 pub raw_unpacked : (rest old mid new : List ℕ) (more fill : ℕ) → more ≤ 8 → 74 ≤ length rest → fill + 8 ≤ length mid
     → take (fill + length (slice_range rest 1 9)) mid ≡ take fill old ++ slice_range rest 1 9
     → take (fill + 8 + length (slice_range rest 10 74)) new ≡ take (fill + 8) mid ++ slice_range rest 10 74

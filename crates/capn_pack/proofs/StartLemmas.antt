@@ -1,5 +1,5 @@
--- Lemmas for the refusals of memory in `text_piece.rt`, `unpack_block.rt`, `unpack_group.rt` and `unpacked_words.rt`: a
--- text that needs memory begins with a whole group.
+-- Lemmas for the error `Memory` in `text_piece.rt`, `unpack_block.rt`, `unpack_group.rt` and `unpacked_words.rt`: if an
+-- allocation was refused, the text begins with a complete group.
 use Rattle.std.proofs.Common.{◌≡◌, inl, inr, ℕ, ◌*◌, ◌<◌, ◌≤◌, List, [], ◌∷◌, ◌++◌, length, take, drop}
 use Rattle.std.proofs.Common.{slice_range, sym, ap, ◌∙◌, arith, append_assoc, length-take}
 use Rattle.std.proofs.Common.{take-append-drop, Result, IsErrAnd}
@@ -19,7 +19,7 @@ use Rattle.capn_pack.specs.declared.unpack_group.Taken.{Taken}
 use Rattle.capn_pack.proofs.shared.GroupLemmas.{length_contents, rest_is}
 use Rattle.capn_pack.proofs.RowLemmas.{Unpacked}
 
--- if the first `n` bytes are the text of a group of at most `room` words, the result may be `Memory`
+-- if `rest` begins with a group of at most `room` words, `TakeGives` allows the error `Memory`
 pub memory_gives : (rest : List ℕ) (n room : ℕ) (g : Group) (old new : List ℕ) (r : Result Taken Stop) → IsGroup g
     → take n rest ≡ group_text g → group_words g ≤ room → new ≡ old → IsErrAnd r (λ (e : Stop). e ≡ Memory)
     → TakeGives rest room old r new
@@ -34,7 +34,6 @@ memory_gives rest n room g old new r is e fits same refused =
     } in
     rw (error.1, error.2) (first, same)
 
--- if `bytes` begin with groups of some words, at most `room`, they begin with a group of at most `room` words
 first_of : (bytes : List ℕ) (at room : ℕ) (gs : List Group) → AllByRecursion IsGroup gs → take at bytes ≡ texts gs
     → 0 < word_count gs → word_count gs ≤ room → StartsWithin bytes room
 first_of bytes at room [] each e some fits = absurd (omega arith)
@@ -49,7 +48,7 @@ first_of bytes at room (g ∷ gs) each e some fits = record {
   fits = omega (arith, fits);
 }
 
--- if a row of some words, at most `room`, was read from `bytes`, they begin with a group of at most `room` words
+-- if a row of 1 to `room` words was read from `bytes`, `bytes` begin with a group of at most `room` words
 pub row_starts : (bytes : List ℕ) (at room : ℕ) (out : List ℕ) → TakesRow bytes at [] out → 0 < length out
     → length out ≤ 8 * room
     → StartsWithin bytes room
@@ -58,7 +57,6 @@ row_starts bytes at room out u some fits =
     first_of bytes at room u.groups u.each u.text (omega (arith, size, ap length u.content))
     (omega (arith, size, ap length u.content))
 
--- a row without words has no groups
 no_groups : (bytes : List ℕ) (at : ℕ) (gs : List Group) → at ≤ length bytes → take at bytes ≡ texts gs
     → word_count gs ≡ 0 → at ≡ 0
 no_groups bytes at [] within e none = omega (arith, within, ap length e, length-take at bytes)
@@ -66,7 +64,7 @@ no_groups bytes at (Zeros more ∷ gs) within e none = absurd (omega (arith, non
 no_groups bytes at (Named tag word ∷ gs) within e none = absurd (omega (arith, none))
 no_groups bytes at (Raw word count more ∷ gs) within e none = absurd (omega (arith, none))
 
--- if a group of at most `room` words follows the groups so far, the text begins with a group within the maximum
+-- if a group of at most `room` words follows the groups in `bytes`, `bytes` begin with a group of at most `max` words
 pub unpacked_starts : (bytes : List ℕ) (at : ℕ) (out : List ℕ) (room max : ℕ) → Unpacked bytes at out room max
     → StartsWithin (slice_range bytes at (length bytes)) room → StartsWithin bytes max
 unpacked_starts bytes at out room max u s = elim (cases_lt 0 (length out)) [
@@ -84,7 +82,7 @@ unpacked_starts bytes at out room max u s = elim (cases_lt 0 (length out)) [
       })
 ]
 
--- ---- and so a group is first in the text
+-- ---- a text that needs memory does not satisfy `NoGroupFirst`
 
 row_open : (bytes : List ℕ) (at : ℕ) (gs : List Group) → AllByRecursion IsGroup gs → at ≤ length bytes
     → take at bytes ≡ texts gs
@@ -95,14 +93,13 @@ row_open bytes at (g ∷ gs) each within e none =
     (sym (take-append-drop at bytes) ∙ ap (λ (xs : List ℕ). xs ++ drop at bytes) e
     ∙ append_assoc (group_text g) (texts gs) (drop at bytes)))
 
--- if a group follows a row of groups, the text begins with a group
+-- if a group follows the row of groups, `bytes` begin with a group, which contradicts `NoGroupFirst`
 pub row_started : (bytes : List ℕ) (at room : ℕ) (old out : List ℕ) → TakesRow bytes at old out
     → StartsWithin (slice_range bytes at (length bytes)) room → NoGroupFirst bytes → ⊥
 row_started bytes at room old out u s none =
     let start : at ≡ 0 = row_open bytes at u.groups u.each u.within u.text none in
     none s.group s.more s.is_group (ap (λ (n : ℕ). drop n bytes) (sym start) ∙ sym (rest_is bytes at) ∙ s.text)
 
--- if `rest` and the front of `piece` begin with a group, so do `rest` and all of `piece`
 pub joined_started : (rest piece joined : List ℕ) (more room : ℕ) → joined ≡ rest ++ take more piece
     → StartsWithin joined room
     → NoGroupFirst (rest ++ piece) → ⊥
@@ -113,7 +110,7 @@ joined_started rest piece joined more room e s none =
     ∙ ap (λ (xs : List ℕ). xs ++ drop more piece) (sym e ∙ s.text)
     ∙ append_assoc (group_text s.group) s.more (drop more piece))
 
--- if the front of `piece` made the group of `rest` whole, `rest` and `piece` begin with a group
+-- if `piece` completes the group that begins with `rest`, `NoGroupFirst` does not hold of `rest ++ piece`
 pub whole_started : (rest piece held : List ℕ) (at : ℕ) (old mid : List ℕ)
     → Joins rest piece held old mid (joins.Whole at)
     → NoGroupFirst (rest ++ piece) → ⊥

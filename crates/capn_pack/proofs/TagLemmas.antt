@@ -17,12 +17,12 @@ mask_is : (xs : List ℕ) → mask_l (map (λ x. differs x 0) xs) ≡ tag_of xs
 mask_is [] = refl
 mask_is (x ∷ xs) = λ i. turned (eqb x 0) i + 2 * mask_is xs i
 
--- the mask of the nonzero lanes of one word is the word's tag
+-- the mask of the nonzero lanes of a word `xs` is the tag of `xs`
 pub mask_tag : (xs : List ℕ) → length xs ≡ 8
     → mask_l (map (top 7) (zip2 (λ a b. cond (differs a b) 255 0) xs (replicate 8 0))) % 2 ^ 64 ≡ tag_of xs
 mask_tag xs long = bitmask_splat w8 differs xs 8 0 long (omega arith) ∙ mask_is xs
 
--- the mask of the nonzero lanes of four words is the tag of their 32 bytes
+-- the mask of the nonzero lanes of four words `xs` is the tag of their 32 bytes
 pub mask_four : (xs : List ℕ) → length xs ≡ 32
     → mask_l (map (top 7) (zip2 (λ a b. cond (differs a b) 255 0) xs (replicate 32 0))) % 2 ^ 64 ≡ tag_of xs
 mask_four xs long = bitmask_splat w8 differs xs 32 0 long (omega arith) ∙ mask_is xs

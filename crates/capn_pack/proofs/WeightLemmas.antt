@@ -4,22 +4,22 @@ use Rattle.std.proofs.Common.{◌∷◌, map, length, refl, ap, ◌∙◌, arith
 use lib.Lanes.{fold_l, sel_l, top, zip2}
 use Rattle.capn_pack.specs.Packed.{tag_of}
 
--- `n` weights; the first is `w`, and each next is twice the one before
+-- `n` weights: the first is `w`, and each later weight is twice the weight before it
 abbrev weights : ℕ → ℕ → List ℕ
 weights zero w = []
 weights (suc n) w = w ∷ weights n (2 * w)
 
--- the weight that follows the `n` weights from `w` on
+-- the weight that comes next after the `n` weights from `w` on
 abbrev behind : ℕ → ℕ → ℕ
 behind zero w = w
 behind (suc n) w = behind n (2 * w)
 
--- the sum of the weights of the bytes that are not zero, if the first byte has the weight `w`
+-- the sum of the weights of the nonzero bytes, if the first byte has the weight `w`
 abbrev weighed : ℕ → List ℕ → ℕ
 weighed w [] = 0
 weighed w (x ∷ xs) = cond (eqb x 0) 0 w + weighed (2 * w) xs
 
--- the weights of the lanes that are not zero, and 0 for the other lanes
+-- the weights of the nonzero lanes of `xs`, and 0 for the other lanes, if the first of `n` lanes has the weight `w`
 abbrev selected : ℕ → ℕ → List ℕ → List ℕ
 selected n w xs =
     sel_l (map (top 7) (zip2 (λ a b. cond (not (eqb a b)) 255 0) xs (replicate n 0))) (weights n w) (replicate n 0)
@@ -61,7 +61,7 @@ folded (suc n) a w (x ∷ xs) long room =
     ∙ folded n next (2 * w) xs (omega arith) (omega (arith, most, same))
     ∙ omega (arith, same)
 
--- the sum of the weights of the lanes that are not zero is the tag
+-- the weights of the nonzero lanes of `xs` add up to the tag of `xs`
 pub sum_tag : (xs : List ℕ) → length xs ≡ 8
     → fold_l (λ s x. (s + x) % 256) 0 (selected 8 1 xs) ≡ tag_of xs
 sum_tag xs long = folded 8 0 1 xs long (omega arith) ∙ omega (arith, weighed_tag xs)

@@ -1,4 +1,4 @@
--- Lemmas for `unpack_some`: whole groups at the front of some bytes, whose words were appended, up to a maximum.
+-- Lemmas for `unpack_some`: the words of the complete groups at the front of some bytes are appended, up to a maximum.
 use Rattle.std.proofs.Common.{◌≡◌, ℕ, ◌+◌, ◌-◌, ◌*◌, ◌<◌, ◌≤◌, List, [], ◌∷◌, ◌++◌, length, take, drop, slice_range}
 use Rattle.std.proofs.Common.{refl, sym, ap, ◌∙◌, subst, arith, append_assoc, length-append, take-append-drop}
 use Rattle.std.proofs.Common.{length-take}
@@ -13,19 +13,19 @@ use Rattle.capn_pack.specs.declared.whole_groups.Next.TheVariants as nexts
 use Rattle.capn_pack.proofs.shared.GroupLemmas.{length_content, length_contents, rest_is}
 use Rattle.capn_pack.proofs.RowLemmas.{row_join, row_more}
 
--- the first `at` bytes are groups, their words were appended to `old`, and `room` words are left of the maximum
+-- the first `at` bytes are groups. The words of these groups, appended to `old`, give `out`. Then `room` words are left
+-- of the maximum `max`.
 pub record Appended (bytes : List ℕ) (at : ℕ) (old out : List ℕ) (room max : ℕ) : Type 0 where
   pub row : TakesRow bytes at old out
   pub counted : length out + 8 * room ≡ length old + 8 * max
 
--- before the first group, nothing was appended
 pub appended_none : (bytes old : List ℕ) (max : ℕ) → Appended bytes 0 old old max max
 appended_none bytes old max = record {
   row = record { groups = []; each = tt; within = omega arith; text = refl; content = sym (append-nil old) };
   counted = refl;
 }
 
--- `Appended` holds after one more group
+-- `Appended` still holds after one more group of at most `room` words
 pub appended_more : (bytes : List ℕ) (at : ℕ) (old out : List ℕ) (room max taken count : ℕ) (new : List ℕ)
     → Appended bytes at old out room max → Takes (slice_range bytes at (length bytes)) room taken count out new
     → Appended bytes (at + taken) old new (room - count) max
@@ -42,7 +42,7 @@ appended_more bytes at old out room max taken count new u t = record {
   );
 }
 
--- `Appended` holds after one more row of groups
+-- `Appended` still holds after one more row of groups, of at most `room` words
 pub appended_row : (bytes : List ℕ) (at : ℕ) (old out : List ℕ) (room max taken count : ℕ) (new : List ℕ)
     → Appended bytes at old out room max → TakesRow (slice_range bytes at (length bytes)) taken out new
     → length new ≡ length out + 8 * count → count ≤ room → Appended bytes (at + taken) old new (room - count) max
@@ -51,13 +51,12 @@ appended_row bytes at old out room max taken count new u t size fits = record {
   counted = omega (arith, u.counted);
 }
 
--- `room` is at most the maximum
 pub appended_room : (bytes : List ℕ) (at : ℕ) (old out : List ℕ) (room max : ℕ) → Appended bytes at old out room max
     → room ≤ max
 appended_room bytes at old out room max u =
     omega (arith, u.counted, ap length u.row.content, length-append old (contents u.row.groups))
 
--- if `StandsNext` holds of what follows the groups so far, `UnpacksSome` holds of them
+-- if `StandsNext` holds of the bytes after the groups, `UnpacksSome` holds
 pub some_next : (bytes : List ℕ) (at : ℕ) (old out : List ℕ) (room max taken words : ℕ) (next is : Next)
     → Appended bytes at old out room max → taken ≡ at → words + room ≡ max → next ≡ is
     → StandsNext is room (drop at bytes) → UnpacksSome bytes max old out taken words next
@@ -82,7 +81,7 @@ some_next bytes at old out room max taken words next is u here sum same stops = 
       (subst (λ (n : ℕ). StandsNext is room (drop n bytes)) (sym here) stops);
 }
 
--- if a group that is cut follows the groups so far, `UnpacksSome` holds of them
+-- Case: if `IsCut` holds of the bytes after the groups, `UnpacksSome` holds for `nexts.Cut`.
 pub cut_next : (bytes : List ℕ) (at : ℕ) (old out : List ℕ) (room max taken words : ℕ) (next : Next)
     → Appended bytes at old out room max → taken ≡ at → words + room ≡ max → next ≡ nexts.Cut
     → IsCut room (slice_range bytes at (length bytes)) × (length (slice_range bytes at (length bytes)) < most_group)
@@ -91,7 +90,7 @@ cut_next bytes at old out room max taken words next u here sum same cut =
     some_next bytes at old out room max taken words next nexts.Cut u here sum same
     (subst (λ (rest : List ℕ). IsCut room rest × (length rest < most_group)) (rest_is bytes at) cut)
 
--- if a group with more than `room` words follows the groups so far, `UnpacksSome` holds of them
+-- Case: if `IsTooLong` holds of the bytes after the groups, `UnpacksSome` holds for `nexts.TooLong`.
 pub long_next : (bytes : List ℕ) (at : ℕ) (old out : List ℕ) (room max taken words : ℕ) (next : Next)
     → Appended bytes at old out room max → taken ≡ at → words + room ≡ max → next ≡ nexts.TooLong
     → IsTooLong room (slice_range bytes at (length bytes)) → UnpacksSome bytes max old out taken words next
@@ -99,7 +98,6 @@ long_next bytes at old out room max taken words next u here sum same long =
     some_next bytes at old out room max taken words next nexts.TooLong u here sum same
     (subst (λ (rest : List ℕ). IsTooLong room rest) (rest_is bytes at) long)
 
--- `AppendsSome` holds of the groups so far
 pub some_appended : (bytes : List ℕ) (at : ℕ) (old out : List ℕ) (room max : ℕ) → Appended bytes at old out room max
     → AppendsSome bytes max old out
 some_appended bytes at old out room max u = record {
@@ -117,8 +115,6 @@ some_appended bytes at old out room max u = record {
   );
 }
 
--- if a group of at most `room` words follows groups at the front of `bytes`, `bytes` begin with a group within the
--- maximum
 starts_from : (bytes : List ℕ) (at : ℕ) (gs : List Group) (room max : ℕ) → AllByRecursion IsGroup gs
     → at ≤ length bytes → take at bytes ≡ texts gs → word_count gs + room ≡ max
     → StartsWithin (slice_range bytes at (length bytes)) room → StartsWithin bytes max
@@ -142,7 +138,7 @@ starts_from bytes at (g ∷ gs) room max each within e size s = record {
   fits = omega (arith, size);
 }
 
--- if a group of at most `room` words follows the groups so far, the text begins with a group within the maximum
+-- if a group of at most `room` words follows the groups in `bytes`, `bytes` begin with a group of at most `max` words
 pub some_starts : (bytes : List ℕ) (at : ℕ) (old out : List ℕ) (room max : ℕ) → Appended bytes at old out room max
     → StartsWithin (slice_range bytes at (length bytes)) room → StartsWithin bytes max
 some_starts bytes at old out room max u s =

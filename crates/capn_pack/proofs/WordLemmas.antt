@@ -1,4 +1,4 @@
--- Lemmas for `unpack`: the bytes that a text packs are those of whole words.
+-- Lemmas for `unpack`: the bytes that a text packs are the bytes of words.
 use Rattle.std.proofs.Common.{sym, subst, replicate, ◌/◌, ◌≡◌, ℕ, zero, suc, ◌+◌, ◌*◌, ◌^◌, ◌<◌, ◌≤◌, List, [], ◌∷◌}
 use Rattle.std.proofs.Common.{◌++◌, length, take, drop, get_or, refl, ap, ◌∙◌, arith, take-append-drop, length-take}
 use Rattle.std.proofs.Common.{length-drop, get_or-drop, get_or-take, inl, inr}
@@ -95,7 +95,7 @@ small_contents (g ∷ gs) each h =
     let parts = small_split (group_text g) (texts gs) h in
     small_join (group_bytes g) (contents gs) (small_content g each.0 parts.0) (small_contents gs each.1 parts.1)
 
--- if `b` packs `bs`, then `bs` are the bytes of whole words
+-- if the bytes `b` pack `bs`, then `bs` are the bytes of words
 pub packs_words : (b bs : List ℕ) → Packs b bs → AreBytes b → HasWords bs
 packs_words b bs p fits =
     let small : Small bs =

@@ -27,7 +27,8 @@ IsChoice (Named tag word) bs = tag ≡ tag_of word
 -- the first word of a raw group has no zero byte, and the group continues as far as dense words do, up to 255 more
 IsChoice (Raw word count more) bs = (tag_of word ≡ 255) × AllDense count more × (count < 255 → IsDense (take 8 bs) → ⊥)
 
--- Each group of the row is the packer's choice, given the groups after it.
+-- `IsGroup` holds of each group of the row, and the packer chooses each group if the words of the later groups follow
+-- it.
 abbrev pub IsChosenRow : List Group → Type 0
 IsChosenRow [] = ⊤
 IsChosenRow (g ∷ gs) = IsGroup g × IsChoice g (contents gs) × IsChosenRow gs

@@ -25,19 +25,20 @@ IsNamedBy tag (x ∷ xs) = (tag % 2 ≡ 0 → x ≡ 0) × IsNamedBy (tag / 2) xs
 pub data Group : Type 0 where
   -- a word of zeros, and `more` words of zeros after it
   Zeros : (more : ℕ) → Group
-  -- one word, written as those of its bytes that the tag names
+  -- one word, whose text is the tag and only the bytes that the tag names
   Named : (tag : ℕ) (word : List ℕ) → Group
-  -- one word written in full, and `count` words after it, copied
+  -- one word, and `more`, the bytes of `count` words after it, all written in full
   Raw : (word : List ℕ) (count : ℕ) (more : List ℕ) → Group
 
--- The numbers of the group fit: counts are bytes, words have eight bytes, and bytes that the tag does not name are
--- zero. A tag may name bytes that are zero, and a run may end early. (Our own: both.)
+-- The numbers of the group are in range. Counts are bytes, words have eight bytes, and a named group's tag is neither 0
+-- nor 255. Bytes that the tag does not name are zero. (Our own: a tag may name zero bytes, and a run may end early.)
 abbrev pub IsGroup : Group → Type 0
 IsGroup (Zeros more) = more < 256
 IsGroup (Named tag word) = (0 < tag) × (tag < 255) × (length word ≡ 8) × IsNamedBy tag word
 IsGroup (Raw word count more) = (length word ≡ 8) × (count < 256) × (length more ≡ 8 * count)
 
--- The text of a group: the tag, then the bytes that follow a tag of its kind.
+-- The text of a group: the tag, and then its contents. These are a count for `Zeros`, the named bytes for `Named`, and
+-- a word, a count and more words for `Raw`.
 abbrev pub group_text : Group → List ℕ
 group_text (Zeros more) = 0 ∷ more ∷ []
 group_text (Named tag word) = tag ∷ named_bytes tag word

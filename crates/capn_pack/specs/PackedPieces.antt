@@ -3,12 +3,12 @@ use Rattle.std.specs.Prelude.{ℕ, ◌≡◌, ◌+◌, ◌-◌, ◌^◌, ◌++�
 use Rattle.std.specs.List.{AllByRecursion}
 use Rattle.capn_pack.specs.Packed.{Group, IsGroup, group_text, texts, contents}
 
--- `rest` does not begin with a whole group.
+-- `rest` does not begin with a complete group.
 abbrev pub NoGroupFirst : List ℕ → Type 0
 NoGroupFirst rest = (group : Group) (more : List ℕ) → IsGroup group → rest ≡ group_text group ++ more → ⊥
 
--- `stream` is whole groups of `len` bytes and then `rest`, which begins with no whole group. The words of the groups,
--- appended to `old`, give `new`.
+-- `stream` is complete groups of `len` bytes in all, and then `rest`. `rest` begins with no complete group. The words
+-- of the groups, appended to `old`, give `new`.
 pub record Splits (stream rest old new : List ℕ) (len : ℕ) : Type 0 where
   pub groups : List Group
   pub each : AllByRecursion IsGroup groups
@@ -17,7 +17,7 @@ pub record Splits (stream rest old new : List ℕ) (len : ℕ) : Type 0 where
   pub size : len ≡ length (texts groups)
   pub open_rest : NoGroupFirst rest
 
--- `new` is `old` and then the words of some whole groups at the front of `stream`.
+-- `new` is `old` and then the words of some complete groups at the front of `stream`.
 pub record Begins (stream old new : List ℕ) : Type 0 where
   pub groups : List Group
   pub rest : List ℕ
@@ -26,7 +26,7 @@ pub record Begins (stream old new : List ℕ) : Type 0 where
   pub content : new ≡ old ++ contents groups
 
 -- The state of an unpacker: the bytes of the unfinished group, the offset in the stream at which the group begins, and
--- whether a call has refused.
+-- whether a call has returned an error.
 pub record Held : Type 0 where
   pub rest : List ℕ
   pub offset : ℕ
@@ -36,8 +36,8 @@ pub record Held : Type 0 where
 abbrev pub advanced : ℕ → ℕ → ℕ
 advanced offset len = min (offset + len) (2 ^ 64 - 1)
 
--- The bytes held before and `piece` are whole groups and then the bytes held afterwards. The words of the groups,
--- appended to `old`, give `new`.
+-- `before.rest` and then `piece` are complete groups and then `after.rest`. The words of the groups, appended to `old`,
+-- give `new`. Neither state has failed.
 pub record Feeds (before : Held) (piece old new : List ℕ) (after : Held) : Type 0 where
   pub len : ℕ
   pub split : Splits (before.rest ++ piece) after.rest old new len

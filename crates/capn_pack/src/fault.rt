@@ -55,7 +55,7 @@ pub enum UnpackFault {
         /// The offset of the group's tag.
         at: u64,
     },
-    /// An earlier call on the same unpacker has refused.
+    /// An earlier call on the same unpacker has returned an error.
     Failed,
 }
 

@@ -4,8 +4,8 @@ ghost use Rattle.capn_pack.specs.inner.ShuffleRows.{gather_row};
 
 use std::simd::prelude::*;
 
-// Row t moves the bytes of a word that the tag t names to the front, one after another, and leaves lane 0 free for the
-// tag. The index 128 makes a lane zero.
+// Row t moves byte i of a word if bit i of the tag t is 1. The moved bytes go to lane 1 and the lanes after it, in
+// order. Lane 0 becomes zero, and is free for the tag. The index 128 makes a lane zero.
 #[rattlefmt::skip]
 static GATHERS: [[u8; 16]; 256] = [
     [128, 128, 128, 128, 128, 128, 128, 128, 128, 128, 128, 128, 128, 128, 128, 128],
@@ -266,7 +266,7 @@ static GATHERS: [[u8; 16]; 256] = [
     [128, 0, 1, 2, 3, 4, 5, 6, 7, 128, 128, 128, 128, 128, 128, 128],
 ];
 
-/// Returns, for each lane of a shuffle, the lane of the word to read. From lane 1 on, the lanes get the bytes that
+/// Returns, for each lane of a shuffle, the lane of the word that is read. From lane 1 on, the lanes get the bytes that
 /// `tag` names. Lane 0, and the lanes after those bytes, get zero.
 #[inline(always)]
 pub(crate) fn gather_places(tag: u8) -> u8x16

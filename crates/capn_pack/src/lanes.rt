@@ -20,7 +20,7 @@ pub fn tag(bytes: &[u8; 8]) -> u8
         .reduce_sum()
 }
 
-/// Returns the first sixteen bytes of `bytes`. If there are fewer, zeros follow them.
+/// Returns the first sixteen bytes of `bytes`. If `bytes` has fewer, zeros are added.
 #[inline(always)]
 fn window(bytes: &[u8]) -> u8x16
     ensures { (n : ℕ) → n ≤ 16 → n ≤ length bytes.now → take n result ≡ take n bytes.now }
@@ -33,7 +33,7 @@ fn window(bytes: &[u8]) -> u8x16
     u8x16::from_array(window)
 }
 
-/// Returns the word in which the bytes named by `tag` are the first of `lanes`, in order, and all others are zero.
+/// Returns the word in which the bytes named by `tag` are the first of `lanes`, in order, and all other bytes are zero.
 #[inline(always)]
 fn spread_lanes(tag: u8, lanes: u8x16) -> [u8; 8]
     ensures named { IsNamedBy tag result }
@@ -43,7 +43,7 @@ fn spread_lanes(tag: u8, lanes: u8x16) -> [u8; 8]
     lanes.swizzle_dyn(places).extract::<0, 8>().to_array()
 }
 
-/// Returns the word in which the bytes named by `tag` are the first of `bytes`, in order, and all others are zero.
+/// Returns the word in which the bytes named by `tag` are the first of `bytes`, in order, and all other bytes are zero.
 #[inline(always)]
 pub(crate) fn spread(tag: u8, bytes: &[u8]) -> [u8; 8]
     requires { count_ones tag ≤ length bytes.now }
@@ -53,8 +53,9 @@ pub(crate) fn spread(tag: u8, bytes: &[u8]) -> [u8; 8]
     spread_lanes(tag, window(bytes))
 }
 
-/// Returns the word in which the bytes named by `tag` are the first of `bytes`, in order, and all others are zero.
-/// `bytes` has at least sixteen bytes, so they are read in place. [`spread`] copies fewer than sixteen bytes first.
+/// Returns the word in which the bytes named by `tag` are the first of `bytes`, in order, and all other bytes are zero.
+/// `bytes` has at least sixteen bytes, so they are read in place. [`spread`] accepts fewer bytes, and copies them
+/// first.
 #[inline(always)]
 pub(crate) fn spread_far(tag: u8, bytes: &[u8]) -> [u8; 8]
     requires { 16 ≤ length bytes.now }

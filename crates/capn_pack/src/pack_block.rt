@@ -1,4 +1,4 @@
-//! The packing of small groups into a block that is then appended as a whole.
+//! The packing of small groups into a block, whose bytes are then appended to the text in one call.
 ghost use Rattle.std.specs.Prelude.{◌≡◌, ◌+◌, ◌≤◌, ◌∷◌, ◌++◌, [], length, take, drop, IfSome, IfNone};
 ghost use Rattle.capn_pack.specs.Packed.{named_bytes, tag_of};
 ghost use Rattle.capn_pack.specs.inner.Steps.{Puts, PutsRow};

@@ -9,7 +9,7 @@ use crate::runs::{long_run, word_at, zero_run};
 use crate::signs::tag;
 use std::alloc::{AllocError, Allocator};
 
-/// Appends `tag` and the bytes of `word` that `tag` names to `out`.
+/// Appends `tag` to `out`, and then the bytes of `word` that `tag` names.
 #[inline(always)]
 fn push_named<A: Allocator>(word: &[u8; 8], tag: u8, out: &mut Vec<u8, A>) -> Result<(), AllocError>
     ensures ok { OnOk result (out.new.items ≡ out.old.items ++ tag ∷ named_bytes tag word.now) }

@@ -10,7 +10,7 @@ use crate::pack_group::put_group;
 use crate::room::text_room;
 use std::alloc::{AllocError, Allocator};
 
-/// The length of the block that groups are written into, including the room for the last group.
+/// The length of the block that groups are written into, including [`ROOM`] for the last group.
 const BLOCK: usize = 4096 + ROOM;
 
 /// Packs `bytes`, which are whole words. Small groups are gathered in a block first, and long ones are appended one by
@@ -39,13 +39,14 @@ fn pack_words<A: Allocator + Copy>(alloc: A, bytes: &[u8]) -> Result<Vec<u8, A>,
 /// Packs whole words and returns the one text that this packer chooses. (Page: packing. Where runs end is our own.)
 ///
 /// `bytes` are the bytes of the words, the least significant byte of each first. The text grows on `alloc` a
-/// logarithmic number of times. A growth makes room for the text of the remaining words, as if they packed like the
-/// words before, but for at most 64 times the text so far. Or the growth doubles the capacity.
+/// logarithmic number of times. A growth reserves capacity for the text of the remaining words, as if they packed like
+/// the words that are packed already, but for at most 64 times the text so far. If doubling the capacity gives more,
+/// the capacity is doubled.
 ///
-/// Refusals: `NotWhole` with the number of bytes, if that is no multiple of eight, before any allocation. `Memory` if
-/// an allocation was refused, which can happen only if `bytes` is not empty.
+/// Errors: `NotWhole` with the number of bytes, if that is no multiple of eight, before any allocation. `Memory` if an
+/// allocation was refused, which can happen only if `bytes` is not empty.
 pub fn pack<A: Allocator + Copy>(alloc: A, bytes: &[u8]) -> Result<Vec<u8, A>, PackFault>
-    // If `result` is `Ok`, it is the packer's text of the words, and therefore a packed text of the words.
+    // If `result` is `Ok`, the returned text is the packer's text of the words, and so a packed text of the words.
     ensures packed { IfOk result (λ v. Chosen v.items bytes.now) }
     ensures packs { IfOk result (λ v. Packs v.items bytes.now) }
     // The packer has one text for the words. That text is returned, unless an allocation is refused.

@@ -1,4 +1,4 @@
-//! The room that is reserved ahead for a long text or for many words, so that the bytes are seldom moved.
+//! The capacity that is reserved in advance for a long text or for many words, so that the bytes are seldom moved.
 ghost use Rattle.std.specs.Prelude.{◌≤◌, ◌+◌, ◌*◌, max, length};
 
 use std::alloc::Allocator;
@@ -6,9 +6,10 @@ use std::alloc::Allocator;
 /// The limit of one growth of a text, as a multiple of the text so far.
 const TIMES: usize = 64;
 
-/// Returns the number of bytes to reserve in `out` for `count` more bytes of text. With them, the text packs the first
-/// `at` of `all` bytes. If `out` has room for `count` bytes, returns `count`. Otherwise adds an estimate for the words
-/// after byte `at`, as if they packed like the words before, but at most [`TIMES`] times the text so far.
+/// Returns the number of bytes to reserve in `out` for `count` more bytes of text. The text and these bytes pack the
+/// first `at` of `all` bytes. If `out` has capacity for `count` more bytes, returns `count`. Otherwise returns `count`
+/// plus an estimate for the words after byte `at`, as if they packed like the words before byte `at`. The estimate is
+/// at most [`TIMES`] times the text so far.
 #[inline(always)]
 pub(crate) fn text_room<A: Allocator>(
     out: &Vec<u8, A>,
@@ -28,8 +29,8 @@ pub(crate) fn text_room<A: Allocator>(
 }
 
 /// Returns the number of bytes to reserve in `out` for `count` more bytes, which are words of the first groups of
-/// `rest`. If `out` has room for `count` bytes, returns `count`. Otherwise returns twice the length of `rest`, but at
-/// most the bytes of `room` words and at least `count`. Ten bytes of groups pack at least eight bytes of words.
+/// `rest`. If `out` has capacity for `count` more bytes, returns `count`. Otherwise returns at most twice the length of
+/// `rest` and at most the bytes of `room` words, but at least `count`.
 #[inline(always)]
 pub(crate) fn words_room<A: Allocator>(
     out: &Vec<u8, A>,

@@ -6,8 +6,8 @@ use std::simd::prelude::*;
 
 /// Returns the tag of the word `bytes`, read from the sign bits of the word's lanes.
 ///
-/// The result equals that of [`tag`](crate::tag). Here a test whether the tag is zero becomes one comparison of the
-/// whole word, so long runs of zero words are found faster.
+/// The result equals the result of [`tag`](crate::tag). A test of this result for zero becomes one comparison of all
+/// eight bytes, so long runs of zero words are found faster.
 #[inline(always)]
 pub(crate) fn tag(bytes: &[u8; 8]) -> u8
     ensures { result ≡ tag_of bytes.now }

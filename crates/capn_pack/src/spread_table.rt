@@ -1,11 +1,12 @@
-//! The table of shuffles that bring the bytes named by a tag from the front to their places in a word.
+//! The table of shuffles that move the first bytes of a vector to the places in a word that a tag names.
 ghost use Rattle.std.specs.Prelude.{◌≡◌};
 ghost use Rattle.capn_pack.specs.inner.ShuffleRows.{spread_row};
 
 use std::simd::prelude::*;
 
-// Row t moves the bytes that the tag t names from the front to their lanes of the word. The index 128 makes a lane
-// zero. The table costs one load and one shuffle a word. A loop over the bits of the tag takes some sixty instructions.
+// Row t moves the first lanes of a vector, in order, to those bytes of the word whose bit in the tag t is 1. The index
+// 128 makes a lane zero. The table costs one load and one shuffle a word. A loop over the bits of the tag takes some
+// sixty instructions.
 #[rattlefmt::skip]
 static SPREADS: [[u8; 16]; 256] = [
     [128, 128, 128, 128, 128, 128, 128, 128, 128, 128, 128, 128, 128, 128, 128, 128],
@@ -266,7 +267,7 @@ static SPREADS: [[u8; 16]; 256] = [
     [0, 1, 2, 3, 4, 5, 6, 7, 128, 128, 128, 128, 128, 128, 128, 128],
 ];
 
-/// Returns, for each byte of a word with the tag `tag`, the lane to read.
+/// Returns, for each byte of a word with the tag `tag`, the lane to read, or 128 for a zero byte.
 #[inline(always)]
 pub(crate) fn spread_places(tag: u8) -> u8x16
     ensures { result ≡ spread_row tag }

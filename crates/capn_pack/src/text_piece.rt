@@ -10,7 +10,7 @@ use std::alloc::{AllocError, Allocator};
 /// The length of the buffer for an unfinished group and for the bytes of the next piece that may complete the group.
 pub(crate) const HELD: usize = 4099;
 
-/// Appends the words of the whole groups at the front of `bytes` to `out`, and returns the number of bytes of those
+/// Appends to `out` the words of the complete groups at the front of `bytes`, and returns the number of bytes of those
 /// groups. `block` is overwritten.
 fn take_groups<A: Allocator>(
     bytes: &[u8],
@@ -44,7 +44,7 @@ fn take_groups<A: Allocator>(
 }
 
 /// The state of an unfinished group after more bytes: `Open` with the number of bytes that the group has now, or
-/// `Whole` with the number of bytes of the piece that completed the group.
+/// `Whole` with the number of bytes that the group got from the piece.
 #[derive(Clone, Copy)]
 pub(crate) enum Joined {
     Open(usize),
@@ -62,7 +62,7 @@ fn fill(held: &mut [u8], len: usize, piece: &[u8])
 }
 
 /// Joins the unfinished group, which is the first `len` bytes of `held`, with the front of `piece`. If the group is
-/// then whole, appends its words to `out`.
+/// then complete, appends its words to `out`.
 fn join_first<A: Allocator>(
     held: &mut [u8],
     len: usize,
@@ -88,15 +88,16 @@ fn join_first<A: Allocator>(
     }
 }
 
-/// The outcome of a piece: `len` is the number of bytes of the unfinished group, which are held, and `taken` is the
-/// number of bytes of the groups before it.
+/// The result of unpacking a piece. `len` is the number of bytes of the unfinished group, with which `held` begins.
+/// `taken` is the number of bytes of the complete groups before the unfinished group.
 #[derive(Clone, Copy)]
 pub(crate) struct Fed {
     pub len: usize,
     pub taken: usize,
 }
 
-/// Unpacks `piece` if no bytes are held. Appends the words of the whole groups to `out`, and copies the rest to `held`.
+/// Unpacks `piece`, if no earlier group is unfinished. Appends the words of the complete groups to `out`, and copies
+/// the bytes after those groups to `held`.
 fn feed_fresh<A: Allocator>(
     held: &mut [u8],
     piece: &[u8],
@@ -115,8 +116,8 @@ fn feed_fresh<A: Allocator>(
     })
 }
 
-/// Unpacks `piece` after the first `len` bytes of `held`, which are the first part of a group. Appends the words of the
-/// groups that are then whole to `out`, and keeps the rest in `held`.
+/// Unpacks `piece` after the first `len` bytes of `held`, which begin an unfinished group. Appends to `out` the
+/// words of the groups that are then complete. Stores the bytes after those groups in `held`.
 fn feed_begun<A: Allocator>(
     held: &mut [u8],
     len: usize,
@@ -141,8 +142,8 @@ fn feed_begun<A: Allocator>(
     }
 }
 
-/// Unpacks `piece` after the first `len` bytes of `held`. `len` may be 0. Appends the words of the groups that are then
-/// whole to `out`, and keeps the rest in `held`.
+/// Unpacks `piece` after the first `len` bytes of `held`. `len` may be 0. Appends to `out` the words of the groups
+/// that are then complete. Stores the bytes after those groups in `held`.
 pub(crate) fn feed_held<A: Allocator>(
     held: &mut [u8],
     len: usize,

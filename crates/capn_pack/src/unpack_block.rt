@@ -1,4 +1,4 @@
-//! The unpacking of small groups into a block that is then appended as a whole.
+//! The unpacking of small groups into a block, whose bytes are then appended to the words in one call.
 ghost use Rattle.std.specs.Prelude.{◌≡◌, ◌+◌, ◌*◌, ◌<◌, ◌≤◌, ◌++◌, [], length, take, slice_index, slice_range};
 ghost use Rattle.std.specs.Prelude.{replicate, IfSome, IfOk, OnErr};
 ghost use Rattle.capn_pack.specs.UnpackRefusal.{StartsWithin};
@@ -92,7 +92,7 @@ fn fill_named(text: &[u8], at: usize, block: &mut [u8], fill: usize) -> Block
     let tag = rest[0];
     let word = spread_far(tag, &rest[1..]);
     store_word(block, fill, word);
-    // The load of the next tag waits for this sum, so only one step leads from the count of bits to the offset.
+    // The next tag can be loaded only when this sum is known, so the sum is kept short.
     Block {
         at: at + 1 + tag.count_ones() as usize,
         fill: fill + 8,
@@ -118,8 +118,8 @@ fn fill_group(text: &[u8], at: usize, block: &mut [u8], fill: usize) -> Option<B
 }
 
 /// Writes the words of the group at byte `at` of `text` to `block` from offset `fill` on, near the end of the text or
-/// of the block. Returns `None` for a raw group and for more than eight zero words, and also for zero words if fewer
-/// than [`SLACK`] bytes are left up to `limit`.
+/// of the block. Returns `None` for a raw group, for more than eight zero words, and for any zero words if `fill`
+/// is fewer than [`SLACK`] bytes before `limit`.
 #[inline(always)]
 fn fill_last(text: &[u8], at: usize, block: &mut [u8], fill: usize, limit: usize) -> Option<Block>
     requires far { at + 17 ≤ length text.now }
@@ -148,7 +148,7 @@ struct Stretch {
 }
 
 /// Fills `block` with the words of the next `steps` groups of `text`, but stops before a group of more than eight
-/// words. The requirements give each group its bytes and its room, so that only the kind of a group is tested.
+/// words. The requirements guarantee that `text` and `block` have enough bytes for all these groups.
 #[inline(always)]
 fn fill_steps(text: &[u8], from: Block, block: &mut [u8], steps: usize) -> Stretch
     requires far { from.at + REACH * steps ≤ length text.now }
@@ -180,8 +180,8 @@ fn fill_steps(text: &[u8], from: Block, block: &mut [u8], steps: usize) -> Stret
     }
 }
 
-/// Returns a number of groups of at most eight words for which the text surely has the bytes and the block the room.
-/// The text has `len` bytes, the block has room up to `limit`, and `from` is the progress so far.
+/// Returns a number of groups that surely fit after the progress `from`, if each has at most eight words. A text of
+/// `len` bytes has [`REACH`] bytes for each group, and a block has [`SLACK`] bytes up to `limit` for each group.
 #[inline(always)]
 fn sure_steps(len: usize, limit: usize, from: Block) -> usize
     requires inside { from.at ≤ len }
@@ -238,8 +238,8 @@ fn fill_block(text: &[u8], block: &mut [u8], limit: usize) -> Block
     fill_rest(text, from, block, limit)
 }
 
-/// Appends the words of the first groups of `rest` to `out`, at most `room` words and as many as fit into `block`.
-/// There may be no such groups.
+/// Appends the words of some first groups of `rest` to `out`: at most `room` words, and at most as many as fit into
+/// `block`. Returns the numbers of bytes and words of these groups, which may be 0.
 pub(crate) fn take_block<A: Allocator>(
     rest: &[u8],
     room: usize,

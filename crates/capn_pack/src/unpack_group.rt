@@ -19,7 +19,7 @@ pub(crate) enum Stop {
     Memory,
     /// The bytes end within the group.
     Cut,
-    /// The group has more words than there is room for.
+    /// The group has more words than are left of the maximum.
     TooLong,
 }
 
@@ -33,12 +33,12 @@ impl From<AllocError> for Stop {
     }
 }
 
-/// The size of a group that was read.
+/// The size of a group, or of a row of groups, that was read.
 #[derive(Clone, Copy)]
 pub(crate) struct Taken {
-    /// The number of bytes of the group.
+    /// The number of bytes of the group or row.
     pub bytes: usize,
-    /// The number of words of the group.
+    /// The number of words of the group or row.
     pub words: usize,
 }
 

@@ -1,4 +1,4 @@
-//! The call `unpack`, which unpacks a whole packed text of at most a given number of words.
+//! The call `unpack`, which unpacks a complete packed text of at most a given number of words.
 ghost use Rattle.std.specs.Prelude.{◌≡◌, ◌*◌, ◌≤◌, length, IfOk, IfErr, IsErrOf, MatchResult, List, ℕ};
 ghost use Rattle.capn_pack.specs.Packed.{Packs};
 ghost use Rattle.capn_pack.specs.UnpackRefusal.{IsUnpackRefused, StartsWithin};
@@ -51,13 +51,14 @@ fn unpack_groups<A: Allocator + Copy>(
 ///
 /// Texts that the packer would not write are read too: tag bits that are set for zero bytes, short runs, any raw words.
 /// (Our own.) The empty text packs no words. The result grows on `alloc` a logarithmic number of times, and only for
-/// the words of whole groups within the maximum. A growth makes room for those words, and for at most twice the number
-/// of bytes that are left of the text, within the maximum. Or the growth doubles the capacity.
+/// the words of complete groups within the maximum. A growth reserves capacity for at least those words. It reserves
+/// more for the text after those groups: at most twice the bytes of that text, and at most the maximum. If doubling the
+/// capacity gives more, the capacity is doubled.
 ///
-/// Refusals, with the offset of the group's tag: `Cut` if the head of the group is cut. Otherwise `TooLong` if the
-/// group and the groups before it have more than `max_words` words. Otherwise `Cut` if the group's raw words are cut.
-/// `Memory` if an allocation was refused, which can happen only if the text begins with a whole group within the
-/// maximum. `Failed` is never returned.
+/// Errors: `Cut` if the head of a group is incomplete. Otherwise `TooLong` if the group and the groups before it have
+/// more than `max_words` words. Otherwise `Cut` if the raw words of the group are incomplete. `Cut` and `TooLong` have
+/// the offset of the group's tag in `bytes`. `Memory` if an allocation was refused, which can happen only if `bytes`
+/// begin with a complete group within the maximum. `Failed` is never returned.
 pub fn unpack<A: Allocator + Copy>(
     alloc: A,
     bytes: &[u8],
@@ -66,14 +67,14 @@ pub fn unpack<A: Allocator + Copy>(
     // If `result` is `Ok`, `bytes` pack the returned words, which are within the maximum.
     ensures found { IfOk result (λ v. Packs bytes.now v.items) }
     ensures within { IfOk result (λ v. length v.items ≤ 8 * max_words) }
-    // If `result` is `Ok`, it is the bytes of whole words.
+    // If `result` is `Ok`, the returned bytes are the bytes of words.
     ensures words { IfOk result (λ v. HasWords v.items) }
     // If `bytes` pack words within the maximum, those words are returned, unless an allocation is refused.
     ensures only { (bs : List ℕ) → Packs bytes.now bs → length bs ≤ 8 * max_words
         → MatchResult result (λ v. v.items ≡ bs) (λ e. e ≡ UnpackFault.Memory) }
-    // If `result` is an `Err`, `IsUnpackRefused` says what the text has at the offset of the refusal.
+    // If `result` is an `Err`, `IsUnpackRefused` holds of `bytes`, `max_words` and the error.
     ensures refused { IfErr result (λ e. IsUnpackRefused bytes.now max_words e) }
-    // `Memory` is returned only if `bytes` begin with a whole group within the maximum.
+    // `Memory` is returned only if `bytes` begin with a complete group within the maximum.
     ensures memory { IsErrOf result UnpackFault.Memory → StartsWithin bytes.now max_words }
 {
     match unpack_groups(alloc, bytes, max_words) {

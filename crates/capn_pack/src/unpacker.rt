@@ -7,11 +7,11 @@ use crate::text_piece::{HELD, feed_held};
 use std::alloc::Allocator;
 use std::marker::Model;
 
-/// An unpacker of a text that is given in pieces, cut anywhere. (Our own.)
+/// An unpacker of a text that is given in pieces. A piece may end anywhere. (Our own.)
 ///
-/// An unpacker keeps the bytes of the unfinished group, at most 2,049, and the offset of that group's tag in the text.
-/// The buffer for those bytes is part of the unpacker, so memory is taken only for the words of a piece. After any
-/// refusal each later call returns `Failed` and changes nothing.
+/// An unpacker stores the bytes of the unfinished group, at most 2,049, and the offset of that group's tag in the text.
+/// The buffer for those bytes is in the unpacker itself, so memory is taken only for the words of a piece. After any
+/// error each later call returns `Failed` and changes nothing.
 #[derive(Debug, Drop)]
 pub struct Unpacker {
     held: [u8; HELD],
@@ -54,31 +54,31 @@ impl Unpacker {
         }
     }
 
-    /// Takes the next `piece` of the text. Appends to `out` the words of each group that becomes whole.
+    /// Reads the next `piece` of the text. Appends to `out` the words of each group that becomes complete.
     ///
-    /// All of `piece` is taken, and the bytes of a group that is not whole yet are kept. There is no maximum of words,
-    /// since the length of the pieces bounds the number of words.
+    /// All of `piece` is read, and the bytes of an unfinished group are stored. There is no maximum of words, since the
+    /// length of the pieces bounds the number of words.
     ///
-    /// Refusals: `Memory` if an allocation for `out` was refused. A prefix of the words was appended then. A piece that
-    /// makes no group whole takes no memory. `Failed` after an earlier refusal, and `out` is as it was.
+    /// Errors: `Memory` if an allocation for `out` was refused. In that case a prefix of the words was appended. A
+    /// piece that completes no group takes no memory. `Failed` after an earlier error, and `out` is not changed.
     pub fn feed<A: Allocator>(
         &mut self,
         piece: &[u8],
         out: &mut Vec<u8, A>,
     ) -> Result<(), UnpackFault>
-        // If `result` is `Ok`, the bytes held before and `piece` are whole groups and then the bytes held now. The
-        // words of those groups were appended.
+        // If `result` is `Ok`, `self.old.rest` and then `piece` are complete groups and then `self.new.rest`. The words
+        // of the complete groups were appended.
         ensures fed { OnOk result (Feeds self.old piece.now out.old.items out.new.items self.new) }
         // If an allocation was refused, a prefix of the words was appended, and the text cannot be continued.
         ensures begun { IsErrOf result UnpackFault.Memory
             → Begins (self.old.rest ++ piece.now) out.old.items out.new.items
             × (self.new.failed ≡ true) }
-        // An allocation can be refused only if a group became whole.
+        // An allocation can be refused only if a group became complete.
         ensures memory { IsErrOf result UnpackFault.Memory → NoGroupFirst (self.old.rest ++ piece.now) → ⊥ }
-        // After a refusal, each later call changes nothing.
+        // After an error, each later call returns `Failed` and changes nothing.
         ensures failed { self.old.failed ≡ true → (result ≡ Err UnpackFault.Failed)
             × (out.new.items ≡ out.old.items) × (self.new ≡ self.old) }
-        // Without an earlier refusal, the only refusal is `Memory`.
+        // If there was no earlier error, the only error is `Memory`.
         ensures kinds { self.old.failed ≡ false → IfErr result (λ e. e ≡ UnpackFault.Memory) }
     {
         if self.failed {
@@ -108,14 +108,14 @@ impl Unpacker {
 
     /// Tells the unpacker that the text ends here.
     ///
-    /// Refusals: `Cut` at the offset of the unfinished group's tag, if there is one. `Failed` after an earlier refusal.
-    /// After `Ok` the text may continue. Takes no memory.
+    /// Errors: `Cut` with the offset of the unfinished group's tag, if there is such a group. `Failed` after an earlier
+    /// error. After `Ok` the text may continue. Takes no memory.
     pub fn finish(&mut self) -> Result<(), UnpackFault>
         ensures ok { OnOk result ((self.old.rest ≡ []) × (self.old.failed ≡ false) × (self.new ≡ self.old)) }
         ensures cut { self.old.failed ≡ false → self.old.rest ≢ []
             → (result ≡ Err (UnpackFault.Cut self.old.offset)) × (self.new.failed ≡ true) }
         ensures failed { self.old.failed ≡ true → (result ≡ Err UnpackFault.Failed) × (self.new ≡ self.old) }
-        // Whatever `result` is, the bytes that are held stay.
+        // Whatever `result` is, the bytes of the unfinished group stay.
         ensures kept { self.new.rest ≡ self.old.rest }
         ensures whole { self.old.failed ≡ false → self.old.rest ≡ [] → IsOk result }
     {

@@ -1,4 +1,4 @@
-//! The call `unpack_some`, which unpacks the whole groups at the front of some bytes.
+//! The call `unpack_some`, which unpacks the complete groups at the front of some bytes.
 
 ghost use Rattle.std.specs.Prelude.{◌≡◌, ◌+◌, ◌≤◌, length, IfOk, OnErr};
 ghost use Rattle.capn_pack.specs.UnpackRefusal.{StartsWithin};
@@ -11,18 +11,19 @@ use std::alloc::{AllocError, Allocator};
 /// The length of the block that groups are read into, including its slack.
 const BLOCK: usize = 4096 + SLACK;
 
-/// The reason why no more whole groups were unpacked: what follows the unpacked groups.
+/// The reason why no more groups were unpacked: what follows the unpacked groups.
 #[derive(Clone, Copy, Debug, PartialEq, Eq)]
 pub enum Next {
     /// The end of the bytes.
     End,
-    /// The first part of a group, at most 2,049 bytes. The group may become whole with the bytes that follow.
+    /// A group that the end of the bytes cuts off. At most 2,049 bytes of the group come before that end. Further bytes
+    /// may complete the group.
     Cut,
     /// A group whose head gives it more words than are left of the maximum.
     TooLong,
 }
 
-/// The part of the given bytes that was unpacked, and what follows that part.
+/// The size of the groups that were unpacked, and what follows those groups.
 #[derive(Clone, Copy, Debug, PartialEq, Eq)]
 pub struct Progress {
     /// The number of bytes of the unpacked groups.
@@ -47,28 +48,29 @@ fn stopped(bytes: usize, max_words: u32, room: usize, next: Next) -> Progress
     }
 }
 
-/// Appends the words of the whole groups at the front of `bytes` to `out`, as long as there are at most `max_words`
-/// words in all. (Our own.)
+/// Appends to `out` the words of the complete groups at the front of `bytes`, as long as there are at most `max_words`
+/// words in all. Returns the size of these groups and what follows them. (Our own.)
 ///
-/// Repeated calls unpack a text in pieces with one maximum for all. Each call gets the bytes that the last call left
-/// and the next piece, and the maximum without the words that were unpacked. If a call returns `TooLong`,
-/// [`unpack`](crate::unpack) refuses the whole text with `TooLong`, at the group that follows. If the last call returns
-/// `Cut`, [`unpack`](crate::unpack) refuses the text with `Cut` there.
+/// Repeated calls unpack a text in pieces under one maximum. Each call gets the bytes that the earlier call did not
+/// unpack, and then the next piece. The caller subtracts the unpacked words from the maximum. If a call returns
+/// `TooLong`, [`unpack`](crate::unpack) returns `TooLong` for all of the text, at the group after the unpacked groups.
+/// If the last call returns `Cut`, [`unpack`](crate::unpack) returns `Cut` at the group after the unpacked groups.
 ///
-/// Takes no memory except for the words in `out`. Refusal: `AllocError` if an allocation for `out` was refused, which
-/// can happen only if `bytes` begin with a whole group within the maximum. A prefix of the words was appended then.
+/// Takes memory for the words in `out` only. Error: `AllocError` if an allocation for `out` was refused, which can
+/// happen only if `bytes` begin with a complete group within the maximum. In that case a prefix of the words was
+/// appended.
 pub fn unpack_some<A: Allocator>(
     bytes: &[u8],
     max_words: u32,
     out: &mut Vec<u8, A>,
 ) -> Result<Progress, AllocError>
-    // If `result` is `Ok`, the words of the groups were appended, and no whole group within the rest of the maximum
-    // follows.
+    // If `result` is `Ok`, the words of the first groups were appended. No complete group that fits into the maximum
+    // follows these groups.
     ensures some { IfOk result (λ p. UnpacksSome bytes.now max_words out.old.items out.new.items p.bytes p.words
         p.next) }
     // If an allocation was refused, a prefix of the words within the maximum was appended.
     ensures begun { OnErr result (AppendsSome bytes.now max_words out.old.items out.new.items) }
-    // An allocation can be refused only if `bytes` begin with a whole group within the maximum.
+    // An allocation can be refused only if `bytes` begin with a complete group within the maximum.
     ensures memory { OnErr result (StartsWithin bytes.now max_words) }
 {
     let mut block = [0; BLOCK];

@@ -1,4 +1,4 @@
--- Following a path reaches the slot to which the path leads. (For `followed`, `held`, `holder_of` and `holders`.)
+-- If a path leads to a slot, `follow` gives that slot. (For `followed`, `held`, `holder_of` and `holders`.)
 use Rattle.std.proofs.Common.{◌≡◌, ℕ, zero, suc, ◌+◌, ◌<◌, ◌≤◌, List, [], ◌∷◌, ◌++◌, length, Result, Ok, Err}
 use Rattle.std.proofs.Common.{refl, ap, sym, ◌∙◌, arith, append_assoc, length-append, Option, Some, None}
 use Rattle.std.proofs.lemmas.List.{append-nil}
@@ -26,7 +26,6 @@ use Rattle.capn_path.proofs.shared.Steps.{goes}
 use Rattle.capn_path.proofs.Holding.{spot, told, Taken, taken, held-one}
 
 module _ (m : List (List ℕ)) where
-  -- a path without numbers leads to the slot itself
   at-end : (n : ℕ) (x : Spot) → follow m n x [] ≡ Some x
   at-end zero x = refl
   at-end (suc n) x = refl
@@ -85,7 +84,7 @@ module _ (m : List (List ℕ)) where
   all-done n x [] r e z = sym (at-end n x) ∙ e
   all-done n x (i ∷ path) r e z = absurd (omega arith)
 
-  -- ---- following a path that leads to a slot reaches that slot
+  -- ---- if a path leads to a slot, `follow` gives that slot
 
   record Follows (fuel : ℕ) (here : Spot) (path : List ℕ) (to : Place) (more : List ℕ) : Type 0 where
     x : Spot
@@ -130,7 +129,6 @@ module _ (m : List (List ℕ)) where
   led base (suc d) here (i ∷ path) to n h fuel more k =
       descends base d (λ x w p j l f r e. led base d x w p j l f r e) here (i ∷ path) to n h fuel more k (omega arith)
 
-  -- following a path to a slot that an object holds reaches that slot, with that object as the holder
   last-step : (left : ℕ) (x : Spot) (numbers : List ℕ) (slot : Place) (holder : Holder) → 0 < length numbers
       → length numbers ≤ left
       → ((rest : List ℕ) → step_by (target m x.place) (numbers ++ rest) ≡ Some (spot holder slot, rest))
@@ -151,7 +149,7 @@ module _ (m : List (List ℕ)) where
       ∙ last-step f.left f.x h.numbers to st.holder st.some f.enough st.is
       ∙ ap (λ (y : Holder). Some (spot y to)) one
 
-  -- ---- a path that was followed leads to a slot that an object holds
+  -- ---- if `follow` gives a slot, an object holds that slot
 
   record Held (here : Spot) (path : List ℕ) (y : Spot) : Type 0 where
     holder : Holder
@@ -160,7 +158,7 @@ module _ (m : List (List ℕ)) where
 
   module _ (at : Place) (s from pads : ℕ) (shape : Shape) (names : target m at ≡ Ok (targets.Content s from shape pads))
       (path : List ℕ) (x : Spot) (rest : List ℕ) (t : Taken s from shape pads path x rest) where
-    -- the first step of the path is the last
+    -- Case: the path has one step. The holder is that of this step.
     alone : rest ≡ [] → Holds m at path x.place t.holder
     alone e = record {
       base = 0;
@@ -180,7 +178,7 @@ module _ (m : List (List ℕ)) where
       held = t.held;
     }
 
-    -- the first step of the path is followed by further steps
+    -- Case: the path has more than one step. The holder is that of the later steps.
     before-others : (to : Place) (holder : Holder) → Holds m x.place rest to holder → Holds m at path to holder
     before-others to holder g =
         let between = 1 + length (visits_of m g.base g.depth t.before) + g.between in
@@ -289,7 +287,6 @@ module _ (m : List (List ℕ)) where
   none-holds path e to holder h =
       let f = ap holder_at (holds-followed (length path) start path to holder h (omega arith)) in cc
 
-  -- the result for a path that leads to a slot
   pub leads-holds : (base d : ℕ) (path : List ℕ) (to : Place) (n : ℕ) → Leads m base d root path to n
       → (r : Option Holder) → answer path ≡ r → IsHolderOrRoot m path to r
   leads-holds base d [] to n h None e = refl
@@ -312,14 +309,13 @@ module _ (m : List (List ℕ)) where
   if-none path (Some holder) e = tt
   if-none path None e = none-holds path (sym e)
 
-  -- if there is no root, no slot is held
   pub no-root : (path : List ℕ) (n : ℕ) → target m root ≡ Ok targets.Nil → holder_at (follow m n start path) ≡ None
   no-root path zero e = refl
   no-root [] (suc n) e = refl
   no-root (i ∷ path) (suc n) e =
       ap (λ (found : Result Target Fault). holder_at (onward (follow m n) (step_by found (i ∷ path)))) e
 
-  -- at most one object holds a slot
+  -- at most one object holds the slot to which a path leads, and the path leads to one slot
   pub one-holder : (path : List ℕ) (to at : Place) (holder other : Holder) → IsHolder m path to holder
       → IsHolder m path at other → (other ≡ holder) × (at ≡ to)
   one-holder path to at holder other h g =
@@ -331,7 +327,6 @@ module _ (m : List (List ℕ)) where
       let held = ap (λ (x : Spot). x.holder) same in
       (some-one other holder (sym held), ap (λ (x : Spot). x.place) (sym same))
 
--- the first word of a segment without words counts as 0
 first-word : (ws : List ℕ) → length ws ≡ 0 → slice_index ws 0 ≡ 0
 first-word [] e = refl
 first-word (w ∷ ws) e = absurd (omega arith)

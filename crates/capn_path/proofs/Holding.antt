@@ -24,7 +24,6 @@ use Rattle.capn_path.proofs.Unique.{row-parts}
 
 -- ---- consecutive slots
 
--- the place of a slot, given the slots before it
 slot-there : (s w n : ℕ) (before : List Place) (p : Place) (behind : List Place)
     → places s w n ≡ before ++ p ∷ behind → (p ≡ place s (w + length before)) × (length before < n)
 slot-there s w zero before p behind e = absurd (none-split before p behind e)
@@ -39,7 +38,6 @@ slot-there s w (suc n) (q ∷ before) p behind e =
     let small = r.1 in
     (rw z at r.0, omega arith)
 
--- a slot, with the slots before and the slots after that slot
 pub record Around (ps : List Place) (number : ℕ) (p : Place) : Type 0 where
   pub before : List Place
   pub behind : List Place
@@ -118,7 +116,7 @@ around-row s w a b n row slot h k =
 
 -- ---- a step among the slots of a holder
 
--- the result of a step to a slot that a holder holds
+-- the slot at `at`, which `holder` holds
 abbrev pub spot : Holder → Place → Spot
 spot holder at = record { holder = Some holder; place = at }
 
@@ -126,7 +124,7 @@ among : (holder : Holder) (first : Place) (n i : ℕ) (rest : List ℕ) → i < 
     → step_among holder first n (i ∷ rest) ≡ Some (spot holder (place first.segment (first.word + i)), rest)
 among holder first n i rest h = if-yes _ _ _ (less-yes i n h)
 
--- a step that was taken
+-- `path` is a number below `n` and then `rest`, and `x` is the slot of `holder` with that number
 record Among (holder : Holder) (first : Place) (n : ℕ) (path : List ℕ) (x : Spot) (rest : List ℕ) : Type 0 where
   number : ℕ
   small : number < n
@@ -159,9 +157,9 @@ were-among holder first n (i ∷ path) x rest e =
     })
     (λ t. λ f. absurd (cc)) e
 
--- ---- a step with the numbers of a slot
+-- ---- a step by the numbers of a slot
 
--- the result of a step with the numbers of a slot
+-- `numbers` are the numbers of `slot`, and a step by them leads to `slot` and its holder
 pub record Told (s start : ℕ) (shape : Shape) (pads : ℕ) (numbers : List ℕ) (slot : Place) : Type 0 where
   pub some : 0 < length numbers
   pub holder : Holder
@@ -222,7 +220,7 @@ told s start pads (shapes.Rows n a b span) before slot behind [] e h = absurd h
 told s start pads (shapes.Rows n a b span) before slot behind (row ∷ []) e h = absurd h
 told s start pads (shapes.Rows n a b span) before slot behind (row ∷ i ∷ j ∷ numbers) e h = absurd h
 
--- ---- the numbers of a step that was taken
+-- ---- the numbers by which a step led to a slot
 
 pub record Taken (s start : ℕ) (shape : Shape) (pads : ℕ) (path : List ℕ) (x : Spot) (rest : List ℕ) : Type 0 where
   pub numbers : List ℕ

@@ -1,4 +1,4 @@
--- The state of a search among visits. (For the cycle `seek`.)
+-- The aim and the path after a search among visits. (For the cycle `seek`.)
 use Rattle.std.proofs.Common.{◌≡◌, ℕ, zero, suc, ◌+◌, ◌-◌, ◌*◌, ◌<◌, List, [], ◌∷◌, ◌++◌, length, Option, Some, None}
 use Rattle.std.proofs.Common.{take, Ok, Err, Result, refl, ap, sym, subst, ◌∙◌, arith, append_assoc, length-append}
 use Rattle.std.proofs.lemmas.List.{append-nil}
@@ -21,7 +21,6 @@ use Rattle.capn_path.specs.inner.Seeks.{Seeks, SeeksBelow}
 use Rattle.capn_path.proofs.shared.Steps.{length-places, length-rows, row-split, middle, stays, goes-down}
 use Rattle.capn_path.proofs.shared.Passing.{passed-append, passed-alone, begins}
 
--- the path without its last number
 pub popped : (path old new : List ℕ) (i n : ℕ) → old ≡ path ++ i ∷ [] → n ≡ length old → new ≡ take (n - 1) old
     → new ≡ path
 popped path old new i n e l h =
@@ -30,7 +29,6 @@ popped path old new i n e l h =
     let k : n - 1 ≡ length path = omega arith in
     h ∙ rw (k, e) (take-append_seam path (i ∷ []))
 
--- rows without slots give no places
 no-slots : (s w a b n : ℕ) → b ≡ 0 → row_places s w a b n ≡ []
 no-slots s w a b zero z = refl
 no-slots s w a b (suc n) z =
@@ -120,7 +118,7 @@ module _ {G F : Type 0} (m : List (List ℕ)) (finds : G → Place → Result Ta
   -- ---- from several slots on
 
   module _ (d s w : ℕ) where
-    -- the visits of the first i slots
+    -- the visits of the first `i` slots and of all slots below them
     abbrev first : ℕ → List Visit
     first i = visits_of m base d (places s w i)
 
@@ -176,15 +174,15 @@ module _ {G F : Type 0} (m : List (List ℕ)) (finds : G → Place → Result Ta
   -- ---- from the slots of rows on
 
   module _ (d s w a b : ℕ) where
-    -- the visits of the slots of the first i rows
+    -- the visits of the slots of the first `i` rows and of all slots below them
     abbrev first_rows : ℕ → List Visit
     first_rows i = visits_of m base d (row_places s w a b i)
 
-    -- the places of the slots of row i
+    -- the places of the slots of row `i`
     abbrev row : ℕ → List Place
     row i = places s (w + i * (a + b) + a) b
 
-    -- the places of the slots of the rows after row i, of n rows
+    -- the places of the slots of the rows after row `i`, if there are `n` rows
     abbrev later_rows : ℕ → ℕ → List Place
     later_rows i n = row_places s (w + i * (a + b) + a + b) a b (n - suc i)
 

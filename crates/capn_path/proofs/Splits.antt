@@ -1,4 +1,5 @@
--- An element of two lists that are joined. (For `Followed`, `Holding` and `Unique`.)
+-- If two joined lists are split at an element, that element is in the first list or in the second. (For `Followed`,
+-- `Holding` and `Unique`.)
 use Rattle.std.proofs.Common.{◌≡◌, ◌⊎◌, inl, inr, List, [], ◌∷◌, ◌++◌, length}
 use Rattle.std.proofs.Common.{refl, ap, ap₂, sym, arith, length-append}
 
@@ -31,6 +32,5 @@ in-either (a ∷ zs) bs (y ∷ xs) x ys e =
       })
     ]
 
--- an empty list has no element
 pub none-split : {A : Type 0} (xs : List A) (x : A) (ys : List A) → [] ≡ xs ++ x ∷ ys → ⊥
 none-split xs x ys e = let l = ap length e in let m = length-append xs (x ∷ ys) in omega arith

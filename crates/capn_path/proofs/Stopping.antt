@@ -1,5 +1,5 @@
--- The slot of a visit, given the visit's number, and the slot of the visit at which a walk stops. (For `path_of_stop`
--- and `path_of_visit`.)
+-- The slot of a visit that is given by its number, and the slot at which a walk stops. (For `path_of_stop` and
+-- `path_of_visit`.)
 use Rattle.std.proofs.Common.{◌≡◌, inl, inr, ℕ, zero, suc, ◌+◌, ◌-◌, ◌≤◌, ◌==◌, List, [], ◌∷◌, ◌++◌, length, map}
 use Rattle.std.proofs.Common.{Option, Some}
 use Rattle.std.proofs.Common.{None, Result, Ok, Err, refl, ap, sym, ◌∙◌, arith}
@@ -26,15 +26,12 @@ use Rattle.capn_path.specs.inner.Numbered.{found_at, one_less}
 
 -- ---- visits are counted down
 
--- if nothing is found at a slot, the visit to be found is not the visit of that slot
 counted-here : (aim : Numbered) (at : Place) (named : Result Target Fault) → found_at aim at named ≡ None
     → aim.left ≡ 0 → ⊥
 counted-here aim at named e z =
     pick (λ (o : Option Place). o ≡ None → ⊥) (aim.left == 0) (Some at) None
     (λ t f. absurd cc) (λ t f. absurd (grind (arith, nat_tests))) e
 
--- if something is found at a slot, no visit is left to come before the visit of that slot, and the find is the slot's
--- place
 found-here : (aim : Numbered) (at : Place) (named : Result Target Fault) (x : Place) → found_at aim at named ≡ Some x
     → (aim.left ≡ 0) × (at ≡ x)
 found-here aim at named x =
@@ -69,7 +66,7 @@ module _ (m : List (List ℕ)) (b d : ℕ) where
   unfolding root_visits
   root-places = by-root (target m root) refl
 
--- the visit at the same place in another list
+-- `vs` has a visit of the slot at `at` after `number` other visits
 record Matched (vs : List Visit) (number : ℕ) (at : Place) : Type 0 where
   before : List Visit
   here : Visit
@@ -100,7 +97,7 @@ module _ (m : List (List ℕ)) (limits : Bounds) (n : ℕ) where
   abbrev b : ℕ
   b = base limits.tariff
 
-  -- the aim that finds the visit after n other visits
+  -- the aim that finds the visit after `n` other visits
   abbrev aim : Numbered
   aim = record { left = n }
 
@@ -132,7 +129,6 @@ module _ (m : List (List ℕ)) (limits : Bounds) (n : ℕ) where
       ∙ length-map (visits m b limits.depth root) place_of in
       inr (omega arith)
 
--- the element at an index is unique
 same-at : (zs bs : List Visit) (x y : Visit) (cs ds : List Visit) → zs ++ x ∷ cs ≡ bs ++ y ∷ ds
     → length zs ≡ length bs → x ≡ y
 same-at [] [] x y cs ds e l = cc
@@ -148,7 +144,6 @@ ends-at budget before (fails p e) at fault h = h.0
 ends-at budget before (pays p n) at fault h = h.0
 
 module _ (m : List (List ℕ)) (limits : Bounds) (stopped : Stopped) (some : stopped.visits ≡ 0 → ⊥) where
-  -- the place of the visit that ends a walk
   stop-place : (path : List ℕ) (p : Place)
       → IsStop limits.budget (visits_within m limits) stopped.fault stopped.place stopped.paid stopped.visits
       → IsVisited m limits (stopped.visits - 1) path p → p ≡ stopped.place

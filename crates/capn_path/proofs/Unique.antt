@@ -108,7 +108,6 @@ module _ (m : List (List ℕ)) (b : ℕ) where
     below-shorter targets.Nil e = absurd (none-split h.before h.slot h.behind (sym (ap slots_below e) ∙ h.slots))
     below-shorter (targets.Cap k) e = absurd (none-split h.before h.slot h.behind (sym (ap slots_below e) ∙ h.slots))
 
-  -- the visits before a slot are fewer than all visits from the slot at which the path begins
   shorter : (d : ℕ) (at : Place) (path : List ℕ) (to : Place) (n : ℕ) → Leads m b d at path to n
       → n < length (visits m b d at)
   shorter zero at [] to n h = here-shorter zero at n h.1

@@ -1,4 +1,5 @@
--- The first find of a search among the visits of a walk. (Our own.)
+-- The first find of a search among visits. At each visit `finds` gives the find, and `next` gives the aim after a visit
+-- without a find. (Our own.)
 use Rattle.std.specs.Prelude.{◌≡◌, ℕ, List, [], ◌∷◌, ◌++◌, length, Option, Some, None, Result}
 use Rattle.capn_words.specs.declared.space.Place.{Place}
 use Rattle.capn_target.specs.declared.target.Target.{Target}
@@ -15,8 +16,8 @@ module _ {G F : Type 0} (m : List (List ℕ)) (finds : G → Place → Result Ta
   IsPassed aim (v ∷ vs) after =
       (finds aim (place_of v) (target m (place_of v)) ≡ None) × IsPassed (next aim) vs after
 
-  -- `x` is found at the slot of one of the visits, nothing is found at the slots of the visits before, and the path
-  -- leads to that slot
+  -- `x` is found at the slot of the visit `here` of `vs`, and nothing is found at the earlier visits `before`. `path`
+  -- leads to the slot of `here`.
   pub record Meets (vs : List Visit) (Onward : List ℕ → Place → ℕ → Type 0) (aim : G) (path : List ℕ) (x : F)
       : Type 0 where
     pub to : Place
@@ -30,11 +31,12 @@ module _ {G F : Type 0} (m : List (List ℕ)) (finds : G → Place → Result Ta
     pub found : finds last to (target m to) ≡ Some x
     pub leads : Onward path to (length before)
 
-  -- `x` is the first find among the visits from the slot at `at` on, at most `depth` objects deep, with any prices
+  -- `x` is the first find among the visits of the slot at `at` and of all slots below it. The visits are at most
+  -- `depth` objects deep, and `path` leads to the slot of `x`.
   abbrev pub IsFirstFind : ℕ → Place → G → List ℕ → F → Type 0
   IsFirstFind depth at aim path x =
       (base : ℕ) → Meets (visits m base depth at) (Leads m base depth at) aim path x
 
-  -- nothing is found among the visits from the slot at `at` on, at most `depth` objects deep, with any prices
+  -- nothing is found among the visits of the slot at `at` and of all slots below it, at most `depth` objects deep
   abbrev pub IsWithoutFind : ℕ → Place → G → Type 0
   IsWithoutFind depth at aim = (base : ℕ) → (after : G) × IsPassed aim (visits m base depth at) after

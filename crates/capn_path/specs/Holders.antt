@@ -11,16 +11,17 @@ use Rattle.capn_path.specs.declared.holder.Holder.{Holder}
 use Rattle.capn_path.specs.declared.holder.Holder.TheVariants.{Struct, Pointers, Row}
 use Rattle.capn_path.specs.Paths.{AreNumbersOf, Leads}
 
--- the place of word w of segment s
+-- the place of word `w` of segment `s`
 abbrev pub place : ℕ → ℕ → Place
 place s w = record { segment = s; word = w }
 
--- the word at which row `row` begins in a list whose tag is word `start` and whose rows have a words and b slots each
+-- the word at which row `row` begins in a list whose tag is word `start` and whose rows have `a` words and `b` slots
+-- each
 abbrev pub row_start : ℕ → ℕ → ℕ → ℕ → ℕ
 row_start start a b row = start + 1 + row * (a + b)
 
--- `holder` is the holder of the slot to which the numbers lead from an object: the struct, the list of pointers, or the
--- row of a list of structs
+-- `numbers` lead from an object to a slot that `holder` holds. `holder` is the object itself if that is a struct or a
+-- list of pointers, and a row of the object if that is a list of structs.
 abbrev pub IsHeldIn : Target → List ℕ → Holder → Type 0
 IsHeldIn (targets.Content s start (shapes.Node a b) pads) numbers holder = holder ≡ Struct a b (place s start)
 IsHeldIn (targets.Content s start (shapes.Many width n) pads) numbers holder = holder ≡ Pointers n (place s start)
@@ -28,8 +29,8 @@ IsHeldIn (targets.Content s start (shapes.Rows n a b span) pads) (row ∷ slot �
     holder ≡ Row row n (place s (row_start start a b row))
 IsHeldIn found numbers holder = ⊥
 
--- the path leads from the slot at `start` to a slot that `holder` holds: the front of the path leads to the slot that
--- names the object, and the last numbers of the path lead from the object to the slot at `to`
+-- `path` leads from the slot at `start` to the slot at `to`, which `holder` holds. The numbers `front` lead to the slot
+-- at `from`, which names an object. Then `numbers` lead from that object to the slot at `to`.
 pub record Holds (message : List (List ℕ)) (start : Place) (path : List ℕ) (to : Place) (holder : Holder)
     : Type 0 where
   pub base : ℕ
@@ -48,12 +49,12 @@ pub record Holds (message : List (List ℕ)) (start : Place) (path : List ℕ) (
   pub is : path ≡ front ++ numbers
   pub held : IsHeldIn found numbers holder
 
--- the path leads from the root to the slot at `to`, which `holder` holds
+-- `path` leads from the root to the slot at `to`, which `holder` holds
 abbrev pub IsHolder : List (List ℕ) → List ℕ → Place → Holder → Type 0
 IsHolder message path to holder = Holds message root path to holder
 
--- the holder holds the slot at `to`, to which the path leads from the root; or there is no holder, and the path is
--- empty
+-- if there is a `holder`, `path` leads from the root to the slot at `to`, which `holder` holds. If there is none,
+-- `path` is empty.
 abbrev pub IsHolderOrRoot : List (List ℕ) → List ℕ → Place → Option Holder → Type 0
 IsHolderOrRoot message path to (Some holder) = IsHolder message path to holder
 IsHolderOrRoot message path to None = path ≡ []

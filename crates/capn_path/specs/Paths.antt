@@ -1,4 +1,4 @@
--- The path to a slot: the numbers that lead from one slot to another, and the number of visits of a walk between the
+-- The path to a slot: the numbers that lead to the slot from another slot. A walk makes a number of visits between the
 -- two slots.
 use Rattle.std.specs.Prelude.{◌≡◌, ◌⊎◌, ℕ, zero, suc, ◌+◌, ◌-◌, ◌*◌, ◌<◌, ◌≤◌, List, [], ◌∷◌, ◌++◌, length, Ok}
 use Rattle.capn_words.specs.Message.{segment_at}
@@ -15,8 +15,8 @@ use Rattle.capn_walk.specs.Accepted.{root, visits_within, number_of_visits, IsWa
 use Rattle.capn_walk.specs.Limits.{Bounds}
 use Rattle.capn_walk.specs.declared.walk_answer.Stopped.{Stopped}
 
--- the numbers lead to slot k of an object, counted over all rows: the numbers are the slot's number, or for a list of
--- structs the number of the row and the number of the slot in the row
+-- the numbers lead to slot `k` of an object. In a list of structs, `k` counts the slots of all rows, and the numbers
+-- are a row and a slot of that row. In any other object the only number is `k`.
 abbrev pub AreNumbersOf : Target → ℕ → List ℕ → Type 0
 AreNumbersOf (targets.Content s start (shapes.Rows n a b span) pads) k (row ∷ slot ∷ []) =
     (slot < b) × (k ≡ row * b + slot)
@@ -24,9 +24,9 @@ AreNumbersOf (targets.Content s start (shapes.Rows n a b span) pads) k numbers =
 AreNumbersOf found k (slot ∷ []) = k ≡ slot
 AreNumbersOf found k numbers = ⊥
 
--- a step leads from the slot at `from` to a slot of the object that this slot names, and the rest of the path leads
--- from that slot on to the slot at `to`; `between` counts the visit at `from`, the visits of the object's slots before,
--- and the visits along the rest of the path
+-- `path` leads from the slot at `from` to the slot at `to`, by way of `slot`, a slot of the object that the slot at
+-- `from` names. The numbers `rest` lead from `slot` to the slot at `to`. `between` counts the visit at `from`, the
+-- visits of the slots `before` and of all slots below them, and the `later` visits.
 pub record Descends (message : List (List ℕ)) (base depth : ℕ) (leads : Place → List ℕ → Place → ℕ → Type 0)
     (from : Place) (path : List ℕ) (to : Place) (between : ℕ) : Type 0 where
   pub found : Target
@@ -44,8 +44,8 @@ pub record Descends (message : List (List ℕ)) (base depth : ℕ) (leads : Plac
   pub count : between ≡ 1 + length (visits_of message base depth before) + later
 
 module _ (message : List (List ℕ)) (base : ℕ) where
-  -- the path leads from the slot at `from` to the slot at `to`; a walk at most `depth` objects deep makes `between`
-  -- visits from the visit at `from` on, before the visit at `to`
+  -- `path` leads from the slot at `from` to the slot at `to`. `between` is the number of visits from the visit at
+  -- `from` up to the last visit before the visit at `to`. The walk is at most `depth` objects deep.
   abbrev pub Leads : ℕ → Place → List ℕ → Place → ℕ → Type 0
   Leads zero from [] to between = (to ≡ from) × (between ≡ 0)
   Leads zero from (i ∷ path) to between = ⊥
@@ -53,11 +53,12 @@ module _ (message : List (List ℕ)) (base : ℕ) where
   Leads (suc depth) from (i ∷ path) to between =
       Descends message base depth (Leads depth) from (i ∷ path) to between
 
--- the path leads from the root to the slot at `place`, which the walk of a message visits after `number` other visits
+-- `path` leads from the root to the slot at `place`, which the walk of `message` visits after `number` other visits
 abbrev pub IsPathTo : List (List ℕ) → Bounds → ℕ → List ℕ → Place → Type 0
 IsPathTo message limits number path place = Leads message (base limits.tariff) limits.depth root path place number
 
--- after `number` other visits the walk visits the slot at `at`, to which the path leads
+-- the walk of `message` visits the slot at `at` after `number` other visits, and `path` leads from the root to this
+-- slot
 pub record IsVisited (message : List (List ℕ)) (limits : Bounds) (number : ℕ) (path : List ℕ)
     (at : Place) : Type 0 where
   pub before : List Visit
@@ -68,12 +69,12 @@ pub record IsVisited (message : List (List ℕ)) (limits : Bounds) (number : ℕ
   pub place : place_of here ≡ at
   pub leads : IsPathTo message limits number path at
 
--- the message has no root, or its walk makes at most `number` visits
+-- `message` has no root, or its walk makes at most `number` visits
 abbrev pub IsNotVisited : List (List ℕ) → Bounds → ℕ → Type 0
 IsNotVisited message limits number =
     (length (segment_at message 0) ≡ 0) ⊎ (number_of_visits message limits ≤ number)
 
--- the message is refused, and the path leads to the slot at which the walk stopped; without a root the path is empty
+-- `message` is refused, and `path` leads to the slot at which the walk stopped, or is empty if there is no visit
 pub record IsRefusedAt (message : List (List ℕ)) (limits : Bounds) (stopped : Stopped) (path : List ℕ) : Type 0 where
   pub refused : IsWalkRefused message limits stopped.fault stopped.place stopped.paid stopped.visits
   pub leads : 0 < stopped.visits → IsPathTo message limits (stopped.visits - 1) path stopped.place

@@ -1,4 +1,4 @@
--- A step to one of several slots, followed by a path from that slot on. (Our own.)
+-- A step to one of several slots, and a path from that slot on. (Our own.)
 use Rattle.std.specs.Prelude.{◌≡◌, ℕ, ◌+◌, ◌*◌, ◌<◌, List, [], ◌∷◌, ◌++◌, length}
 use Rattle.capn_words.specs.declared.space.Place.{Place}
 use Rattle.capn_target.specs.declared.target.Shape.{Shape}
@@ -6,12 +6,12 @@ use Rattle.capn_target.specs.declared.target.Shape.TheVariants as shapes
 use Rattle.capn_walk.specs.Visits.{visits_of}
 use Rattle.capn_path.specs.Paths.{Leads}
 
--- the path to slot k of a struct or of a list of pointers is the one number k
+-- `numbers`, the path from a struct or a list of pointers to its slot `k`, is the one number `k`
 abbrev pub AreNumbers : ℕ → List ℕ → Type 0
 AreNumbers k numbers = numbers ≡ k ∷ []
 
--- the path to slot k of rows with b slots each, counted over all rows, has two numbers: the number of the row, and the
--- number of the slot in the row
+-- `numbers` are a row and a slot of that row, which lead to slot `k` of rows with `b` slots each. `k` counts the slots
+-- of all rows.
 pub record AreRowNumbers (b k : ℕ) (numbers : List ℕ) : Type 0 where
   pub row : ℕ
   pub slot : ℕ
@@ -19,13 +19,14 @@ pub record AreRowNumbers (b k : ℕ) (numbers : List ℕ) : Type 0 where
   pub small : slot < b
   pub count : k ≡ row * b + slot
 
--- the numbers lead to slot k of an object of the shape, counted over all rows
+-- `numbers` lead to slot `k` of an object of the shape, where `k` counts the slots of all rows in a list of structs
 abbrev pub AreNumbersIn : Shape → ℕ → List ℕ → Type 0
 AreNumbersIn (shapes.Node a b) = AreNumbers
 AreNumbersIn (shapes.Many width n) = AreNumbers
 AreNumbersIn (shapes.Rows n a b span) = AreRowNumbers b
 
--- a step leads to one of the slots `ps`, and the rest of the path leads from that slot on to the slot at `to`
+-- `path` leads to the slot at `to` by way of `slot`, one of the slots `ps`. The numbers `rest` lead from `slot` to the
+-- slot at `to`. `between` counts the visits of the slots `before` and of all slots below them, and the `later` visits.
 pub record DescendsTo (m : List (List ℕ)) (base depth : ℕ) (ps : List Place) (are : ℕ → List ℕ → Type 0)
     (path : List ℕ) (to : Place) (between : ℕ) : Type 0 where
   pub before : List Place

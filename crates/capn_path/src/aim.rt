@@ -8,12 +8,12 @@ ghost use Rattle.capn_target.specs.declared.target.Fault.{Fault as Faults};
 use capn_target::{Fault, Target};
 use capn_words::Place;
 
-/// The aim of a search, which tests the slots that a walk visits, in preorder, up to the first find.
+/// The aim of a search. A search tests the slots that a walk visits, in preorder, up to the first find.
 pub trait Aim: Drop {
     /// The type of a find.
     type Found: Drop;
 
-    /// The find at the slot at a place, given the target or the fault of the slot's pointer.
+    /// The find at a slot, or `None`, given the slot's place and the target or the fault of the slot's pointer.
     ghost finds: { Self → Places → Results Targets Faults → Options Self.Found };
 
     /// The aim after a slot at which nothing was found.

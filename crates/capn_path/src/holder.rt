@@ -54,9 +54,9 @@ pub struct Spot {
 /// Finds the object that holds the slot to which `path` leads from the root.
 ///
 /// Returns `None` if `path` leads to no slot, or if `path` is empty, since nothing holds the root's slot. `path` is
-/// followed from the root, with at most four words read for each step. No memory is taken, and no limits apply.
+/// followed from the root, with at most four words read for each step. No memory is allocated, and no limits apply.
 pub fn holder_of<S: Space>(space: &S, path: &[u32]) -> Option<Holder>
-    // If `result` is `Some`, the object in it holds the slot to which `path` leads.
+    // If `result` is `Some(holder)`, `holder` is the object that holds the slot to which `path` leads.
     ensures some { IfSome result (λ holder. (to : Place) × IsHolder (S.message space.now) path.now to holder) }
     // If `result` is `None`, no object holds a slot to which `path` leads.
     ensures none { IfNone result
@@ -70,7 +70,7 @@ pub fn holder_of<S: Space>(space: &S, path: &[u32]) -> Option<Holder>
     held(space, path)
 }
 
-/// Finds the holder by following `path` from the root.
+/// Finds the holder of the slot to which `path` leads from the root.
 fn held<S: Space>(space: &S, path: &[u32]) -> Option<Holder>
     ensures { result ≡ spec.holder_at (spec.follow (S.message space.now) (length path.now) spec.start path.now) }
 {
@@ -106,7 +106,8 @@ fn followed<S: Space>(space: &S, from: Spot, path: &[u32]) -> Option<Spot>
     Some(spot)
 }
 
-/// Follows `path` one step from the slot at `at`. Returns the slot after that step and the rest of `path`.
+/// Follows `path` one step from the slot at `at`. Returns the slot to which that step leads, and the remaining numbers
+/// of `path`, or `None` if the step leads to no slot.
 fn step<'w, S: Space>(space: &S, at: Place, path: &'w [u32]) -> Option<(Spot, &'w [u32])>
     requires place { IsPlace (S.message space.now) at }
     ensures place { IfSome result (λ x. IsPlace (S.message space.now) x.0.place) }
@@ -136,7 +137,8 @@ fn step<'w, S: Space>(space: &S, at: Place, path: &'w [u32]) -> Option<(Spot, &'
     }
 }
 
-/// Follows `path` one step among the slots of an object of `shape` whose content starts at `start`.
+/// Follows `path` one step among the slots of an object of `shape` whose content starts at `start`. Returns the slot to
+/// which that step leads, and the remaining numbers of `path`, or `None` if the step leads to no slot.
 fn step_in<'w, S: Space>(
     space: &S,
     start: Place,
@@ -183,7 +185,8 @@ fn step_in<'w, S: Space>(
 }
 
 /// Follows `path` one step among the slots of `count` rows after the tag at `start`. Each row has `words` words and
-/// `slots` slots.
+/// `slots` slots. Returns the slot to which that step leads, and the remaining numbers of `path`, or `None` if the step
+/// leads to no slot.
 fn step_in_rows<'w, S: Space>(
     space: &S,
     start: Place,
@@ -222,7 +225,8 @@ fn step_in_rows<'w, S: Space>(
     step_among(space, holder, first, slots as u32, others)
 }
 
-/// Follows `path` one step among the `count` consecutive slots of `holder` from `first` on.
+/// Follows `path` one step among the `count` consecutive slots of `holder` from `first` on. Returns the slot to which
+/// that step leads, and the remaining numbers of `path`, or `None` if the step leads to no slot.
 fn step_among<'w, S: Space>(
     space: &S,
     holder: Holder,

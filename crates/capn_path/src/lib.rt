@@ -8,7 +8,7 @@
 //! - [`path_of_stop`] finds the path to the slot at which a walk has stopped.
 //! - [`path_of_visit`] finds the path to the slot of a visit, given the number of the visit.
 //! - [`holder_of`] finds the object that holds the slot to which a path leads.
-//! - [`seek`] finds the first visit at whose slot an [`Aim`] finds something, and the path to that slot.
+//! - [`seek`] finds the first slot at which an [`Aim`] finds something, and the path to that slot.
 //! - Module [`laws`] states facts about paths: at most one path leads to the slot of a visit, and exactly one object
 //!   holds the slot of a visit other than the root's slot.
 //!

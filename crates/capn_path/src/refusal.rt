@@ -1,4 +1,4 @@
-//! The path to the slot of a refusal.
+//! The path to the slot at which the walk of a refused message stopped.
 
 ghost use Rattle.std.specs.Prelude.{IfOk, IfSome, IfNone, ◌-◌};
 ghost use Rattle.capn_walk.specs.Accepted.{IsAccepted, IsWalkRefused};
@@ -9,7 +9,7 @@ use capn_walk::{Limits, Stopped, survey};
 use capn_words::{Memory, Space};
 use std::alloc::{Allocator, Global};
 
-/// The refusal of a message: the stop of the walk, and the path to the slot that was visited at the stop.
+/// The refusal of a message: the stop of the walk, and the path to the slot at which the walk stopped.
 #[derive(Debug, Drop)]
 pub struct Refused<A: Allocator = Global> {
     /// The stop of the walk, as [`survey`] returns it: the reason, the place, the number of words paid, and the number
@@ -45,9 +45,9 @@ pub fn path_of_refusal<S: Space, A: Allocator + Copy>(
 /// Finds the path to the slot at which the walk of the message `space` stopped. The path is empty for the root's slot,
 /// and if there is no root.
 ///
-/// `stopped` is the stop of the walk of `space` within `limits`, which [`survey`] returned. The visits up to the
-/// refused visit are repeated, without a survey. Memory: the path, on `alloc`, with at most two numbers for each level
-/// of the depth limit.
+/// `stopped` is the stop of the walk of `space` within `limits`, as [`survey`] returns it. The visits up to the refused
+/// visit are repeated, without a survey. Memory: the path, on `alloc`, with at most two numbers for each level of the
+/// depth limit.
 pub fn path_of_stop<S: Space, A: Allocator + Copy>(
     alloc: A,
     space: &S,

@@ -16,12 +16,13 @@ use capn_target::{Shape, Target, resolve};
 use capn_words::{Memory, Place, Space, Width};
 use std::alloc::Allocator;
 
-/// Finds the first visit at whose slot `aim` finds something, from the root of the message `space` on and at most
-/// `depth` objects deep. Returns the find and the path to the slot, or `None` if nothing is found at any visit.
+/// Searches the slots of the message `space` for the first slot at which `aim` finds something. The slots are visited
+/// in preorder from the root, at most `depth` objects deep. Returns the find and the path to the slot, or `None` if
+/// nothing is found.
 ///
-/// The visits up to the find are made, with at most four words read for each visit in addition to the reads of `aim`.
-/// Prices and budgets play no part. `Memory` is returned only if an allocation for the path on `alloc` was refused. The
-/// path has at most two numbers for each level of `depth`. (Our own.)
+/// Each visit reads at most four words, in addition to the reads of `aim`. No prices are paid, and no budget applies.
+/// `Memory` is returned only if an allocation for the path on `alloc` was refused. The path has at most two numbers for
+/// each level of `depth`. (Our own.)
 pub fn seek<S: Space, G: Aim, A: Allocator + Copy>(
     alloc: A,
     space: &S,
@@ -34,8 +35,8 @@ pub fn seek<S: Space, G: Aim, A: Allocator + Copy>(
         (λ x. IsFirstFind (S.message space.now) G.finds G.next depth root aim x.1.items x.0)) }
     // If `result` has no find, nothing is found at any visit.
     ensures none { IfOk result (λ r. IfNone r (IsWithoutFind (S.message space.now) G.finds G.next depth root aim)) }
-    // No memory is taken for the root's slot. So if `Memory` is returned, nothing was found at the root's slot, and
-    // `depth` is greater than 0.
+    // If `result` is an error, nothing was found at the root's slot, and `depth` is above 0. The path to the root's
+    // slot needs no allocation.
     ensures memory { OnErr result ((G.finds aim root (target (S.message space.now) root) ≡ None) × (0 < depth)) }
 {
     let mut aim = aim;
@@ -46,8 +47,8 @@ pub fn seek<S: Space, G: Aim, A: Allocator + Copy>(
     }
 }
 
-/// Looks for the first find of `aim` from the visit of the slot at `at` on, at most `depth` objects deep. `path` has
-/// the numbers that lead to the slot at `at`. If something is found, `path` then leads to the slot of the find.
+/// Tests the slot at `at` and all slots below it, at most `depth` objects deep, up to the first find of `aim`. At first
+/// `path` leads to the slot at `at`. If something is found, `path` leads to the slot of the find.
 #[cycle(seek)]
 fn seek_slot<S: Space, G: Aim, A: Allocator>(
     space: &S,
@@ -93,7 +94,7 @@ fn seek_slot<S: Space, G: Aim, A: Allocator>(
     }
 }
 
-/// Looks for the first find among the visits of the slots of an object of `shape` whose content starts at `start`.
+/// Looks for the first find in an object of `shape` whose content starts at `start`.
 #[cycle(seek)]
 fn seek_object<S: Space, G: Aim, A: Allocator>(
     space: &S,
@@ -142,7 +143,7 @@ fn seek_object<S: Space, G: Aim, A: Allocator>(
     }
 }
 
-/// Looks for the first find among the visits of `count` consecutive slots from `first` on, numbered from 0.
+/// Looks for the first find in `count` consecutive slots from `first` on. In `path` these slots are numbered from 0.
 #[cycle(seek)]
 fn seek_slots<S: Space, G: Aim, A: Allocator>(
     space: &S,
@@ -176,7 +177,8 @@ fn seek_slots<S: Space, G: Aim, A: Allocator>(
     Ok(None)
 }
 
-/// Looks for the first find among the visits of the slots of `count` consecutive rows from `first` on, numbered from 0.
+/// Looks for the first find in the slots of `count` consecutive rows from `first` on. Each row has `words` words and
+/// `slots` slots. In `path` these rows are numbered from 0.
 #[cycle(seek)]
 fn seek_rows<S: Space, G: Aim, A: Allocator>(
     space: &S,

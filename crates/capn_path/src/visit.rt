@@ -22,7 +22,7 @@ pub struct Visited<A: Allocator = Global> {
 /// The aim that finds one visit by its number.
 #[derive(Drop)]
 struct Numbered {
-    /// The number of visits that are still to come before the visit to be found.
+    /// The number of visits still to be made before the visit to be found.
     left: u32,
 }
 
@@ -47,10 +47,9 @@ impl Aim for Numbered {
 /// Finds the slot that the walk of the message `space` visits after `number` other visits, and the path to that slot.
 /// Returns `None` if there are at most `number` visits.
 ///
-/// The visits up to the visit to be found are repeated, with at most four words read for each visit. Of `limits` only
-/// the depth is used, and neither prices nor the budget play a part. So `number` should be below the number of visits
-/// that a survey returned, accepted or refused. Memory: the path, on `alloc`, with at most two numbers for each level
-/// of the depth limit.
+/// The walk is repeated up to that slot, with at most four words read for each visit. Of `limits` only the depth is
+/// used. No prices are paid, and no budget applies. So `number` should be below the number of visits that a survey of
+/// `space` returned. Memory: the path, on `alloc`, with at most two numbers for each level of the depth limit.
 pub fn path_of_visit<S: Space, A: Allocator + Copy>(
     alloc: A,
     space: &S,
@@ -60,7 +59,7 @@ pub fn path_of_visit<S: Space, A: Allocator + Copy>(
     ensures found { IfOk result (λ r. IfSome r
         (λ v. IsVisited (S.message space.now) limits number v.path.items v.place)) }
     ensures none { IfOk result (λ r. IfNone r (IsNotVisited (S.message space.now) limits number)) }
-    // No memory is taken for the path to the root's slot, which is visited first.
+    // If `result` is an error, `number` is above 0. Visit 0 is of the root's slot, for whose path nothing is allocated.
     ensures memory { OnErr result (0 < number) }
 {
     if segment_length(space, Place::ROOT.segment) == 0 {

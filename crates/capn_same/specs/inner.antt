@@ -1,3 +1,3 @@
--- Definitions that no public clause cites.
+-- Definitions that are not used in the contract of any public function.
 pub mod Runs
 pub mod Held

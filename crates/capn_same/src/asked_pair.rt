@@ -2,9 +2,10 @@
 //!
 //! [`Asked`](capn_target::counted::Asked) is the corresponding trait for one message. A call that takes an
 //! [`AskedFirst`] and an [`AskedSecond`] in place of two `Space`s can do only one task on the two messages, since both
-//! arguments are moved. The task, a [`PairTask`], states a bound on its reads, and reads each message only by calls
-//! that count. So two clauses `requires first { A.allows a n }` and `requires second { B.allows b n }` bound the work
-//! of the call. A reference to a `Space` allows any number, so callers that pass references have nothing to prove.
+//! arguments are moved. The task, a [`PairTask`], states a bound on its reads, and reads each message only through
+//! calls that count the reads. So two clauses `requires first { A.allows a n }` and `requires second { B.allows b n }`
+//! bound the work of the call. A reference to a `Space` allows any number, so callers that pass references have nothing
+//! to prove.
 
 ghost use Rattle.std.specs.Prelude.{◌≡◌, ℕ, ◌+◌, ◌<◌, ◌≤◌, List};
 
@@ -13,12 +14,12 @@ use capn_words::Space;
 use std::marker::Brand;
 use std::sync::ledger::{Blank, Ledger};
 
-/// A task that reads two messages by calls that count.
+/// A task on two messages, which reads each message only through calls that count the reads.
 pub trait PairTask {
     /// The type of the result.
     type Told;
 
-    /// The statement that a result is the result of the task for two messages.
+    /// The statement that a value is a correct result of the task for two given messages.
     ghost tells: { Self → List (List ℕ) → List (List ℕ) → Self.Told → Type 0 };
 
     /// The greatest number of reads and loop turns that the task counts for each message, for any two messages.

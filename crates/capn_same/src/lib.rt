@@ -2,13 +2,13 @@
 //! structs make no difference.
 //!
 //! - [`surveyed_same_counted`] compares the values of two messages that were surveyed. Both messages are read in place,
-//!   up to the first difference. No memory is taken except the stack.
+//!   up to the first difference. No memory is allocated.
 //! - [`PairTask`] is a task on two messages that reads each message at most a stated number of times. [`AskedFirst`]
 //!   and [`AskedSecond`] are the messages of a task. A reference to a `Space` can be either.
 //!
-//! Nothing is cut and nothing is written. If one of two structs is longer, the words past the end of the shorter struct
-//! have to be zero, and the pointers past that end null. The same rule holds for each row of a list of structs. So rows
-//! that are stored longer in one message are the same if everything past the end of the shorter rows is zero.
+//! Neither message is changed. If one of two structs is longer, the structs are the same only if the words past the end
+//! of the shorter struct are zero and the pointers past that end are null. The same rule holds for each row of a list
+//! of structs. So two rows can be the same although one of them is longer.
 #![tactic(auto)]
 
 mod asked_pair;

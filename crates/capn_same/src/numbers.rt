@@ -14,7 +14,7 @@ use capn_words::{Place, Space};
 use std::sync::ledger::Ledger;
 
 /// Tests whether the first `bits` bits of the words from `at` on in `a` equal the first `bits` bits of the words from
-/// `beside` on in `b`. Further bits, up to a whole word, are ignored.
+/// `beside` on in `b`. The bits past the first `bits`, up to the end of the last word, are ignored.
 pub fn are_same_bits<S: Space, T: Space, L: Ledger, M: Ledger>(
     a: &CountedSpace<'_, S, L>,
     at: Place,

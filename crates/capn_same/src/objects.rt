@@ -76,8 +76,8 @@ pub fn is_same_slot<S: Space, T: Space, L: Ledger, M: Ledger>(
     }
 }
 
-/// Tests whether the content of `a` at `at`, of the shape `shape`, is the same as the content of `b` at `beside`, of
-/// the shape `form`. Both contents are at most `depth` objects deep.
+/// Tests whether the content of the shape `shape` at `at` in `a` is the same as the content of the shape `form` at
+/// `beside` in `b`. Both contents are at most `depth` objects deep.
 #[cycle(sameness)]
 #[inline(always)]
 fn is_same_content<S: Space, T: Space, L: Ledger, M: Ledger>(
@@ -207,8 +207,8 @@ fn is_same_row<S: Space, T: Space, L: Ledger, M: Ledger>(
     are_same_slots(a, slots_of(one), b, slots_of(two), depth, first, second)
 }
 
-/// Tests whether the values in the slots `one` of `a` and the slots `two` of `b` are the same, where slots past the end
-/// of the shorter run count as null. The values are at most `depth` objects deep.
+/// Tests whether the values in the slots `one` of `a` are the same as the values in the slots `two` of `b`. Slots past
+/// the end of the shorter run count as null. The values are at most `depth` objects deep.
 #[cycle(sameness)]
 #[inline(never)]
 fn are_same_slots<S: Space, T: Space, L: Ledger, M: Ledger>(
@@ -245,7 +245,8 @@ fn are_same_slots<S: Space, T: Space, L: Ledger, M: Ledger>(
     are_zero(b, behind(two.start, shared), two.count - shared, second)
 }
 
-/// Tests whether `count` rows of `a`, from `one` on, are the same as `count` rows of `b`, from `two` on, row by row.
+/// Tests whether the `count` rows of `a` from `one` on are the same as the `count` rows of `b` from `two` on, row by
+/// row.
 #[cycle(sameness)]
 #[inline(never)]
 fn are_same_rows<S: Space, T: Space, L: Ledger, M: Ledger>(

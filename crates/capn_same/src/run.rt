@@ -31,7 +31,7 @@ pub struct Rows {
     pub slots: u32,
 }
 
-/// Returns the data words of a row.
+/// Returns the data words of `row`.
 #[inline(always)]
 pub fn data_of(row: Rows) -> Run
     ensures { result ≡ record { start = row.start; count = row.words } }
@@ -42,7 +42,7 @@ pub fn data_of(row: Rows) -> Run
     }
 }
 
-/// Returns the slots of a row.
+/// Returns the slots of `row`.
 #[inline(always)]
 pub fn slots_of(row: Rows) -> Run
     requires { row.start.word + row.words < 2 ^ 32 }

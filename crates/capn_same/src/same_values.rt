@@ -17,9 +17,9 @@ use std::sync::ledger::Ledger;
 /// Tests whether the values at the roots of `a` and `b` are the same, up to trailing zero words and trailing null slots
 /// of structs and of rows. Both messages were surveyed, and both values are at most `depth` objects deep.
 ///
-/// Both messages are read in place, up to the first difference, and nothing is tested again. Reads and loop turns are
-/// counted in `first` for `a` and in `second` for `b`. Each count grows by at most twenty for each word that the
-/// message's value costs, under either tariff, plus eleven. No memory is taken except the stack. (Page:
+/// Both messages are read in place, up to the first difference, and the tests of the survey are not repeated. Reads and
+/// loop turns are counted in `first` for `a` and in `second` for `b`. Each count grows by at most twenty for each word
+/// that the value of its message costs, under either tariff, plus eleven. No memory is allocated. (Page:
 /// canonicalization.)
 pub fn surveyed_same_counted<S: Space, T: Space, L: Ledger, M: Ledger>(
     a: &CountedSpace<'_, S, L>,
@@ -31,7 +31,7 @@ pub fn surveyed_same_counted<S: Space, T: Space, L: Ledger, M: Ledger>(
     requires one { IsReady (HasSlot a.now) 0 0 depth 1 }
     requires two { IsReady (HasSlot b.now) 0 0 depth 1 }
     ensures same { (v w : Value) → IsAt a.now root v → IsAt b.now root w → IsTrue result ↔ Same v w }
-    // The count of each message grows by at most twenty for each word that the message's value costs, plus eleven.
+    // The count of each message grows by at most twenty for each word that the value of the message costs, plus eleven.
     ensures first { (v : Value) → IsAt a.now root v → (base : ℕ) → first.new ≤ first.old + 20 * cost base v + 11 }
     ensures second { (w : Value) → IsAt b.now root w → (base : ℕ) → second.new ≤ second.old + 20 * cost base w + 11 }
 {

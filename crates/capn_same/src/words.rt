@@ -42,7 +42,7 @@ pub fn are_equal<S: Space, T: Space, L: Ledger, M: Ledger>(
     true
 }
 
-/// Tests whether the `count` words from `at` on are zero.
+/// Tests whether the `count` words of `space` from `at` on are zero.
 pub fn are_zero<S: Space, L: Ledger>(
     space: &CountedSpace<'_, S, L>,
     at: Place,
@@ -63,7 +63,8 @@ pub fn are_zero<S: Space, L: Ledger>(
     true
 }
 
-/// Tests whether the words of the runs `one` and `two` are equal one by one. Words past the end of a run count as 0.
+/// Tests whether the words of the run `one` of `a` equal the words of the run `two` of `b`, one by one. Words past the
+/// end of a run count as 0.
 pub fn are_same<S: Space, T: Space, L: Ledger, M: Ledger>(
     a: &CountedSpace<'_, S, L>,
     one: Run,

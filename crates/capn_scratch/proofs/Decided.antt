@@ -1,5 +1,5 @@
--- The clauses of `canonical_into_form` allow one result and one content of the buffer, and no number of words needed is
--- above what is enough. (For `decision` and `enough`.)
+-- The clauses of `canonical_into_form` allow one result and one content of the buffer. The number in `NoScratch` is at
+-- most `most_scratch`. (For `decision` and `enough`.)
 use Rattle.std.proofs.Common.{◌≡◌, ◌⊎◌, inl, inr, ℕ, ◌+◌, ◌-◌, ◌*◌, ◌<◌, ◌≤◌, Bool, true, false, if◌then◌else◌}
 use Rattle.std.proofs.Common.{List, length}
 use Rattle.std.proofs.Common.{Result, Ok, Err, refl, ap, sym, subst, ◌∙◌, arith}
@@ -47,7 +47,7 @@ few_ends bs most m h =
     chosen (nat_lt 64 (announced_segments bs)) (announced_segments bs - 1) (most_segments - 1)
     (omega (arith, a.count, h.frame.fits.few))
 
--- the number in `NoScratch` is more than the scratch has, and at most what is enough for every input in the form
+-- If `NoScratch` is true of `bs`, its number `n` is more than `scratch`, and at most `most_scratch`.
 pub bounded : (form : Form) (bs : List ℕ) (limits : Bounds) (scratch room n : ℕ)
     → IsFormRefused form bs limits scratch room (told.NoScratch n)
     → (scratch < n) × (n ≤ most_scratch form limits.message_words)
@@ -97,7 +97,7 @@ table_held : (form : Form) (bs : List ℕ) (most scratch n : ℕ) → LacksTable
 table_held form bs most scratch n (m, is, holds, need, short) (k, also, fits) =
     omega (arith, one_need form bs n k need also, short, fits)
 
--- `NoScratch` is true only if the scratch has fewer words than the bytes take
+-- If `NoScratch` is true of `bs`, the scratch has fewer words than `bs` need.
 pub lacks : (form : Form) (bs : List ℕ) (limits : Bounds) (scratch room n : ℕ)
     → IsFormRefused form bs limits scratch room (told.NoScratch n) → HasScratch form bs scratch → ⊥
 lacks form bs limits scratch room n (inl h) has = not_short form bs limits.message_words scratch n h has
@@ -145,7 +145,8 @@ module _ (form : Form) (bs : List ℕ) (limits : Bounds) (scratch room : ℕ) wh
 
 -- ---- the parts of a refusal
 
--- the `FormRefusal` for a refusal of bytes; `Memory`, which is never returned, is mapped to an arbitrary one
+-- The `FormRefusal` with the name and the fields of the given `Refusal`. No `FormRefusal` stands for `Memory`, which is
+-- mapped to `NoScratch 0`.
 abbrev of_refusal : Refusal → FormRefusal
 of_refusal (refusals.Bare e) = told.Bare e
 of_refusal (refusals.Packed e) = told.Packed e
@@ -160,17 +161,17 @@ of_into (intos.Walk s) = told.Walk s
 of_into (intos.Capability k) = told.Capability k
 of_into (intos.NoRoom n p) = told.NoRoom n p
 
--- the refusal is for bytes that are not read
+-- `bs` are not read as a message in `form`, and `e` says why.
 abbrev ReadPart : Form → List ℕ → Bounds → FormRefusal → Type 0
 ReadPart form bs limits e = (r : Refusal) × (e ≡ of_refusal r) × (r ≡ refusals.Memory → ⊥)
     × IsMisread form bs limits.message_words r × IsRefused form bs limits r
 
--- the refusal is for the message that the bytes are read as
+-- `bs` are read as a message that is refused with `e` (`RefusedInto`).
 abbrev MessagePart : Form → List ℕ → Bounds → ℕ → FormRefusal → Type 0
 MessagePart form bs limits room e = (m : List (List ℕ)) × Reads form bs limits.message_words m
     × ((x : IntoRefusal) × (e ≡ of_into x) × RefusedInto m limits room x)
 
--- the refusal is for a scratch of too few words
+-- `e` is a `NoScratch` that is true of `bs`.
 abbrev ScratchPart : Form → List ℕ → Bounds → ℕ → ℕ → FormRefusal → Type 0
 ScratchPart form bs limits scratch room e = (n : ℕ) × (e ≡ told.NoScratch n)
     × IsFormRefused form bs limits scratch room (told.NoScratch n)

@@ -1,4 +1,4 @@
--- The result for a message is also the result for the bytes that are read as that message. (For `canonical_form.rt` and
+-- A result for a message is also a result for the bytes that are read as that message. (For `canonical_form.rt` and
 -- `framed.rt`.)
 use Rattle.std.proofs.Common.{◌≡◌, ℕ, ◌+◌, ◌-◌, ◌*◌, ◌<◌, ◌≤◌, inl}
 use Rattle.std.proofs.Common.{inr, List, length, take, refl, ap, sym}
@@ -53,7 +53,6 @@ within_as budget (intos.Walk s) e is h = subst (λ (y : FormRefusal). IsFormPaid
 within_as budget (intos.Capability k) e is h = subst (λ (y : FormRefusal). IsFormPaidWithin budget y) (sym is) tt
 within_as budget (intos.NoRoom n p) e is h = subst (λ (y : FormRefusal). IsFormPaidWithin budget y) (sym is) h
 
--- a refusal of a message, mapped to a `FormRefusal`, is a result for that message
 pub told_refused : (m : List (List ℕ)) (limits : Bounds) (old new : List ℕ) (r : Result CanonicalLength FormRefusal)
     (x : IntoRefusal) → IsErrAnd r (IsOfInto x) → RefusedInto m limits (length old) x → new ≡ old
     → IsIntoPaidWithin limits.budget x → IsTold m limits old new r
@@ -97,7 +96,7 @@ read_told form bs limits scratch m old new (Err e) is has h = record {
 
 -- ---- frames
 
--- a frame that comes first and takes all bytes is read
+-- If `bs` begin with a frame, and no byte follows the frame, `bs` are exactly that frame.
 pub frame_reads : (bs : List ℕ) (most : ℕ) (m : List (List ℕ)) (taken : ℕ) → StandsFirst bs most m taken
     → length bs ≤ taken → IsFramed bs most m
 frame_reads bs most m taken h l =
@@ -105,11 +104,11 @@ frame_reads bs most m taken h l =
     let all : take taken bs ≡ bs = ap (λ (n : ℕ). take n bs) e ∙ take-length bs in
     record { frame = subst (λ (xs : List ℕ). Frames xs m) all h.frame; room = h.room }
 
--- at most 64 segments take no scratch
+-- A frame of at most 64 segments needs no words of scratch.
 pub few_need : (count : ℕ) → count < 64 → table_need (count + 1) ≡ 0
 few_need count few = rw (le-ltb 64 (count + 1) (omega (arith, few))) refl
 
--- more than 64 segments take a word for each but the last
+-- A frame of more than 64 segments needs a word of scratch for each segment but the last.
 pub many_need : (count : ℕ) → 64 ≤ count → table_need (count + 1) ≡ count
 many_need count many =
     let less : count + 1 - 1 ≡ count = omega arith in
@@ -125,7 +124,6 @@ pub has_many : (bs : List ℕ) (count scratch : ℕ) → count ≡ entry_number 
 has_many bs count scratch is many fits =
     (count, sym (ap (λ (n : ℕ). table_need (n + 1)) (sym is) ∙ many_need count many), fits)
 
--- the ends of more than 64 segments lack room in the scratch
 pub lacks_table : (bs : List ℕ) (most count scratch : ℕ) (m : List (List ℕ)) → IsFramed bs most m
     → count ≡ entry_number bs → 64 ≤ count → scratch < count → LacksTable forms.Stream bs most scratch count
 lacks_table bs most count scratch m read is many short =
@@ -143,7 +141,7 @@ after_refused before bs limits scratch room m (told.Frame e) is has h = absurd h
 after_refused before bs limits scratch room m (told.Trailing at) is has h = absurd h
 after_refused before bs limits scratch room m (told.NoScratch n) is has h = absurd h
 
--- the result for the message of a frame is also the result for the frame
+-- If `bs` are the frame of `m` and need at most `scratch` words of scratch, a result for `m` is also a result for `bs`.
 pub frame_told : (before : ℕ) (bs : List ℕ) (limits : Bounds) (scratch : ℕ) (m : List (List ℕ)) (old new : List ℕ)
     (r : Result CanonicalLength FormRefusal) → IsFramed bs limits.message_words m → HasScratch forms.Stream bs scratch
     → IsTold m limits old new r → IsFrameTold before bs limits scratch old new r
@@ -173,7 +171,7 @@ stream_refused bs limits scratch room (told.Packed e) h = h
 stream_refused bs limits scratch room (told.Frame e) h = h
 stream_refused bs limits scratch room (told.Trailing at) h = h
 
--- the result for a frame with no words before it is also the result for the stream
+-- If `before` is 0, a result for the frame `bs` is also a result for `bs` in the form `Stream`.
 pub stream_told : (bs : List ℕ) (limits : Bounds) (scratch : ℕ) (old new : List ℕ)
     (r : Result CanonicalLength FormRefusal) → IsFrameTold 0 bs limits scratch old new r
     → IsFormTold forms.Stream bs limits scratch old new r
@@ -220,7 +218,7 @@ module _ (bs text : List ℕ) (words : ℕ) (packs : Packs bs text) (long : leng
   packed_refused limits scratch room (told.Trailing at) few h =
       (holds scratch, (text, record { packs = packs; room = omega (arith, long, few) }, h.1))
 
-  -- the result for the frame that a packed text unpacks to is also the result for the packed text
+  -- A result for the frame `text` is also a result for the packed text `bs` that unpacks to `text`.
   pub packed_told : (limits : Bounds) (scratch : ℕ) (old new : List ℕ) (r : Result CanonicalLength FormRefusal)
       → words ≤ limits.message_words + most_table_words → IsFrameTold words text limits scratch old new r
       → IsFormTold forms.Packed bs limits (words + scratch) old new r
@@ -244,7 +242,8 @@ module _ (bs text : List ℕ) (words : ℕ) (packs : Packs bs text) (long : leng
     bounded = h.bounded;
   }
 
--- unpacking writes as many words as the text has, and these fill the buffer
+-- Suppose that `bs` unpack to the first `n` words of `text`, and that `text` has as many words as `bs` unpack to. Then
+-- `bs` unpack to `text`.
 pub all_unpacked : (bs packed text : List ℕ) (n words : ℕ) → Packs bs packed → length packed ≡ 8 * words
     → Packs bs (take (8 * n) text) → length text ≡ 8 * words → Packs bs text
 all_unpacked bs packed text n words p long q size =
@@ -268,7 +267,7 @@ not_message m limits room (told.Frame e) h v is free fits = h
 not_message m limits room (told.Trailing at) h v is free fits = h
 not_message m limits room (told.NoScratch n) h v is free fits = h
 
--- the number of words that bytes take is unique
+-- If `bs` need `n` words of scratch and `k` words of scratch (`Needs`), `n` equals `k`.
 pub one_need : (form : Form) (bs : List ℕ) (n k : ℕ) → Needs form bs n → Needs form bs k → n ≡ k
 one_need forms.Bare bs n k h i = h ∙ sym i
 one_need forms.Stream bs n k h i = h ∙ sym i
@@ -313,7 +312,7 @@ not_refused form bs limits scratch room (told.Capability k) h v d free has fits 
 not_refused form bs limits scratch room (told.NoRoom n p) h v d free has fits =
     not_read form bs limits scratch room (told.NoRoom n p) h v d free fits
 
--- a call succeeds if and only if the bytes have canonical bytes, enough words of scratch, and room in the buffer
+-- The theorem of `canonical_into_form` holds of each result `r` that `IsFormTold` allows.
 pub answered : (form : Form) (bs : List ℕ) (limits : Bounds) (scratch : ℕ) (old new : List ℕ)
     (r : Result CanonicalLength FormRefusal) → IsFormTold form bs limits scratch old new r
     → AnsweredForm form bs limits scratch (length old) r

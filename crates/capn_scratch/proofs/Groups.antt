@@ -1,4 +1,4 @@
--- Lemmas on groups one after another at the front of some bytes. (For `group.rt` and `unpacked.rt`.)
+-- Lemmas on the groups of a packed text, and on the bytes that they unpack to. (For `group.rt` and `unpacked.rt`.)
 use Rattle.std.proofs.Common.{◌≡◌, ℕ, ◌+◌, ◌-◌, ◌*◌, ◌<◌, ◌≤◌, inl}
 use Rattle.std.proofs.Common.{inr, List, [], ◌∷◌, ◌++◌, length, take, drop, get_or}
 use Rattle.std.proofs.Common.{slice_range, refl, sym, ap, ◌∙◌, subst, arith, take-add}
@@ -15,9 +15,9 @@ use Rattle.capn_pack.proofs.shared.GroupLemmas.{take_raw_text, take_two, texts_m
 use Rattle.capn_scratch.specs.inner.Groups.{Takes}
 use Rattle.capn_scratch.proofs.Spread.{spread_from}
 
--- ---- a group that is there
+-- ---- one group
 
--- the bytes of `rest` begin with a group of `taken` bytes and `count` words
+-- `rest` begins with a group of `taken` bytes that unpacks to `count` words.
 abbrev pub Has : List ℕ → ℕ → ℕ → List ℕ → Type 0
 Has rest taken count old = (new : List ℕ) × Takes rest taken count old new
 
@@ -68,7 +68,7 @@ named_there rest old inside above below =
       },
     )
 
--- if `rest` has all bytes that the head of its first group announces, `rest` begins with that group
+-- If the bytes `rest` are not empty, and are at least `len_at rest` bytes, they begin with a group.
 pub group_there : (rest old : List ℕ) (taken count : ℕ) → ((i : ℕ) → get_or rest i 0 < 256) → taken ≡ len_at rest
     → count ≡ words_at rest → 0 < length rest → taken ≤ length rest → Has rest taken count old
 group_there rest old taken count below size many some inside =
@@ -101,14 +101,14 @@ group_there rest old taken count below size many some inside =
           ]
     ]
 
--- the numbers from an offset on are bytes, too
 pub byte_below : (bytes : List ℕ) (at : ℕ) → ((k : ℕ) → get_or bytes k 0 < 256) → (i : ℕ)
     → get_or (slice_range bytes at (length bytes)) i 0 < 256
 byte_below bytes at below i = byte_of_rest bytes at i below
 
 -- ---- groups one after another
 
--- the bytes before `at` are groups that unpack to `out`, and `room` words of the maximum `max` are left
+-- The first `at` bytes of `bytes` are groups that unpack to `out`. The number of words of the groups plus `room` is
+-- `max`.
 pub record Unpacked (bytes : List ℕ) (at : ℕ) (out : List ℕ) (room max : ℕ) : Type 0 where
   pub groups : List Group
   pub each : AllByRecursion IsGroup groups
@@ -136,12 +136,11 @@ unpacked_more bytes at out room max taken count new u t fits =
       counted = omega (arith, u.counted, t.counted, fits, count_more u.groups t.group);
     }
 
--- the length of `out` and 8 for each word of `room` are together 8 for each word of `max`
 pub unpacked_length : (bytes : List ℕ) (at : ℕ) (out : List ℕ) (room max : ℕ) → Unpacked bytes at out room max
     → length out + 8 * room ≡ 8 * max
 unpacked_length bytes at out room max u = omega (arith, u.counted, ap length u.content, length_contents u.groups u.each)
 
--- if no byte is left, all bytes are a packed text that unpacks to `out`
+-- If the groups in the first `at` bytes of `bytes` unpack to `out`, and `bytes` end at `at`, `bytes` unpack to `out`.
 pub unpacked_all : (bytes : List ℕ) (at : ℕ) (out : List ℕ) (room max : ℕ) → Unpacked bytes at out room max
     → length bytes ≤ at → Packs bytes out
 unpacked_all bytes at out room max u end = record {
@@ -151,7 +150,7 @@ unpacked_all bytes at out room max u end = record {
   are_bytes = u.content;
 }
 
--- a fault of the group at `at` is a fault of the bytes
+-- A fault `Q` of the group at `at` is a fault of `bytes` at the offset `at` (`Stands`).
 pub stands : (Q : ℕ → List ℕ → Type 0) (bytes : List ℕ) (at : ℕ) (out : List ℕ) (room max : ℕ)
     → Unpacked bytes at out room max → Q room (slice_range bytes at (length bytes)) → Stands Q bytes max at
 stands Q bytes at out room max u q = record {

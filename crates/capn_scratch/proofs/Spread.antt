@@ -1,4 +1,4 @@
--- The word into which the bytes named by a tag are spread, bit by bit of the tag. (For `spread` and `Groups`.)
+-- Lemmas on the word that a tag and the bytes after it unpack to. (For `spread` and `Groups`.)
 use Rattle.std.proofs.Common.{◌≡◌, ℕ, zero, suc, ◌+◌, ◌/◌, ◌%◌, ◌^◌, ◌<◌}
 use Rattle.std.proofs.Common.{◌≤◌, inl, inr, List, [], ◌∷◌, ◌++◌, length, take}
 use Rattle.std.proofs.Common.{get_or, refl, sym, ap, subst, ◌∙◌, arith, append_assoc}
@@ -13,7 +13,6 @@ use Rattle.capn_pack.proofs.shared.SpreadLemmas.{named_none, named_one, no_ones,
 -- ---- one bit more
 
 module _ (tag left b i next : ℕ) (word bytes : List ℕ) (inside : i < length word) where
-  -- after byte `i` of a word is set, the first `i + 1` bytes are those before and the new one
   joined : (ws : List ℕ) → take (i + 1) (set word i b) ++ ws ≡ take i word ++ (b ∷ ws)
   joined ws = ap (λ (xs : List ℕ). xs ++ ws) (take_more_set word i b inside) ∙ append_assoc (take i word) (b ∷ []) ws
 
@@ -46,7 +45,7 @@ module _ (tag left b i next : ℕ) (word bytes : List ℕ) (inside : i < length 
 
 -- ---- all bits
 
--- the number of bytes that a tag names is the number of its bits that are set
+-- A tag names as many bytes of `word` as it has bits that are set.
 length_named : (n tag : ℕ) (word : List ℕ) → length word ≡ n → tag < 2 ^ n
     → length (named_bytes tag word) ≡ count_ones tag
 length_named n tag [] long less =
@@ -61,7 +60,7 @@ length_named (suc n) tag (x ∷ xs) long less =
       | inr odd ↦ omega (arith, odd, ap length (named_one tag x xs odd), ones_half tag, rest)
     ]
 
--- after all bits, the number of bytes taken is the number of bits of the tag that are set
+-- If the bytes that `tag` names in `word` are the first of `bytes`, there are `count_ones tag` of them.
 pub spread_all : (tag next : ℕ) (word bytes : List ℕ) → length word ≡ 8 → tag < 2 ^ 8 → next ≤ length bytes
     → named_bytes tag word ≡ take next bytes → named_bytes tag word ≡ take (count_ones tag) bytes
 spread_all tag next word bytes long small inside e =
@@ -69,14 +68,15 @@ spread_all tag next word bytes long small inside e =
     sym (length-take-le next bytes inside) ∙ ap length (sym e) ∙ length_named 8 tag word long small in
     e ∙ ap (λ (n : ℕ). take n bytes) size
 
--- there is a word that has the first of `bytes` in the places that the tag names, and zeros elsewhere
+-- A word of `n` bytes that is zero where `tag` names no byte. The bytes that `tag` names are the first of `bytes`.
 pub record Spread (n tag : ℕ) (bytes : List ℕ) : Type 0 where
   pub word : List ℕ
   pub long : length word ≡ n
   pub named : IsNamedBy tag word
   pub bytes_are : named_bytes tag word ≡ take (count_ones tag) bytes
 
--- if the lowest bit of a tag is set, the first of `bytes` is named by that bit, and the rest by the other bits
+-- Case: the lowest bit of `tag` is set. That bit names the first of `bytes`, and the other bits name the bytes after
+-- it.
 spread_one : (n tag : ℕ) (bytes : List ℕ) → tag % 2 ≡ 1 → count_ones tag ≡ suc (count_ones (tag / 2))
     → count_ones tag ≤ length bytes
     → ((rest : List ℕ) → count_ones (tag / 2) ≤ length rest → Spread n (tag / 2) rest) → Spread (suc n) tag bytes

@@ -1,4 +1,4 @@
--- The text of a refusal, as it is displayed. (Our own.)
+-- The text that displays a `FormRefusal`. (Our own.)
 use Rattle.std.specs.Prelude.{ℕ, List, ◌++◌, codes}
 use Rattle.std.specs.Fmt.{decimal}
 use Rattle.capn_words.specs.Display.{bare_text}
@@ -8,7 +8,7 @@ use Rattle.capn_walk.specs.Display.{stopped_text}
 use Rattle.capn_scratch.specs.declared.refusal.FormRefusal.{FormRefusal}
 use Rattle.capn_scratch.specs.declared.refusal.FormRefusal.TheVariants as told
 
--- the text of the reason why canonical bytes are not written
+-- The text that displays the given `FormRefusal`.
 abbrev pub form_refusal_text : FormRefusal → List ℕ
 form_refusal_text (told.Bare fault) = codes "bare: " ++ bare_text fault
 form_refusal_text (told.Packed fault) = codes "packed: " ++ unpack_text fault

@@ -1,7 +1,4 @@
--- The reasons why canonical bytes are not written for bytes in a form, in the order of the tests. Packed bytes are
--- unpacked, and the unpacked words need room in the scratch. The bytes are read as a message, and the ends of the
--- segments need room in the scratch. The message is walked and searched for a capability, and the canonical bytes need
--- room in the buffer. (Our own.)
+-- The relations that say when a `FormRefusal` is true of bytes in a form. (Our own.)
 use Rattle.std.specs.Prelude.{◌≡◌, ◌⊎◌, ℕ, ◌*◌, ◌<◌, ◌≤◌, List, length, ⊤}
 use Rattle.capn_walk.specs.Accepted.{IsBounded}
 use Rattle.capn_walk.specs.Limits.{Bounds}
@@ -17,39 +14,40 @@ use Rattle.capn_scratch.specs.Needs.{HasScratch, HoldsText, Needs}
 use Rattle.capn_scratch.specs.declared.refusal.FormRefusal.{FormRefusal}
 use Rattle.capn_scratch.specs.declared.refusal.FormRefusal.TheVariants as told
 
--- `e` is the refusal of a message, as a `FormRefusal` with the same numbers
+-- `e` is the `FormRefusal` with the name and the fields of the given `IntoRefusal`.
 abbrev pub IsOfInto : IntoRefusal → FormRefusal → Type 0
 IsOfInto (intos.Walk s) e = e ≡ told.Walk s
 IsOfInto (intos.Capability k) e = e ≡ told.Capability k
 IsOfInto (intos.NoRoom n p) e = e ≡ told.NoRoom n p
 
--- the refusal is true of `message`: there are no canonical bytes within the limits, or more than `room` of them
+-- The refusal is `Walk`, `Capability` or `NoRoom`. It is true of `message`, `limits` and `room` (`RefusedInto`).
 abbrev pub IsMessageRefused : List (List ℕ) → Bounds → ℕ → FormRefusal → Type 0
 IsMessageRefused message limits room (told.Walk s) = RefusedInto message limits room (intos.Walk s)
 IsMessageRefused message limits room (told.Capability k) = RefusedInto message limits room (intos.Capability k)
 IsMessageRefused message limits room (told.NoRoom n p) = RefusedInto message limits room (intos.NoRoom n p)
 IsMessageRefused message limits room _ = ⊥
 
--- `bs` are read as a message, the scratch has as many words as `bs` take, and the refusal `e` is true of the message
+-- In `form`, `bs` are read as a message that is refused with `e` (`IsMessageRefused`). `bs` need at most `scratch`
+-- words of scratch.
 abbrev pub IsReadRefused : Form → List ℕ → Bounds → ℕ → ℕ → FormRefusal → Type 0
 IsReadRefused form bs limits scratch room e =
     (message : List (List ℕ)) × Reads form bs limits.message_words message × HasScratch form bs scratch
     × IsMessageRefused message limits room e
 
--- `bs` are a packed text that unpacks to `n` words, which is more than the scratch has
+-- `form` is `Packed`, `bs` unpack to `n` words, and `n` is more than `scratch`.
 abbrev pub LacksText : Form → List ℕ → ℕ → ℕ → ℕ → Type 0
 LacksText forms.Bare bs most scratch n = ⊥
 LacksText forms.Stream bs most scratch n = ⊥
 LacksText forms.Packed bs most scratch n =
     (text : List ℕ) × Unpacks bs most text × (8 * n ≡ length text) × (scratch < n)
 
--- `bs` are read as a message and take `n` words, which is more than the scratch has; but the scratch has room for the
--- unpacked words if `bs` are packed
+-- `bs` are read as a message and need `n` words of scratch, and `n` is more than `scratch`. If `form` is `Packed`, the
+-- unpacked words alone fit into the scratch (`HoldsText`).
 abbrev pub LacksTable : Form → List ℕ → ℕ → ℕ → ℕ → Type 0
 LacksTable form bs most scratch n =
     (message : List (List ℕ)) × Reads form bs most message × HoldsText form bs scratch × Needs form bs n × (scratch < n)
 
--- the refusal is true of `bs` in `form`, with `scratch` words of scratch and `room` bytes for the canonical bytes
+-- The refusal is true of `bs` in `form`, with `scratch` words of scratch and a buffer of `room` bytes.
 abbrev pub IsFormRefused : Form → List ℕ → Bounds → ℕ → ℕ → FormRefusal → Type 0
 IsFormRefused form bs limits scratch room (told.Bare e) = IsMisread form bs limits.message_words (refusals.Bare e)
 IsFormRefused form bs limits scratch room (told.Packed e) = IsMisread form bs limits.message_words (refusals.Packed e)
@@ -65,7 +63,8 @@ IsFormRefused form bs limits scratch room (told.Capability k) =
 IsFormRefused form bs limits scratch room (told.NoRoom n p) =
     IsReadRefused form bs limits scratch room (told.NoRoom n p)
 
--- the number of words that a refusal reports as paid is at most `budget`, and the number of visits is at most one more
+-- The number of words paid, in a `Walk` or a `NoRoom`, is at most `budget`. If the refusal is `Walk`, its `visits` are
+-- at most `paid + 1`.
 abbrev pub IsFormPaidWithin : ℕ → FormRefusal → Type 0
 IsFormPaidWithin budget (told.Walk s) = IsBounded budget s.paid s.visits
 IsFormPaidWithin budget (told.NoRoom n p) = p ≤ budget

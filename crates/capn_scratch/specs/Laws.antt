@@ -1,4 +1,4 @@
--- The laws of canonical bytes that are written in words that the caller lends. (Our own.)
+-- The laws of the clauses of `canonical_into_form`. (Our own.)
 use Rattle.std.specs.Prelude.{◌≡◌, ℕ, ◌+◌, ◌-◌, ◌<◌, ◌≤◌, List, length, Result, IfOk, IfErr, OnErr}
 use Rattle.capn_words.specs.Message.{most_segments}
 use Rattle.capn_stream.specs.Frames.{most_table_words}
@@ -12,33 +12,34 @@ use Rattle.capn_scratch.specs.Theorem.{WrittenForm}
 use Rattle.capn_scratch.specs.declared.refusal.FormRefusal.{FormRefusal}
 use Rattle.capn_scratch.specs.declared.refusal.FormRefusal.TheVariants as told
 
--- `r` is a result that the clauses of `canonical_into_form` allow: the bytes are written, or a refusal is true and the
--- buffer is as before
+-- The clauses of `canonical_into_form` allow the result `r`. If `r` is `Ok`, the canonical bytes are written
+-- (`WrittenForm`). Otherwise the refusal is true (`IsFormRefused`), and the buffer is as before.
 pub record IsFormWrittenOrRefused (form : Form) (bs : List ℕ) (limits : Bounds) (scratch : ℕ) (old new : List ℕ)
     (r : Result CanonicalLength FormRefusal) : Type 0 where
   pub written : IfOk r (λ c. WrittenForm form bs limits scratch old new c)
   pub refused : IfErr r (λ e. IsFormRefused form bs limits scratch (length old) e)
   pub unchanged : OnErr r (new ≡ old)
 
--- for the same bytes, form, limits, scratch and buffer the clauses allow one result and one content of the buffer
+-- For the same `form`, `bs`, `limits`, `scratch` and `old`, the clauses of `canonical_into_form` allow only one result
+-- and only one content of the buffer.
 abbrev pub FormIsDecided : Type 0
 FormIsDecided = (form : Form) (bs : List ℕ) (limits : Bounds) (scratch : ℕ) (old p q : List ℕ)
     (r s : Result CanonicalLength FormRefusal) → IsFormWrittenOrRefused form bs limits scratch old p r
     → IsFormWrittenOrRefused form bs limits scratch old q s → (r ≡ s) × (p ≡ q)
 
--- the number of words of scratch that is enough for every input in a form, if messages have at most `most` words
+-- The number of words of scratch that is enough for all bytes in the given form, if messages have at most `most` words.
 abbrev pub most_scratch : Form → ℕ → ℕ
 most_scratch forms.Bare most = 0
 most_scratch forms.Stream most = most_segments - 1
 most_scratch forms.Packed most = most + most_table_words + (most_segments - 1)
 
--- the number in `NoScratch` is more than the scratch has, and at most what is enough for every input in the form
+-- If `NoScratch` is true of `bs`, its number `n` is more than `scratch`, and at most `most_scratch`.
 abbrev pub ScratchIsBounded : Type 0
 ScratchIsBounded = (form : Form) (bs : List ℕ) (limits : Bounds) (scratch room n : ℕ)
     → IsFormRefused form bs limits scratch room (told.NoScratch n)
     → (scratch < n) × (n ≤ most_scratch form limits.message_words)
 
--- if `NoScratch` is true of `bs`, the scratch has fewer words than `bs` take
+-- If `NoScratch` is true of `bs`, the scratch has fewer words than `bs` need.
 abbrev pub LackingIsNotHaving : Type 0
 LackingIsNotHaving = (form : Form) (bs : List ℕ) (limits : Bounds) (scratch room n : ℕ)
     → IsFormRefused form bs limits scratch room (told.NoScratch n) → HasScratch form bs scratch → ⊥

@@ -12,16 +12,15 @@ use Rattle.capn_canon.specs.Theorem.{WrittenInto}
 use Rattle.capn_scratch.specs.Needs.{HasScratch}
 use Rattle.capn_scratch.specs.declared.refusal.FormRefusal.{FormRefusal}
 
--- For any bytes, form, limits, scratch and buffer, the call succeeds if and only if the bytes denote a value without
--- capabilities within the limits, the scratch has as many words as the bytes take, and the buffer has room for the
--- canonical bytes.
+-- `r` is `Ok` if and only if three conditions hold. `bs` denote a value without capabilities within `limits`, and need
+-- at most `scratch` words of scratch. That value has at most `room` canonical bytes.
 abbrev pub AnsweredForm : Form → List ℕ → Bounds → ℕ → ℕ → Result CanonicalLength FormRefusal → Type 0
 AnsweredForm form bs limits scratch room r =
     IsOk r ↔ ((v : Tree) × Denotes form bs limits v × (first_cap v ≡ None) × HasScratch form bs scratch
     × (length (canon v) ≤ room))
 
--- The call writes exactly the canonical bytes of the message that the bytes are read as, at the beginning of the
--- buffer. The bytes after them are as they were.
+-- `bs` are read as a message, and need at most `scratch` words of scratch. `new` is `old` with the canonical bytes of
+-- that message at the beginning, and `c` has their length (`WrittenInto`).
 pub record WrittenForm (form : Form) (bs : List ℕ) (limits : Bounds) (scratch : ℕ) (old new : List ℕ)
     (c : CanonicalLength) : Type 0 where
   pub message : List (List ℕ)

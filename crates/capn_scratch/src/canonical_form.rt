@@ -1,4 +1,4 @@
-//! The call `canonical_into_form`, which writes canonical bytes for any form, in words that the caller lends.
+//! The call `canonical_into_form`, which writes the canonical bytes of a message in any form, without an allocator.
 
 ghost use Rattle.std.specs.Prelude.{◌≡◌, ℕ, ◌+◌, ◌*◌, ◌≤◌, List, length, IfOk, IfErr, OnErr, MatchResult};
 ghost use Rattle.capn_pack.specs.Packed.{Packs};
@@ -16,7 +16,7 @@ use capn_canon::{CanonicalLength, Form, Limits};
 use capn_stream::MOST_TABLE_WORDS;
 use capn_words::Bare;
 
-/// Writes the canonical bytes of the message of one segment whose words are `bytes` to `out`.
+/// Writes canonical bytes to `out`. The message has only one segment, and its bytes are `bytes`.
 fn of_bare(bytes: &[u8], limits: Limits, out: &mut [u8]) -> Result<CanonicalLength, FormRefusal>
     ensures { (scratch : ℕ) → IsFormTold forms.Bare bytes.now limits scratch out.old out.new result }
 {
@@ -38,8 +38,8 @@ fn of_stream(
     of_frame(bytes, scratch, 0, limits, out)
 }
 
-/// Unpacks the packed text `bytes` of a frame of `words` words to `text`, and writes the canonical bytes of the message
-/// in that frame to `out`.
+/// Unpacks the packed text `bytes` to `text`, a frame of `words` words. Writes the canonical bytes of the message in
+/// that frame to `out`.
 fn of_unpacked(
     bytes: &[u8],
     words: usize,
@@ -60,7 +60,8 @@ fn of_unpacked(
     }
 }
 
-/// Writes the canonical bytes of the message in the frame that the packed text `bytes` unpacks to, to `out`.
+/// Writes the canonical bytes of a message to `out`. The message is in the frame that the packed text `bytes` unpacks
+/// to.
 fn of_packed(
     bytes: &[u8],
     limits: Limits,
@@ -82,7 +83,7 @@ fn of_packed(
     }
 }
 
-/// Writes canonical bytes for [`canonical_into_form`]. The one clause has all clauses of that call.
+/// Does the work of [`canonical_into_form`]. The one clause here implies all clauses of that call.
 fn of_form(
     form: Form,
     bytes: &[u8],
@@ -100,20 +101,22 @@ fn of_form(
 }
 
 /// Writes the canonical bytes of the value that `bytes` denote in `form`, within `limits`, to the beginning of `out`.
-/// Returns the number of bytes written, the number of words that the walk pays, and the number of visits. The rest of
-/// `out` stays as it was.
+/// Returns the number of bytes written, the number of words that the walk pays, and the number of visits. The bytes of
+/// `out` after the canonical bytes stay as they were.
 ///
-/// Only the stack is used, and the words in `scratch`. A packed text takes as many words of `scratch` as it unpacks to.
-/// A frame of more than 64 segments takes one word for each segment but the last, after the words of the text. Bare
-/// words and other frames take none. The contents of `scratch` afterwards are not specified.
+/// Only the stack and the words in `scratch` are used. A packed text needs as many words of `scratch` as it unpacks to.
+/// A frame of more than 64 segments needs one word for each segment but the last, after the unpacked words. Bare words
+/// and other frames need none. The contents of `scratch` after the call are not specified.
 ///
-/// The refusals are tested in this order, and each leaves `out` as it was. Packed bytes are unpacked, and refused by
-/// `Packed` with the fault of [`canonicalise`](capn_canon::canonicalise), then by `NoScratch` if the unpacked words
-/// have no room. The message is read, and refused by `Bare` for the form `Bare`, else by `Frame` or, if bytes follow
-/// the message, by `Trailing`. A frame is then refused by `NoScratch` if the ends of the segments have no room. The
-/// number of words needed includes the words of the text. The message is walked, and refused by `Walk`. The value is
-/// laid out, and refused by `Capability`, with the index of the first in preorder. Last, if `out` is too short, the
-/// refusal is `NoRoom`, with the length of the canonical bytes. (Our own.)
+/// The refusals are tested in this order, and each leaves `out` as it was. Packed bytes are unpacked first. `Packed`
+/// refuses those that [`canonicalise`](capn_canon::canonicalise) refuses by `Packed`, with the same fault. `NoScratch`
+/// refuses packed bytes if `scratch` is too short for the unpacked words. Then the message is read. In the form `Bare`,
+/// `Bare` refuses bytes that are not bare words. In the other forms `Frame` refuses bytes that begin with no frame of
+/// at most `limits.message_words` words, and `Trailing` refuses bytes after the frame. `NoScratch` refuses a frame if
+/// `scratch` is too short for the ends of its segments. The number of words needed then includes the unpacked words.
+/// `Walk` refuses a message that is not accepted. `Capability` refuses a value with capabilities, with the index of the
+/// first in preorder. Last, `NoRoom` refuses an `out` that is too short, with the length of the canonical bytes. (Our
+/// own.)
 pub fn canonical_into_form(
     form: Form,
     bytes: &[u8],
@@ -121,14 +124,14 @@ pub fn canonical_into_form(
     scratch: &mut [[u8; 8]],
     out: &mut [u8],
 ) -> Result<CanonicalLength, FormRefusal>
-    // The theorem: `result` is `Ok` if and only if the bytes denote a value without capabilities within the limits,
-    // `scratch` has as many words as the bytes take, and `out` has room for the canonical bytes.
+    // The theorem: `result` is `Ok` if and only if three conditions hold. The bytes denote a value without capabilities
+    // within the limits, `scratch` has as many words as the bytes need, and `out` has room for the canonical bytes.
     ensures answered { AnsweredForm form bytes.now limits (length scratch.old) (length out.old) result }
     // If `result` is `Ok`, the canonical bytes are at the beginning of `out`, and the bytes after them are as before.
     ensures written { IfOk result (λ c. WrittenForm form bytes.now limits (length scratch.old) out.old out.new c) }
-    // If `result` is an `Err`, it is the first refusal in the order of the tests.
+    // If `result` is `Err(e)`, the reason that `e` gives is true, and no earlier test refuses the bytes.
     ensures refused { IfErr result (λ e. IsFormRefused form bytes.now limits (length scratch.old) (length out.old) e) }
-    // A refusal leaves `out` as it was.
+    // If `result` is an `Err`, `out` is as it was.
     ensures unchanged { OnErr result (out.new ≡ out.old) }
     // The walk pays at most the budget, also if the message is refused.
     ensures bounded { MatchResult result (λ c. IsBounded limits.budget c.paid c.visits)

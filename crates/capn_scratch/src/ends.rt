@@ -1,4 +1,4 @@
-//! The ends of the segments of a frame, kept in words that the caller lends.
+//! The ends of the segments of a frame, as words of 8 bytes.
 
 ghost use Rattle.std.specs.Prelude.{◌≡◌, ◌*◌, ◌^◌, ◌<◌, ◌≤◌, ◌∷◌, ◌++◌, [], length, take, sum, slice_index};
 ghost use Rattle.capn_words.specs.Message.{most_segments};
@@ -61,7 +61,7 @@ pub(crate) fn end_of(ends: &[[u8; 8]], words: u32, segment: usize) -> u32
     }
 }
 
-/// Returns the first `count` words of `ends`, which `put_ends` has written.
+/// Returns the first `count` words of `ends`.
 pub(crate) fn kept(ends: &[[u8; 8]], count: usize) -> &[[u8; 8]]
     requires { count ≤ length ends.now }
     ensures { result.now ≡ take count ends.now }

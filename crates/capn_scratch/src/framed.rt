@@ -18,7 +18,7 @@ use capn_words::{Bare, Space};
 /// The greatest number of segments whose ends are kept on the stack.
 const MOST_KEPT: usize = 64;
 
-/// Writes the canonical bytes of the message `space` to `out`, and maps a refusal to a `FormRefusal`.
+/// Writes the canonical bytes of the message `space` to `out`. An error of `canonical_into` becomes a `FormRefusal`.
 pub(crate) fn write<S: Space>(
     space: &S,
     limits: Limits,
@@ -31,7 +31,7 @@ pub(crate) fn write<S: Space>(
 }
 
 /// Writes the canonical bytes of the message of the frame `bytes` to `out`. `words` are the words after the segment
-/// table. The ends of the first `count` segments, all but the last, are written to `ends`.
+/// table. `count` is the number of segments without the last. The ends of those segments are written to `ends`.
 fn of_cut(
     bytes: &[u8],
     words: Bare<'_>,
@@ -52,9 +52,9 @@ fn of_cut(
     write(&message, limits, out)
 }
 
-/// Writes the canonical bytes of the message of the frame `bytes` to `out`, for [`of_frame`]. A whole frame is at the
-/// front of `bytes` and ends at byte `end`. `words` are the words after the segment table, and `count` is the number of
-/// segments without the last.
+/// Writes the canonical bytes of the message of the frame `bytes` to `out`, for [`of_frame`]. `bytes` begin with a
+/// complete frame, which ends at byte `end`. `words` are the words after the segment table, and `count` is the number
+/// of segments without the last.
 fn of_words(
     bytes: &[u8],
     words: Bare<'_>,
@@ -87,8 +87,8 @@ fn of_words(
     of_cut(bytes, words, count, scratch, limits, out)
 }
 
-/// Writes the canonical bytes of the message of the frame `bytes` to `out`, for [`of_frame`]. A whole frame is at the
-/// front of `bytes`, and its segment table announces `head`.
+/// Writes the canonical bytes of the message of the frame `bytes` to `out`, for [`of_frame`]. `bytes` begin with a
+/// complete frame, and `head` is what its segment table announces.
 fn of_whole(
     bytes: &[u8],
     head: Head,
@@ -122,8 +122,8 @@ fn of_whole(
 }
 
 /// Writes the canonical bytes of the message of the frame `bytes` to `out`. The ends of more than 64 segments are kept
-/// in `scratch`. `NoScratch` reports `before` words in addition to those that the frame needs. They are the words of
-/// the frame itself if a packed text was unpacked to it.
+/// in `scratch`. `NoScratch` reports `before` words more than the frame needs. If a packed text was unpacked to the
+/// frame, `before` is the number of words of the frame.
 pub(crate) fn of_frame(
     bytes: &[u8],
     scratch: &mut [[u8; 8]],

@@ -11,14 +11,14 @@ ghost use Rattle.capn_scratch.specs.inner.Groups.{SizeGives, Takes};
 pub(crate) enum Stop {
     /// The bytes end within the group.
     Cut,
-    /// The group has more words than there is room for.
+    /// The group unpacks to more words than the caller allows.
     TooLong,
 }
 
-/// The size of a whole group, packed and unpacked.
+/// The size of a complete group, packed and unpacked.
 #[derive(Clone, Copy)]
 pub(crate) struct Size {
-    /// The number of packed bytes, with the tag.
+    /// The number of packed bytes, including the tag.
     pub bytes: usize,
     /// The number of words that the group unpacks to.
     pub words: usize,
@@ -40,7 +40,7 @@ fn size_of_zeros(rest: &[u8], room: usize) -> Result<Size, Stop>
     Ok(Size { bytes: 2, words })
 }
 
-/// Returns the size of the group of one word at the front of `rest`, whose tag names some bytes but not all.
+/// Returns the size of the group of one word at the front of `rest`. The tag of the group is neither 0 nor 255.
 fn size_of_named(rest: &[u8], room: usize) -> Result<Size, Stop>
     requires some { 0 < length rest.now }
     requires above { 0 < slice_index rest.now 0 }
@@ -57,7 +57,7 @@ fn size_of_named(rest: &[u8], room: usize) -> Result<Size, Stop>
     Ok(Size { bytes, words: 1 })
 }
 
-/// Returns the size of the group of unpacked words, with the tag 255, at the front of `rest`.
+/// Returns the size of the group of raw words, with the tag 255, at the front of `rest`.
 fn size_of_raw(rest: &[u8], room: usize) -> Result<Size, Stop>
     requires some { 0 < length rest.now }
     requires tag { slice_index rest.now 0 ≡ 255 }
@@ -80,7 +80,7 @@ fn size_of_raw(rest: &[u8], room: usize) -> Result<Size, Stop>
     })
 }
 
-/// Returns the size of the group at the front of `rest`, if the group is whole and unpacks to at most `room` words.
+/// Returns the size of the group at the front of `rest`, if the group is complete and unpacks to at most `room` words.
 pub(crate) fn size_of(rest: &[u8], room: usize) -> Result<Size, Stop>
     requires { 0 < length rest.now }
     ensures { SizeGives rest.now room result }
@@ -119,8 +119,8 @@ fn byte_of(left: u8, bytes: &[u8], next: usize) -> u8
     if left % 2 == 0 { 0 } else { bytes[next] }
 }
 
-/// Returns the word that `tag` and `bytes` unpack to. The bytes that `tag` names are the first of `bytes`, in order,
-/// and the others are zero.
+/// Returns the word that `tag` and `bytes` unpack to. The bytes of the word that `tag` names are the first of `bytes`,
+/// in order. The other bytes of the word are zero.
 fn spread(tag: u8, bytes: &[u8]) -> [u8; 8]
     requires { count_ones tag ≤ length bytes.now }
     ensures named { IsNamedBy tag result }
@@ -149,7 +149,8 @@ fn put_zeros(rest: &[u8], size: Size, out: &mut [u8], fill: usize)
     store_zeros(out, fill, 8 * size.words);
 }
 
-/// Unpacks the group of one word at the front of `rest`, whose tag names some bytes, to `out` from offset `fill` on.
+/// Unpacks the group of one word at the front of `rest` to `out`, from offset `fill` on. The tag of the group is
+/// neither 0 nor 255.
 fn put_named(rest: &[u8], size: Size, out: &mut [u8], fill: usize)
     requires some { 0 < length rest.now }
     requires above { 0 < slice_index rest.now 0 }

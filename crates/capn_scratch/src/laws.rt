@@ -1,4 +1,4 @@
-//! The laws of canonical bytes that are written with the caller's words, as empty functions.
+//! The laws of `canonical_into_form`, as empty functions.
 
 ghost use Rattle.capn_scratch.specs.Laws.{FormIsDecided, LackingIsNotHaving, ScratchIsBounded};
 
@@ -12,9 +12,10 @@ pub fn decision()
     decision_of_message();
 }
 
-/// States that `NoScratch` is returned only if the scratch has fewer words than the bytes take. The number of words
-/// needed is more than the scratch has, and at most what is enough for every input in the form. That is none for bare
-/// words, 4,095 for a stream, and for a packed text the limit on message words and 6,144 more.
+/// States that `NoScratch` is returned only if the scratch has fewer words than the bytes need. The number in
+/// `NoScratch` is above the number of words of the scratch. It is at most a number of words that is enough for every
+/// input in the form. That number is 0 for bare words and 4,095 for a stream. For a packed text it is 6,144 more than
+/// the limit on message words.
 pub fn enough()
     ensures bounded { ScratchIsBounded }
     ensures lacking { LackingIsNotHaving }

@@ -1,8 +1,8 @@
 //! Canonical bytes of a message in any form, with no allocator.
 //!
 //! [`canonical_into_form`] writes the canonical bytes of the value that bytes denote, in any of the three forms, into a
-//! buffer of the caller. The caller also lends the words that are needed on the way: for the words that a packed text
-//! unpacks to, and for the ends of more than 64 segments. If the lent words are too few, the refusal has the number
+//! buffer of the caller. The caller also lends words, the scratch. The scratch holds the words that a packed text
+//! unpacks to, and the ends of more than 64 segments. If the scratch is too short, the refusal has the number of words
 //! needed. [`FormRefusal`] has no variant for memory.
 //!
 //! ```text
@@ -10,19 +10,19 @@
 //! let mut out = [0; 4096];
 //! match canonical_into_form(Form::Packed, &input, Limits::usual(), &mut scratch, &mut out) {
 //!     Ok(written) => // the canonical bytes are the first `written.length` of `out`
-//!     Err(FormRefusal::NoScratch { needed }) => // the words that it takes to go on
-//!     Err(refusal) => // why there are none, and `out` is as it was
+//!     Err(FormRefusal::NoScratch { needed }) => // the scratch has fewer than `needed` words
+//!     Err(refusal) => // the reason for no canonical bytes, and `out` is as it was
 //! }
 //! ```
 //!
 //! For any bytes, form, limits, scratch and buffer, the call succeeds if and only if three conditions hold. The bytes
-//! denote a value without capabilities within the limits, the scratch has as many words as the bytes take, and the
+//! denote a value without capabilities within the limits, the scratch has as many words as the bytes need, and the
 //! buffer has room for the canonical bytes. The call then writes exactly the canonical bytes. Otherwise it returns the
 //! first refusal, and the buffer is as it was. The clauses state this, by the definitions of `specs/Theorem.antt`,
-//! `specs/FormRefusal.antt` and `specs/Needs.antt`. [`laws`] states that the clauses allow only one result, and that no
-//! input needs more words than are enough for its form.
+//! `specs/FormRefusal.antt` and `specs/Needs.antt`. [`laws`] states that the clauses allow only one result. For each
+//! form it also states a number of words that is enough for every input.
 //!
-//! No call takes memory, or an allocator.
+//! No call allocates memory or takes an allocator.
 #![tactic(auto)]
 
 mod canonical_form;

@@ -1,16 +1,15 @@
-//! The type `FormRefusal`: the reasons why canonical bytes are not written in words that the caller lends.
+//! The type `FormRefusal`: the reasons why `canonical_into_form` writes no canonical bytes.
 
 use capn_canon::{BareFault, FrameFault, IntoRefusal, Stopped, UnpackFault};
 use std::error::Error;
 use std::fmt;
 
-/// The reason why canonical bytes are not written for bytes in a form, in the order in which the tests are made. Packed
-/// bytes are unpacked, the bytes are read as a message, and the message is walked, searched for a capability, and
-/// written. `NoScratch` has two places in this order: before the frame is read, if the unpacked words have no room, and
-/// afterwards, if the ends of the segments have none. (Our own.)
+/// The reason why canonical bytes are not written for bytes in a form. The variants stand in the order of the tests.
+/// Packed bytes are tested for `NoScratch` twice: before `Frame` for the unpacked words, and after `Trailing` for the
+/// ends of the segments. (Our own.)
 ///
-/// There is no variant for memory, since nothing is allocated. Some of the faults have such a variant, for calls that
-/// take an allocator, but the clauses exclude it here.
+/// There is no variant for memory, since nothing is allocated. Some of the faults have a variant `Memory`, for calls
+/// that take an allocator. The clauses exclude that variant here.
 #[derive(Clone, Copy, Debug, PartialEq, Eq)]
 pub enum FormRefusal {
     /// A fault of the form `Bare`: the bytes are not whole words, or are too many.
@@ -26,11 +25,12 @@ pub enum FormRefusal {
     Trailing(u64),
     /// The scratch is too short.
     NoScratch {
-        /// The number of words that are needed. If the unpacked words have no room, it is the number of unpacked words.
-        /// If the ends of the segments have no room, it is the number of ends and of unpacked words together.
+        /// The number of words that are needed. If the scratch is too short for the unpacked words, this is the number
+        /// of unpacked words. If only the ends of the segments do not fit, this is the number of unpacked words plus
+        /// the number of ends.
         needed: usize,
     },
-    /// The place and the reason at which the walk stopped, if the message is not accepted. The fault is never `Memory`.
+    /// The stop of the walk, with its place and its fault, if the message is not accepted. The fault is never `Memory`.
     Walk(Stopped),
     /// The index of the first capability in preorder, if the value has any: a capability has no canonical form.
     Capability(u32),

@@ -1,4 +1,4 @@
-//! A message in borrowed bytes, with the ends of the segments in words that the caller lends.
+//! A message in borrowed bytes, with the ends of its segments in borrowed words.
 
 ghost use Rattle.std.specs.Prelude.{◌≡◌};
 ghost use Rattle.capn_stream.specs.Cuts.{AreEnds, cut};
@@ -10,8 +10,8 @@ use std::marker::Model;
 
 /// A message whose segments follow one another in borrowed bytes. In contracts it is the list of its segments.
 ///
-/// The words are not copied. The ends of all segments but the last are borrowed too. So the type takes no memory, and
-/// finds every segment in constant time.
+/// The words are not copied. The ends of all segments but the last are borrowed too. So nothing is allocated, and every
+/// segment is found in constant time.
 #[derive(Drop)]
 pub(crate) struct ScratchSegments<'a> {
     words: Bare<'a>,

@@ -1,4 +1,4 @@
--- Lemmas for `add_message`: the state of a run after a message, which its service has served or not.
+-- Lemmas for `add_message`: the effect of a message on a run, if the service serves the message, and if it does not.
 use Rattle.std.proofs.Common.{◌≡◌, inl, inr, ℕ, List, Bool, Result, Err, refl, sym, subst}
 use Rattle.capn_canon.specs.declared.refusal.Refusal.{Refusal}
 use Rattle.capn_serve.specs.declared.position.Position.{Position}
@@ -15,7 +15,7 @@ use Rattle.capn_serve.specs.Service.{DoesService}
 abbrev stopped : {E : Type 0} → E → Result (Unit {0}) E
 stopped fault = Err fault
 
--- The fault of a run whose service ends the message at the position `at` with a `ServeFault`.
+-- The fault of a run whose service returned a `ServeFault` for the message at the position `at`.
 abbrev pub told_at : Position → ServeFault → RunFault
 told_at at serve_faults.Memory = faults.Memory
 told_at at serve_faults.Io = faults.Io
@@ -37,7 +37,7 @@ module _ {S : Type 0} (serves : S → Position → List ℕ → List (List ℕ) 
   stops serve_faults.Io ((text, u, count, step, breaks), broken) = ((text, next u, count, (step, refl), breaks), broken)
   stops (serve_faults.Refused r) (refused, none, fine) = (refl, refused, none, fine)
 
-  -- Case: the message was not served to its end.
+  -- Case: the service returned `fault` for the message.
   pub added_stop : (fault : ServeFault) (told : RunFault) → told ≡ told_at x.at fault
       → DoesService serves refuses x.service x.at frame message a b failed (stopped fault) t
       → AddsMessage (fold_until serves refuses done most) x frame message a b failed (stopped told) y

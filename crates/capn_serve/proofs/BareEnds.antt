@@ -28,7 +28,7 @@ Ending = Result (Unit {0}) RunFault
 abbrev stopped : RunFault → Ending
 stopped fault = Err fault
 
--- An input was not read to its end, or is not one segment.
+-- `fault` says why a bare input was not read to its end, or that the input is not one segment.
 abbrev Unread : Position → Option (List ℕ) → Option (List ℕ) → Bool → RunFault → Type 0
 Unread at a b failed fault =
     IsUntaken a b failed fault ⊎ ((bytes : List ℕ) × HasGivenAll a b failed bytes × IsUnbare at bytes fault)
@@ -43,7 +43,7 @@ unread_bare at a b failed fault (inr (bytes, all, none)) = absurd none
 
 module _ {A : Type 0} (at : Position) (a b : Option (List ℕ)) (failed : Bool) (n : ℕ) (input : WholeInput A)
     (takes : TakesAll {T = WholeInput A} (IsBeginning n) a b failed (Ok input)) where
-  -- An input that is no longer than a segment is held whole.
+  -- Case: the input is no longer than a segment, and all of its bytes are the result.
   pub read_short : input.len ≤ n → TakesAll {T = Vec ℕ A} (IsShortBare at) a b failed (Ok input.bytes)
   read_short short = let is = takes.2 in (
     takes.0,
@@ -51,13 +51,13 @@ module _ {A : Type 0} (at : Position) (a b : Option (List ℕ)) (failed : Bool) 
     sym (take_all n takes.0 (omega (arith, short, is.1))) ∙ is.0,
   )
 
-  -- An input that is longer than a segment is refused.
+  -- Case: the input is longer than a segment, and `e` refuses its bytes.
   pub read_long : (e : BareFault) (len : ℕ) → len ≡ input.len
       → ((bytes : List ℕ) → length bytes ≡ len → ReadsBare bytes (Err e))
       → Unread at a b failed (faults.Refused at (refusals.Bare e))
   read_long e len same why = inr (takes.0, takes.1, (e, refl, why takes.0 (takes.2.1 ∙ sym same)))
 
--- ---- all that a reader had, if that is known
+-- ---- a fact about the input of a reader, if that input is known
 
 some_so : (a : Option (List ℕ)) (P Q : List ℕ → Type 0) → ((all : List ℕ) → P all → Q all) → IfSome a P → IfSome a Q
 some_so None P Q change h = tt
@@ -95,7 +95,7 @@ module _ {X : Type 0} (f : Fold X) (x y : X) (going : f.done x ≡ false) (a b c
   none_needed : (bytes : List ℕ) → f.done x ≡ true → bytes ≡ []
   none_needed bytes done = absurd (not_both (f.done x) done going)
 
-  -- Case: nothing is written for the bytes.
+  -- Case: `fault` refuses `bytes` or their message, and nothing was written.
   ends_none : (d : Option (List ℕ)) (failed : Bool) (bytes : List ℕ) (fault : RunFault) → HasGivenAll a b failed bytes
       → IsUnbare (f.place x) bytes fault ⊎ RefusesBare f x bytes fault → Appends c d [] → Leaves f x fault y
       → IfSome a (EndsAs f x c d (Err fault) y)
@@ -123,11 +123,9 @@ module _ {X : Type 0} (f : Fold X) (x y : X) (going : f.done x ≡ false) (a b c
         written = inl (Appends-nil c);
       }
 
-  -- Case: the state `x` is not done, and nothing was written.
   heard_none : (d : Option (List ℕ)) → Appends c d [] → IfGoing (f.done x) (Appends c d [])
   heard_none d wrote = if_going (f.done x) (Appends c d []) going wrote
 
-  -- Case: the run ends with a fault other than Io, and neither the reader nor the writer has failed.
   io_none : (r w : Bool) (fault : RunFault) → r ≡ false → w ≡ false → (fault ≡ faults.Io → ⊥)
       → (stopped fault ≡ Err faults.Io) ↔ ((r ≡ true) ⊎ (w ≡ true))
   io_none r w fault fine good other = (
@@ -217,7 +215,7 @@ module _ {X : Type 0} (f : Fold X) (x y : X) (going : f.done x ≡ false) (a b c
         let begun = begun_less c d count text (adds_begun c (outgoing d kept) (take count text) adds) in
         inr (text, mid, begun.0, (words, bare, step), begun.1)
 
-    -- Case: nothing is written for the message.
+    -- Case: `fault` refuses `bytes` or their message.
     runs_none : (d : Option (List ℕ)) (kept : List ℕ) (fault : RunFault) → w ≡ false
         → IsUnbare (f.place x) bytes fault ⊎ RefusesBare f x bytes fault → Adds (sent c) (outgoing d kept) []
         → Leaves f x fault y → RunsBare f x a b c d r w (Err fault) y
@@ -229,7 +227,7 @@ module _ {X : Type 0} (f : Fold X) (x y : X) (going : f.done x ≡ false) (a b c
       memory = λ e. inr all_given.ended;
     }
 
-    -- Case: the message was not served to its end.
+    -- Case: serving `bytes` ended with `fault`.
     runs_unserved : (d : Option (List ℕ)) (kept : List ℕ) (fault : RunFault)
         → ServesBare f x bytes (sent c) (outgoing d kept) w (Err fault) y → RunsBare f x a b c d r w (Err fault) y
     runs_unserved d kept fault (inr (why, none, good, same)) =
@@ -261,7 +259,7 @@ module _ {X : Type 0} (f : Fold X) (x y : X) (going : f.done x ≡ false) (a b c
         runs_unserved d kept fault
         (subst (λ (l : List ℕ). ServesBare f x bytes (outgoing c l) (outgoing d kept) w (Err fault) y) none served)
 
-    -- Case: the message was served, and the kept text was written, or the writer failed.
+    -- Case: the message was served, and then the text `kept` was written, or the writer failed.
     runs_sent : (d e : Option (List ℕ)) (kept : List ℕ) (fine : Bool) (ending : Ending)
         → ServesBare f x bytes (sent c) (outgoing d kept) fine (Ok tt) y → OnOk ending (Appends d e kept)
         → HasBegun d e kept → (IsErrOf ending faults.Io ↔ (w ≡ true)) → IsOkUnless ending faults.Io
@@ -305,7 +303,7 @@ module _ {X : Type 0} (f : Fold X) (x y : X) (going : f.done x ≡ false) (a b c
         (subst (λ (l : List ℕ). OnOk ending (Appends d e l)) is ok)
         (subst (λ (l : List ℕ). HasBegun d e l) is begun) io only
 
--- Case: the service is done before the first read.
+-- Case: the state `x` is `done` before the first read.
 pub runs_done : {X : Type 0} (f : Fold X) (x : X) (a c : Option (List ℕ)) (r w : Bool) → f.done x ≡ true → r ≡ false
     → w ≡ false → RunsBare f x a a c c r w (Ok tt) x
 runs_done f x a c r w done fine good = record {

@@ -12,7 +12,6 @@ use Rattle.capn_serve.specs.BareRun as bares
 abbrev Served : Type 0
 Served = Result (Unit {0}) RunFault
 
--- The definitions state nothing about the bytes that are held of a bare input.
 pub came_bare : (a : Option (List ℕ)) (r : Served) → IfSome a (λ input. IfErr r (λ e. ⊤))
 came_bare None r = tt
 came_bare (Some input) (Ok u) = tt

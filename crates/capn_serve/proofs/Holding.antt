@@ -27,7 +27,7 @@ use Rattle.capn_serve.proofs.PackedMore.{begins_all, begins_longer, taken_after,
 abbrev Ending : Type 0
 Ending = Result (Unit {0}) RunFault
 
--- ---- faults that are of no frame
+-- ---- faults that refuse no frame
 
 module _ {X : Type 0} (f : Fold X) (x : X) where
   pub holds_memory : (s came : List ℕ) (y : X) → Holds f x s faults.Memory came y
@@ -46,7 +46,7 @@ module _ {X : Type 0} (f : Fold X) (x : X) where
       subst (λ (g : RunFault). Holds f x s g came y) (sym is) (holds_io s came y)
   holds_message s came y fault (inr (inr own)) = inl own
 
-  -- Case: a message was not served. The fault refuses no frame.
+  -- Case: a message was not served. So `fault` refuses no frame.
   pub adds_fault : (frame : List ℕ) (message : List (List ℕ)) (a b : Outgoing) (failed : Bool) (fault : RunFault)
       (y : X) → AddsMessage f x frame message a b failed (Err fault) y → IsOfMessage f fault
   adds_fault frame message a b failed faults.Memory y adds = inl refl
@@ -55,14 +55,11 @@ module _ {X : Type 0} (f : Fold X) (x : X) where
   adds_fault frame message a b failed (faults.Refused at r) y adds =
       inr (inr (x, (frame, message, r, adds.1, ap (λ (p : Position). faults.Refused p r) adds.0)))
 
--- Case: the bytes begin with no whole message. The fault refuses no frame.
 pub pass_fault : {X : Type 0} (f : Fold X) (fault : FrameFault) (r : Ending) → Passes fault r
     → IfErr r (λ e. IsOfMessage f e)
 pass_fault f fault (Ok u) passes = tt
 pass_fault f fault (Err e) (memory, is) = inl is
 
--- The kept text was written after the run stopped. A statement `P` that holds for the fault and for `Io` holds for the
--- fault after that.
 pub sent_fault : (P : RunFault → Type 0) (text : List ℕ) (d e : Option (List ℕ)) (broken failed : Bool)
     (served result : Ending) → P faults.Io → SendsRest served text d e broken failed result → IfErr served P
     → IfErr result P
@@ -120,7 +117,6 @@ module _ {X : Type 0} (f : Fold X) (x y z : X) (s mid e came : List ℕ) (a b : 
     holds_more fault (inr (within, held)) = inr (within, λ at n h. table_more n (held at n h))
 
 module _ {X : Type 0} (f : Fold X) (x z : X) (came : List ℕ) where
-  -- The segment table that is held for a stream is also held for a longer stream.
   pub table_longer : (s more : List ℕ) (n : ℕ) → HoldsTable f x s n came z → HoldsTable f x (s ++ more) n came z
   table_longer s more n (behind, (parts, are), refused) = (
     behind ++ more,
@@ -145,7 +141,7 @@ holds_served f x y z first before bytes came at a b fault told held =
     subst (λ (p : List ℕ). Holds f x p fault came z) whole
     (holds_more f x y z (first.rest ++ take at bytes) before.rest (drop at bytes) came a b told fault part)
 
--- Case: no byte of the chunk was served before the run stopped.
+-- Case: no byte of the chunk `bytes` was served before the run stopped.
 pub holds_next : {X : Type 0} (f : Fold X) (x y z : X) (stream bytes came : List ℕ) (n : ℕ) (a b : Outgoing)
     (r : Result ℕ RunFault) → n ≡ 0 → Tells f x (take n bytes) [] a b y
     → IfErr r (λ e. Holds f y stream e came z) → IfErr r (λ e. Holds f x stream e came z)
@@ -154,7 +150,6 @@ holds_next f x y z stream bytes came n a b (Err fault) none told held =
     let nothing : Tells f x [] [] a b y = subst (λ (k : ℕ). Tells f x (take k bytes) [] a b y) none told in
     holds_more f x y z [] [] stream came a b nothing fault held
 
--- Case: the run stopped within the taken bytes of a part.
 pub holds_part : {X : Type 0} (f : Fold X) (x y : X) (left within count : ℕ) (rest stream got came : List ℕ)
     (fault : RunFault) → got ≡ stream → count ≡ length stream → within ≡ min left count
     → Holds f x (rest ++ take within got) fault came y → Holds f x (rest ++ taken_of left stream) fault came y
@@ -169,7 +164,7 @@ module _ {X : Type 0} (f : Fold X) (x y : X) (held next : Held) (before : Framin
   split : Splits (held.rest ++ bytes) next.rest [] new fed.len
   split = subst (λ (l : List ℕ). Splits (held.rest ++ bytes) next.rest l new fed.len) none fed.split
 
-  -- Case: a slice was unpacked, and the run stopped within the unpacked bytes.
+  -- Case: the slice `bytes` was unpacked to `new`, and the run stopped while `new` was served.
   pub holds_slice : (r : Ending) → IfErr r (λ e. Holds f x (before.rest ++ taken_of left new) e came y)
       → IfErr r (λ e. HoldsPacked f x (pending held before left) bytes e came y)
   holds_slice (Ok u) h = tt
@@ -191,7 +186,7 @@ module _ {X : Type 0} (f : Fold X) (x : X) (p : Pending) (bytes came : List ℕ)
   pub packed_holds_io : HoldsPacked f x p bytes faults.Io came y
   packed_holds_io = packed_holds faults.Io (record { frame = λ at h. cc; group = λ at o h. cc }) (λ at n h. cc)
 
--- Case: the run stopped after packed bytes that were served.
+-- Case: the packed bytes `s` were served, and the run stopped within the packed bytes `t` after `s`.
 module _ {X : Type 0} (f : Fold X) (x y z : X) (p q : Pending) (s t came : List ℕ) (a b : Outgoing)
     (told : TellsPacked f x p s q a b y) where
   pub packed_holds_more : (fault : RunFault) → HoldsPacked f y q t fault came z
@@ -221,7 +216,7 @@ packed_holds_longer f x z p s bytes more came fault whole (inr (within, held)) =
       (stream, begins_longer p.group.rest s bytes more stream whole begins, table)),
 )
 
--- Case: the first `at` bytes of a chunk were served, and the run stopped within the next slice.
+-- Case: the first `at` of the packed `bytes` were served, and the run stopped within the slice up to `end`.
 pub packed_holds_slice : {X : Type 0} (f : Fold X) (x y z : X) (p q : Pending) (bytes came : List ℕ) (at end : ℕ)
     (a b : Outgoing) (fault : RunFault) → at ≤ end → TellsPacked f x p (take at bytes) q a b y
     → HoldsPacked f y q (take (end - at) (drop at bytes)) fault came z → HoldsPacked f x p bytes fault came z

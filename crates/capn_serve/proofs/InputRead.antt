@@ -22,8 +22,6 @@ module _ (limit : ℕ) where
         take_all m (take k buf) (omega (arith, short, length-take-le k buf within)) ∙ ap (λ (i : ℕ). take i buf) e)
   ]
 
-  -- The bytes that a run takes of those that were read, after one more read, are the bytes before that read and the
-  -- first `w` new ones.
   pub taken_front : (bs buf : List ℕ) (n w k : ℕ) → length bs ≡ n → n ≤ limit → w ≡ min k (limit - n)
       → k ≤ length buf → taken_of limit (bs ++ take k buf) ≡ bs ++ take w buf
   taken_front bs buf n w k count short least within =
@@ -32,7 +30,6 @@ module _ (limit : ℕ) where
       ∙ take-append-add bs (take k buf) (limit - n)
       ∙ ap (λ (p : List ℕ). bs ++ p) (cut_front buf (limit - n) k w within least)
 
-  -- The taken bytes of a longer input begin with the taken bytes of a prefix of that input.
   pub taken_more : (all more : List ℕ) → (tail : List ℕ) × (taken_of limit (all ++ more) ≡ taken_of limit all ++ tail)
   taken_more all more = elim (cases_lt limit (length all)) [
     | inl past ↦ ([], take-append-le limit all more (omega (arith, past)) ∙ sym (append-nil (taken_of limit all)))
@@ -45,7 +42,6 @@ module _ (limit : ℕ) where
     )
   ]
 
--- A reader that returned an error has failed. A reader that returned bytes has not.
 pub has_broken : (old new : Bool) → new ≡ (old || true) → new ≡ true
 has_broken false new is = is
 has_broken true new is = is

@@ -1,5 +1,4 @@
--- Lemmas for `serve_pieces`: the run of an intake between two chunks and at its end, and what the run states about its
--- input.
+-- Lemmas for `serve_pieces`: a run between two chunks of its input, and at the end of its input.
 use Rattle.std.proofs.Common.{◌≡◌, ◌⊎◌, ◌↔◌, inl, inr, ℕ, ◌+◌, ◌-◌, ◌<◌, ◌≤◌, min, List, [], ◌++◌, length, take, Bool}
 use Rattle.std.proofs.Common.{true, false, Option, Some, None, IfSome, Result, Ok, Err, refl, ap, sym, subst, ◌∙◌}
 use Rattle.std.proofs.Common.{arith, append-nil, length-append, length-take-le}
@@ -19,7 +18,7 @@ use Rattle.capn_serve.proofs.shared.Until.{known as either}
 abbrev Ending : Type 0
 Ending = Result (Unit {0}) RunFault
 
--- `taken` bytes were read, and the intake took them.
+-- `taken` bytes were read, and `Takes` holds for these bytes.
 pub record HasTaken {I X : Type 0} (Takes : Taking I X) (s : I) (y : X) (a b c d : Option (List ℕ)) (taken : ℕ) : Type 0
   where
     pub bytes : List ℕ
@@ -27,7 +26,6 @@ pub record HasTaken {I X : Type 0} (Takes : Taking I X) (s : I) (y : X) (a b c d
     pub size : length bytes ≡ taken
     pub takes : Takes s y bytes c d
 
--- Case: neither the reader nor the writer has failed.
 not_failed : (r w : Bool) → r ≡ false → w ≡ false → (r ≡ true) ⊎ (w ≡ true) → ⊥
 not_failed r w fine good (inl h) = let e : true ≡ false = sym h ∙ fine in cc
 not_failed r w fine good (inr h) = let e : true ≡ false = sym h ∙ good in cc
@@ -39,13 +37,12 @@ writer_only : (r w : Bool) → r ≡ false → (r ≡ true) ⊎ (w ≡ true) →
 writer_only r w fine (inl h) = let e : true ≡ false = sym h ∙ fine in absurd (cc)
 writer_only r w fine (inr h) = h
 
--- Case: a chunk was served, and the writer has not failed.
 pub not_broken : {I X : Type 0} {takes : Taking I X} {gives : Giving I X} {done : X → Bool} {bytes : List ℕ}
     {c d e : Option (List ℕ)} {failed : Bool} {u : Unit {0}} {s : I} {y : X}
     → Feeds takes gives done bytes c d e failed (Ok u) s y → failed ≡ false
 not_broken {failed = failed} fed = unless_true failed (λ is. (let bad = fed.broken.1 is in cc))
 
--- Case: the service is done before the first read.
+-- Case: the service is finished before the first read.
 pub run_none : {I X : Type 0} (takes : Taking I X) (gives : Giving I X) (done : X → Bool) (limit : ℕ) (s : I) (x : X)
     (a c : Option (List ℕ)) (rf wf : Bool) → rf ≡ false → wf ≡ false → takes s x [] c c
     → Over (gives s x) [] c c (Ok tt) → Reads takes gives done limit s x a a c c rf wf (Ok tt)
@@ -165,7 +162,7 @@ module _ {I X : Type 0} (takes : Taking I X) (gives : Giving I X) (done : X → 
         → Reads takes gives done limit last z a b2 c e rf wf (Ok u)
     run_done u is fed = run_closed (Ok u) fed (fed.fed.1 is)
 
-    -- Case: there are more bytes than are taken.
+    -- Case: the input has more bytes than `limit`.
     pub run_long : (u : Unit {0}) → done z ≡ false → w < k → Fed (Ok u)
         → Reads takes gives done limit last z a b2 c e rf wf (Err faults.InputTooLong)
     run_long u on past fed =
@@ -182,7 +179,7 @@ module _ {I X : Type 0} (takes : Taking I X) (gives : Giving I X) (done : X → 
         (subst (λ (m : Bool). gives last z (h.bytes ++ take w (buf ++ tail)) m c e (Err faults.InputTooLong))
         (sym longer) (fed.fed.0 on).1)))
 
-    -- Case: the chunk was taken, and the run continues.
+    -- Case: all of the chunk was served, and the run continues.
     pub taken_on : (u : Unit {0}) → done z ≡ false → w ≡ k → Fed (Ok u)
         → HasTaken takes last z a b2 c e (taken + w)
     taken_on u on same fed = record {
@@ -193,9 +190,8 @@ module _ {I X : Type 0} (takes : Taking I X) (gives : Giving I X) (done : X → 
           (fed.fed.0 on).0;
     }
 
--- ---- what a run says of its input
+-- ---- a fact about the input of a reader, if that input is known
 
--- A statement that holds for every rest of an input holds for the input, if the input is known.
 known : (a b : Option (List ℕ)) (bytes : List ℕ) (P : List ℕ → Type 0) → Consumes a b bytes
     → ((more : List ℕ) → (IsAtEnd b → more ≡ []) → P (bytes ++ more)) → IfSome a P
 known None b bytes P read h = tt

@@ -25,7 +25,6 @@ module _ {X : Type 0} (f : Fold X) where
   served_append x y z [] qs a b = subst (λ (s : X). AreServed f s qs z) (sym a) b
   served_append x y z (p ∷ ps) qs (mid, is, step, rest) b = (mid, is, step, served_append mid y z ps qs rest b)
 
-  -- Parts of a stream, followed by parts of its rest and further bytes, are parts of the longer stream.
   pub parts_more : (x y z : X) (s mid e rest : List ℕ) (ps qs : List Part) → AreParts f x s ps mid y
       → AreParts f y (mid ++ e) qs rest z → AreParts f x (s ++ e) (ps ++ qs) rest z
   parts_more x y z s mid e rest ps qs a b = record {
@@ -43,7 +42,6 @@ module _ {X : Type 0} (f : Fold X) where
   texts_more a b c ps qs g h =
       subst (Adds a c) (sym (flat_map-append text_of ps qs)) (adds_more a b c (texts_of ps) (texts_of qs) g h)
 
-  -- Parts of some bytes are parts of a longer stream.
   pub parts_longer : (x y : X) (bytes rest more : List ℕ) (parts : List Part) → AreParts f x bytes parts rest y
       → AreParts f x (bytes ++ more) parts (rest ++ more) y
   parts_longer x y bytes rest more parts are = record {
@@ -51,7 +49,6 @@ module _ {X : Type 0} (f : Fold X) where
     is = ap (λ (l : List ℕ). l ++ more) are.is ∙ append_assoc (frames_of parts) rest more;
   }
 
-  -- Nothing was served, and all bytes are left.
   pub parts_none : (x : X) (stream : List ℕ) → AreParts f x stream [] stream x
   parts_none x stream = record { each = refl; is = refl }
 
@@ -82,7 +79,6 @@ module _ {X : Type 0} (f : Fold X) where
     subst (Adds a b) (sym (append-nil text)) wrote,
   )
 
-  -- If all texts were added, a prefix of the texts was added.
   pub tells_begun : (x y : X) (stream rest : List ℕ) (a b : Outgoing) → Tells f x stream rest a b y
       → TellsBegun f x stream a b
   tells_begun x y stream rest a b (parts, are, adds) = (
@@ -97,8 +93,6 @@ module _ {X : Type 0} (f : Fold X) where
   begun_none : (x : X) (stream : List ℕ) (a b : Outgoing) → Adds a b [] → TellsBegun f x stream a b
   begun_none x stream a b adds = ([], stream, x, 0, parts_none x stream, adds)
 
-  -- If all texts of some messages were added, and then a prefix of the texts after them, a prefix of the texts of the
-  -- whole stream was added.
   pub begun_behind : (x y : X) (s mid e : List ℕ) (a b c : Outgoing) → Tells f x s mid a b y
       → TellsBegun f y (mid ++ e) b c → TellsBegun f x (s ++ e) a c
   begun_behind x y s mid e a b c told (parts, rest, z, count, are, adds) =
@@ -114,13 +108,11 @@ module _ {X : Type 0} (f : Fold X) where
         subst (Adds a c) front (adds_more a b c first (take count (texts_of parts)) told.2 adds),
       )
 
-  -- If no text is kept, all that was added was written.
   pub begun_front : (x : X) (stream : List ℕ) (c d : Option (List ℕ)) → TellsBegun f x stream (sent c) (sent d)
       → TellsFront f x stream (sent c) (sent d)
   begun_front x stream c d (parts, rest, y, count, are, adds) =
       (parts, rest, y, count, are, adds_sent c d (take count (texts_of parts)) adds)
 
-  -- The text and the ending of a stream after some of its messages give those of the whole stream.
   pub due_behind : (x y : X) (s mid e : List ℕ) (a b c : Outgoing) (behind : Option RunFault)
       (ending : Result (Unit {0}) RunFault) → Tells f x s mid a b y
       → (text : List ℕ) × (z : X) × IsFolded f y (mid ++ e) behind text ending z × Adds b c text → (text : List ℕ)
@@ -150,7 +142,6 @@ module _ {X : Type 0} (f : Fold X) where
         subst (Breaks a c behind.0) (sym (flat_map-append text_of told.0 parts)) behind.1,
       )
 
-  -- A run that stops after some messages of a stream stops within the whole stream.
   pub stops_more : {w : X} (x y : X) (s mid e : List ℕ) (a b c : Outgoing) (failed : Bool) (fault : RunFault)
       → Tells f x s mid a b y → Stops f y (mid ++ e) b c failed fault w → Stops f x (s ++ e) a c failed fault w
   unfolding due_behind
@@ -183,7 +174,7 @@ module _ {X : Type 0} (f : Fold X) where
     due = inl refl;
   }
 
-  -- Case: no frame can follow, because the segment table is refused.
+  -- Case: the segment table at the start of `stream` is refused with `e`.
   pub stops_framed : (x : X) (stream : List ℕ) (a : Outgoing) (failed : Bool) (e : FrameFault) → failed ≡ false
       → e ≢ frame_faults.Memory → IsHeadRefused stream f.most e → f.done x ≡ false
       → Stops f x stream a a failed (faults.Refused (f.place x) (refusals.Frame e)) x
@@ -223,7 +214,6 @@ module _ {X : Type 0} (f : Fold X) where
         ends = ends_going f x (stream ++ more) behind _ going (inl (frame_faults.TooManyWords n, other, stop, refl));
       }
 
-  -- If a prefix of the text of the first message was added, a prefix of the texts of the whole stream was added.
   begun_one : (x : X) (frame e : List ℕ) (message : List (List ℕ)) (a b : Outgoing) → Frames frame message
       → total message ≤ f.most → f.done x ≡ false → AddsBeginning (f.step x frame message) a b
       → TellsBegun f x (frame ++ e) a b

@@ -1,4 +1,4 @@
--- Lemmas for the calls of `stream.rt`: bytes up to the end of a message, and messages that lie whole in the bytes.
+-- Lemmas for the calls of `stream.rt`: bytes up to the end of a message, and complete messages within the bytes.
 use Rattle.std.proofs.Common.{◌≡◌, ◌≢◌, ◌⊎◌, inl, inr, ℕ, zero, suc, ◌+◌, ◌-◌, ◌<◌, ◌≤◌, List, [], ◌∷◌, ◌++◌, length}
 use Rattle.std.proofs.Common.{take, drop, Bool, true, false, Option, None, Some, Result, Ok, Err, refl, ap, sym, subst}
 use Rattle.std.proofs.Common.{◌∙◌, append-nil, append_assoc, arith, length-append}
@@ -27,7 +27,6 @@ use Rattle.capn_serve.proofs.Sends.{adds_all, breaks_less, breaks_rest}
 use Rattle.capn_serve.proofs.More.{tells_begun, tells_more, tells_none, tells_one, stops_framed, stops_memory}
 use Rattle.capn_serve.proofs.More.{stops_message, stops_more}
 
--- The empty list, which is left after a frame was taken, is no whole frame.
 pub empty_unfinished : (most : ℕ) → IsUnfinished [] most
 empty_unfinished most = inl refl
 
@@ -43,7 +42,6 @@ module _ {S : Type 0} (serves : S → Position → List ℕ → List (List ℕ) 
   abbrev f : Fold (Run S)
   f = fold_until serves refuses done most
 
-  -- After messages that were served, there is room for the bytes that follow them.
   room_after : (x y : Run S) (ps : List Part) (k : ℕ) → AreServed f x ps y
       → HasRoom x.at (length (frames_of ps) + k) → HasRoom y.at k
   room_after x y [] k is room =
@@ -68,7 +66,6 @@ module _ {S : Type 0} (serves : S → Position → List ℕ → List (List ℕ) 
         index = room.index;
       })
 
-  -- After a message that was served, there is room for the bytes that follow it.
   pub room_step : (x y : Run S) (frame : List ℕ) (message : List (List ℕ)) (text : List ℕ) (k : ℕ)
       → 4 ≤ length frame → f.step x frame message text y → HasRoom x.at (length frame + k) → HasRoom y.at k
   room_step x y frame message text k some step room =
@@ -77,9 +74,8 @@ module _ {S : Type 0} (serves : S → Position → List ℕ → List (List ℕ) 
         index = omega (arith, room.index, some);
       })
 
--- ---- a message that was held
+-- ---- the message in the framer
 
--- If the bytes of a framer begin with a whole message, that message takes all of these bytes.
 pub held_whole : (rest : List ℕ) (most : ℕ) (message : List (List ℕ)) (taken : ℕ) → StandsFirst rest most message taken
     → IsFrame rest most ⊎ IsUnfinished rest most → ((m : List (List ℕ)) (t : ℕ) → StandsFirst rest most m t
     → (message ≡ m) × (taken ≡ t)) → take taken rest ≡ rest
@@ -91,7 +87,6 @@ held_whole rest most message taken first (inr (inl none)) only =
 held_whole rest most message taken first (inr (inr cut)) only =
     let bad = refused_whole rest most frame_faults.Cut (whole_of rest most message taken first) cut in absurd (cc)
 
--- If the bytes of a framer begin with no whole message, these bytes are an unfinished message or nothing.
 pub held_open : (rest : List ℕ) (most : ℕ) (e : FrameFault) → e ≢ frame_faults.Memory
     → IsFrame rest most ⊎ IsUnfinished rest most
     → ((m : List (List ℕ)) (t : ℕ) → StandsFirst rest most m t → e ≡ frame_faults.Memory) → IsUnfinished rest most
@@ -99,13 +94,11 @@ held_open rest most e other (inl (m, frames, room)) only =
     absurd (other (only m (length rest) (stands_alone rest most m frames room)))
 held_open rest most e other (inr part) only = part
 
--- If the bytes of a framer begin with a whole message, these bytes are a frame.
 pub held_frame : (rest : List ℕ) (most other : ℕ) (message : List (List ℕ)) (taken : ℕ)
     → StandsFirst rest most message taken → take taken rest ≡ rest → other ≡ most → IsFrame rest other
 held_frame rest most other message taken first all same =
     (message, subst (λ (p : List ℕ). Frames p message) all first.frame, omega (arith, first.room, same))
 
--- After its message was taken, a framer holds no bytes.
 pub cleared : (before : Framing) (got : Option (List (List ℕ))) (after : Framing) → before.failed ≡ false
     → IsFrame before.rest before.most → TakeGives before got after
     → after ≡ record { rest = []; most = before.most; failed = false }
@@ -115,7 +108,7 @@ cleared before None after good whole (inr part, same) = absurd (unfinished_frame
 
 module _ {X : Type 0} (f : Fold X) (x : X) (before : Framing) (good : before.failed ≡ false)
     (same : before.most ≡ f.most) where
-  -- Case: the held message was served.
+  -- Case: the message in the framer was served.
   pub held_some : (y : X) (after : Framing) (frame : List ℕ) (message : List (List ℕ)) (a b : Outgoing) (failed : Bool)
       (u : Unit {0}) → frame ≡ before.rest → Frames frame message → total message ≤ f.most → f.done x ≡ false
       → AddsMessage f x frame message a b failed (Ok u) y
@@ -134,7 +127,7 @@ module _ {X : Type 0} (f : Fold X) (x : X) (before : Framing) (good : before.fai
         fine,
       )
 
-  -- Case: the held message is refused, or the writer failed.
+  -- Case: serving the message in the framer ended with `fault`.
   pub held_stop : (y : X) (frame : List ℕ) (message : List (List ℕ)) (a b : Outgoing) (failed : Bool)
       (fault : RunFault) → frame ≡ before.rest → Frames frame message → total message ≤ f.most → f.done x ≡ false
       → AddsMessage f x frame message a b failed (Err fault) y → (more : List ℕ)
@@ -143,13 +136,12 @@ module _ {X : Type 0} (f : Fold X) (x : X) (before : Framing) (good : before.fai
       subst (λ (p : List ℕ). Stops f x (p ++ more) a b failed fault y) all
       (stops_message f x y frame more message a b failed fault is room going adds)
 
-  -- Case: the framer holds no whole message.
   pub held_none : (a : Outgoing) (failed : Bool) → failed ≡ false → IsUnfinished before.rest before.most
       → ServesHeld f x before a a failed (Ok tt) before x
   held_none a failed fine part =
       (tells_none f x before.rest a, record { good = good; part = part; most = same }, fine)
 
-  -- Case: the held bytes begin with no whole message.
+  -- Case: no complete message was found in the framer, or memory was refused.
   pub held_passed : (most : ℕ) (a : Outgoing) (failed : Bool) (fault : FrameFault) (r : Result (Unit {0}) RunFault)
       → most ≡ f.most → failed ≡ false → IsFrame before.rest most ⊎ IsUnfinished before.rest most
       → ((m : List (List ℕ)) (t : ℕ) → StandsFirst before.rest most m t → fault ≡ frame_faults.Memory)
@@ -177,7 +169,7 @@ module _ {X : Type 0} (f : Fold X) (x : X) (before : Framing) (bytes : List ℕ)
       ]
   moves (suc n) mid fed some = omega arith
 
-  -- Case: the bytes were taken, and the held message was served if that message is whole.
+  -- Case: the framer was fed with `n` bytes, and its message was served if that message is complete.
   pub next_ok : (y : X) (n : ℕ) (mid after : Framing) (a b : Outgoing) (failed : Bool) (u : Unit {0})
       → Feeds before bytes n mid → ServesHeld f x mid a b failed (Ok u) after y
       → ServesNext f x before bytes a b failed (Ok n) after y
@@ -187,7 +179,7 @@ module _ {X : Type 0} (f : Fold X) (x : X) (before : Framing) (bytes : List ℕ)
     (subst (λ (p : List ℕ). Tells f x p after.rest a b y) fed.rest told, is, fine),
   )
 
-  -- Case: the held message is refused, or the writer failed.
+  -- Case: the framer was fed with `n` bytes, and serving its message ended with `fault`.
   pub next_stopped : (y : X) (n : ℕ) (mid after : Framing) (a b : Outgoing) (failed : Bool) (fault : RunFault)
       → Feeds before bytes n mid → ServesHeld f x mid a b failed (Err fault) after y
       → Stops f x (before.rest ++ bytes) a b failed fault y
@@ -218,7 +210,7 @@ module _ {X : Type 0} (f : Fold X) (x : X) (before : Framing) (bytes : List ℕ)
         omega (arith, fed.1.2, listening.most),
       ) going
 
--- ---- more of the bytes
+-- ---- more bytes, after the first `at` bytes were served
 
 module _ {X : Type 0} (f : Fold X) (x y : X) (first before : Framing) (bytes : List ℕ) (at : ℕ) (a b c : Outgoing)
     (told : Tells f x (first.rest ++ take at bytes) before.rest a b y) where
@@ -244,7 +236,7 @@ module _ {X : Type 0} (f : Fold X) (x y : X) (first before : Framing) (bytes : L
       subst (λ (p : List ℕ). Tells f x p rest a c z) whole
       (tells_more f x y z (first.rest ++ take at bytes) before.rest (take n (drop at bytes)) rest a b c told part)
 
--- ---- messages that lie whole in the bytes
+-- ---- complete messages in the bytes
 
 module _ {X : Type 0} (f : Fold X) (x y : X) (bytes : List ℕ) (at : ℕ) (a b : Outgoing)
     (told : Tells f x (take at bytes) [] a b y) (message : List (List ℕ)) (taken most : ℕ)
@@ -279,7 +271,7 @@ module _ {X : Type 0} (f : Fold X) (x y : X) (bytes : List ℕ) (at : ℕ) (a b 
       subst (λ (p : List ℕ). Stops f x p a c failed fault z) (take-append-drop at bytes)
       (stops_more f x y (take at bytes) [] (drop at bytes) a b c failed fault told part)
 
--- Case: memory was refused after messages that were served.
+-- Case: some messages were served, and then memory was refused.
 pub whole_memory : {X : Type 0} (f : Fold X) (x y : X) (bytes : List ℕ) (at : ℕ) (a b : Outgoing) (failed : Bool)
     → Tells f x (take at bytes) [] a b y → failed ≡ false → Stops f x bytes a b failed faults.Memory y
 whole_memory f x y bytes at a b failed told fine =
@@ -287,9 +279,8 @@ whole_memory f x y bytes at a b failed told fine =
     subst (λ (p : List ℕ). Stops f x p a b failed faults.Memory y) (take-append-drop at bytes)
     (stops_more f x y (take at bytes) [] (drop at bytes) a b b failed faults.Memory told here)
 
--- ---- whole messages, or the next one
+-- ---- complete messages, or the next one
 
--- If no byte was served, the state is unchanged.
 pub state_same : {X : Type 0} (f : Fold X) (x y : X) (parts : List Part) → AreParts f x [] parts [] y → x ≡ y
 state_same f x y [] are = are.each
 state_same f x y (p ∷ ps) are =
@@ -306,7 +297,7 @@ still_going {X = X} f x y bytes n a b none (parts, are, adds) going =
     subst (λ (z : X). f.done z ≡ false) (state_same f x y parts nothing) going
 
 module _ {X : Type 0} (f : Fold X) (x y : X) (before : Framing) (bytes : List ℕ) (a b : Outgoing) where
-  -- Case: messages were served, and the framer held nothing before and holds nothing after.
+  -- Case: the framer `before` holds no bytes, and complete messages at the start of `bytes` were served.
   pub some_whole : (n : ℕ) (failed : Bool) → IsListening f before → before.rest ≡ [] → 0 < n
       → ServesWhole f x bytes a b failed (Ok n) y → ServesNext f x before bytes a b failed (Ok n) before y
   some_whole n failed listening none some (inside, told, fine) = (
@@ -319,12 +310,12 @@ module _ {X : Type 0} (f : Fold X) (x y : X) (before : Framing) (bytes : List �
     ),
   )
 
-  -- Case: the run stopped within the whole messages of the bytes.
+  -- Case: the framer `before` holds no bytes, and the run stopped while `bytes` were served.
   pub some_stop : (failed : Bool) (fault : RunFault) → before.rest ≡ [] → Stops f x bytes a b failed fault y
       → Stops f x (before.rest ++ bytes) a b failed fault y
   some_stop failed fault none stop = subst (λ (p : List ℕ). Stops f x (p ++ bytes) a b failed fault y) (sym none) stop
 
-  -- Case: no message was served, and the framer took the next bytes.
+  -- Case: `bytes` begin with no complete message, and the framer was fed with `bytes`.
   pub some_next : (z : X) (n : ℕ) (c : Outgoing) (failed fine : Bool) (r : Result ℕ RunFault) (after : Framing)
       → n ≡ 0 → ServesWhole f x bytes a b fine (Ok n) y → ServesNext f y before bytes b c failed r after z
       → ServesNext f x before bytes a c failed r after z
@@ -338,7 +329,7 @@ module _ {X : Type 0} (f : Fold X) (x y : X) (before : Framing) (bytes : List �
       let nothing : Tells f x [] [] a b y = subst (λ (k : ℕ). Tells f x (take k bytes) [] a b y) none told in
       stops_more f x y [] [] (before.rest ++ bytes) a b c failed fault nothing stop
 
--- ---- what is kept is written
+-- ---- the text that was not written before is written
 
 module _ {X : Type 0} (f : Fold X) (x : X) (c d e : Option (List ℕ)) (text : List ℕ) where
   pub tells_sent : (y : X) (stream rest : List ℕ) → Tells f x stream rest (sent c) (outgoing d text) y
@@ -365,7 +356,7 @@ module _ {X : Type 0} (f : Fold X) (x : X) (c d e : Option (List ℕ)) (text : L
       so_sent so more behind = let part = so more behind in
           (part.0, part.1, part.2, adds_all (sent c) d e text part.0 part.3 wrote, part.4)
 
-  -- Case: the writer fails within the kept text.
+  -- Case: the writer fails while `text` is written.
   pub begun_broken : {w : X} (stream : List ℕ) → TellsBegun f x stream (sent c) (outgoing d text) → HasBegun d e text
       → Stops f x stream (sent c) (sent e) true faults.Io w
   begun_broken stream (parts, rest, y, count, are, adds) (some, wrote) =
@@ -388,7 +379,7 @@ module _ {X : Type 0} (f : Fold X) (x : X) (c d e : Option (List ℕ)) (text : L
       → Stops f x stream (sent c) (sent e) true faults.Io w
   stops_broken stream fault stop wrote = begun_broken stream (stop.told refl) wrote
 
-  -- Case: the writer had failed before.
+  -- Case: the writer had failed already, and `text` was not written.
   pub stops_kept : {w : X} (stream : List ℕ) (fault : RunFault) → e ≡ d
       → Stops f x stream (sent c) (outgoing d text) true fault w → Stops f x stream (sent c) (sent e) true fault w
   stops_kept stream fault same stop = record {
@@ -401,7 +392,7 @@ module _ {X : Type 0} (f : Fold X) (x : X) (c d e : Option (List ℕ)) (text : L
   }
 
 module _ {X : Type 0} (f : Fold X) (x : X) where
-  -- Case: bytes were served, and then the kept text was written.
+  -- Case: `bytes` were served, and then `text` was written, as `SendsRest` states.
   serves_sent : (y : X) (before after : Framing) (bytes : List ℕ) (c d e : Option (List ℕ))
       (text : List ℕ) (broken failed : Bool) (served result : Result (Unit {0}) RunFault)
       → Serves f x before bytes (sent c) (outgoing d text) broken served after y

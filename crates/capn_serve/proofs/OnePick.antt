@@ -17,7 +17,6 @@ module _ (most : ℕ) where
   abbrev f : Fold Picking
   f = pick_fold most
 
-  -- The fold of picking does one thing with each message.
   pub pick_one_way : IsOneWay (pick_fold most)
   pick_one_way = record {
     steps = λ x frame message t u y z h k.
@@ -28,7 +27,6 @@ module _ (most : ℕ) where
     never_both = λ x frame message t y r h k. k;
   }
 
-  -- After messages that are served, the index of the next message is no lower than before.
   grows : (x y : Picking) (ps : List Part) → AreServed f x ps y → x.at.index ≤ y.at.index
   grows x y [] is = omega (arith, ap (λ (r : Picking). r.at.index) is)
   grows x y (p ∷ ps) (mid, part, step, more) =
@@ -36,7 +34,6 @@ module _ (most : ℕ) where
       omega (arith, next, ap (λ (at : Position). at.index) step.1)
 
   module _ (ranges : List Range) where
-    -- The ranges stay the same while messages are served.
     stays : (x y : Picking) (ps : List Part) → AreServed f x ps y → x.service ≡ ranges → y.service ≡ ranges
     stays x y [] is same = subst (λ (r : Picking). r.service ≡ ranges) is same
     stays x y (q ∷ ps) (mid, part, step, more) same = stays mid y ps more (step.0.1 ∙ same)
@@ -52,7 +49,6 @@ module _ (most : ℕ) where
         ap (λ (l : List ℕ). l ++ texts_of ps) none
         ∙ beyond mid y ps more (step.0.1 ∙ same) (omega (arith, past, number))
 
-    -- Any two lists of messages that reach the last number of the ranges write the same text.
     one_enough : (x y z : Picking) (ps qs : List Part) (rest other : List ℕ) → AreServed f x ps y
         → AreServed f x qs z → frames_of ps ++ rest ≡ frames_of qs ++ other → x.service ≡ ranges
         → last_of ranges ≤ y.at.index → last_of ranges ≤ z.at.index → texts_of ps ≡ texts_of qs
@@ -72,7 +68,6 @@ module _ (most : ℕ) where
         others first.1.1 (move.0.1 ∙ same) past after in
         (λ i. moved.0 i ++ next i)
 
-    -- A stream that ends before the last number of the ranges has no list of messages up to that number.
     too_few : (ends : Option RunFault) (x y z : Picking) (ps qs : List Part) (rest other : List ℕ) (r : Ending)
         → AreServed f x ps y → AreServed f x qs z → frames_of ps ++ rest ≡ frames_of qs ++ other
         → Behind f pick_one_way (λ w. ends) y rest r → y.at.index < last_of ranges → last_of ranges ≤ z.at.index → ⊥
@@ -114,7 +109,7 @@ module _ (most : ℕ) where
         let same = one_folded f pick_one_way (λ w. behind is_longer) (first_run ranges) y z bytes t u r s due also in
         (same.0, same.1.0)
 
-    -- The text that is picked from an input is unique, and so is the ending of a run over the input.
+    -- The text that is picked from `input` and the result of the run are unique.
     pub one_pick : (input t u : List ℕ) (r s : Ending) → IsPicked most ranges forms.Stream input t r
         → IsPicked most ranges forms.Stream input u s → (t ≡ u) × (r ≡ s)
     one_pick input t u r s h k = one_of (taken_of most_taken input) t u (has_more most_taken input) r s h k

@@ -1,5 +1,5 @@
--- Lemmas for `packed_into` and the intake of a packed stream: what the intake has served, how a run ends, and which
--- bytes are held of the last message.
+-- Lemmas for `packed_into` and the intake of a packed stream: the served messages, the end of a run, and the bytes that
+-- the intake then holds.
 use Rattle.std.proofs.Common.{◌≡◌, ◌≢◌, inl, inr, ℕ, ◌-◌, ◌^◌, ◌<◌, ◌≤◌, List, [], ◌∷◌, ◌++◌, length}
 use Rattle.std.proofs.Common.{take, Bool, true, false, Option, IfErr, IfSome}
 use Rattle.std.proofs.Common.{Result, Ok, Err, refl, ap, sym, subst, ◌∙◌}
@@ -49,7 +49,6 @@ Ending = Result (Unit {0}) RunFault
 abbrev stopped : RunFault → Ending
 stopped fault = Err fault
 
--- The unpacked bytes of all whole groups begin with the unpacked bytes of the first groups.
 pub split_after : (s tail words : List ℕ) → packing.Begins s [] words → (group : List ℕ) × (more : List ℕ) × (at : ℕ)
     × Splits (s ++ tail) group [] (words ++ more) at
 split_after s tail words b =
@@ -74,7 +73,6 @@ split_after s tail words b =
       },
     )
 
--- The end of a run at the end of its input is not `Memory`.
 end_unrefused : (at : Position) (e : FrameFault) (group : List ℕ) (offset : ℕ) → e ≢ frames.Memory
     → end_of at e (cut_group at group offset) ≢ Err faults.Memory
 end_unrefused at frames.Empty [] offset other = λ h. cc
@@ -86,7 +84,6 @@ end_unrefused at (frames.TooManySegments n) group offset other = λ h. cc
 end_unrefused at (frames.TooManyWords n) group offset other = λ h. cc
 end_unrefused at frames.Failed group offset other = λ h. cc
 
--- If messages were reached, a text was appended to the output, which may be empty.
 reach_wrote : {X : Type 0} (f : Fold X) (y z : X) (q : Pending) (s : List ℕ) (d e : Option (List ℕ))
     → ReachesPacked f y q s (sent d) (sent e) z → (text : List ℕ) × Appends d e text
 reach_wrote f y z q s d e (stream, begins, rest, (parts, are, adds)) =
@@ -144,7 +141,7 @@ module _ {X : Type 0} (f : Fold X) (x : X) (limit : ℕ) where
 
   -- ---- how a run ends
 
-  -- The ending of a run if no whole frame is left in the unpacked bytes.
+  -- Case: no complete frame follows the served messages.
   due_open : (y : X) (s : List ℕ) (q : Pending) (is_longer : Bool) (ending : Ending) (e : FrameFault)
       (c d : Option (List ℕ)) (told : TellsPacked f x (fresh limit) s q (sent c) (sent d) y) → f.done y ≡ false
       → e ≢ frames.Memory → frame_rules.IsFrameRefused q.rest f.most e
@@ -188,7 +185,6 @@ module _ {X : Type 0} (f : Fold X) (x : X) (limit : ℕ) where
       let due = due_open y s q is_longer ending frames.Cut c d told going (λ h. cc) cut refl in
       (ending, due.0, due.1, due.2)
 
-  -- The offset of the unfinished group is the number of bytes of the whole groups.
   offset_is : (y : X) (s : List ℕ) (q : Pending) (c d : Option (List ℕ))
       (told : TellsPacked f x (fresh limit) s q (sent c) (sent d) y) → length s ≤ 2 ^ 64 - 1
       → q.group.offset ≡ told.len
@@ -203,7 +199,7 @@ module _ {X : Type 0} (f : Fold X) (x : X) (limit : ℕ) where
         short,
       )
 
-  -- Case: there are more bytes than are taken.
+  -- Case: the input has more bytes than may be served.
   due_long : (y : X) (s : List ℕ) (q : Pending) (c d : Option (List ℕ))
       → TellsPacked f x (fresh limit) s q (sent c) (sent d) y → IsUnfinished q.rest f.most → f.done y ≡ false
       → (text : List ℕ)
@@ -227,7 +223,7 @@ module _ {X : Type 0} (f : Fold X) (x : X) (limit : ℕ) where
         }),
       )
 
-  -- Case: the state `y` is done, whatever bytes follow.
+  -- Case: the state `y` is `done`. Any bytes may come after the bytes `s`.
   gives_done : (y : X) (held : Held) (now : Framing) (s : List ℕ) (c d : Option (List ℕ)) (u : Unit {0})
       → ReachesPacked f x (fresh limit) s (sent c) (sent d) y → f.done y ≡ true
       → Over (GivesPacked f x limit held now y) s c d (Ok u)
@@ -411,7 +407,8 @@ module _ {X : Type 0} (f : Fold X) (x : X) (limit : ℕ) where
       gives_done x held now [] c c tt (reach_all f x (fresh limit) x [] (pending held now left) (sent c) (sent c) told)
       done
 
-  -- The lemmas below hold for any intake that holds an unpacker, a framer and a number of bytes left.
+  -- The lemmas of this module are for any intake that has an unpacker, a framer, and the number of bytes that may still
+  -- be served.
   module _ {I : Type 0} (held : I → Held) (framer : I → Framing) (left : I → ℕ) where
     abbrev Takes : I → X → List ℕ → Option (List ℕ) → Option (List ℕ) → Type 0
     Takes s y bytes c d = TakesPacked f x limit (held s) (framer s) (left s) y bytes c d
@@ -419,7 +416,7 @@ module _ {X : Type 0} (f : Fold X) (x : X) (limit : ℕ) where
     abbrev Gives : I → X → List ℕ → Bool → Option (List ℕ) → Option (List ℕ) → Ending → Type 0
     Gives s y bytes is_longer c d r = GivesPacked f x limit (held s) (framer s) y bytes is_longer c d r
 
-    -- Case: one more chunk was served.
+    -- Case: one more chunk `piece` was read, and serving it gave the result `r`.
     pub feeds_packed : (y z : X) (before after : I) (bytes piece : List ℕ) (c d e : Option (List ℕ)) (failed : Bool)
         (r : Ending) → Takes before y bytes c d
         → ServesPacked f y (pending (held before) (framer before) (left before)) piece (sent d) (sent e) failed r

@@ -85,7 +85,6 @@ module _ {X : Type 0} (f : Fold X) where
     ends = ends_any y due.rest other fault apart (f.done y) due.ends behind;
   }
 
-  -- The text and the ending of what follows some served messages give those of the whole stream.
   folded_more : (x y z : X) (s mid e more : List ℕ) (ps : List Part) (behind : Option RunFault) (ending : Ending)
       → AreParts f x s ps mid y → IsFolded f y (mid ++ e) behind more ending z
       → IsFolded f x (s ++ e) behind (texts_of ps ++ more) ending z
@@ -97,7 +96,7 @@ module _ {X : Type 0} (f : Fold X) where
     ends = due.ends;
   }
 
--- ---- a number of bytes that are taken
+-- ---- the first bytes of a stream, and whether there are more
 
 more_of : (room left : ℕ) (v w : List ℕ) → length w + room ≡ left → has_more left (w ++ v) ≡ has_more room v
 more_of room left v w size = longer (length v) (length (w ++ v)) (length-append w v)
@@ -143,7 +142,7 @@ module _ {X : Type 0} (f : Fold X) (x : X) (left : ℕ) (rest stream : List ℕ)
         part.4,
       )
 
-  -- Case: the run stopped within the bytes that are taken.
+  -- Case: the run stopped within the first `left` bytes of `stream`.
   pub halts_of : {w : X} → Stops f x (rest ++ taken_of left stream) a b failed fault w
       → Halts f x left rest stream a b failed fault w
   halts_of stop = record {
@@ -185,7 +184,7 @@ module _ {X : Type 0} (f : Fold X) (x y : X) (left : ℕ) (rest stream end : Lis
         inl refl,
       )
 
-  -- Case: the run stopped because there are more bytes than are taken.
+  -- Case: the run stopped because `stream` has more than `left` bytes.
   pub halts_long : (failed : Bool) → failed ≡ false → left < length stream → IsUnfinished end f.most
       → f.done y ≡ false → Tells f x (rest ++ taken_of left stream) end a b y
       → Halts f x left rest stream a b failed faults.InputTooLong y
@@ -199,7 +198,6 @@ module _ {X : Type 0} (f : Fold X) (x y : X) (left : ℕ) (rest stream end : Lis
     ]));
   }
 
--- The first `within` bytes of a part are the taken bytes of that part.
 pub within_taken : (left within count : ℕ) (stream got : List ℕ) → got ≡ stream → count ≡ length stream
     → within ≡ min left count → take within got ≡ taken_of left stream
 within_taken left within count stream got same size least =
@@ -209,7 +207,7 @@ within_taken left within count stream got same size least =
       | inr short ↦ take_all within stream (omega (arith, short, size, least)) ∙ sym (take_all left stream short)
     ]
 
--- Cases: the taken bytes of a part were served.
+-- Cases of `serve_part`: the first `within` bytes of the unpacked bytes `stream` were given to `serve_bytes`.
 module _ {X : Type 0} (f : Fold X) (x : X) (left within count : ℕ) (rest stream got : List ℕ) (a b : Outgoing)
     (failed : Bool) (same : got ≡ stream) (size : count ≡ length stream) (least : within ≡ min left count) where
   pub part_stops : {w : X} (fault : RunFault) → Stops f x (rest ++ take within got) a b failed fault w
@@ -227,7 +225,6 @@ module _ {X : Type 0} (f : Fold X) (x : X) (left within count : ℕ) (rest strea
       (subst (λ (p : List ℕ). Tells f x (rest ++ p) end a b y)
       (within_taken left within count stream got same size least) told)
 
-  -- Case: the taken bytes were served, and the state `y` is done.
   pub part_done : (y : X) (end : List ℕ) (room : ℕ) (before after : Framing) → before.rest ≡ rest → failed ≡ false
       → f.done y ≡ true → Tells f x (rest ++ take within got) end a b y
       → ServesPart f x left before stream a b failed (Ok tt) room after y
@@ -240,7 +237,6 @@ module _ {X : Type 0} (f : Fold X) (x : X) (left within count : ℕ) (rest strea
     fine,
   )
 
-  -- Case: all of the part was served.
   pub part_all : (y : X) (end : List ℕ) (room : ℕ) (before after : Framing) → before.rest ≡ rest → failed ≡ false
       → within ≡ count → left ≡ within + room → after.rest ≡ end → IsListening f after
       → Tells f x (rest ++ take within got) end a b y
@@ -254,7 +250,7 @@ module _ {X : Type 0} (f : Fold X) (x : X) (left within count : ℕ) (rest strea
     fine,
   )
 
--- Case: the run stopped after messages that were served.
+-- Case: the bytes `w` were served, and the run stopped in the bytes after `w`.
 module _ {X : Type 0} (f : Fold X) (x y : X) (left room : ℕ) (rest mid w v : List ℕ) (a b c : Outgoing)
     (size : length w + room ≡ left) (served : Tells f x (rest ++ w) mid a b y) where
   same_taken : (u : List ℕ) → rest ++ taken_of left (w ++ u) ≡ (rest ++ w) ++ taken_of room u
@@ -297,7 +293,6 @@ module _ {X : Type 0} (f : Fold X) (x y : X) (left room : ℕ) (rest mid w v : L
 
 -- ---- what was unpacked
 
--- A split that unpacks to `words` also appends `words` to words that were there before.
 shifted : (stream rest words old : List ℕ) (len : ℕ) → Splits stream rest [] words len
     → Splits stream rest old (old ++ words) len
 shifted stream rest words old len s = record {
@@ -339,7 +334,6 @@ module _ {X : Type 0} (f : Fold X) (x y : X) (p q : Pending) (s t : List ℕ) (a
             (tells_more f x y z (p.rest ++ w) q.rest v r.rest a b c told.told more.told);
       }
 
-  -- Messages that were reached in the bytes after served ones were reached in all of these bytes.
   pub packed_reach : (z : X) (c : Outgoing) → ReachesPacked f y q t b c z → ReachesPacked f x p (s ++ t) a c z
   packed_reach z c (v, begins, rest, next) =
       let w = told.stream in
@@ -364,7 +358,6 @@ module _ {X : Type 0} (f : Fold X) (x y : X) (p q : Pending) (s t : List ℕ) (a
         halts_more f x y p.left q.left p.rest q.rest w v a b c told.size told.told failed fault halt,
       )
 
--- The first groups of some bytes are the first groups of more bytes.
 pub begins_longer : (held s bytes more stream : List ℕ) → s ++ more ≡ bytes → packing.Begins (held ++ s) [] stream
     → packing.Begins (held ++ bytes) [] stream
 begins_longer held s bytes more stream whole begins = record {
@@ -390,7 +383,6 @@ module _ {X : Type 0} (f : Fold X) (x : X) (p : Pending) where
         (stops_memory f x (p.rest ++ taken_of p.left []) a failed fine),
   )
 
-  -- If all whole messages in some bytes were served, these messages were reached.
   pub reach_all : (y : X) (bytes : List ℕ) (q : Pending) (a b : Outgoing) → TellsPacked f x p bytes q a b y
       → ReachesPacked f x p bytes a b y
   reach_all y bytes q a b told = (
@@ -401,7 +393,6 @@ module _ {X : Type 0} (f : Fold X) (x : X) (p : Pending) where
         (sym (all_taken p.left q.left told.stream told.size)) told.told,
   )
 
-  -- Messages that were reached over some bytes are reached over more bytes.
   pub reach_longer : (y : X) (s bytes more : List ℕ) (a b : Outgoing) → s ++ more ≡ bytes
       → ReachesPacked f x p s a b y → ReachesPacked f x p bytes a b y
   reach_longer y s bytes more a b whole (stream, begins, rest, told) = (
@@ -423,13 +414,12 @@ module _ {X : Type 0} (f : Fold X) (x : X) (p : Pending) where
     told = subst (λ (l : List ℕ). Tells f x l p.rest a a x) (sym (append-nil p.rest)) (tells_none f x p.rest a);
   }
 
-  -- A run that stops over some bytes stops over more bytes.
   pub packed_longer : {last : X} (s bytes more : List ℕ) (a b : Outgoing) (failed : Bool) (fault : RunFault)
       → s ++ more ≡ bytes → HaltsPacked f x p s a b failed fault last → HaltsPacked f x p bytes a b failed fault last
   packed_longer s bytes more a b failed fault whole (stream, begins, halt) =
       (stream, begins_longer p.group.rest s bytes more stream whole begins, halt)
 
--- Cases: a slice was unpacked, and the unpacked bytes were served.
+-- Cases of `serve_slice`: the slice `bytes` was unpacked to `new`, and the bytes `new` were given to `serve_part`.
 module _ {X : Type 0} (f : Fold X) (x : X) (held next : Held) (before : Framing) (left : ℕ) (bytes old new : List ℕ)
     (none : old ≡ []) (fed : Feeds held bytes old new next) where
   split : Splits (held.rest ++ bytes) next.rest [] new fed.len
@@ -459,7 +449,7 @@ module _ {X : Type 0} (f : Fold X) (x : X) (held next : Held) (before : Framing)
   served_slice y after room a b failed (Err fault) last same halt =
       (new, begins_all (held.rest ++ bytes) next.rest new fed.len split, halt)
 
--- Cases: one more slice was served.
+-- Cases of `serve_slices`: the first `at` bytes were served, and then the slice up to `end`.
 module _ {X : Type 0} (f : Fold X) (x y : X) (p q : Pending) (bytes : List ℕ) (at end : ℕ) (forward : at ≤ end)
     (a b : Outgoing) (told : TellsPacked f x p (take at bytes) q a b y) where
   joined : take at bytes ++ take (end - at) (drop at bytes) ≡ take end bytes
@@ -487,7 +477,7 @@ module _ {X : Type 0} (f : Fold X) (x y : X) (p q : Pending) (bytes : List ℕ) 
       packed_longer f x p (take at bytes ++ take (end - at) (drop at bytes)) bytes (drop end bytes) a c failed fault
       (ap (λ (l : List ℕ). l ++ drop end bytes) joined ∙ take-append-drop end bytes) part
 
--- ---- what is kept is written
+-- ---- the text that was not written before is written
 
 module _ {X : Type 0} (f : Fold X) (x : X) (left : ℕ) (rest stream : List ℕ) (c d e : Option (List ℕ)) (text : List ℕ)
   where
@@ -508,7 +498,7 @@ module _ {X : Type 0} (f : Fold X) (x : X) (left : ℕ) (rest stream : List ℕ)
         so_sent so more = let part = so more in
             (part.0, part.1, part.2, adds_all (sent c) d e text part.0 part.3 wrote, part.4)
 
-    -- Case: the writer fails within the kept text.
+    -- Case: the writer fails while `text` is written.
     halts_broken : {last : X} (fault : RunFault)
         → Halts f x left rest stream (sent c) (outgoing d text) false fault last → HasBegun d e text
         → Halts f x left rest stream (sent c) (sent e) true faults.Io last
@@ -516,7 +506,7 @@ module _ {X : Type 0} (f : Fold X) (x : X) (left : ℕ) (rest stream : List ℕ)
         halts_of f x left rest stream (sent c) (sent e) true faults.Io
         (begun_broken f x c d e text (rest ++ taken_of left stream) (halt.told refl) wrote)
 
-    -- Case: the writer had failed before.
+    -- Case: the writer had failed already, and `text` was not written.
     halts_kept : {last : X} (fault : RunFault) → e ≡ d
         → Halts f x left rest stream (sent c) (outgoing d text) true fault last
         → Halts f x left rest stream (sent c) (sent e) true fault last
@@ -529,7 +519,8 @@ module _ {X : Type 0} (f : Fold X) (x : X) (left : ℕ) (rest stream : List ℕ)
       due = inr (inl (halt.io.1 refl));
     }
 
--- Cases: packed bytes were served, and then the kept text was written.
+-- Cases of `SendsRest`, after the packed `bytes` were served: `text` was written, the writer failed within `text`, or
+-- the writer had failed before and nothing was written.
 module _ {X : Type 0} (f : Fold X) (x y : X) (p : Pending) (next : Held) (after : Framing) (room : ℕ) (bytes : List ℕ)
     (c d e : Option (List ℕ)) (text : List ℕ) where
   abbrev Served : Outgoing → Bool → Ending → Type 0
@@ -584,7 +575,6 @@ module _ {X : Type 0} (f : Fold X) (x y : X) (p : Pending) (next : Held) (after 
       room y) none s)
       (subst (λ (l : List ℕ). SendsRest served l d e broken failed result) is r)
 
--- After packed bytes that were served, there is room for the unpacked bytes that may still be taken.
 pub packed_room : {S : Type 0} (serves : S → Position → List ℕ → List (List ℕ) → List ℕ → S → Type 0)
     (refuses : S → Position → List ℕ → List (List ℕ) → Refusal → Type 0) (done : S → Position → Bool) (most : ℕ)
     (x y : Run S) (p q : Pending) (bytes : List ℕ) (a b : Outgoing)

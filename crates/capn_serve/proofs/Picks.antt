@@ -26,7 +26,6 @@ Ending = Result (Unit {0}) RunFault
 abbrev stopped : RunFault → Ending
 stopped fault = Err fault
 
--- A statement about the bytes before the last chunk may be replaced by one that it implies.
 ahead_as : (P Q : List ℕ → Option (List ℕ) → Option (List ℕ) → Type 0)
     → ((bytes : List ℕ) (c d : Option (List ℕ)) → P bytes c d → Q bytes c d) → (bytes : List ℕ) (c d : Option (List ℕ))
     → IsAhead P bytes c d → IsAhead Q bytes c d
@@ -41,7 +40,7 @@ module _ (most : ℕ) (ranges : List Range) (p : Picker) (same : p.rest.now ≡ 
     abbrev x : Run Picker
     x = first_run p
 
-    -- A run of the service, seen as a run of the fold that knows all ranges.
+    -- The state of `pick_fold` with all `ranges`, at the position of the run `y`.
     abbrev view : Run Picker → Picking
     view y = record { service = ranges; at = y.at }
 
@@ -51,14 +50,12 @@ module _ (most : ℕ) (ranges : List Range) (p : Picker) (same : p.rest.now ≡ 
     starts : IsOn x
     starts = subst (Follows ranges 0) (sym same) (follows_first ranges ascending)
 
-    -- The relation between both runs holds after one more message.
     goes_on : (w y : Run Picker) (q : Part) → IsOn w → until.step w q.frame q.message q.text y → IsOn y
     goes_on w y q on (served, at) =
         subst (λ (a : Position). Follows ranges a.index y.service.rest.now) (sym at)
         (subst (Follows ranges (w.at.index + 1)) (sym served.1)
         (follows_next ranges w.service.rest.now w.at.index on))
 
-    -- The relation between both runs holds after any messages that the service serves.
     on : (w y : Run Picker) (ps : List Part) → AreServed until w ps y → IsOn w → IsOn y
     on w y [] is h = subst IsOn is h
     on w y (q ∷ ps) (mid, part, step, more) h = on mid y ps more (goes_on w mid q h step)
@@ -84,14 +81,13 @@ module _ (most : ℕ) (ranges : List Range) (p : Picker) (same : p.rest.now ≡ 
         → AreParts (pick_fold most) (first_run ranges) bytes ps rest (view y)
     parts_of y bytes rest ps are = record { each = served x y ps are.each starts; is = are.is }
 
-    -- If the service is done, the last number of the ranges has been reached.
     past : (y : Run Picker) → IsOn y → until.done y ≡ true → last_of ranges ≤ y.at.index
     past y h over = none_left ranges y.service.rest.now y.at.index h over
 
     before : (y : Run Picker) → IsOn y → until.done y ≡ false → y.at.index < last_of ranges
     before y h going = some_left ranges y.service.rest.now y.at.index h going
 
-    -- ---- what is picked of some bytes
+    -- ---- what is picked from some bytes
 
     module _ (bytes text : List ℕ) (behind : Option RunFault) (ending : Ending) (y : Run Picker)
         (due : IsFolded until x bytes behind text ending y) where

@@ -1,4 +1,4 @@
--- Lemmas on the ranges that are left after some messages, compared with all ranges. (For `run_only` and `picking`.)
+-- Lemmas on the ranges that remain after some messages, compared with all ranges. (For `run_only` and `picking`.)
 use Rattle.std.proofs.Common.{◌≡◌, ◌⊎◌, inl, inr, ℕ, ◌+◌, ◌<◌, ◌≤◌, max, List, [], ◌∷◌, Bool, true, false, nat_le}
 use Rattle.std.proofs.Common.{nat_lt, refl, sym, subst, ◌∙◌, arith}
 use Rattle.std.proofs.Math.Nat.{le-max_left, le-max_right}
@@ -29,7 +29,6 @@ is_lt a b h = grind (arith, nat_tests)
 is_ge : (a b : ℕ) → nat_lt a b ≡ false → b ≤ a
 is_ge a b h = grind (arith, nat_tests)
 
--- A number that is at least two numbers is at least their maximum.
 not_max : (a b n : ℕ) → a ≤ n → b ≤ n → max a b ≤ n
 not_max a b n h k = grind (arith, nat_tests)
 
@@ -47,7 +46,6 @@ behind r n high = elim (known (nat_le r.from n)) [
   | inr low ↦ rw low refl
 ]
 
--- A number above the last numbers of all ranges is in none of the ranges.
 none_reached : (rs : List Range) (n : ℕ) → last_of rs < n → is_picked rs n ≡ false
 none_reached [] n h = refl
 none_reached (r ∷ rs) n h =
@@ -55,7 +53,6 @@ none_reached (r ∷ rs) n h =
     let others : last_of rs < n = omega (arith, h, le-max_right r.to (last_of rs)) in
     rw (behind r n first, none_reached rs n others) refl
 
--- If ranges ascend above a bound, a number that is not above that bound is in none of the ranges.
 none_above : (rs : List Range) (before_all n : ℕ) → AreAbove before_all rs → n ≤ before_all → is_picked rs n ≡ false
 none_above [] before_all n h k = refl
 none_above (r ∷ rs) before_all n (low, some, more) k =
@@ -73,7 +70,8 @@ abbrev pub AreLeft : ℕ → List Range → Type 0
 AreLeft index [] = Unit {0}
 AreLeft index (r ∷ rs) = (index < r.to) × (r.from ≤ r.to) × AreAbove r.to rs
 
--- `rest` has the same numbers as `ranges` after the first `index` messages.
+-- `rest` are the ranges that remain of `ranges` after the first `index` messages. Both lists have the same numbers
+-- above `index`.
 pub record Follows (ranges : List Range) (index : ℕ) (rest : List Range) : Type 0 where
   pub left : AreLeft index rest
   pub same : (n : ℕ) → index < n → is_picked ranges n ≡ is_picked rest n
@@ -84,7 +82,6 @@ above_left : (rs : List Range) (index : ℕ) → AreAbove index rs → AreLeft i
 above_left [] index h = tt
 above_left (r ∷ rs) index (low, some, more) = (omega (arith, low, some), some, more)
 
--- Before the first message all ranges are left.
 pub follows_first : (ranges : List Range) → AreAscending ranges → Follows ranges 0 ranges
 follows_first ranges h = record {
   left = above_left ranges 0 h;
@@ -93,7 +90,7 @@ follows_first ranges h = record {
   lower = omega arith;
 }
 
--- The ranges that are left after the next message have the same numbers as all ranges after that message.
+-- `Follows` still holds after one more message.
 pub follows_next : (ranges rest : List Range) (index : ℕ) → Follows ranges index rest
     → Follows ranges (index + 1) (left rest (index + 1))
 follows_next ranges [] index h = record {
@@ -132,7 +129,7 @@ follows_next ranges (r ∷ rs) index h =
         without : (n : ℕ) → r.to < n → is_picked (r ∷ rs) n ≡ is_picked rs n
         without n high = rw (behind r n high) refl
 
--- The first range that is left decides whether the next message is picked.
+-- The first range of `rest` decides whether the next message is picked.
 pub first_decides : (ranges rest : List Range) (index : ℕ) → Follows ranges index rest
     → is_first rest (index + 1) ≡ is_picked ranges (index + 1)
 first_decides ranges [] index h = sym (h.same (index + 1) (omega arith))
@@ -152,7 +149,6 @@ first_decides ranges (r ∷ rs) index h = decides ∙ sym (h.same (index + 1) (o
           rw (low, ge_is r.to (index + 1) high, within r (index + 1) (is_ge (index + 1) r.from low) high) refl)
     ]
 
--- If no range is left, the last number of the ranges has been reached.
 pub none_left : (ranges rest : List Range) (index : ℕ) → Follows ranges index rest → is_none rest ≡ true
     → last_of ranges ≤ index
 none_left ranges [] index h e = h.upper index (omega arith) (omega arith)

@@ -1,4 +1,4 @@
--- Lemmas on text that is added, and is written once it is long or a chunk of the input ends.
+-- Lemmas on text that is added to the output of a run, and is written at once or later.
 use Rattle.std.proofs.Common.{◌≡◌, inl, inr, ℕ, ◌+◌, List, [], ◌++◌, length, take, Option, ap, sym, subst, ◌∙◌}
 use Rattle.std.proofs.Common.{append-nil, append_assoc, arith, length-take}
 use Rattle.std.proofs.Math.Seq.{take-append-add, take-append_seam, take_all}
@@ -22,7 +22,6 @@ adds_more a b c t u (w, f, e) (v, g, d) = (
   append_assoc w v c.kept ∙ ap (λ (p : List ℕ). w ++ p) d ∙ both_kept a b w t u e,
 )
 
--- If the writer failed within a text that follows an added text, the writer failed within both texts together.
 pub breaks_behind : (a b c : Outgoing) (t u : List ℕ) (count : ℕ) → Adds a b t → Breaks b c count u → (n : ℕ)
     × Breaks a c n (t ++ u)
 breaks_behind a b c t u count (w, f, e) broken =
@@ -34,17 +33,14 @@ breaks_behind a b c t u count (w, f, e) broken =
           (Appends-trans a.taken b.taken c.taken w (take count (b.kept ++ u)) f broken),
     )
 
--- If no text is kept, all that was added was written.
 pub adds_sent : (c d : Option (List ℕ)) (text : List ℕ) → Adds (sent c) (sent d) text → Appends c d text
 adds_sent c d text (w, f, e) = subst (Appends c d) (sym (append-nil w) ∙ e) f
 
--- If all of the kept text was written, no text is kept.
 pub adds_all : (a : Outgoing) (d e : Option (List ℕ)) (kept text : List ℕ) → Adds a (outgoing d kept) text
     → Appends d e kept → Adds a (sent e) text
 adds_all a d e kept text (w, f, is) wrote =
     (w ++ kept, Appends-trans a.taken d e w kept f wrote, append-nil (w ++ kept) ∙ is)
 
--- If a text was added, and then a prefix of the kept text was written, the writer failed within the added text.
 pub breaks_rest : (a : Outgoing) (d e : Option (List ℕ)) (kept text : List ℕ) (count : ℕ)
     → Adds a (outgoing d kept) text → Appends d e (take count kept) → (n : ℕ) × Breaks a (sent e) n text
 breaks_rest a d e kept text count (w, f, is) wrote =
@@ -60,7 +56,6 @@ take_less m n l = elim (cases_lt n m) [
   | inr more ↦ (m, take-take m n l more)
 ]
 
--- If the writer failed within a prefix of a text, the writer failed within that text.
 pub breaks_less : (a b : Outgoing) (n count : ℕ) (text : List ℕ) → Breaks a b n (take count text) → (k : ℕ)
     × Breaks a b k text
 breaks_less a b n count text broken =
@@ -74,7 +69,6 @@ pub begun_less : (c d : Option (List ℕ)) (count : ℕ) (text : List ℕ) → H
 begun_less c d count text (n, wrote) =
     let less = take_less n count text in (less.0, subst (Appends c d) less.1 wrote)
 
--- If a text was added, the writer has taken a prefix of that text.
 pub adds_begun : (c : Option (List ℕ)) (b : Outgoing) (text : List ℕ) → Adds (sent c) b text → HasBegun c b.taken text
 adds_begun c b text (w, f, is) =
     let front : w ≡ take (length w) text =

@@ -1,5 +1,5 @@
--- Lemmas for `stream_into` and the intake of a stream: what the intake has served, how a run ends, and which bytes are
--- held of the last message.
+-- Lemmas for `stream_into` and the intake of a stream: the served messages, the end of a run, and the bytes that the
+-- intake then holds.
 use Rattle.std.proofs.Common.{◌≡◌, ◌≢◌, inl, inr, ℕ, ◌+◌, ◌<◌, ◌^◌, List, [], ◌++◌, length, take, Bool}
 use Rattle.std.proofs.Common.{true, false, Option, None, Some, IfErr, IfSome, Result, Ok, Err, refl, ap, sym, subst}
 use Rattle.std.proofs.Common.{◌∙◌, append-nil, arith}
@@ -41,11 +41,9 @@ new_listening f framer is = record {
   most = ap (λ (g : Framing). g.most) is;
 }
 
--- A framer for which `IsListening` holds has no whole frame.
 pub unfinished : {X : Type 0} (f : Fold X) (now : Framing) → IsListening f now → IsUnfinished now.rest f.most
 unfinished f now listening = subst (λ (m : ℕ). IsUnfinished now.rest m) listening.most listening.part
 
--- For every reason that stopped a run, a prefix of the texts was written.
 stops_written : {X : Type 0} (f : Fold X) (x : X) {w : X} (s : List ℕ) (c d : Option (List ℕ)) (failed : Bool)
     (fault : RunFault) → Stops f x s (sent c) (sent d) failed fault w → HasWritten f x 0 s c d
 stops_written f x s c d true fault stop = stop.front refl
@@ -72,7 +70,7 @@ module _ {X : Type 0} (f : Fold X) (x : X) where
 
   -- ---- how a run ends
 
-  -- Case: no whole frame is left.
+  -- Case: no complete frame follows the served messages.
   due_open : (y : X) (stream rest : List ℕ) (more : Option RunFault) (ending : Ending)
       (e : FrameFault) (c d : Option (List ℕ)) → Tells f x stream rest (sent c) (sent d) y → f.done y ≡ false
       → e ≢ frames.Memory → frame_rules.IsFrameRefused rest f.most e → ending ≡ end_of (f.place y) e more
@@ -101,7 +99,7 @@ module _ {X : Type 0} (f : Fold X) (x : X) where
       refl in
       (end_of (f.place y) frames.Cut more, due.0, due.1, due.2)
 
-  -- Case: there are more bytes than are taken.
+  -- Case: the input has more bytes than may be served.
   due_long : (y : X) (stream rest : List ℕ) (c d : Option (List ℕ)) → Tells f x stream rest (sent c) (sent d) y
       → IsUnfinished rest f.most → f.done y ≡ false → (text : List ℕ)
       × IsFolded f x stream (Some faults.InputTooLong) text (Err faults.InputTooLong) y × Appends c d text
@@ -121,7 +119,7 @@ module _ {X : Type 0} (f : Fold X) (x : X) where
         inr (record { cut = λ at h. absurd (cc); words = λ at n h. absurd (cc) }),
       )
 
-  -- Case: the state `y` is done, whatever bytes follow.
+  -- Case: the state `y` is `done`. Any bytes may come after the bytes `s`.
   gives_done : (y : X) (now : Framing) (s rest : List ℕ) (c d : Option (List ℕ)) (u : Unit {0})
       → Tells f x s rest (sent c) (sent d) y → f.done y ≡ true → Over (GivesStream f x now y) s c d (Ok u)
   gives_done y now s rest c d u told done = λ more longer. (let (parts, are, adds) = told in (
@@ -159,7 +157,7 @@ module _ {X : Type 0} (f : Fold X) (x : X) where
     words = λ at n h. table_longer f x z came s more n (table at n h);
   })
 
-  -- Case: one more chunk was served.
+  -- Case: one more chunk `piece` was read, and serving it gave the result `r`.
   pub feeds_stream : (y z : X) (before after : Framing) (bytes piece : List ℕ) (c d e : Option (List ℕ))
       (failed : Bool) (r : Ending) → TakesStream f x before y bytes c d
       → Serves f y before piece (sent d) (sent e) failed r after z
@@ -224,7 +222,6 @@ module _ {X : Type 0} (f : Fold X) (x : X) where
 
   -- ---- a run
 
-  -- Before the first read, no bytes of the stream were taken, and the new framer holds none.
   pub stream_new : (now : Framing) (c : Option (List ℕ)) → f.place x ≡ start
       → now ≡ record { rest = []; most = f.most; failed = false } → TakesStream f x now x [] c c
   stream_new now c place is = (
@@ -284,7 +281,6 @@ module _ {X : Type 0} (f : Fold X) (x : X) where
         (λ bytes longer. IfErr r (λ e. CameOf f x bytes e last.rest y))
         (λ is bytes longer. (io_ended r bytes longer is).1) (λ bytes longer gives. gives.2)
 
--- A run that began at the start of its stream has room for the bytes that may still be taken.
 pub room_heard : {S : Type 0} (serves : S → Position → List ℕ → List (List ℕ) → List ℕ → S → Type 0)
     (refuses : S → Position → List ℕ → List (List ℕ) → Refusal → Type 0) (done : S → Position → Bool) (most : ℕ)
     (x y : Run S) (now : Framing) (bytes : List ℕ) (c d : Option (List ℕ)) (k : ℕ)

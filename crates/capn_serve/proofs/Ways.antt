@@ -1,4 +1,4 @@
--- Lemmas on the bytes of a line that are written or kept, step by step. (For `put`, `send` and `tell`.)
+-- Lemmas on the bytes of a line that are written now or later, step by step. (For `put`, `send` and `tell`.)
 use Rattle.std.proofs.Common.{◌≡◌, ◌∙◌, ℕ, zero, suc, ◌+◌, List, [], ◌∷◌, ◌++◌, length, take, Bool, true, false, Option}
 use Rattle.std.proofs.Common.{Some, None, refl, ap, sym, subst, append_assoc, append-nil}
 use Rattle.std.proofs.Math.Seq.{take-append-add}
@@ -7,7 +7,6 @@ use Rattle.std.proofs.KnownBytes.{Appends-trans}
 use Rattle.capn_words.specs.Watched.{HasBegun}
 use Rattle.capn_serve.specs.Line.{Goes, Says, WritesLine, way}
 
--- If a prefix of a part was written after appended bytes, a prefix of these bytes and the part was written.
 begun_behind : (start now new : Option (List ℕ)) (front part : List ℕ) → Appends start now front → HasBegun now new part
     → HasBegun start new (front ++ part)
 begun_behind start now new front part before (count, wrote) = (
@@ -16,12 +15,10 @@ begun_behind start now new front part before (count, wrote) = (
       (Appends-trans start now new front (take count part) before wrote),
 )
 
--- Nothing is appended to a content that stays the same.
 none_appended : (c : Option (List ℕ)) → Appends c c []
 none_appended None = tt
 none_appended (Some xs) = sym (append-nil xs)
 
--- A prefix of a text is a prefix of a longer text.
 same_beginning : (n : ℕ) (said part : List ℕ) → (k : ℕ) × (take k (said ++ part) ≡ take n said)
 same_beginning zero said part = (0, refl)
 same_beginning (suc n) [] part = (0, refl)
@@ -34,7 +31,6 @@ begun_longer start new said part (count, wrote) =
     let (k, same) = same_beginning count said part in
     (k, subst (λ (text : List ℕ). Appends start new text) (sym same) wrote)
 
--- A part is written while no bytes of the line are kept.
 pub written : (part : List ℕ) (now new : Option (List ℕ)) (old failed : Bool) → Goes part now old new failed
     → Says part (way [] now old) (way [] new failed)
 written part now new false true went = record {
@@ -55,7 +51,6 @@ written part now new true failed went = record {
   goes_on = λ start said is. rw (went.0, went.1) (begun_longer start now said part is);
 }
 
--- The kept bytes of the line are written.
 pub sent : (held : List ℕ) (now new : Option (List ℕ)) (old failed : Bool) → Goes held now old new failed
     → Says [] (way held now old) (way [] new failed)
 sent held now new false true went = record {
@@ -77,7 +72,6 @@ sent held now new true failed went = record {
       rw (went.0, went.1) (subst (λ (text : List ℕ). HasBegun start now text) (sym (append-nil said)) is);
 }
 
--- A part is kept after the kept bytes of the line.
 pub kept_back : (held part : List ℕ) (now : Option (List ℕ)) (failed : Bool)
     → Says part (way held now failed) (way (held ++ part) now failed)
 kept_back held part now true = record { goes_on = λ start said is. begun_longer start now said part is }
@@ -87,7 +81,6 @@ kept_back held part now false = record {
       (front, before, ap (λ (text : List ℕ). text ++ part) all ∙ append_assoc front held part);
 }
 
--- A line that was put from its start to its end, and of which no bytes are kept, was written.
 written_line : (start new : Option (List ℕ)) (line : List ℕ) (failed : Bool)
     → Says line (way [] start false) (way [] new failed) → WritesLine line start new failed
 written_line start new line true said = said.goes_on start [] ([], none_appended start, refl)

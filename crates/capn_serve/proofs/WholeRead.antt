@@ -11,7 +11,7 @@ use Rattle.capn_serve.specs.WholeInput.{HasGiven, HasGivenAll, IsUntaken, TakesA
 use Rattle.capn_serve.specs.declared.fault.RunFault.{RunFault}
 use Rattle.capn_serve.specs.declared.fault.RunFault.TheVariants as faults
 
--- A reader has returned `len` bytes, and the first of these bytes, at most `most`, are `kept`.
+-- A reader has returned the `len` bytes `seen`, and `kept` are the first `most` bytes of `seen`.
 pub record Keeps (old new : Option (List ℕ)) (failed : Bool) (most len : ℕ) (kept : List ℕ) : Type 0 where
   pub seen : List ℕ
   pub given : HasGiven old new failed seen
@@ -27,12 +27,10 @@ pub given_memory : (a b : Option (List ℕ)) (f : Bool) (seen : List ℕ) → Ha
     → IsUntaken a b f faults.Memory
 given_memory a b f seen h some = (seen, inl (h, inl (refl, some)))
 
--- Case: there are more bytes than an input may have.
 pub given_long : (a b : Option (List ℕ)) (f : Bool) (seen : List ℕ) → HasGiven a b f seen → 2 ^ 32 < length seen
     → IsUntaken a b f faults.InputTooLong
 given_long a b f seen h long = (seen, inl (h, inr (refl, long)))
 
--- After one more read, the kept bytes are still the first bytes, at most `most`.
 pub first_more : (most : ℕ) (seen buf tail kept new : List ℕ) (n k : ℕ) → take most seen ≡ kept → n ≤ length buf
     → k ≡ min n (most - length kept) → new ≡ kept ++ take k (buf ++ tail) → take most (seen ++ take n buf) ≡ new
 first_more most seen buf tail kept new n k first within least is = elim (cases_lt most (length seen)) [
@@ -67,7 +65,6 @@ first_more most seen buf tail kept new n k first within least is = elim (cases_l
           ∙ ap (λ (i : ℕ). take i (buf ++ tail)) (sym (omega (arith, size, all)))
     ]
 
--- The result of an input that was read to its end.
 pub takes_so : {T : Type 0} (P : List ℕ → Result T RunFault → Type 0) (a b : Option (List ℕ)) (f : Bool)
     (r : Result T RunFault) (bytes : List ℕ) → HasGivenAll a b f bytes → P bytes r → TakesAll P a b f r
 takes_so P a b f (Ok x) bytes all p = (bytes, all, p)

@@ -16,18 +16,18 @@ use Rattle.capn_serve.specs.ChunkRun.{AddsMessage}
 use Rattle.capn_serve.specs.StreamRun.{TakesBytes}
 use Rattle.capn_serve.specs.WholeInput.{most_input}
 
--- `bytes` are not one segment, and `fault` is their refusal as a segment, at the position `at`.
+-- `bytes` are not one segment, and `fault` refuses them at the position `at`.
 abbrev pub IsUnbare : Position → List ℕ → RunFault → Type 0
 IsUnbare at bytes fault = (e : BareFault) × (fault ≡ faults.Refused at (refusals.Bare e)) × ReadsBare bytes (Err e)
 
--- The result of reading a bare input is all of its bytes, or their refusal as one segment.
+-- The result is `Ok` with all of the bare input `bytes`, or a fault that refuses `bytes` at the position `at`.
 abbrev pub IsShortBare : {A : Type 0} → Position → List ℕ → Result (Vec ℕ A) RunFault → Type 0
 IsShortBare at bytes (Ok held) = bytes ≡ held.items
 IsShortBare at bytes (Err fault) = IsUnbare at bytes fault
 
 module _ {X : Type 0} (f : Fold X) (x : X) where
-  -- `bytes` are one segment. Served in the state `x`, with `bytes` as its frame, the message of that segment writes
-  -- `text` and leads to `y`.
+  -- `bytes` are one segment. In the state `x`, the message with this segment writes `text` and leads to the state `y`.
+  -- The frame of the message is `bytes` itself.
   abbrev pub WritesBare : List ℕ → List ℕ → X → Type 0
   WritesBare bytes text y = (words : List ℕ) × IsBare bytes words × f.step x bytes (words ∷ []) text y
 
@@ -36,20 +36,20 @@ module _ {X : Type 0} (f : Fold X) (x : X) where
   RefusesBare bytes fault = (words : List ℕ) × (r : Refusal) × IsBare bytes words × f.refuses x bytes (words ∷ []) r
       × (fault ≡ faults.Refused (f.place x) r)
 
-  -- `fault` is the reason why nothing is written for `bytes`: there are too many bytes, the bytes are not one segment,
-  -- or their message is refused.
+  -- If the length of `bytes` is above `most_input`, `fault` is `InputTooLong`. Otherwise `fault` says that `bytes` are
+  -- not one segment, or that their message is refused.
   abbrev pub EndsBare : List ℕ → RunFault → Type 0
   EndsBare bytes fault = ((most_input < length bytes) × (fault ≡ faults.InputTooLong))
       ⊎ ((length bytes ≤ most_input) × (IsUnbare (f.place x) bytes fault ⊎ RefusesBare bytes fault))
 
-  -- `text` is the text of a bare input, and `y` is the state after that input. The first argument says whether the
-  -- state `x` is done. If so, `text` is empty and `y` is `x`. Otherwise `text` is that of the one message.
+  -- The first argument says whether the state `x` is `done`. If it is `true`, `text` is empty and `y` is `x`. Otherwise
+  -- `bytes` have at most `most_input` bytes, and their message writes `text` and leads to the state `y`.
   abbrev pub WritesBy : Bool → List ℕ → List ℕ → X → Type 0
   WritesBy true bytes text y = (text ≡ []) × (y ≡ x)
   WritesBy false bytes text y = (length bytes ≤ most_input) × WritesBare bytes text y
 
-  -- `bytes` are one segment and their message was served, as the result says. Or `bytes` are not one segment, nothing
-  -- was added, and the state stayed `x`.
+  -- `bytes` are one segment, and `AddsMessage` holds for their message. Or `bytes` are not one segment, as `fault`
+  -- says. Then nothing was added, and `y` is `x`.
   abbrev pub ServesBare : List ℕ → Outgoing → Outgoing → Bool → Result (Unit {0}) RunFault → X → Type 0
   ServesBare bytes old new failed (Ok u) y =
       (words : List ℕ) × IsBare bytes words × AddsMessage f x bytes (words ∷ []) old new failed (Ok u) y
@@ -57,9 +57,8 @@ module _ {X : Type 0} (f : Fold X) (x : X) where
       ((words : List ℕ) × IsBare bytes words × AddsMessage f x bytes (words ∷ []) old new failed (Err fault) y)
       ⊎ (IsUnbare (f.place x) bytes fault × Adds old new [] × (failed ≡ false) × (x ≡ y))
 
-  -- A run has ended over a bare input. After `Ok` the text of the message was written, and `y` is the state after the
-  -- message. After a fault, memory was refused, the reader or the writer failed, or `e` is the reason why nothing is
-  -- written.
+  -- After `Ok`, the text of `input` was written, and `y` is the state after `input`. After `Err e`, `e` is `Memory` or
+  -- `Io`, or nothing was written and `EndsBare` holds for `input` and `e`.
   abbrev pub EndsAs : Option (List ℕ) → Option (List ℕ) → Result (Unit {0}) RunFault → X → List ℕ → Type 0
   EndsAs old new (Ok u) y input = (text : List ℕ) × WritesBy (f.done x) input text y × Appends old new text
   EndsAs old new (Err e) y input =
@@ -71,8 +70,8 @@ module _ {X : Type 0} (f : Fold X) (x : X) where
   HasWritten bytes old new = Appends old new []
       ⊎ ((text : List ℕ) × (y : X) × (count : ℕ) × WritesBare bytes text y × Appends old new (take count text))
 
-  -- A reader returned at most one byte more than an input may have, and no byte if the state `x` is done. A prefix of
-  -- the text of these bytes was written.
+  -- A reader returned `bytes`, at most one byte more than `most_input`, and none if the state `x` is `done`. Nothing
+  -- was written for `bytes`, or a prefix of the text of their message.
   pub record Begins (a b c d : Option (List ℕ)) : Type 0 where
     pub bytes : List ℕ
     pub read : Consumes a b bytes
@@ -80,8 +79,8 @@ module _ {X : Type 0} (f : Fold X) (x : X) where
     pub needed : f.done x ≡ true → bytes ≡ []
     pub written : HasWritten bytes c d
 
-  -- States the effect of a run on a reader (from `a` to `b`) and a writer (from `c` to `d`), the result `r` of the run,
-  -- and the state `y` after the run.
+  -- The effect of a run that ends with the result `r` and leaves the state `y`. `a` and `b` are the reader before and
+  -- after the run, and `c` and `d` the writer.
   pub record RunsBare (a b c d : Option (List ℕ)) (reader_failed writer_failed : Bool) (r : Result (Unit {0}) RunFault)
       (y : X) : Type 0 where
     pub exact : IfSome a (EndsAs c d r y)

@@ -8,11 +8,11 @@ use Rattle.capn_serve.specs.declared.position.Position.{Position}
 use Rattle.capn_serve.specs.declared.fault.RunFault.{RunFault}
 use Rattle.capn_serve.specs.declared.fault.RunFault.TheVariants as faults
 
--- The number of a message, counted from 1, and its offset.
+-- The text of a position: the number of the message, counted from 1, and its offset.
 abbrev pub place_text : Position → List ℕ
 place_text at = decimal (at.index + 1) ++ (codes " at " ++ decimal at.offset)
 
--- The text of the reason why a run did not serve all of its input.
+-- The text of a fault that ends a run.
 abbrev pub fault_text : RunFault → List ℕ
 fault_text faults.Memory = out_of_memory
 fault_text faults.Io = codes "input or output failed"
@@ -24,8 +24,7 @@ third : fault_text (faults.Refused (record { index = 2; offset = 40 }) (refusals
 unfolding digits
 third = refl
 
--- The exit status of a fault: 1 if a message is refused, 3 if memory, the reader or the writer failed or the input is
--- too long.
+-- The exit status of a fault that ends a run: 1 for `Refused`, and 3 for any other fault.
 abbrev pub status_of : RunFault → ℕ
 status_of faults.Memory = 3
 status_of faults.Io = 3

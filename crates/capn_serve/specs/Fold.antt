@@ -1,5 +1,5 @@
--- A fold over the messages of a stream: what each message writes, the state after it, and why the stream ends. (Page:
--- serialization over a stream; the order of the faults is our own.)
+-- A fold over the messages of a stream: what each message writes, the state after each message, and how a run ends.
+-- (Page: serialization over a stream; the order of the faults is our own.)
 use Rattle.std.specs.Prelude.{◌≡◌, ◌≢◌, ◌⊎◌, ℕ, ◌+◌, ◌≤◌, List, [], ◌∷◌, ◌++◌, length, Bool, true, Option}
 use Rattle.std.specs.Prelude.{false, Some, None, Result, Ok, Err}
 use Rattle.std.specs.List.{flat_map}
@@ -15,10 +15,9 @@ use Rattle.capn_serve.specs.declared.service.Run.{Run}
 use Rattle.capn_serve.specs.declared.fault.RunFault.{RunFault}
 use Rattle.capn_serve.specs.declared.fault.RunFault.TheVariants as faults
 
--- A fold with states of type `X`. `step` relates a state, a frame, its message, the text that the message writes, and
--- the next state. `refuses` relates a state, a frame, its message and the refusal of the message. `place` is the
--- position of the next message. `most` is the greatest number of words of a message. `done` says whether a state is
--- done, so that no further message is served.
+-- A fold with states of type `X`: `step` relates a message to its text and the next state, and `refuses` relates a
+-- message to its refusal. `place` is the position of the next message, and `most` is the greatest number of words of a
+-- message. In a state that is `done` no further message is served.
 pub record Fold (X : Type 0) : Type 1 where
   pub step : X → List ℕ → List (List ℕ) → List ℕ → X → Type 0
   pub refuses : X → List ℕ → List (List ℕ) → Refusal → Type 0
@@ -26,7 +25,7 @@ pub record Fold (X : Type 0) : Type 1 where
   pub most : ℕ
   pub done : X → Bool
 
--- `P` holds and the first argument, which says whether a state is done, is false.
+-- `P` holds, and the first argument is `false`. The first argument says whether a state is `done`.
 abbrev pub IfGoing : Bool → Type 0 → Type 0
 IfGoing true P = ⊥
 IfGoing false P = P
@@ -35,8 +34,8 @@ IfGoing false P = P
 abbrev pub after : Position → List ℕ → Position
 after at frame = record { index = at.index + 1; offset = at.offset + length frame }
 
--- The fold of a service. The states are the runs of the service, and the fold ends at the first position at which the
--- service is done.
+-- The fold of a service, with runs of the service as states. A state is `done` if the service is `done` at the position
+-- of the run.
 abbrev pub fold_until : {S : Type 0} → (S → Position → List ℕ → List (List ℕ) → List ℕ → S → Type 0)
     → (S → Position → List ℕ → List (List ℕ) → Refusal → Type 0) → (S → Position → Bool) → ℕ → Fold (Run S)
 fold_until serves refuses done most = record {
@@ -47,7 +46,7 @@ fold_until serves refuses done most = record {
   done = λ x. done x.service x.at;
 }
 
--- The condition of a service that is done at no position.
+-- The `done` of a service that serves all messages: `false` at every position.
 abbrev pub never : {S : Type 0} → S → Position → Bool
 never s at = false
 
@@ -56,38 +55,38 @@ abbrev pub fold_of : {S : Type 0} → (S → Position → List ℕ → List (Lis
     → (S → Position → List ℕ → List (List ℕ) → Refusal → Type 0) → ℕ → Fold (Run S)
 fold_of serves refuses most = fold_until serves refuses never most
 
--- The bytes of one frame, its message, and the text that is written for it.
+-- The bytes of one frame, its message, and the text that is written for the message.
 pub record Part : Type 0 where
   pub frame : List ℕ
   pub message : List (List ℕ)
   pub text : List ℕ
 
--- The bytes of a part.
+-- The frame of `part`.
 abbrev pub frame_of : Part → List ℕ
 frame_of part = part.frame
 
--- The text of a part.
+-- The text of `part`.
 abbrev pub text_of : Part → List ℕ
 text_of part = part.text
 
--- The frames of parts, joined.
+-- The frames of `parts`, joined.
 abbrev pub frames_of : List Part → List ℕ
 frames_of parts = flat_map frame_of parts
 
--- The texts of parts, joined.
+-- The texts of `parts`, joined.
 abbrev pub texts_of : List Part → List ℕ
 texts_of parts = flat_map text_of parts
 
 module _ {X : Type 0} (f : Fold X) where
-  -- `part` can be served in the state `x`: its frame is that of its message, the message has at most `f.most` words,
-  -- and `x` is not done.
+  -- `part.frame` is a frame of `part.message`, and that message has at most `f.most` words. The state `x` is not
+  -- `done`.
   pub record IsPart (x : X) (part : Part) : Type 0 where
     pub frame : Frames part.frame part.message
     pub room : total part.message ≤ f.most
     pub going : f.done x ≡ false
 
-  -- The messages of the parts are served one after the other, from the state `x` to the state `y`, and each message
-  -- writes the text of its part.
+  -- The messages of the parts are served one after the other, from the state `x` to the state `y`. Each message writes
+  -- the text of its part.
   abbrev pub AreServed : X → List Part → X → Type 0
   AreServed x [] y = x ≡ y
   AreServed x (p ∷ ps) y =
@@ -99,9 +98,9 @@ module _ {X : Type 0} (f : Fold X) where
     pub each : AreServed x parts y
     pub is : bytes ≡ frames_of parts ++ rest
 
--- The end of a run at the position `at`, where no whole frame follows for the given reason. A count that is too great
--- is refused in any case. Otherwise a fault that keeps further bytes from being read ends the run. Without such a fault
--- a frame that is cut is refused, and the run is done if no byte follows.
+-- The end of a run at the position `at`, if the given fault is the reason why no complete frame begins there. For
+-- `Empty` and `Cut` the end is the fault `behind`, if there is one. Otherwise `Empty` gives `Ok`, `Memory` gives
+-- `Memory`, and any other fault gives `Refused`.
 abbrev pub end_of : Position → FrameFault → Option RunFault → Result (Unit {0}) RunFault
 end_of at frame_faults.Empty (Some fault) = Err fault
 end_of at frame_faults.Empty None = Ok tt
@@ -114,13 +113,14 @@ end_of at (frame_faults.TooManyWords n) behind = Err (faults.Refused at (refusal
 end_of at frame_faults.Failed behind = Err (faults.Refused at (refusals.Frame frame_faults.Failed))
 
 module _ {X : Type 0} (f : Fold X) where
-  -- `rest` begins with no whole frame, and the run ends with `ending`.
+  -- `rest` begins with no complete frame, for the reason `e`. `ending` is the end of the run that `end_of` gives for
+  -- `e`.
   abbrev pub EndsUnframed : X → List ℕ → Option RunFault → Result (Unit {0}) RunFault → Type 0
   EndsUnframed x rest behind ending =
       (e : FrameFault) × (e ≢ frame_faults.Memory) × frames.IsFrameRefused rest f.most e
       × (ending ≡ end_of (f.place x) e behind)
 
-  -- `rest` begins with a message that is refused, and the run ends with the refusal of that message.
+  -- `rest` begins with a message that is refused in the state `x`, and `ending` is the refusal of that message.
   abbrev pub EndsRefused : X → List ℕ → Result (Unit {0}) RunFault → Type 0
   EndsRefused x rest ending =
       (frame more : List ℕ) × (message : List (List ℕ)) × (r : Refusal) × (rest ≡ frame ++ more)
@@ -133,18 +133,18 @@ module _ {X : Type 0} (f : Fold X) where
       (frame : List ℕ) × (message : List (List ℕ)) × (r : Refusal) × f.refuses x frame message r
       × (fault ≡ faults.Refused (f.place x) r)
 
-  -- A run that stopped with `fault` in the state `x` leaves `x`, unless a message is refused in `x`.
+  -- `y` is the state `x`, or `fault` is the refusal of some message in the state `x`.
   abbrev pub Leaves : X → RunFault → X → Type 0
   Leaves x fault y = (x ≡ y) ⊎ RefusesOne x fault
 
-  -- `ending` is the end of a run in the state `y`. The first argument says whether `y` is done. If so, the run is done,
-  -- whatever `rest` is. Otherwise `rest` decides.
+  -- `ending` is the end of a run in the state `y`. If the first argument is `true`, `y` is `done`, and `ending` is
+  -- `Ok`. If it is `false`, `rest` begins with no complete frame or with a refused message.
   abbrev pub EndsBy : Bool → X → List ℕ → Option RunFault → Result (Unit {0}) RunFault → Type 0
   EndsBy true y rest behind ending = ending ≡ Ok tt
   EndsBy false y rest behind ending = EndsUnframed y rest behind ending ⊎ EndsRefused y rest ending
 
-  -- `text` and `ending` are those of a stream that begins with `bytes`, and `y` is the state at the end. `text` joins
-  -- the texts of the messages before the first refused one, or before the first state that is done.
+  -- A run over `bytes` from the state `x` writes `text`, reaches the state `y`, and ends there with `ending`. `behind`
+  -- is the fault, if there is one, that comes after `bytes`. `text` is the joined texts of the messages in `parts`.
   pub record IsFolded (x : X) (bytes : List ℕ) (behind : Option RunFault) (text : List ℕ)
       (ending : Result (Unit {0}) RunFault) (y : X) : Type 0 where
     pub parts : List Part

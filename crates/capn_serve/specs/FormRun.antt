@@ -18,15 +18,15 @@ use Rattle.capn_serve.specs.WholeInput.{most_input}
 abbrev pub most_stream : ℕ
 most_stream = 2 ^ 64 - 1
 
--- A run may end with `Memory`: some bytes were read, or a bare input, which may be empty, was read to its end.
+-- The condition for a run to end with `Memory`. At least one byte was read, or the form is `Bare` and the input was
+-- read to its end.
 abbrev pub MayNeedMemory : Form → Option (List ℕ) → Option (List ℕ) → Type 0
 MayNeedMemory forms.Stream a b = TakesBytes a b
 MayNeedMemory forms.Packed a b = TakesBytes a b
 MayNeedMemory forms.Bare a b = TakesBytes a b ⊎ IsAtEnd b
 
 module _ {X : Type 0} (f : Fold X) (x : X) where
-  -- `text` is the text of the messages of `input`, `ending` is the end of a run over the messages, and `y` is the state
-  -- after them.
+  -- The messages of `input` write `text`. A run over them ends with `ending`, and `y` is the state after them.
   abbrev pub AreMessages : Form → List ℕ → List ℕ → Result (Unit {0}) RunFault → X → Type 0
   AreMessages forms.Stream input text ending y =
       streams.IsDue f x most_stream (streams.taken_of most_stream input) (streams.has_more most_stream input) text
@@ -38,7 +38,7 @@ module _ {X : Type 0} (f : Fold X) (x : X) where
   AreMessages forms.Bare input text (Err fault) y =
       IfGoing (f.done x) (bares.EndsBare f x input fault) × (text ≡ []) × (y ≡ x)
 
-  -- A prefix of the texts of the messages at the start of `bytes` was written.
+  -- `bytes` begin with some messages, and a prefix of the joined texts of these messages was written.
   abbrev pub HasWritten : Form → List ℕ → Option (List ℕ) → Option (List ℕ) → Type 0
   HasWritten forms.Stream bytes old new =
       streams.HasWritten f x most_stream (streams.taken_of most_stream bytes) old new
@@ -46,8 +46,8 @@ module _ {X : Type 0} (f : Fold X) (x : X) where
       packings.HasWrittenPacked f x most_stream (streams.taken_of most_stream bytes) old new
   HasWritten forms.Bare bytes old new = bares.HasWritten f x bytes old new
 
-  -- A run has written the text of the messages of `input`, ended as these messages require, and left the state after
-  -- them, unless a message is refused in that state. Or memory was refused, or the reader or the writer failed.
+  -- After `Ok`, the messages of `input` have written `text`, and `y` is the state after them. After `Err e`, `e` is
+  -- `Memory` or `Io`, or the messages of `input` have written `text` and their run ends with `e`.
   abbrev pub MessagesEnd : Form → Option (List ℕ) → Option (List ℕ) → Result (Unit {0}) RunFault → X → List ℕ → Type 0
   MessagesEnd form old new (Ok u) y input =
       (text : List ℕ) × AreMessages form input text (Ok tt) y × Appends old new text
@@ -56,8 +56,8 @@ module _ {X : Type 0} (f : Fold X) (x : X) where
       ⊎ ((e ≡ faults.Io)
       ⊎ ((text : List ℕ) × (z : X) × AreMessages form input text (Err e) z × Appends old new text × Leaves f z e y))
 
-  -- A run reads at most one byte more than an input may have. For a stream, packed or not, the texts of all messages in
-  -- the bytes before the last chunk were written. That chunk has at most 65,536 bytes.
+  -- `bytes` have at most one byte more than an input of the given form may have. For `Stream` and `Packed`, the texts
+  -- of all messages before the last chunk of `bytes` were written.
   abbrev pub IsReadSoFar : Form → List ℕ → Option (List ℕ) → Option (List ℕ) → Type 0
   IsReadSoFar forms.Stream bytes old new = (length bytes ≤ most_stream + 1)
       × IsAhead (streams.HasWrittenAll f x most_stream) bytes old new
@@ -65,14 +65,15 @@ module _ {X : Type 0} (f : Fold X) (x : X) where
       × IsAhead (packings.HasWrittenAllPacked f x most_stream) bytes old new
   IsReadSoFar forms.Bare bytes old new = length bytes ≤ most_input + 1
 
-  -- No chunk was read after the one that leads to the end. If the state `x` is done, nothing was read of a bare input.
+  -- No more chunks were read than the run needs. For `Stream` and `Packed`, `bytes` are empty, or the messages before
+  -- the last chunk of `bytes` do not end the run. For `Bare`, `bytes` are empty if the state `x` is `done`.
   abbrev pub IsNeededSoFar : Form → List ℕ → Type 0
   IsNeededSoFar forms.Stream bytes = IsNeeded (streams.IsShort f x most_stream) bytes
   IsNeededSoFar forms.Packed bytes = IsNeeded (packings.IsShortPacked f x most_stream) bytes
   IsNeededSoFar forms.Bare bytes = f.done x ≡ true → bytes ≡ []
 
-  -- A reader returned some bytes, no more than a run may read, and a prefix of the texts of the messages in these bytes
-  -- was written.
+  -- A reader returned `bytes`, no more than `IsReadSoFar` and `IsNeededSoFar` allow. `HasWritten` states what was
+  -- written for `bytes`.
   pub record BeginsMessages (form : Form) (a b c d : Option (List ℕ)) : Type 0 where
     pub bytes : List ℕ
     pub read : Consumes a b bytes
@@ -80,15 +81,15 @@ module _ {X : Type 0} (f : Fold X) (x : X) where
     pub needed : IsNeededSoFar form bytes
     pub written : HasWritten form bytes c d
 
-  -- All texts of the messages in the bytes that a reader returned were written, and the state after these messages is
-  -- not done. For a bare input, which is served at its end, nothing was written.
+  -- For `Stream` and `Packed`, a reader returned some bytes, and all texts of the messages in these bytes were written.
+  -- The state after these messages is not `done`. For `Bare` nothing was written, and the state `x` is not `done`.
   abbrev pub KeepsUp : Form → Option (List ℕ) → Option (List ℕ) → Option (List ℕ) → Option (List ℕ) → Type 0
   KeepsUp forms.Stream a b c d = streams.KeepsUp f x most_stream a b c d
   KeepsUp forms.Packed a b c d = packings.KeepsUpPacked f x most_stream most_stream a b c d
   KeepsUp forms.Bare a b c d = IfGoing (f.done x) (Appends c d [])
 
-  -- States the effect of a run over an input in `form` on a reader (from `a` to `b`) and a writer (from `c` to `d`),
-  -- the result of the run, and the state `y` after the run.
+  -- The effect of a run over an input in `form` that ends with the result `r` and leaves the state `y`. `a` and `b` are
+  -- the reader before and after the run, and `c` and `d` the writer.
   pub record ServesMessages (form : Form) (a b c d : Option (List ℕ)) (reader_failed writer_failed : Bool)
       (r : Result (Unit {0}) RunFault) (y : X) : Type 0 where
     pub exact : IfSome a (MessagesEnd form c d r y)

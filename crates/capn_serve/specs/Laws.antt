@@ -5,7 +5,8 @@ use Rattle.capn_serve.specs.declared.pick.Range.{Range}
 use Rattle.capn_serve.specs.declared.pick.StreamForm.TheVariants as forms
 use Rattle.capn_serve.specs.PickRun.{IsPicked}
 
--- The text that is picked from a stream of frames is unique, and so is the ending of a run over the stream.
+-- For each `most`, `ranges` and stream `input`, the text that is picked from `input` and the result of the run are
+-- unique.
 abbrev pub PicksOne : Type 0
 PicksOne = (most : ℕ) (ranges : List Range) (input t u : List ℕ) (r s : Result (Unit {0}) RunFault)
     → IsPicked most ranges forms.Stream input t r → IsPicked most ranges forms.Stream input u s → (t ≡ u) × (r ≡ s)

@@ -1,4 +1,4 @@
--- The bytes that a run has written, and the text that it keeps to write later. (Our own.)
+-- The output of a run: the bytes that are written, and the text that will be written later. (Our own.)
 use Rattle.std.specs.Prelude.{◌≡◌, ◌⊎◌, ℕ, ◌+◌, ◌<◌, List, [], ◌++◌, length, take, Bool, true, false, Option}
 use Rattle.std.specs.Prelude.{Result, Ok, Err}
 use Rattle.std.specs.Io.KnownBytes.{Appends}
@@ -8,53 +8,55 @@ use Rattle.capn_serve.specs.declared.fault.ServeFault.TheVariants as serve_fault
 use Rattle.capn_serve.specs.declared.fault.RunFault.{RunFault}
 use Rattle.capn_serve.specs.declared.fault.RunFault.TheVariants as faults
 
--- The bytes that a writer has taken, and the text that is kept for that writer.
+-- The output of a run: the content `taken` of the writer, and the text `kept` that is not written yet.
 pub record Outgoing : Type 0 where
   pub taken : Option (List ℕ)
   pub kept : List ℕ
 
--- The state in which a writer has taken `taken`, and the text `kept` is kept.
+-- The `Outgoing` with the fields `taken` and `kept`.
 abbrev pub outgoing : Option (List ℕ) → List ℕ → Outgoing
 outgoing taken kept = record { taken = taken; kept = kept }
 
--- The state in which a writer has taken `taken`, and no text is kept.
+-- The `Outgoing` of a writer with the content `taken`, where `kept` is empty.
 abbrev pub sent : Option (List ℕ) → Outgoing
 sent taken = outgoing taken []
 
--- `text` was added: the first part of the kept text and `text` was written, and the rest is kept.
+-- `text` was added to the output. `old.kept ++ text` is the bytes `written` to the writer, followed by `new.kept`.
 abbrev pub Adds : Outgoing → Outgoing → List ℕ → Type 0
 Adds old new text = (written : List ℕ) × Appends old.taken new.taken written × (written ++ new.kept ≡ old.kept ++ text)
 
--- `text` was added, and the writer failed after the first `count` bytes of the kept text and `text`.
+-- The first `count` bytes of `old.kept ++ text` were written.
 abbrev pub Breaks : Outgoing → Outgoing → ℕ → List ℕ → Type 0
 Breaks old new count text = Appends old.taken new.taken (take count (old.kept ++ text))
 
--- Nothing was added, or a prefix of a text that `writes` relates to some next state.
+-- Nothing was added, or a prefix of some `text` that `writes` relates to some state `y`.
 abbrev pub AddsBeginning : {X : Type 0} → (List ℕ → X → Type 0) → Outgoing → Outgoing → Type 0
 AddsBeginning {X = X} writes old new =
     Adds old new [] ⊎ ((text : List ℕ) × (y : X) × (count : ℕ) × writes text y × Adds old new (take count text))
 
--- The writer failed within the kept text and a text that `writes` relates to some next state.
+-- A prefix of `old.kept ++ text` was written, for some `text` that `writes` relates to some state `y`.
 abbrev pub BreaksWithin : {X : Type 0} → (List ℕ → X → Type 0) → Outgoing → Outgoing → Type 0
 BreaksWithin {X = X} writes old new =
     (text : List ℕ) × (y : X) × (count : ℕ) × writes text y × Breaks old new count text
 
--- The kept text was written, or is shorter than 65,536 bytes and still kept, or the writer failed within the kept text.
+-- After `Ok`, nothing was added, and `new.kept` has fewer than 65,536 bytes. After `Err`, the fault is `Io`, and a
+-- prefix of `old.kept` was written.
 abbrev pub Flushes : Outgoing → Outgoing → Bool → Result (Unit {0}) ServeFault → Type 0
 Flushes old new failed (Ok u) = Adds old new [] × (length new.kept < 65536) × (failed ≡ false)
 Flushes old new failed (Err fault) =
     (fault ≡ serve_faults.Io) × HasBegun old.taken new.taken old.kept × (failed ≡ true)
 
--- The kept text was written, then `bytes`, and no text is kept. Or the writer failed within the kept text and `bytes`.
+-- After `Ok`, `old.kept ++ bytes` were written, and `new.kept` is empty. After `Err`, the fault is `Io`, and a prefix
+-- of `old.kept ++ bytes` was written.
 abbrev pub Sends : List ℕ → Outgoing → Outgoing → Bool → Result (Unit {0}) ServeFault → Type 0
 Sends bytes old new failed (Ok u) =
     Appends old.taken new.taken (old.kept ++ bytes) × (new.kept ≡ []) × (failed ≡ false)
 Sends bytes old new failed (Err fault) =
     (fault ≡ serve_faults.Io) × HasBegun old.taken new.taken (old.kept ++ bytes) × (failed ≡ true)
 
--- All of `bytes` were added, and less than 65,536 bytes are kept. Or memory was refused, which is possible only if the
--- kept text and `bytes` have less than 65,536 bytes, and nothing was added. Or the writer failed within the kept text
--- and `bytes`.
+-- After `Ok`, `bytes` were added, and `new.kept` has fewer than 65,536 bytes. After `Memory`, nothing was added, and
+-- `old.kept` and `bytes` together have fewer than 65,536 bytes. After `Io`, a prefix of `old.kept ++ bytes` was
+-- written.
 abbrev pub AddsBytes : List ℕ → Outgoing → Outgoing → Bool → Result (Unit {0}) ServeFault → Type 0
 AddsBytes bytes old new failed (Ok u) = Adds old new bytes × (length new.kept < 65536) × (failed ≡ false)
 AddsBytes bytes old new failed (Err serve_faults.Memory) =
@@ -62,8 +64,9 @@ AddsBytes bytes old new failed (Err serve_faults.Memory) =
 AddsBytes bytes old new failed (Err serve_faults.Io) = ((count : ℕ) × Breaks old new count bytes) × (failed ≡ true)
 AddsBytes bytes old new failed (Err (serve_faults.Refused r)) = ⊥
 
--- A run with the outcome `served` wrote the kept `text` and ended with `result`. If the writer had failed before,
--- nothing was written. If the writer failed now, `result` is `Io`.
+-- If the writer had failed before, nothing was written, and `result` is `served`. If the writer has not failed, `text`
+-- was written, and `result` is `served`. If the writer failed now, a prefix of `text` was written, and `result` is
+-- `Io`.
 abbrev pub SendsRest : Result (Unit {0}) RunFault → List ℕ → Option (List ℕ) → Option (List ℕ) → Bool → Bool
     → Result (Unit {0}) RunFault → Type 0
 SendsRest served text old new true failed result = (new ≡ old) × (failed ≡ true) × (result ≡ served)

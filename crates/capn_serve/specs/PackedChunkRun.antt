@@ -16,38 +16,38 @@ use Rattle.capn_serve.specs.ChunkRun.{IsListening, Tells, TellsBegun, TellsFront
 use Rattle.capn_serve.specs.StreamRun.{has_more, taken_of}
 use Rattle.capn_serve.specs.PackedRun.{cut_group, unless_more}
 
--- The unpacker has not failed, and holds no whole group.
+-- The unpacker `held` has not failed, and its offset is below 2^64. Its bytes do not begin with a complete group.
 pub record IsUnpacking (held : Held) : Type 0 where
   pub good : held.failed ≡ false
   pub group : NoGroupFirst held.rest
   pub offset : held.offset < 2 ^ 64
 
--- The state of a packed stream between two chunks: an unfinished group, the bytes of an unfinished message, and the
--- number of unpacked bytes that may still be taken.
+-- The state of a packed stream between two chunks. `group` is the unpacker, and `rest` are the bytes of an unfinished
+-- message. `left` is the number of unpacked bytes that may still be served.
 pub record Pending : Type 0 where
   pub group : Held
   pub rest : List ℕ
   pub left : ℕ
 
--- The state of an unpacker `held`, a `framer`, and `left` unpacked bytes that may still be taken.
+-- The `Pending` of the unpacker `held`, the bytes in `framer`, and the number `left`.
 abbrev pub pending : Held → Framing → ℕ → Pending
 pending held framer left = record { group = held; rest = framer.rest; left = left }
 
--- The state before the first byte of a packed stream.
+-- The `Pending` before the first byte of a packed stream, if at most `limit` unpacked bytes may be served.
 abbrev pub fresh : ℕ → Pending
 fresh limit = record { group = record { rest = []; offset = 0; failed = false }; rest = []; left = limit }
 
 module _ {X : Type 0} (f : Fold X) where
-  -- Whatever unpacked bytes follow `stream`, a run over the bytes that are taken ends with `fault` and leaves the state
-  -- `last`.
+  -- For any bytes `more` after `stream`, a run writes the text that was added, ends with `fault`, and leaves the state
+  -- `last`. The run is over `rest` and the first `left` bytes of `stream ++ more`.
   abbrev pub IsDueWithin : X → ℕ → List ℕ → List ℕ → Outgoing → Outgoing → RunFault → X → Type 0
   IsDueWithin x left rest stream old new fault last = (more : List ℕ) → (text : List ℕ) × (y : X)
       × ((behind : Option RunFault) → IsFolded f x (rest ++ taken_of left (stream ++ more))
       (unless_more (has_more left (stream ++ more)) behind) text (Err fault) y) × Adds old new text
       × Leaves f y fault last
 
-  -- A run over unpacked bytes stopped with `fault` and left the state `last`. Memory was refused, the writer failed, or
-  -- the run ends with `fault` whatever bytes follow.
+  -- A run over `rest` and the first `left` bytes of `stream` stopped with `fault` and left the state `last`. `fault` is
+  -- `Memory` or `Io`, or the run ends with `fault` for any bytes after `stream`.
   pub record Halts (x : X) (left : ℕ) (rest stream : List ℕ) (old new : Outgoing) (failed : Bool) (fault : RunFault)
       (last : X) : Type 0 where
     pub told : failed ≡ false → TellsBegun f x (rest ++ taken_of left stream) old new
@@ -55,7 +55,9 @@ module _ {X : Type 0} (f : Fold X) where
     pub io : (fault ≡ faults.Io) ↔ (failed ≡ true)
     pub due : (fault ≡ faults.Memory) ⊎ ((fault ≡ faults.Io) ⊎ IsDueWithin x left rest stream old new fault last)
 
-  -- The unpacked bytes `stream` were served, up to their end or to a state that is done, or the run stopped.
+  -- After `Ok`, messages at the start of `before.rest ++ taken_of left stream` were served. If the state `y` is not
+  -- `done`, `stream` has at most `left` bytes, and `after` holds the bytes after these messages. After `Err`, the run
+  -- stopped with `fault`.
   abbrev pub ServesPart : X → ℕ → Framing → List ℕ → Outgoing → Outgoing → Bool → Result (Unit {0}) RunFault → ℕ
       → Framing → X → Type 0
   ServesPart x left before stream old new failed (Ok u) room after y = (rest : List ℕ)
@@ -65,8 +67,9 @@ module _ {X : Type 0} (f : Fold X) where
   ServesPart x left before stream old new failed (Err fault) room after y =
       Halts x left before.rest stream old new failed fault y
 
-  -- `bytes` were read after the state `before`. The whole groups unpack to no more bytes than may be taken. The whole
-  -- messages in these unpacked bytes were served, and `after` holds the rest.
+  -- The complete groups of `before.group.rest ++ bytes` unpack to `stream`, and `stream` has at most `before.left`
+  -- bytes. Messages at the start of `before.rest ++ stream` were served. `after` holds the bytes after these groups,
+  -- and the bytes after these messages.
   pub record TellsPacked (x : X) (before : Pending) (bytes : List ℕ) (after : Pending) (old new : Outgoing) (y : X)
       : Type 0 where
     pub stream : List ℕ
@@ -77,18 +80,22 @@ module _ {X : Type 0} (f : Fold X) where
     pub size : length stream + after.left ≡ before.left
     pub told : Tells f x (before.rest ++ stream) after.rest old new y
 
-  -- Some number of the first groups were unpacked. The messages in the unpacked bytes that are taken were served.
+  -- The packed bytes begin with some complete groups, which unpack to `stream`. Messages at the start of
+  -- `before.rest ++ taken_of before.left stream` were served.
   abbrev pub ReachesPacked : X → Pending → List ℕ → Outgoing → Outgoing → X → Type 0
   ReachesPacked x before bytes old new y = (stream : List ℕ) × packing.Begins (before.group.rest ++ bytes) [] stream
       × (rest : List ℕ) × Tells f x (before.rest ++ taken_of before.left stream) rest old new y
 
-  -- The run stopped within the unpacked bytes of some number of the first groups, and left the state `last`.
+  -- The packed bytes begin with some complete groups, which unpack to `stream`. A run over `before.rest` and the first
+  -- `before.left` bytes of `stream` stopped with `fault`, and left the state `last`.
   abbrev pub HaltsPacked : X → Pending → List ℕ → Outgoing → Outgoing → Bool → RunFault → X → Type 0
   HaltsPacked x before bytes old new failed fault last = (stream : List ℕ)
       × packing.Begins (before.group.rest ++ bytes) [] stream
       × Halts x before.left before.rest stream old new failed fault last
 
-  -- All messages that the packed `bytes` complete were served, or those up to a state that is done, or the run stopped.
+  -- After `Ok`, messages in the packed `bytes` were served, up to the state `y`. If `y` is not `done`, all complete
+  -- messages were served, and `held`, `framer` and `left` are the state after `bytes`. After `Err`, the run stopped
+  -- with `fault`.
   abbrev pub ServesPacked : X → Pending → List ℕ → Outgoing → Outgoing → Bool → Result (Unit {0}) RunFault → Held
       → Framing → ℕ → X → Type 0
   ServesPacked x before bytes old new failed (Ok u) held framer left y =
@@ -98,7 +105,8 @@ module _ {X : Type 0} (f : Fold X) where
   ServesPacked x before bytes old new failed (Err fault) held framer left y =
       HaltsPacked x before bytes old new failed fault y
 
--- The packed input ended at the position `at` with no whole frame in `rest`, and `ending` is the end of the run.
+-- A packed input ended at the position `at`, before a complete frame. `rest` are the bytes of an unfinished message,
+-- and `group` those of an unfinished group. `ending` is the end of the run, and is not `Io`.
 abbrev pub EndsPacked : Position → List ℕ → ℕ → List ℕ → ℕ → Result (Unit {0}) RunFault → Type 0
 EndsPacked at group offset rest most ending = (e : FrameFault) × (e ≢ frames.Memory)
     × frame_rules.IsFrameRefused rest most e × (ending ≡ end_of at e (cut_group at group offset))

@@ -19,18 +19,16 @@ abbrev pub is_picked : List Range → ℕ → Bool
 is_picked [] number = false
 is_picked (r ∷ rs) number = is_in r number || is_picked rs number
 
--- The text of the message with `number`, counted from 1: its frame if the message is picked, and else nothing.
+-- The text that a message writes: its `frame` if `number` is in one of the `ranges`, and nothing otherwise.
 abbrev pub picked : List Range → ℕ → List ℕ → List ℕ
 picked ranges number frame = if is_picked ranges number then frame else []
 
--- The greatest number in the ranges, or 0 if there is no range. The message with that number is the last one that is
--- looked at.
+-- The greatest of the last numbers of the ranges, or 0 if there is no range.
 abbrev pub last_of : List Range → ℕ
 last_of [] = 0
 last_of (r ∷ rs) = max r.to (last_of rs)
 
--- The ranges ascend above the number `before`: the first number of each range is greater than `before` and all numbers
--- of the ranges before, and not greater than the last number of its own range.
+-- The ranges ascend, and all of their numbers are greater than `before`. No range ends before its first number.
 abbrev pub AreAbove : ℕ → List Range → Type 0
 AreAbove before [] = ⊤
 AreAbove before (r ∷ rs) = (before < r.from) × (r.from ≤ r.to) × AreAbove r.to rs
@@ -39,7 +37,8 @@ AreAbove before (r ∷ rs) = (before < r.from) × (r.from ≤ r.to) × AreAbove 
 abbrev pub AreAscending : List Range → Type 0
 AreAscending ranges = AreAbove 0 ranges
 
--- The range from `from` to `to`, or no range if `to` is less than `from` or is 0.
+-- The list with the range from `from` to `to`, where a `from` of 0 counts as 1. The list is empty if `to` is less than
+-- `from`, or if `to` is 0.
 abbrev pub range_of : ℕ → ℕ → List Range
 range_of from to = if nat_lt to (max from 1) then [] else (record { from = max from 1; to = to }) ∷ []
 
@@ -47,7 +46,7 @@ range_of from to = if nat_lt to (max from 1) then [] else (record { from = max f
 abbrev pub ranges_of : Pick → List Range
 ranges_of p = range_of p.from p.to
 
--- With the range 2 to 3 the second and the third message are written, and the first and the fourth are not.
+-- Four examples with the range 2 to 3: the messages 2 and 3 are written, and the messages 1 and 4 are not.
 first_left : picked (range_of 2 3) 1 (7 ∷ []) ≡ []
 first_left = refl
 
@@ -60,8 +59,8 @@ third_picked = refl
 fourth_left : picked (range_of 2 3) 4 (7 ∷ []) ≡ []
 fourth_left = refl
 
--- The range 3 to 2 is empty, and no message is looked at. With the range 0 to 3 the third message is the last one that
--- is looked at.
+-- Three examples. From the range 3 to 2 no message is picked, and its last number counts as 0. The last number of the
+-- range 0 to 3 is 3.
 none_picked : picked (range_of 3 2) 3 (7 ∷ []) ≡ []
 none_picked = refl
 
@@ -71,7 +70,7 @@ none_looked = refl
 third_looked : last_of (range_of 0 3) ≡ 3
 third_looked = refl
 
--- The two ranges of message 1, and of the messages 3 and 4.
+-- The range of the message 1, and the range of the messages 3 and 4.
 abbrev two : List Range
 two = (record { from = 1; to = 1 }) ∷ (record { from = 3; to = 4 }) ∷ []
 
@@ -87,29 +86,31 @@ four_of_two = refl
 last_of_two : last_of two ≡ 4
 last_of_two = refl
 
--- A run over a stream that picks the messages of some ranges.
+-- The state of a run that picks messages: the ranges, and the position of the next message.
 abbrev pub Picking : Type 0
 Picking = Run (List Range)
 
--- A message writes its frame if its number is in the ranges. The ranges stay the same, and no message is refused.
+-- `text` is `frame` if the number of the message is in one of the `ranges`, and empty otherwise. The ranges stay as
+-- they are.
 abbrev pub serves : List Range → Position → List ℕ → List (List ℕ) → List ℕ → List Range → Type 0
 serves ranges at frame message text same = (text ≡ picked ranges (at.index + 1) frame) × (same ≡ ranges)
 
+-- No message is refused.
 abbrev pub refuses : List Range → Position → List ℕ → List (List ℕ) → Refusal → Type 0
 refuses ranges at frame message r = ⊥
 
--- The fold of picking over the messages of a stream.
+-- The fold that picks messages. `most` is the greatest number of words of a message.
 abbrev pub pick_fold : ℕ → Fold Picking
 pick_fold most = fold_of serves refuses most
 
 module _ (most : ℕ) (ranges : List Range) where
-  -- `bytes` contain all messages up to the last one that is looked at, and `text` is picked from these messages.
+  -- `bytes` begin with at least `last_of ranges` messages, and `text` is picked from these messages.
   abbrev pub IsEnough : List ℕ → List ℕ → Type 0
   IsEnough bytes text = (parts : List Part) × (rest : List ℕ) × (y : Picking)
       × AreParts (pick_fold most) (first_run ranges) bytes parts rest y × (last_of ranges ≤ y.at.index)
       × (text ≡ texts_of parts)
 
-  -- `bytes` contain fewer whole messages than are looked at, and no whole frame follows these messages.
+  -- `bytes` begin with fewer than `last_of ranges` messages, and no complete frame follows these messages.
   abbrev pub IsTooFew : List ℕ → Type 0
   IsTooFew bytes = (parts : List Part) × (rest : List ℕ) × (y : Picking)
       × AreParts (pick_fold most) (first_run ranges) bytes parts rest y × IsUnfinished rest most

@@ -14,14 +14,13 @@ use Rattle.capn_serve.specs.StreamRun as streams
 use Rattle.capn_serve.specs.StreamRun.{TakesBytes, first_run, has_more, taken_of}
 use Rattle.capn_serve.specs.PackedRun as packings
 
--- The greatest number of bytes that are taken of an input, and of the bytes that a packed input unpacks to.
+-- The greatest number of bytes that a run serves of its input, and of the words that a packed input unpacks to.
 abbrev pub most_taken : ℕ
 most_taken = 2 ^ 64 - 1
 
 module _ (most : ℕ) (ranges : List Range) where
-  -- `text` is picked from `bytes`, which are taken of an input, and `ending` is the end of the run. The run is done
-  -- once all messages up to the last one that is looked at are whole. Otherwise the run ends as the stream does. For a
-  -- packed input the stream is what the whole groups unpack to.
+  -- A run over `bytes` writes the picked messages as `text`, and ends with `ending`. If the stream has at least
+  -- `last_of ranges` messages, `ending` is `Ok`. Otherwise the end of the stream decides `ending`.
   abbrev pub IsPickedOf : StreamForm → List ℕ → Bool → List ℕ → Result (Unit {0}) RunFault → Type 0
   IsPickedOf forms.Stream bytes is_longer text ending =
       (IsEnough most ranges bytes text × (ending ≡ Ok tt))
@@ -34,41 +33,42 @@ module _ (most : ℕ) (ranges : List Range) where
       × packings.IsDuePacked (pick_fold most) (first_run ranges) most_taken bytes is_longer text ending y
       × (y.at.index < last_of ranges))
 
-  -- `text` is picked from the bytes that are taken of `input`, and `ending` is the end of the run.
+  -- A run over `input` writes the picked messages as `text`, and ends with `ending`.
   abbrev pub IsPicked : StreamForm → List ℕ → List ℕ → Result (Unit {0}) RunFault → Type 0
   IsPicked form input text ending =
       IsPickedOf form (taken_of most_taken input) (has_more most_taken input) text ending
 
-  -- A run has written what is picked from `input`, and ended as `input` requires. Or memory was refused, or the reader
-  -- or the writer failed.
+  -- The result `r` is `Memory` or `Io`, or a run over `input` writes the picked messages as `text` and ends with `r`.
+  -- In the last case `text` was written.
   abbrev pub EndsAs : StreamForm → Option (List ℕ) → Option (List ℕ) → Result (Unit {0}) RunFault → List ℕ → Type 0
   EndsAs form old new r input =
       (r ≡ Err faults.Memory)
       ⊎ ((r ≡ Err faults.Io) ⊎ ((text : List ℕ) × IsPicked form input text r × Appends old new text))
 
-  -- `bytes`, or the bytes that their whole groups unpack to, contain fewer whole messages than are looked at.
+  -- A stream has fewer than `last_of ranges` complete messages. The stream is `bytes`, or for `Packed` the words of the
+  -- complete groups of `bytes`.
   abbrev pub IsShort : StreamForm → List ℕ → Type 0
   IsShort forms.Stream bytes = IsTooFew most ranges bytes
   IsShort forms.Packed bytes = (stream : List ℕ) × (group : List ℕ) × (offset : ℕ)
       × packing.Splits bytes group [] stream offset × IsTooFew most ranges stream
 
-  -- A prefix of what is picked from `bytes` was written.
+  -- A prefix of the text that is picked from `bytes` was written.
   abbrev pub HasWritten : StreamForm → List ℕ → Option (List ℕ) → Option (List ℕ) → Type 0
   HasWritten forms.Stream bytes old new =
       streams.HasWritten (pick_fold most) (first_run ranges) most_taken (taken_of most_taken bytes) old new
   HasWritten forms.Packed bytes old new =
       packings.HasWrittenPacked (pick_fold most) (first_run ranges) most_taken (taken_of most_taken bytes) old new
 
-  -- All that is picked from the whole messages in `bytes`, or in what their whole groups unpack to, was written, and no
-  -- whole frame is left.
+  -- All picked messages of a stream were written, and no complete frame follows the messages of that stream. The stream
+  -- is `bytes`, or for `Packed` the words of the complete groups of `bytes`.
   abbrev pub HasWrittenAll : StreamForm → List ℕ → Option (List ℕ) → Option (List ℕ) → Type 0
   HasWrittenAll forms.Stream bytes old new =
       streams.HasWrittenAll (pick_fold most) (first_run ranges) most_taken bytes old new
   HasWrittenAll forms.Packed bytes old new =
       packings.HasWrittenAllPacked (pick_fold most) (first_run ranges) most_taken bytes old new
 
-  -- A reader returned some bytes, in no more chunks than needed, and a prefix of what is picked from these bytes was
-  -- written. Before the last chunk was read, all that is picked from the bytes before that chunk was written.
+  -- A reader returned `bytes`, in no more chunks than the run needs. A prefix of the text that is picked from `bytes`
+  -- was written. Before the last chunk was read, all messages picked from the bytes before that chunk had been written.
   pub record Begins (form : StreamForm) (a b c d : Option (List ℕ)) : Type 0 where
     pub bytes : List ℕ
     pub read : Consumes a b bytes
@@ -77,13 +77,14 @@ module _ (most : ℕ) (ranges : List Range) where
     pub needed : streams.IsNeeded (IsShort form) bytes
     pub written : HasWritten form bytes c d
 
-  -- All that is picked from the bytes that a reader returned was written.
+  -- A reader returned some bytes, and all messages that are picked from these bytes were written.
   abbrev pub KeepsUp : StreamForm → Option (List ℕ) → Option (List ℕ) → Option (List ℕ) → Option (List ℕ) → Type 0
   KeepsUp forms.Stream a b c d = streams.KeepsUp (pick_fold most) (first_run ranges) most_taken a b c d
   KeepsUp forms.Packed a b c d =
       packings.KeepsUpPacked (pick_fold most) (first_run ranges) most_taken most_taken a b c d
 
-  -- States the effect of a run on a reader (from `a` to `b`) and a writer (from `c` to `d`), and the result of the run.
+  -- The effect of a run that ends with the result `r`. `a` and `b` are the reader before and after the run, and `c` and
+  -- `d` the writer.
   pub record PicksRanges (form : StreamForm) (a b c d : Option (List ℕ)) (reader_failed writer_failed : Bool)
       (r : Result (Unit {0}) RunFault) : Type 0 where
     pub exact : IfSome a (EndsAs form c d r)
@@ -92,7 +93,7 @@ module _ (most : ℕ) (ranges : List Range) where
     pub heard : reader_failed ≡ true → KeepsUp form a b c d
     pub memory : r ≡ Err faults.Memory → TakesBytes a b
 
--- States the effect of a run with the options `p`, which picks the messages from number `p.from` to number `p.to`.
+-- The effect of a run with the options `p`. The run picks the messages from number `p.from` to number `p.to`.
 abbrev pub Picks : ℕ → Pick → StreamForm → Option (List ℕ) → Option (List ℕ) → Option (List ℕ) → Option (List ℕ) → Bool
     → Bool → Result (Unit {0}) RunFault → Type 0
 Picks most p = PicksRanges most (ranges_of p)

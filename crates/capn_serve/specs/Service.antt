@@ -6,8 +6,8 @@ use Rattle.capn_serve.specs.declared.fault.ServeFault.{ServeFault}
 use Rattle.capn_serve.specs.declared.fault.ServeFault.TheVariants as faults
 use Rattle.capn_serve.specs.Outgoing.{Outgoing, Adds, AddsBeginning, BreaksWithin}
 
--- The service added the text of a message and went to the next state, or the message is refused and nothing was added.
--- Or memory was refused before or within the text, or the writer failed within the text.
+-- After `Ok`, the service added the `text` of `message`, and `t` is the next state. After `Refused`, nothing was added.
+-- After `Memory`, nothing or a prefix of `text` was added, and after `Io`, a prefix of `old.kept ++ text` was written.
 abbrev pub AddsOne : {S : Type 0} → (S → Position → List ℕ → List (List ℕ) → List ℕ → S → Type 0)
     → (S → Position → List ℕ → List (List ℕ) → Refusal → Type 0) → S → Position → List ℕ → List (List ℕ) → Outgoing
     → Outgoing → Bool → Result (Unit {0}) ServeFault → S → Type 0
@@ -20,9 +20,7 @@ AddsOne serves refuses s at frame message old new failed (Err faults.Memory) t =
 AddsOne serves refuses s at frame message old new failed (Err faults.Io) t =
     BreaksWithin (serves s at frame message) old new × (failed ≡ true)
 
--- States the effect of a service on one message, with a limit on the kept text. If less than 65,536 bytes were kept
--- before a message that is served, less than 65,536 bytes are kept after that message. So the kept text does not grow
--- without being written.
+-- `AddsOne` holds. After `Ok`, if `old.kept` has fewer than 65,536 bytes, `new.kept` has fewer than 65,536 bytes too.
 abbrev pub DoesService : {S : Type 0} → (S → Position → List ℕ → List (List ℕ) → List ℕ → S → Type 0)
     → (S → Position → List ℕ → List (List ℕ) → Refusal → Type 0) → S → Position → List ℕ → List (List ℕ) → Outgoing
     → Outgoing → Bool → Result (Unit {0}) ServeFault → S → Type 0
@@ -32,8 +30,8 @@ DoesService serves refuses s at frame message old new failed (Ok u) t =
 DoesService serves refuses s at frame message old new failed (Err fault) t =
     AddsOne serves refuses s at frame message old new failed (Err fault) t
 
--- States the effect of a service that does not use the writer. The service appended the text of a message and went to
--- the next state. Or the message or memory was refused, and nothing was appended.
+-- The effect of a service that only appends to a text. After `Ok`, the text of `message` was appended to `old`, and `t`
+-- is the next state. After `Refused` or `Memory`, nothing was appended.
 abbrev pub PutsMessage : {S : Type 0} → (S → Position → List ℕ → List (List ℕ) → List ℕ → S → Type 0)
     → (S → Position → List ℕ → List (List ℕ) → Refusal → Type 0) → S → Position → List ℕ → List (List ℕ) → List ℕ
     → List ℕ → Result (Unit {0}) ServeFault → S → Type 0

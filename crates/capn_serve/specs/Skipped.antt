@@ -6,13 +6,14 @@ use Rattle.capn_serve.specs.declared.position.Position.{Position}
 use Rattle.capn_serve.specs.declared.skipped.Skipped.{Skipped}
 use Rattle.capn_serve.specs.declared.skipped.SkippedSoFar.{SkippedSoFar}
 
--- The record of skipped messages after one more at the position `at`. The first position is kept, and the count stops
--- at 2^64 - 1.
+-- The record of skipped messages after one more message, at the position `at`, was skipped. `first` stays the position
+-- of the first skipped message, and `count` stops at 2^64 - 1.
 abbrev pub one_more : Option SkippedSoFar → Position → SkippedSoFar
 one_more None at = record { count = 1; first = at }
 one_more (Some s) at = record { count = min (s.count + 1) (2 ^ 64 - 1); first = s.first }
 
--- The numbers of a run over `messages` messages that skipped the messages counted in `s`.
+-- The `Skipped` of a run over `messages` messages. `s` has the number of skipped messages and the position of the
+-- first.
 abbrev pub skipped_of : SkippedSoFar → ℕ → Skipped
 skipped_of s messages = record { refused = s.count; messages = messages; first = s.first }
 

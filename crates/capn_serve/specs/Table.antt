@@ -3,8 +3,8 @@ use Rattle.std.specs.Prelude.{◌≡◌, ℕ, ◌+◌, ◌/◌, List, [], ◌∷
 use Rattle.capn_canon.specs.declared.form.Form.{Form}
 use Rattle.capn_canon.specs.declared.form.Form.TheVariants as forms
 
--- The number of words of a message's segment table, which is 0 if the form is bare. Otherwise the table has 4 bytes for
--- the number of segments, 4 bytes for each segment, and 4 bytes more if these are no whole words.
+-- The number of words of the segment table of `message`, and 0 in a bare input. The table has 4 bytes for the number of
+-- segments, 4 bytes for each segment, and padding up to a multiple of 8 bytes.
 abbrev pub table_words : Form → List (List ℕ) → ℕ
 table_words forms.Bare message = 0
 table_words forms.Stream message = length message / 2 + 1

@@ -1,4 +1,5 @@
-//! Adds bytes to the output of a run. Short bytes are kept in the text of the run, and long ones are written at once.
+//! Adds bytes to the output of a run. Short bytes are appended to a text that is written later, and long bytes are
+//! written at once.
 
 ghost use Rattle.std.specs.Prelude.{◌≡◌, false};
 ghost use Rattle.capn_words.specs.Watched.{inner_of, has_failed};
@@ -33,9 +34,9 @@ fn send_bytes<W: Write, A: Allocator>(
 /// Adds `bytes` to the output of a message. Short bytes are appended to `text`. Long bytes are written to `writer`,
 /// after `text`.
 ///
-/// `bytes` are short if `text` and `bytes` together are below 65,536 bytes. Long bytes take no memory, and once they
-/// are written, `text` is empty. `Memory` is returned if room for short bytes is refused, and then nothing is added.
-/// `Io` is returned if the writer fails, after a prefix of `text` and `bytes` was written.
+/// `bytes` are short if `text` and `bytes` together have fewer than 65,536 bytes. Long bytes take no memory, and once
+/// they are written, `text` is empty. `Memory` is returned if memory for short bytes is refused, and then nothing is
+/// added. `Io` is returned if the writer fails. Then a prefix of `text` and `bytes`, joined, was written.
 pub fn add_bytes<W: Write, A: Allocator>(
     bytes: &[u8],
     text: &mut Vec<u8, A>,

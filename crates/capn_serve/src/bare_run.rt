@@ -21,7 +21,7 @@ use capn_words::{Bare, BareFault, MOST_WORDS, Watched};
 use std::alloc::Allocator;
 use std::io::{Read, Write};
 
-/// Returns the fault of a bare input of `len` bytes, which is more than a segment can have.
+/// Returns the fault of a bare input of `len` bytes, which are more than a segment can have.
 fn bare_fault(len: u64) -> BareFault
     requires { 8 * most_words < len }
     ensures { (bytes : List ℕ) → length bytes ≡ len → ReadsBare bytes (Err result) }
@@ -73,13 +73,13 @@ fn serve_bare<S: Service, W: Write, A: Allocator + Copy>(
 }
 
 /// Reads a bare input to its end, in chunks of at most 65,536 bytes, and serves the input as one message. If the
-/// service is done at the start, nothing is read.
+/// service is finished at the start, nothing is read.
 ///
 /// The input itself is the frame that the service gets. An input of more than 2^32 bytes ends the run as
-/// `InputTooLong`. Any other input that is not whole words, or has more than 2^28 + 1 words, is refused at its start.
-/// The service may refuse the message too. `Io` is returned if and only if the reader or the writer failed, and
-/// `Memory` if an allocation was refused. Nothing is written before the input has ended. The run holds the input, up to
-/// 2^28 + 1 words, the text that is not written yet, and what the service holds.
+/// `InputTooLong`. Any other input whose length is no multiple of 8 bytes, or that has more than 2^28 + 1 words, is
+/// refused at its start. The service may refuse the message too. `Io` is returned if and only if the reader or the
+/// writer failed, and `Memory` if an allocation was refused. Nothing is written before the input has ended. In memory
+/// the run holds up to 2^28 + 1 words of the input, the text that is not written yet, and what the service holds.
 pub fn run_bare<S: Service, R: Read, W: Write, A: Allocator + Copy>(
     alloc: A,
     run: &mut Run<S>,

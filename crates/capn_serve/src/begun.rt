@@ -1,4 +1,4 @@
-//! What a run had read of an unfinished message, and of an unfinished packed group, when the run ended.
+//! The bytes of an unfinished message and of an unfinished packed group that a run holds when it ends.
 
 ghost use Rattle.std.specs.Prelude.{◌≡◌, []};
 
@@ -7,10 +7,10 @@ use capn_stream::Framer;
 use std::alloc::{Allocator, Global};
 use std::marker::Model;
 
-/// The bytes that a run had read of an unfinished message and an unfinished packed group when the run ended. (Our own.)
+/// The bytes of an unfinished message and of an unfinished packed group that a run holds when it ends. (Our own.)
 ///
 /// [`serve_form_with`](crate::serve_form_with) stores the bytes here, so that a refusal can be explained. The bytes of
-/// the message are those of its frame. If the input is packed, they are unpacked bytes.
+/// the message begin with its segment table. If the input is packed, the bytes of the message are unpacked.
 #[derive(Drop)]
 pub struct Begun<A: Allocator + Copy = Global> {
     pub(crate) framer: Framer<A>,
@@ -36,17 +36,17 @@ impl<A: Allocator + Copy> Begun<A> {
         }
     }
 
-    /// Returns the bytes of the message at which the run ended, or an empty slice if no message had begun. If the
-    /// message is cut, the slice has all bytes that were read of that message. If the message has too many words, the
-    /// slice has at least the segment table with its padding.
+    /// Returns the bytes of the message at which the run ended. If no message had begun, the slice is empty. If the
+    /// message is cut off, the slice has all bytes that were read of that message. If the message has too many words,
+    /// the slice has at least the segment table with its padding.
     pub fn message(&self) -> &[u8]
         ensures { result.now ≡ self.now.rest }
     {
         self.framer.held()
     }
 
-    /// Returns the bytes that were read of an unfinished packed group, from its tag on, or an empty slice if no group
-    /// had begun.
+    /// Returns the bytes that were read of an unfinished packed group. They begin with the tag of the group. If no
+    /// group had begun, the slice is empty.
     pub fn group(&self) -> &[u8]
         ensures { result.now ≡ self.now.group }
     {

@@ -56,7 +56,8 @@ pub fn status<F: Ending>(outcome: &Result<(), F>) -> u8
 /// `errors`.
 ///
 /// The line is `capn: `, the text of the fault and a newline. A line of at most 256 bytes is written by one call, if
-/// `errors` takes the whole line at once. If `errors` fails, a prefix of the line was written. No memory is allocated.
+/// `errors` takes the complete line at once. If `errors` fails, a prefix of the line was written. No memory is
+/// allocated.
 pub fn end<F: Ending, E: Write>(outcome: &Result<(), F>, errors: &mut Watched<E>) -> u8
     requires { has_failed errors.old ≡ false }
     ensures status { result ≡ status_of_ending F.exit outcome.now }

@@ -24,8 +24,8 @@ pub enum ServeFault {
     Refused(Refusal),
 }
 
-/// Returns the fault of a message whose survey `stopped`: `Memory` if an allocation was refused, and otherwise the
-/// refusal of the message.
+/// Returns the fault of a message after its survey has ended with `stopped`. The fault is `Memory` if an allocation was
+/// refused, and otherwise the refusal of the message.
 pub fn fault_of_stop(stopped: Stopped) -> ServeFault
     ensures { ((stopped.fault ≡ walk_faults.Memory) × (result ≡ serve_faults.Memory))
         ⊎ ((stopped.fault ≢ walk_faults.Memory) × (result ≡ serve_faults.Refused (refusals.Walk stopped))) }
@@ -43,7 +43,7 @@ pub enum RunFault {
     Memory,
     /// The reader or the writer failed.
     Io,
-    /// The input has more bytes than a run takes.
+    /// The input has more bytes than a run may serve.
     InputTooLong,
     /// The message at this position is refused, or no message can begin there.
     Refused(Position, Refusal),

@@ -25,8 +25,9 @@ use std::io::{Read, Write};
 /// Serves the messages of an input in `form`, and leaves the bytes of an unfinished message in `begun`. The other
 /// arguments are those of [`serve_form`].
 ///
-/// After a refusal `begun` holds what was read of a frame that is cut or has too many words, and of a packed group that
-/// is cut. The earlier content of `begun` is dropped. If the input is bare, `begun` stays as it was.
+/// If the run ends because a frame or a packed group is cut off, `begun` holds all bytes that were read of that
+/// unfinished message and group. If a frame has too many words, `begun` holds at least the segment table of that frame.
+/// If the input is bare, `begun` stays as it was. Otherwise the earlier content of `begun` is dropped.
 pub fn serve_form_with<S: Service, R: Read, W: Write, A: Allocator + Copy>(
     alloc: A,
     form: Form,
@@ -77,7 +78,8 @@ pub fn serve_form_with<S: Service, R: Read, W: Write, A: Allocator + Copy>(
 }
 
 /// Serves the messages of an input in `form`. `most` is the greatest number of words of a message in a frame. A stream
-/// may have up to 2^64 - 1 bytes. A packed stream may also unpack to up to 2^64 - 1 bytes.
+/// may have up to 2^64 - 1 bytes. A packed stream may also unpack to up to 2^64 - 1 bytes. The faults are those of
+/// `run_stream`, `run_packed` and `run_bare`.
 pub fn serve_form<S: Service, R: Read, W: Write, A: Allocator + Copy>(
     alloc: A,
     form: Form,

@@ -1,6 +1,6 @@
-//! The one loop that reads streams for services over messages: [`serve_pieces`]. The trait [`Intake`] describes the
-//! state that takes the chunks. `make`, `pack --streaming`, `unpack --streaming` and the functions that read an input
-//! whole have loops of their own.
+//! The loop that reads a stream in chunks for a service: [`serve_pieces`]. The trait [`Intake`] describes the state
+//! that takes these chunks. `make`, `pack --streaming`, `unpack --streaming` and the functions that read a complete
+//! input at once have loops of their own.
 //!
 //! An intake serves each message once the last byte of that message is read. The ghost member [`Intake::takes`] states
 //! what an intake holds after some bytes, and [`Intake::gives`] states how a run over some bytes ends. The clauses of
@@ -20,21 +20,22 @@ use capn_words::Watched;
 use std::alloc::Allocator;
 use std::io::{Read, Write};
 
-/// A state that takes an input in chunks, and serves the messages that each chunk completes.
+/// The state of a run that gets its input in chunks, and serves each message once that message is complete.
 pub(crate) trait Intake<A: Allocator + Copy> {
-    /// States the effect of some bytes for a fold. The arguments are the intake and the state of the fold before the
-    /// bytes, the intake and the state after the bytes, the bytes, and the writer's content before and after the bytes.
+    /// States the effect of some bytes on an intake and on the state of a fold. The first two arguments are the intake
+    /// and the state of the fold before the bytes, and the next two are those after the bytes. The other arguments are
+    /// the bytes, and the writer's content before and after the bytes.
     ghost takes: { (X : Type 0) → Fold X → Self → X → Self → X → List ℕ → Option (List ℕ) → Option (List ℕ)
         → Type 0 };
 
-    /// States how a run ends for a fold. The arguments are the intake and the state of the fold before the run, the
-    /// intake and the state after the run, the bytes that were taken, whether the input has more bytes, the writer's
-    /// content before and after the run, and the result of the run.
+    /// States how a run ends for a fold. The first two arguments are the intake and the state of the fold before the
+    /// run, and the next two are those after the run. The other arguments are the bytes that were served, whether the
+    /// input has more bytes, the writer's content before and after the run, and the result of the run.
     ghost gives: { (X : Type 0) → Fold X → Self → X → Self → X → List ℕ → Bool → Option (List ℕ) → Option (List ℕ)
         → Result (Unit {0}) RunFault → Type 0 };
 
-    /// Serves all messages that `piece` completes, until the service is done, and writes their texts to `writer`.
-    /// `text` is a buffer for the texts.
+    /// Serves each message that is complete after `piece`, until the service is finished. The texts of these messages
+    /// are collected in `text`, and written to `writer`.
     fn serve<S: Service, W: Write>(
         &mut self,
         alloc: A,
@@ -52,7 +53,7 @@ pub(crate) trait Intake<A: Allocator + Copy> {
             piece.now (W.contents (inner_of writer.old)) (W.contents (inner_of writer.new)) (has_failed writer.new)
             result self.new run.new };
 
-    /// Ends `run` at the end of the input, with a fault if a message or a packed group is cut. The intake keeps the
+    /// Ends `run` at the end of the input, with a fault if a message or a packed group is cut off. The intake keeps the
     /// bytes that it holds.
     fn finish<S: Service>(&mut self, run: &Run<S>) -> Result<(), RunFault>
         requires going { S.done run.now.service run.now.at ≡ false }
@@ -63,8 +64,8 @@ pub(crate) trait Intake<A: Allocator + Copy> {
 }
 
 /// Reads an input in chunks of at most 65,536 bytes, and lets `intake` serve each chunk before the next chunk is read.
-/// The loop ends if the service is done, if the input ends, or at the first fault. At most `limit` bytes are taken. One
-/// more byte may be read, to find out whether the input is longer.
+/// The loop ends if the service is finished, if the input ends, or at the first fault. At most `limit` bytes are
+/// served. One more byte may be read, to find out whether the input is longer.
 pub(crate) fn serve_pieces<I: Intake<A>, S: Service, R: Read, W: Write, A: Allocator + Copy>(
     alloc: A,
     most: u32,

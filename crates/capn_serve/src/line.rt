@@ -1,4 +1,4 @@
-//! A line of text that is collected in a block of 256 bytes on its way to a writer.
+//! A line of text that is collected in an array of 256 bytes, and is written to a writer from there.
 
 ghost use Rattle.std.specs.Prelude.{◌≡◌, ◌+◌, ◌≤◌, [], ◌++◌, length};
 ghost use Rattle.std.specs.Fmt.{decimal};
@@ -10,10 +10,11 @@ use capn_words::Watched;
 use std::io::Write;
 use std::marker::Model;
 
-/// The greatest number of bytes of a line that are kept before they are written.
+/// The greatest number of bytes of a line that are not written yet.
 const ROOM: usize = 256;
 
-/// The part of a line that is not written yet: at most 256 bytes, in an array, so that no memory is allocated.
+/// The bytes of a line that are not written yet. They are at most 256 bytes in an array, so that no memory is
+/// allocated.
 #[derive(Drop)]
 pub struct Line {
     bytes: [u8; ROOM],
@@ -72,8 +73,8 @@ impl Line {
         self.filled = 0;
     }
 
-    /// Appends `part` to the line. If the array has no room for `part`, the bytes before `part` and then `part` are
-    /// written to `errors`.
+    /// Appends `part` to the line. If the array cannot take `part`, the bytes before `part` and then `part` are written
+    /// to `errors`.
     pub fn put<E: Write>(&mut self, part: &[u8], errors: &mut Watched<E>)
         ensures { Says part.now (way self.old (E.contents (inner_of errors.old)) (has_failed errors.old))
             (way self.new (E.contents (inner_of errors.new)) (has_failed errors.new)) }

@@ -10,7 +10,7 @@ use capn_words::Watched;
 use std::alloc::Allocator;
 use std::io::Write;
 
-/// The length in bytes from which on a text is written.
+/// A text of at least this many bytes is written at once. A shorter text may be written later.
 pub(crate) const ENOUGH: usize = 65_536;
 
 /// Writes all of `text`. If the writer fails, a prefix of `text` was written, and `Io` is returned.
@@ -51,8 +51,7 @@ pub fn flush_long<W: Write, A: Allocator>(
     }
 }
 
-/// Writes `text`, which was not written yet, unless the writer has failed before. Returns `served`, or `Io` if the
-/// writer fails now.
+/// Writes `text`, unless the writer has failed before. Returns `served`, or `Io` if the writer fails now.
 pub(crate) fn send_rest<W: Write>(
     served: Result<(), RunFault>,
     text: &[u8],

@@ -1,4 +1,4 @@
-//! The state of a packed stream between two slices: unfinished group, unfinished message and limit.
+//! The state of a packed stream between two slices: an unfinished group, an unfinished message and a limit.
 
 ghost use Rattle.std.specs.Prelude.{◌≡◌, ◌≤◌, [], false};
 ghost use Rattle.capn_words.specs.Message.{most_message_words};
@@ -16,12 +16,12 @@ pub(crate) struct Packed<A: Allocator + Copy> {
     pub framer: Framer<A>,
     /// The bytes that a slice unpacks to.
     pub part: Vec<u8, A>,
-    /// The number of unpacked bytes that may still be taken.
+    /// The number of unpacked bytes that may still be served.
     pub left: u64,
 }
 
 /// Returns the state before the first byte of a packed stream. `most` is the greatest number of words of a message. At
-/// most `limit` unpacked bytes are taken. The state takes no memory yet.
+/// most `limit` unpacked bytes may be served. The state allocates no memory yet.
 pub(crate) fn new_packed<A: Allocator + Copy>(alloc: A, most: u32, limit: u64) -> Packed<A>
     requires { most ≤ most_message_words }
     ensures unpacker { result.unpacker ≡ record { rest = []; offset = 0; failed = false } }

@@ -30,8 +30,9 @@ use std::io::{Read, Write};
 /// times as many bytes.
 const SLICE: usize = 512;
 
-/// Serves all messages that the unpacked bytes `packed.part` complete, until the service is done. At most `packed.left`
-/// bytes are served. If there are more bytes, and the service is not done by then, the run ends as `InputTooLong`.
+/// Serves each message that is complete after the unpacked bytes `packed.part`, until the service is finished. At most
+/// `packed.left` of these bytes are served. If there are more bytes, and the service is not finished, the run ends as
+/// `InputTooLong`.
 fn serve_part<S: Service, W: Write, A: Allocator + Copy>(
     alloc: A,
     most: u32,
@@ -71,8 +72,8 @@ fn serve_part<S: Service, W: Write, A: Allocator + Copy>(
     Ok(())
 }
 
-/// Unpacks the slice `bytes`, and serves all messages that the slice completes. All bytes that the slice unpacks to are
-/// in memory at once.
+/// Unpacks the slice `bytes`, and serves each message that is complete after this slice. All bytes that the slice
+/// unpacks to are in memory at once.
 fn serve_slice<S: Service, W: Write, A: Allocator + Copy>(
     alloc: A,
     most: u32,
@@ -98,7 +99,7 @@ fn serve_slice<S: Service, W: Write, A: Allocator + Copy>(
     }
 }
 
-/// Serves all messages that the packed `bytes` complete, slice by slice, until the service is done.
+/// Unpacks `bytes` slice by slice. Serves each message that is complete after a slice, until the service is finished.
 fn serve_slices<S: Service, W: Write, A: Allocator + Copy>(
     alloc: A,
     most: u32,
@@ -130,7 +131,7 @@ fn serve_slices<S: Service, W: Write, A: Allocator + Copy>(
     Ok(())
 }
 
-/// Ends a run at the end of its packed input, with a fault at the position `at` if a message or a group is cut.
+/// Ends a run at the end of its packed input, with a fault at the position `at` if a message or a group is cut off.
 /// `packed` keeps the bytes that it holds.
 fn end_of_packed<A: Allocator + Copy>(at: Position, packed: &mut Packed<A>) -> Result<(), RunFault>
     requires held { packed.old.unpacker.failed ≡ false }
@@ -176,8 +177,8 @@ impl<A: Allocator + Copy> Intake<A> for Packed<A> {
 }
 
 /// Reads a packed stream, and serves each message once that message is complete. `packed` must be new, with the limit
-/// `limit`. Afterwards `packed` holds what was read of the last message and of the last group. The other arguments are
-/// those of [`run_packed`].
+/// `limit`. Afterwards `packed` holds the bytes of an unfinished message and of an unfinished group. The other
+/// arguments are those of [`run_packed`].
 pub(crate) fn packed_into<S: Service, R: Read, W: Write, A: Allocator + Copy>(
     alloc: A,
     most: u32,
@@ -207,20 +208,21 @@ pub(crate) fn packed_into<S: Service, R: Read, W: Write, A: Allocator + Copy>(
     serve_pieces(alloc, most, most_packed, run, packed, reader, writer)
 }
 
-/// Reads a packed stream in chunks of at most 65,536 bytes, and serves each message that is complete before the next
-/// read.
+/// Reads a packed stream in chunks of at most 65,536 bytes. Before the next chunk is read, each message that is
+/// complete by then is served.
 ///
 /// `most` is the greatest number of words of a message. At most `most_packed` packed bytes and at most `limit` unpacked
-/// bytes are taken. Positions count unpacked bytes. Once the service is done, nothing more is read or served, and the
-/// rest of the input is not looked at. A chunk is unpacked in slices of 512 bytes. A slice unpacks to at most 512 KiB,
-/// in addition to a group that began before the slice.
+/// bytes are served. Positions count unpacked bytes. Once the service is finished, nothing more is read or served. A
+/// chunk is unpacked in slices of 512 bytes. A slice unpacks to at most 512 KiB, in addition to a group that began
+/// before the slice.
 ///
-/// The run ends as done, or with the first fault: a frame or a message that is refused, at its position;
-/// `InputTooLong`; a group that is cut at the end of the input, at the position of the message that has begun or would
-/// begin; `Io` if and only if the reader or the writer failed; `Memory` if an allocation was refused. The texts of the
-/// messages before the fault have been written. Before `Memory` a prefix of one more text may have been written too.
-/// The run holds an unfinished message, what a slice unpacks to, the texts of a chunk that are not written yet, and
-/// what the service holds.
+/// The run ends with `Ok`, or with the first fault. `Refused` has the position of a frame or a message that is refused.
+/// If a group is cut off at the end of the input, `Refused` has the position of the message that has begun or would
+/// begin. `InputTooLong` means that there are more packed or unpacked bytes than may be served. `Io` is returned if and
+/// only if the reader or the writer failed, and `Memory` if an allocation was refused. The texts of the messages before
+/// the fault have been written. Before `Memory` a prefix of one more text may have been written too. In memory the run
+/// holds an unfinished message, the unpacked bytes of a slice, the texts of a chunk that are not written yet, and what
+/// the service holds.
 pub fn run_packed<S: Service, R: Read, W: Write, A: Allocator + Copy>(
     alloc: A,
     most: u32,

@@ -19,18 +19,19 @@ use std::io::{Read, Write};
 /// Reads a stream in chunks of at most 65,536 bytes, and writes the frames of the messages whose numbers are in
 /// `ranges`, byte for byte. The frames of a packed stream are written unpacked.
 ///
-/// The ranges ascend: the first number of each range is at least 1, greater than the last number of the range before,
-/// and not greater than the last number of its own range. Of `limits` only the greatest number of words of a message is
-/// used. No message is walked. The run ends as done with the chunk that completes the last picked message. Then the run
-/// does not read again, and does not look at what follows. Before each read, all picked messages that are complete by
-/// then have been written. If the stream has fewer messages than the ranges name, those that exist are written. Without
-/// a range nothing is read.
+/// The ranges must ascend. The first number of each range is at least 1, and greater than the last number of the range
+/// before it. No range ends before its first number. Of `limits` only the greatest number of words of a message is
+/// used. No message is walked. Once the last picked message is complete, the run ends with `Ok`, and does not read
+/// again. Before each read, all picked messages that are complete by then have been written. If the stream has fewer
+/// messages than the ranges name, those that exist are written. If `ranges` are empty, nothing is read.
 ///
-/// The run holds an unfinished message, less than 65,536 bytes of short frames, and for a packed stream what
-/// [`run_packed`](crate::run_packed) holds. A long frame is written without another copy. The cost of a message does
-/// not depend on the number of ranges. The run ends as done, or before that with the first fault: a frame or a group
-/// that is refused, at its position; `InputTooLong`; `Io` if and only if the reader or the writer failed; `Memory` if
-/// an allocation was refused. The picked frames before the fault have been written.
+/// In memory the run holds an unfinished message and less than 65,536 bytes of short frames. For a packed stream it
+/// also holds what [`run_packed`](crate::run_packed) holds. A long frame is written without another copy. The cost of a
+/// message does not depend on the number of ranges. The run ends with `Ok`, or with the first fault before the end of
+/// the last picked message. `Refused` has the position of the message at which a frame or a packed group is refused.
+/// `InputTooLong` means that the input has, or unpacks to, 2^64 bytes or more. `Io` is returned if and only if
+/// the reader or the writer failed, and `Memory` if an allocation was refused. The picked frames before the fault have
+/// been written.
 pub fn run_only<R: Read, W: Write, A: Allocator + Copy>(
     alloc: A,
     form: StreamForm,

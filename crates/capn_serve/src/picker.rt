@@ -13,8 +13,8 @@ use std::alloc::Allocator;
 use std::io::Write;
 
 /// The service of `pick`, which writes the frames of the messages in some ranges byte for byte, and walks no message.
-/// The service looks only at the first range, and drops the first range after its last message. So the cost of a
-/// message does not depend on the number of ranges.
+/// The service looks only at the first range, and drops that range after its last message. So the cost of a message
+/// does not depend on the number of ranges.
 #[derive(Drop)]
 pub(crate) struct Picker<'r> {
     /// The ranges of the messages that are still to be picked, in ascending order.
@@ -32,7 +32,7 @@ fn is_first(rest: &[Range], number: u128) -> bool
     }
 }
 
-/// Returns the ranges of `rest` that are left after the message with this `number`.
+/// Returns the ranges of `rest` that remain after the message with this `number`.
 #[inline(always)]
 fn left<'r>(rest: &'r [Range], number: u128) -> &'r [Range]
     ensures { result.now ≡ spec.left rest.now number }

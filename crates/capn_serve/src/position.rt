@@ -2,7 +2,7 @@
 
 ghost use Rattle.std.specs.Prelude.{◌≡◌, ◌+◌};
 
-/// The place of a message in a stream. (Our own.)
+/// The position of a message in a stream. (Our own.)
 ///
 /// The offset counts the bytes from the start of the stream to the segment table of the message. In a packed stream the
 /// offset counts unpacked bytes. In a bare input the index and the offset are 0.

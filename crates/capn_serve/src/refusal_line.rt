@@ -43,7 +43,7 @@ fn say_bare<E: Write>(fault: &BareFault, line: &mut Line, errors: &mut Watched<E
     }
 }
 
-/// Appends the reason why a packed text cannot be unpacked.
+/// Appends the reason why packed bytes cannot be unpacked.
 fn say_unpack<E: Write>(fault: &UnpackFault, line: &mut Line, errors: &mut Watched<E>)
     ensures { Says (codes "packed: " ++ unpack_text fault.now)
         (way line.old (E.contents (inner_of errors.old)) (has_failed errors.old))
@@ -60,7 +60,7 @@ fn say_unpack<E: Write>(fault: &UnpackFault, line: &mut Line, errors: &mut Watch
     }
 }
 
-/// Appends the reason why bytes are no frame.
+/// Appends the reason why bytes are not a frame.
 fn say_frame<E: Write>(fault: &FrameFault, line: &mut Line, errors: &mut Watched<E>)
     ensures { Says (codes "frame: " ++ frame_text fault.now)
         (way line.old (E.contents (inner_of errors.old)) (has_failed errors.old))

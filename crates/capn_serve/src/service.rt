@@ -25,20 +25,19 @@ pub trait Service {
     /// refusal.
     ghost refuses: { Self → Position → List ℕ → List (List ℕ) → Refusal → Type 0 };
 
-    /// Says, for a state and the position of the next message, whether the service is done, so that no further message
-    /// is served.
+    /// Tests, for a state and the position of the next message, whether the service is finished. A finished service
+    /// serves no further message.
     ghost done: { Self → Position → Bool };
 
-    /// Tests whether the service is done, so that no further message is served. `at` is the position of the next
-    /// message.
+    /// Tests whether the service is finished before the next message, which is at the position `at`.
     ///
     /// A run calls this function before each read and after each message. After `true` nothing more is read or served,
-    /// and the run ends as done, whatever follows. A service that serves all messages always returns `false`.
+    /// and the run ends with `Ok`. A service that serves all messages always returns `false`.
     fn is_done(&self, at: Position) -> bool
         ensures { result ≡ done self.now at };
 
-    /// Adds the output for `message`, either to the end of `text`, which the run writes later, or to `writer` once
-    /// `text` is written.
+    /// Adds the output for `message`. The output is appended to `text`, which the run writes later, or is written to
+    /// `writer` after `text`.
     ///
     /// A service may append to `text`, and call [`flush_long`](crate::flush_long) at the end. For bytes that exist
     /// already a service may call [`add_bytes`](crate::add_bytes). A service with a long output may write `text` to
@@ -84,7 +83,6 @@ impl<S> Run<S> {
 }
 
 impl<S: Service> Run<S> {
-    /// Tests whether the service is done, so that no further message is served.
     #[inline(always)]
     pub(crate) fn is_done(&self) -> bool
         ensures { result ≡ S.done self.now.service self.now.at }

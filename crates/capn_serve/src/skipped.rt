@@ -32,8 +32,8 @@ pub struct Skipped {
     pub first: Position,
 }
 
-/// Counts the message at `at` as skipped, in addition to the messages skipped `so_far`. The position of the first
-/// skipped message is kept.
+/// Counts the message at `at` as skipped, in addition to the skipped messages in `so_far`. The position of the first
+/// skipped message stays the same.
 pub fn one_more(so_far: Option<SkippedSoFar>, at: Position) -> SkippedSoFar
     ensures { result ≡ spec.one_more so_far at }
 {
@@ -49,7 +49,8 @@ pub fn one_more(so_far: Option<SkippedSoFar>, at: Position) -> SkippedSoFar
     }
 }
 
-/// Returns the numbers of a run over `messages` messages that skipped the ones counted in `skipped`.
+/// Returns the `Skipped` of a run over `messages` messages. `skipped` has the number of skipped messages and the
+/// position of the first one.
 pub fn skipped_of(skipped: SkippedSoFar, messages: u64) -> Skipped
     ensures { result ≡ spec.skipped_of skipped messages }
 {

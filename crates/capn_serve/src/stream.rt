@@ -1,4 +1,4 @@
-//! Serves the messages that a chunk of a stream completes.
+//! Serves the messages that are complete after a chunk of a stream.
 
 ghost use Rattle.std.specs.Prelude.{◌≡◌, ◌⊎◌, ℕ, ◌+◌, [], length, false, IfErr};
 ghost use Rattle.capn_words.specs.Watched.{inner_of, has_failed};
@@ -20,7 +20,7 @@ use capn_words::Watched;
 use std::alloc::Allocator;
 use std::io::Write;
 
-/// Returns the fault of a run whose framer has refused the frame at `at` with `fault`.
+/// Returns the fault of a run after its framer refused the frame at the position `at` with `fault`.
 pub(crate) fn fault_at(at: Position, fault: FrameFault) -> RunFault
     ensures { result ≡ spec.fault_at at fault }
 {
@@ -30,8 +30,8 @@ pub(crate) fn fault_at(at: Position, fault: FrameFault) -> RunFault
     }
 }
 
-/// Returns an `Err` only if `fault` is `Memory`. An incomplete frame is not an error yet, and the framer reports any
-/// other fault of a frame.
+/// Returns an `Err` if `fault` is `Memory`, and otherwise `Ok`. The framer reports any other fault later, unless that
+/// fault means only that the frame is incomplete.
 fn pass(fault: FrameFault) -> Result<(), RunFault>
     ensures { Passes fault result }
 {
@@ -61,8 +61,9 @@ fn add_framed<S: Service, W: Write, A: Allocator + Copy>(
     add_message(alloc, run, frame, message, text, writer)
 }
 
-/// Serves the complete messages at the start of `bytes`, until the service is done, and copies none of them. Returns
-/// the number of bytes of the served messages. The framer finds out why no further message follows.
+/// Serves the complete messages at the start of `bytes`, until the service is finished, and copies none of them.
+/// Returns the number of bytes of the served messages. If no complete message follows them, the framer finds out the
+/// reason later.
 #[inline(always)]
 fn serve_whole<S: Service, W: Write, A: Allocator + Copy>(
     alloc: A,
@@ -145,7 +146,7 @@ fn serve_held<S: Service, W: Write, A: Allocator + Copy>(
 }
 
 /// Feeds `bytes` to `framer` up to the end of a message, and serves that message if it is complete. Returns the number
-/// of bytes taken.
+/// of bytes fed.
 fn serve_next<S: Service, W: Write, A: Allocator + Copy>(
     alloc: A,
     most: u32,
@@ -170,9 +171,9 @@ fn serve_next<S: Service, W: Write, A: Allocator + Copy>(
     }
 }
 
-/// Serves the complete messages at the start of `bytes` if `framer` is empty. If `framer` holds bytes, or if `bytes`
-/// begin with no complete message, feeds `bytes` to `framer` up to the end of one message, and serves that message if
-/// it is complete. Returns the number of bytes taken.
+/// If `framer` is empty, serves the complete messages at the start of `bytes`. If `framer` holds bytes, or `bytes`
+/// begin with no complete message, serves at most one message, as `serve_next` does. Returns the number of bytes served
+/// or fed.
 fn serve_some<S: Service, W: Write, A: Allocator + Copy>(
     alloc: A,
     most: u32,
@@ -198,7 +199,7 @@ fn serve_some<S: Service, W: Write, A: Allocator + Copy>(
     serve_next(alloc, most, run, framer, bytes, text, writer)
 }
 
-/// Serves all messages that `bytes` complete, until the service is done.
+/// Serves each message that is complete after `bytes`, until the service is finished.
 pub(crate) fn serve_bytes<S: Service, W: Write, A: Allocator + Copy>(
     alloc: A,
     most: u32,

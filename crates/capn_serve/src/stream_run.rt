@@ -21,7 +21,7 @@ use std::alloc::Allocator;
 use std::io::{Read, Write};
 
 /// Ends a run at the end of its input. Returns `Ok` between two messages, or a fault at the position `at` if a frame is
-/// cut.
+/// cut off.
 pub(crate) fn end_of_input<A: Allocator + Copy>(
     at: Position,
     framer: &Framer<A>,
@@ -63,7 +63,7 @@ impl<A: Allocator + Copy> Intake<A> for Framer<A> {
 }
 
 /// Reads a stream, and serves each message once that message is complete. `framer` must be new. Afterwards `framer`
-/// holds what was read of the last message. The other arguments are those of [`run_stream`].
+/// holds the bytes of an unfinished message. The other arguments are those of [`run_stream`].
 pub(crate) fn stream_into<S: Service, R: Read, W: Write, A: Allocator + Copy>(
     alloc: A,
     most: u32,
@@ -90,15 +90,16 @@ pub(crate) fn stream_into<S: Service, R: Read, W: Write, A: Allocator + Copy>(
     serve_pieces(alloc, most, limit, run, framer, reader, writer)
 }
 
-/// Reads a stream in chunks of at most 65,536 bytes, and serves each message that is complete before the next read.
+/// Reads a stream in chunks of at most 65,536 bytes. Before the next chunk is read, each message that is complete by
+/// then is served.
 ///
-/// `most` is the greatest number of words of a message. At most `limit` bytes are taken. One more byte may be read, to
-/// find out whether the input is longer. Once the service is done, nothing more is read or served, and the rest of the
-/// input is not looked at. The run ends as done, or with the first fault: a frame or a message that is refused, at its
-/// position; `InputTooLong`; `Io` if and only if the reader or the writer failed; `Memory` if an allocation was
-/// refused. The texts of the messages before the fault have been written. Before `Memory` a prefix of one more text may
-/// have been written too. The run holds an unfinished message, the texts of a chunk that are not written yet, and what
-/// the service holds.
+/// `most` is the greatest number of words of a message. At most `limit` bytes are served. One more byte may be read, to
+/// find out whether the input is longer. Once the service is finished, nothing more is read or served. The run ends
+/// with `Ok`, or with the first fault. `Refused` has the position of a frame or a message that is refused.
+/// `InputTooLong` means that the input has more than `limit` bytes. `Io` is returned if and only if the reader or the
+/// writer failed, and `Memory` if an allocation was refused. The texts of the messages before the fault have been
+/// written. Before `Memory` a prefix of one more text may have been written too. In memory the run holds an unfinished
+/// message, the texts of a chunk that are not written yet, and what the service holds.
 pub fn run_stream<S: Service, R: Read, W: Write, A: Allocator + Copy>(
     alloc: A,
     most: u32,

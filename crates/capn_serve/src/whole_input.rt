@@ -1,4 +1,4 @@
-//! Reads an input to its end, and keeps only the first part of it.
+//! Reads an input to its end, and keeps only its first bytes.
 
 ghost use Rattle.std.specs.Prelude.{◌≡◌, false};
 ghost use Rattle.capn_words.specs.Watched.{inner_of, has_failed};
@@ -16,18 +16,17 @@ pub const MOST_INPUT: usize = 1 << 32;
 /// The first bytes of an input, and its length.
 #[derive(Drop)]
 pub struct WholeInput<A: Allocator> {
-    /// The bytes that were kept.
+    /// The first bytes of the input. The argument `most` of [`read_all`] limits their number.
     pub bytes: Vec<u8, A>,
     /// The number of all bytes of the input.
     pub len: usize,
 }
 
-/// Reads an input to its end, and keeps at most the first `most` bytes. The bytes after the kept ones are dropped as
-/// they are read.
+/// Reads an input to its end, and keeps at most the first `most` bytes. Later bytes are only counted.
 ///
-/// Each call of the reader requests at most 65,536 bytes, and no byte past the one that makes the input too long.
-/// `InputTooLong` is returned if the input has more than 2^32 bytes, `Io` if the reader failed, and `Memory` if an
-/// allocation for bytes that were read was refused.
+/// Each call of the reader requests at most 65,536 bytes. At most 2^32 + 1 bytes are read in all. `InputTooLong` is
+/// returned if the input has more than 2^32 bytes, and `Io` if the reader failed. `Memory` is returned if an allocation
+/// was refused, after at least one byte was read.
 pub fn read_all<R: Read, A: Allocator>(
     alloc: A,
     reader: &mut Watched<R>,

@@ -29,7 +29,6 @@ bit-is ws j k h =
     let r : (64 * j + k) % 64 ≡ k = omega arith in
     ap₂ (λ (a b : ℕ). slice_index ws a / (2 ^ 1) ^ b % 2 ^ 1) q r
 
--- After digit `i` is set, the digits up to and including it are right.
 pub bit-set : (digits : List ℕ) (i v : ℕ) (f : ℕ → ℕ) → length digits ≡ 64 → i < 64
     → ((j : ℕ) → j < i → slice_index digits j ≡ f j) → v ≡ f i
     → (j : ℕ) → j < i + 1 → slice_index (set digits i v) j ≡ f j
@@ -40,7 +39,7 @@ bit-set digits i v f size below so_far e j h =
       | inr less ↦ get_or-set_other digits i j v 0 (omega arith) ∙ so_far j less
     ]
 
--- The first `left` digits of a word are the digits of the first `left` elements in the word.
+-- If word `i` is `w`, the first `left` of its `digits` are the digits of `left` elements, from element `64 * i` on.
 pub first-bits : (ws : List ℕ) (xs : List Bool) (i left w : ℕ) (digits : List ℕ)
     → ((k : ℕ) → k < length (map from_bool xs) → element 64 1 ws k ≡ slice_index (map from_bool xs) k)
     → length (map from_bool xs) ≡ length xs

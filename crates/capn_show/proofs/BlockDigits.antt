@@ -8,7 +8,7 @@ use Rattle.std.proofs.lemmas.Grind.{same_number_lists}
 use Rattle.hex.specs.Hex.{encode_with, encode_lower, lower_digits}
 use Rattle.capn_walk.specs.ValueAt.{element}
 
--- Each byte has two digits.
+-- The first `2 * n` digits of the bytes `bs` are the digits of the first `n` bytes.
 pub halves : (n : ℕ) (bs : List ℕ) → take (2 * n) (encode_lower bs) ≡ encode_lower (take n bs)
 unfolding encode_with
 halves zero bs = refl
@@ -40,7 +40,7 @@ eight : (w : ℕ) → length (to_le_bytes w64 w) ≡ 8
 eight w = refl
 
 module _ (ws xs : List ℕ) (i : ℕ) (are : (k : ℕ) → k < length xs → element 8 8 ws k ≡ slice_index xs k) where
-  -- The first `left` bytes of word `i` are the first `left` elements in that word.
+  -- The first `left` bytes of `w`, which is word `i`, are `left` elements of `xs`, from element `8 * i` on.
   same-bytes : (left w : ℕ) → w ≡ slice_index ws i → left ≤ 8 → 8 * i + left ≤ length xs
       → take left (to_le_bytes w64 w) ≡ take left (drop (8 * i) xs)
   same-bytes left w e few room =

@@ -18,7 +18,6 @@ no-utf8 bs h = false-by bs (is_utf8 bs) refl h
 
 -- ---- control characters
 
--- The test of the bytes from `i` on, if `i` is not the last.
 control-from : (xs : List ℕ) (i : ℕ) → suc i < length xs → has_control (drop i xs)
     ≡ ((is_control (get_or xs i 0) || is_long_control (get_or xs i 0) (get_or xs (suc i) 0))
     || has_control (drop (suc i) xs))
@@ -35,7 +34,7 @@ control-last (b ∷ c ∷ cs) zero h = absurd (omega arith)
 control-last (b ∷ c ∷ cs) (suc i) h = control-last (c ∷ cs) i (omega arith)
 
 module _ (xs : List ℕ) (i : ℕ) (so_far : has_control xs ≡ has_control (drop i xs)) where
-  -- `found` says whether byte `i` is a control character or begins one together with the next byte.
+  -- Let `found` be true exactly if byte `i` is a control character, or bytes `i` and `i + 1` encode one.
   module _ (h : suc i < length xs) (found : Bool)
       (e : (is_control (get_or xs i 0) || is_long_control (get_or xs i 0) (get_or xs (suc i) 0)) ≡ found) where
     found-here : has_control xs ≡ (found || has_control (drop (suc i) xs))
@@ -65,7 +64,7 @@ zero-at (b ∷ []) (suc i) h = absurd (omega arith)
 zero-at (b ∷ c ∷ cs) zero h = absurd (omega arith)
 zero-at (b ∷ c ∷ cs) (suc i) h = zero-at (c ∷ cs) i (omega arith)
 
--- A list of bytes is a text if byte `i`, the last one, is zero and the bytes before it pass `is_clear`.
+-- If byte `i` is the last one, `xs` is a text exactly if byte `i` is zero and the bytes before it pass `is_clear`.
 text-by : (xs : List ℕ) (i : ℕ) → suc i ≡ length xs
     → is_json_text xs ≡ ((get_or xs i 0 == 0) && is_clear (before_last xs))
 text-by xs i h = ap (λ (b : Bool). b && is_clear (before_last xs)) (zero-at xs i h)

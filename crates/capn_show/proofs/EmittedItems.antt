@@ -51,7 +51,7 @@ listed-at no_trees i = refl
 listed-at (tree t ts) zero = refl
 listed-at (tree t ts) (suc i) = listed-at ts i
 
--- A row, by its words and its slots.
+-- A row: its data words and its slots.
 pub record Row : Type 0 where
   pub words : List ℕ
   pub slots : Trees
@@ -60,7 +60,7 @@ abbrev pub rows_listed : Bodies → List Row
 rows_listed no_bodies = []
 rows_listed (body ws ss bs) = record { words = ws; slots = ss } ∷ rows_listed bs
 
--- The empty row, which stands for a row that is not there.
+-- The row that stands for a missing row. It has no words and no slots.
 abbrev pub no_row : Row
 no_row = record { words = []; slots = no_trees }
 
@@ -104,14 +104,14 @@ module _ (m : List (List ℕ)) (rule : Rule) (level : ℕ) (path : List ℕ) whe
       append_assoc here (texts (row_item row) (suc k) (rows_listed bs)) end
       ∙ ap (λ (l : List ℕ). here ++ l) (rows-items row (suc k) bs)
 
--- The place of slot `k` after the first, and row `k` of rows with `a` words and `b` slots.
+-- The place of slot `k` of the slots that begin at `first`.
 abbrev pub nth : Place → ℕ → Place
 nth first k = record { segment = first.segment; word = first.word + k }
 
 abbrev pub nth_row : Place → ℕ → ℕ → ℕ → Target
 nth_row first a b k = struct_at first.segment (first.word + k * (a + b)) a b
 
--- An equal rule gives the same text of an item at an equal path.
+-- Let `r` and `rule` be equal rules, and `here` and `path` be equal paths. So both rules give an item the same text.
 module _ (m : List (List ℕ)) (rule : Rule) (level : ℕ) (path : List ℕ) (r : Rule) (here : List ℕ) (e : r ≡ rule)
     (f : here ≡ path) where
   pub item-is : (place : ℕ → Place) (ts : Trees) (i : ℕ)
@@ -137,6 +137,5 @@ module _ (m : List (List ℕ)) (rule : Rule) (level : ℕ) (path : List ℕ) (r 
       ++ emitted_body m rule level (rule.below path i) (nth_row first a b i) ws ss)
       (sym (words-listed bs i)) (sym (slots-listed bs i))
 
--- Equal rules close slots with the same text.
 pub closing : (level : ℕ) {r s : Rule} → r ≡ s → r.piece level pieces.EndItems ≡ s.piece level pieces.EndItems
 closing level e = ap (λ (x : Rule). x.piece level pieces.EndItems) e

@@ -1,5 +1,5 @@
--- Lemmas for the cycle `slots`, `show_bits`, `show_bytes` and `show_list`: the text that an emitter writes, from its
--- parts.
+-- Lemmas for the cycle `slots`, `show_bits`, `show_bytes` and `show_list`: the text of a value is made of marks,
+-- pieces, digits and other texts.
 use Rattle.std.proofs.Common.{◌≡◌, ℕ, zero, suc, ◌+◌, ◌/◌, ◌<◌, arith, List, ◌++◌, Bool, length}
 use Rattle.std.proofs.Common.{subst, sym, ap, ap₂, ◌∙◌, append_assoc}
 use Rattle.std.specs.Prelude.{Ok}
@@ -30,8 +30,7 @@ use Rattle.capn_show.specs.EmittedPlaces.{RowsEmitted, WordsEmitted}
 use Rattle.capn_show.proofs.shared.FoundKinds.{as-nil, as-cap, as-node, as-links, as-rows}
 use Rattle.capn_show.proofs.shared.FoundKinds.{as-voids, as-bits, as-numbers}
 
--- For a list that is not empty, the mark, the piece `Digits`, the digits and the piece `EndDigits` are its line of
--- digits.
+-- If `n` is not 0, the mark, the piece `Digits`, `digits` and the piece `EndDigits` are the text `emitted_digits`.
 pub digits-emitted : (rule : Rule) (level : ℕ) (path : List ℕ) (first n : ℕ) (digits : List ℕ) → 0 < n
     → (rule.mark 0 first path ++ rule.piece level pieces.Digits) ++ (digits ++ rule.piece level pieces.EndDigits)
     ≡ emitted_digits rule level path first n digits
@@ -52,7 +51,7 @@ module _ (m : List (List ℕ)) (rule : Rule) (level : ℕ) (path : List ℕ) whe
       subst (λ (f : Target). Says (front ++ emitted m rule level path f v)) (sym (ap named_by e))
       (step (emitted m rule level path t v) (h v (laws m at t v e i)))
 
-  -- ---- a struct, by its three parts
+  -- ---- a struct: its first piece, its data words and its slots
 
   pub body-emitted : (s w a b : ℕ) (Says Words Below : List ℕ → Type 0)
       → ((x y : List ℕ) → Words x → Below y → Says (rule.piece level (pieces.Body a b) ++ (x ++ y)))
@@ -146,7 +145,7 @@ module _ (m : List (List ℕ)) (rule : Rule) (level : ℕ) (path : List ℕ) whe
         subst Says (sym (ap (emitted m rule level path (targets.Content s w (shapes.Many W0 n) pads))
         (as-voids m s w pads n v i))) h)
 
-    -- The byte at which the content of the list lies.
+    -- The offset in bytes of the content of the list, which is at word `w` of segment `s`.
     abbrev first : ℕ
     first = rule.lies m (record { segment = s; word = w })
 

@@ -88,7 +88,7 @@ module _ (by : ℕ → List ℕ) (p q : Outgoing) where
     pub escapes-all : i ≡ length xs → Adds p q (escapes_by by (take i xs)) → Adds p q (escapes_by by xs)
     escapes-all = all (escapes_by by) (escapes-joined by) p q xs i
 
-    -- The next `k` bytes need no escape.
+    -- Let `rest` be `xs` without its first `i` bytes. Let the first `k` bytes of `rest` need no escape.
     module _ (r : Outgoing) (k : ℕ) (rest : List ℕ) (left : rest ≡ drop i xs)
         (bare : escapes_by by (take k rest) ≡ take k rest) where
       run-is : take k rest ≡ escapes_by by (take k (drop i xs))

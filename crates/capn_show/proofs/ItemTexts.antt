@@ -6,7 +6,7 @@ use Rattle.capn_show.specs.declared.fault.Broken.{Broken}
 use Rattle.capn_show.specs.Outgoing.{Outgoing, Adds, BreaksOff}
 use Rattle.capn_show.proofs.shared.Appended.{both, otherwise, otherwise-broken, then-broken, broken-before}
 
--- The texts of items, numbered from `k` on.
+-- The texts of the items, one after the other. The items are numbered from `k` on.
 module _ {A : Type 0} (item : ℕ → A → List ℕ) where
   abbrev pub texts : ℕ → List A → List ℕ
   texts k [] = []
@@ -26,7 +26,7 @@ module _ {A : Type 0} (item : ℕ → A → List ℕ) where
       ∙ ap (λ (l : List ℕ). item k x ++ l)
       (ap (λ (n : ℕ). front ++ item n y) same ∙ texts-next d (suc k) i xs (omega arith))
 
-  -- The texts of all items are the texts before item `i`, the text of item `i`, and a rest.
+  -- The texts of all items begin with the texts of the items before item `i`, and then the text of item `i`.
   texts-split : (d : A) (k i : ℕ) (xs : List A) → i < length xs → (rest : List ℕ)
       × ((texts k (take i xs) ++ item (k + i) (get_or xs i d)) ++ rest ≡ texts k xs)
   texts-split d k i [] below = absurd (omega arith)
@@ -73,7 +73,7 @@ module _ {A : Type 0} (item : ℕ → A → List ℕ) where
     items-all : i ≡ length xs → Adds p q (texts 0 (take i xs)) → Adds p q (texts 0 xs)
     items-all e h = otherwise p q (texts 0 (take i xs)) (texts 0 xs) (ap (texts 0) (take_all i xs (omega arith))) h
 
-    -- The piece that closes the items is added, or breaks off.
+    -- Case: `i` is the number of items. The text `end` is added after the texts of all items.
     pub items-end : (r : Outgoing) (end : List ℕ) → i ≡ length xs → Adds p q (texts 0 (take i xs)) → Adds q r end
         → Adds p r (texts 0 xs ++ end)
     items-end r end e h k = both p q r (texts 0 xs) end (items-all e h) k

@@ -1,4 +1,4 @@
--- Lemmas for `put_plain` and `put_quoted`: the digits of a number in an array of quotes.
+-- Lemmas for `put_plain` and `put_quoted`: the decimal digits of a number, written into an array of bytes.
 use Rattle.std.proofs.Common.{◌≡◌, ℕ, zero, suc, ◌+◌, ◌-◌, ◌<◌, ◌≤◌, List, [], ◌∷◌, ◌++◌, length}
 use Rattle.std.proofs.Common.{take, drop, replicate, refl, sym, ap, ap₂, ◌∙◌, arith, append_assoc}
 use Rattle.std.specs.Fmt.{decimal}
@@ -10,7 +10,6 @@ drop-filled : (k byte : ℕ) (xs : List ℕ) → drop k (replicate k byte ++ xs)
 drop-filled zero byte xs = refl
 drop-filled (suc k) byte xs = drop-filled k byte xs
 
--- The bytes from the first digit to the end are the digits.
 pub plain-digits : (digits : List ℕ) (n start size : ℕ) → drop start digits ≡ decimal n ++ []
     → start + length (decimal n) ≡ size → take (size - start) (drop start digits) ≡ decimal n
 plain-digits digits n start size text e =
@@ -34,7 +33,6 @@ length-closed : (x : List ℕ) (c : ℕ) → length (x ++ c ∷ []) ≡ suc (len
 length-closed [] c = refl
 length-closed (y ∷ x) c = ap suc (length-closed x c)
 
--- The bytes from the quote before the first digit to the end are the digits between quotes.
 pub quoted-digits : (digits : List ℕ) (n start : ℕ) → take start digits ≡ take start (replicate 22 34)
     → drop start digits ≡ decimal n ++ 34 ∷ [] → start + length (decimal n) ≡ 21 → 1 ≤ start
     → take (22 - (start - 1)) (drop (start - 1) digits) ≡ number_text n

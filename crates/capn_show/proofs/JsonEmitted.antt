@@ -1,4 +1,4 @@
--- Lemmas for `show_json` and `json_text`: the text by the rule of JSON is the JSON of the value.
+-- Lemmas for `show_json` and `json_text`: the text that the rule of JSON gives for a value is the JSON of the value.
 use Rattle.std.proofs.Common.{◌≡◌, ℕ, suc, ◌+◌, List, [], ◌∷◌, ◌++◌, Bool, true, false, length, codes, map}
 use Rattle.std.proofs.Common.{refl, sym, ap, ap₂, ◌∙◌, append_assoc, if◌then◌else◌}
 use Rattle.std.specs.Fmt.{decimal}
@@ -20,11 +20,9 @@ use Rattle.capn_show.specs.JsonTexts.{is_json_text, text_json}
 use Rattle.capn_show.specs.inner.JsonRule.{json_rule, bytes_json_of}
 use Rattle.capn_show.proofs.TextDigits.{encode_lower-none}
 
--- Appending is associative for `head`, `x`, a byte `c`, and the end of an object.
 pub closed : (head x : List ℕ) (c : ℕ) → head ++ (x ++ (c ∷ 125 ∷ [])) ≡ head ++ ((x ++ c ∷ []) ++ 125 ∷ [])
 closed head x c = ap (λ (l : List ℕ). head ++ l) (sym (append_assoc x (c ∷ []) (125 ∷ [])))
 
--- The parts of a struct make up the JSON of the struct.
 struct-parts : (ws : List ℕ) (slots : List (List ℕ)) → codes "{\"words\":["
     ++ ((with_commas (map word_text ws) ++ codes "],\"slots\":[") ++ (with_commas slots ++ codes "]}"))
     ≡ struct_text ws slots
@@ -36,7 +34,6 @@ struct-parts ws slots =
     ∙ ap (λ (l : List ℕ). own ++ (codes "],\"slots\":[" ++ l)) (sym (append_assoc below (93 ∷ []) (125 ∷ [])))
     ∙ sym (append_assoc own (93 ∷ []) (codes ",\"slots\":[" ++ ((below ++ 93 ∷ []) ++ 125 ∷ []))))
 
--- The text `x` before `y` is `x` and `rest`, followed by `end`, if `y` is `rest` followed by `end`.
 first : (x y rest end : List ℕ) → y ≡ rest ++ end → x ++ y ≡ (x ++ rest) ++ end
 first x y rest end e = ap (λ (l : List ℕ). x ++ l) e ∙ sym (append_assoc x rest end)
 
@@ -108,7 +105,7 @@ module _ (asked : Bool) where
   -- ---- values
 
   module _ (m : List (List ℕ)) where
-    -- A struct, if its slots have the right text.
+    -- If the text of the slots is their JSON, the text of the struct is its JSON.
     struct-in : (level : ℕ) (path : List ℕ) (found : Target) (ws : List ℕ) (ss : Trees)
         → emitted_slots m rule (level + 1) path (step_place found) 0 ss
         ≡ with_commas (each_json_by by ss) ++ codes "]}"

@@ -1,4 +1,4 @@
--- Lemmas for `bytes.rt` and `lines.rt`: the lines of a text, from their parts.
+-- Lemmas for `bytes.rt` and `lines.rt`: a line is an indent, other bytes, and a newline.
 use Rattle.std.proofs.Common.{◌≡◌, ℕ, ◌+◌, ◌*◌, ◌≤◌, ◌-◌, List, [], ◌∷◌, ◌++◌, take, replicate}
 use Rattle.std.proofs.Common.{refl, ◌∙◌, sym, ap, arith, append_assoc, codes}
 use Rattle.std.specs.Fmt.{decimal}
@@ -47,7 +47,7 @@ module _ (p q r : Outgoing) (done : ℕ) where
       (take-replicate (2 * (level - done)) 64 32 (omega arith)) ∙ spaces done (level - done) level (omega arith))
       (then-broken p q r e (blanks (2 * done)) (take (2 * (level - done)) (blanks 64)) h k)
 
--- An indent, a text and a newline are a line.
+-- An indent of `level`, the bytes `x` and a newline are `line level x`.
 pub lined : (level : ℕ) (x : List ℕ) → replicate (2 * level) 32 ++ (x ++ 10 ∷ []) ≡ line level x
 unfolding line
 lined level x = refl

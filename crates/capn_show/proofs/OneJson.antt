@@ -11,7 +11,7 @@ use Rattle.capn_show.specs.JsonTexts.{text_or_digits}
 
 -- ---- the bytes between quotes
 
--- The byte that a backslash followed by `c` stands for.
+-- The byte that is written as a backslash and then `c`.
 abbrev unescaped_as : ℕ → ℕ
 unescaped_as c = if c == 116 then 9 else if c == 110 then 10 else if c == 114 then 13 else c
 
@@ -76,7 +76,7 @@ abbrev third : List ℕ → ℕ
 third (a ∷ b ∷ c ∷ cs) = c
 third _ = 0
 
--- The JSON of a text never equals the JSON of a list in digits.
+-- The JSON of `xs` as a text differs from the JSON of `ys` in digits.
 apart : (xs ys : List ℕ) → text_json xs ≡ digits_json ys → ⊥
 apart xs ys e = let bad : 116 ≡ 98 = ap third e in absurd (omega (arith, bad))
 

@@ -63,7 +63,7 @@ follow-one path i n t below e =
     ∙ ap (λ (k : ℕ). follow (drop (suc i) path) (step_down t k)) (sym e)
     ∙ ap (λ (k : ℕ). follow (drop k path) (step_down t n)) next
 
--- If step `i` of a path leads nowhere, the path leads nowhere from there on.
+-- If step `i` of `path` leads from `t` to no value, the steps from `i` on also lead from `t` to no value.
 pub follow-stop : (path : List ℕ) (i n : ℕ) (t : Tree) → i < length path → n ≡ get_or path i 0 → step_down t n ≡ None
     → follow (drop i path) (Some t) ≡ None
 follow-stop path i n t below e none =
@@ -73,7 +73,7 @@ pub follow-end : (path : List ℕ) (i : ℕ) (t : Tree) → length path ≤ i �
 follow-end path i t past = ap (λ (l : List ℕ). follow l (Some t)) (drop_of_length-le path past)
 
 module _ (m : List (List ℕ)) where
-  -- A pointer with a value has no fault.
+  -- If a value is at `at`, the pointer at `at` has no fault.
   pub no-fault-held : (at : Place) (e : Fault) → Holds m at → target m at ≡ Err e → ⊥
   no-fault-held at e h f = let g = (found m at h.0 h.1).1 in absurd (cc)
 
@@ -85,7 +85,6 @@ module _ (m : List (List ℕ)) where
   cap-none t k i e v h =
       ap (λ (u : Tree). step_down u i) (as-cap m k v (subst (λ (x : Target). Shows m x v) e h))
 
-  -- A list of elements without pointers has nothing below it.
   plain-none : (s w pads : ℕ) (width : Width) (n i : ℕ) (v : Tree) → (width ≡ Link → ⊥)
       → RowsFit (shapes.Many width n) → Shows m (targets.Content s w (shapes.Many width n) pads) v
       → step_down v i ≡ None
@@ -109,7 +108,7 @@ module _ (m : List (List ℕ)) where
     many-none width n i f other fit v h =
         plain-none s w pads width n i v other (subst RowsFit f fit) (named-by (shapes.Many width n) v f h)
 
-    -- A step to a slot of a struct.
+    -- Case: `shape` is that of a struct with `a` data words and `b` slots.
     module _ (a b i : ℕ) (f : shape ≡ shapes.Node a b) where
       pub slot-held : i < b → HasValue m t → Holds m (record { segment = s; word = w + a + i })
       slot-held below h =
@@ -140,7 +139,7 @@ module _ (m : List (List ℕ)) where
           let number = x.are.slots in
           ap (λ (u : Tree). step_down u i) x.is ∙ nth-none x.slots i (omega arith)
 
-    -- A step to an element of a list of pointers.
+    -- Case: `shape` is that of a list of `n` pointers.
     module _ (width : Width) (n i : ℕ) (f : shape ≡ shapes.Many width n) (g : width ≡ Link) where
       is-links : shape ≡ shapes.Many Link n
       is-links = f ∙ ap (λ (y : Width). shapes.Many y n) g
@@ -174,7 +173,7 @@ module _ (m : List (List ℕ)) where
           let number = x.number in
           ap (λ (u : Tree). step_down u i) x.is ∙ nth-none x.slots i (omega arith)
 
-    -- A step to a row of a list of structs.
+    -- Case: `shape` is that of a list of `n` structs.
     module _ (n a b span i : ℕ) (f : shape ≡ shapes.Rows n a b span) where
       pub row-step : i < n → (v : Tree) → Shows m t v
           → LeadsTo m v (step_down v i) (struct_at s (w + 1 + i * (a + b)) a b)

@@ -1,4 +1,5 @@
--- Lemmas for `PartSteps` and `Steps`: one of several slots, or rows, has a value no higher than the highest.
+-- Lemmas for `PartSteps` and `Steps`: the value in one slot or row is no higher than the greatest height of all slots
+-- or rows.
 use Rattle.std.proofs.Common.{ℕ, zero, suc, ◌<◌, ◌≤◌, arith}
 use Rattle.capn_value.specs.Tree.{Trees, no_trees, tree, Bodies, no_bodies, body, count, count_rows, tree_at}
 use Rattle.capn_value.specs.Cost.{height, greatest, greatest_in_rows}

@@ -5,7 +5,6 @@ use Rattle.std.proofs.lemmas.List.{append-nil, take_more}
 use Rattle.capn_show.specs.Quoting.{is_printable, is_text, escapes_by}
 use Rattle.capn_show.specs.ReadyPlaces.{escaped_of, is_escaped}
 
--- The test of the bytes from `i` on, if `i` is not the last.
 text-from : (xs : List ℕ) (i : ℕ) → suc i < length xs
     → is_text (drop i xs) ≡ (is_printable (get_or xs i 0) && is_text (drop (suc i) xs))
 text-from [] i h = absurd (omega arith)
@@ -22,14 +21,14 @@ text-last (b ∷ c ∷ cs) zero h = absurd (omega arith)
 text-last (b ∷ c ∷ cs) (suc i) h = text-last (c ∷ cs) i (omega arith)
 
 module _ (xs : List ℕ) (i : ℕ) (so_far : is_text xs ≡ is_text (drop i xs)) where
-  -- A printable byte leaves the test to the bytes after it.
+  -- If byte `i` is printable and a byte follows it, `xs` is a text exactly if the bytes after byte `i` are a text.
   pub goes-on : suc i < length xs → is_printable (get_or xs i 0) ≡ true → is_text xs ≡ is_text (drop (i + 1) xs)
   goes-on h p =
       let next : suc i ≡ i + 1 = omega arith in
       so_far ∙ text-from xs i h ∙ ap (λ (x : Bool). x && is_text (drop (suc i) xs)) p
       ∙ ap (λ (k : ℕ). is_text (drop k xs)) next
 
-  -- A byte that is not printable decides the test, unless it is the last.
+  -- If byte `i` is not printable and a byte follows it, `xs` is not a text.
   pub stops : suc i < length xs → is_printable (get_or xs i 0) ≡ false → is_text xs ≡ false
   stops h p = so_far ∙ text-from xs i h ∙ ap (λ (x : Bool). x && is_text (drop (suc i) xs)) p
 
@@ -66,7 +65,7 @@ bare-one : (json : Bool) (b : ℕ) → is_escaped json b ≡ false → escaped_o
 bare-one false b h = bare-by (b == 34) (b == 92) (b == 0) b h
 bare-one true b h = bare-json (b == 34) (b == 92) (b == 9) (b == 10) (b == 13) b h
 
--- One more byte needs no escape.
+-- If the first `i` bytes and the next byte need no escape, the first `i + 1` bytes need none.
 pub bare-more : (json : Bool) (xs : List ℕ) (i : ℕ) → i < length xs → is_escaped json (get_or xs i 0) ≡ false
     → escapes_by (escaped_of json) (take i xs) ≡ take i xs
     → escapes_by (escaped_of json) (take (i + 1) xs) ≡ take (i + 1) xs

@@ -1,4 +1,4 @@
--- A lemma for `push_bytes`: the digits of the bytes of a list, one part after another.
+-- Lemmas for `push_bytes`: the digits of an empty list of bytes, and of a list with a first byte.
 use Rattle.std.proofs.Common.{◌≡◌, ℕ, List, [], ◌∷◌, ◌++◌, refl}
 use Rattle.hex.specs.Hex.{encode_with, encode_lower}
 

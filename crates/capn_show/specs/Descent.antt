@@ -9,23 +9,25 @@ use Rattle.capn_target.specs.Target.{target}
 use Rattle.capn_walk.specs.Accepted.{root}
 use Rattle.capn_walk.specs.View.{step_place, row_of}
 
--- The place at which a target begins. In a list of structs, its tag is there.
+-- The place of the first word of the content of a target. For a list of structs, that word is the tag. For a target
+-- without content, the result is `root`.
 abbrev pub begin : Target → Place
 begin (targets.Content s w shape pads) = record { segment = s; word = w }
 begin _ = root
 
--- The target of a pointer, or null if the pointer has a fault and no target.
+-- The target `found` of a pointer, or `Nil` if the pointer has the fault `e`.
 abbrev pub named_by : Result Target Fault → Target
 named_by (Ok found) = found
 named_by (Err e) = targets.Nil
 
--- The place one step below a target: slot or element `i`, or the first word of row `i`.
+-- The place to which step `i` from a target leads: that of slot `i`, of element `i`, or of the first word of row `i`.
 abbrev pub step_at : Target → ℕ → Place
 step_at (targets.Content s w (shapes.Rows n a b span) pads) i =
     begin (row_of (targets.Content s w (shapes.Rows n a b span) pads) i)
 step_at found i = step_place found i
 
--- The target one step below a target of the message `m`, by the number `i` of the step.
+-- The target to which step `i` from a target in the message `m` leads: that of slot `i` or of element `i`, or the row
+-- `i` itself.
 abbrev pub step_to : List (List ℕ) → Target → ℕ → Target
 step_to m (targets.Content s w (shapes.Rows n a b span) pads) i =
     row_of (targets.Content s w (shapes.Rows n a b span) pads) i

@@ -1,5 +1,4 @@
--- The text that an emitter writes for the values of a message, by its rule: a mark before each item, and the pieces.
--- (Our own.)
+-- The text that an emitter writes for the values of a message, by the emitter's rule. (Our own.)
 use Rattle.std.specs.Prelude.{ℕ, zero, suc, ◌+◌, ◌*◌, Bool, false, List, [], ◌∷◌, ◌++◌, length, map, codes}
 use Rattle.std.specs.Prelude.{replicate, if◌then◌else◌}
 use Rattle.std.specs.Fmt.{decimal}
@@ -19,10 +18,9 @@ use Rattle.capn_show.specs.Quoting.{is_text, quoted_line}
 use Rattle.capn_show.specs.declared.piece.Piece.{Piece}
 use Rattle.capn_show.specs.declared.piece.Piece.TheVariants as pieces
 
--- A rule of an emitter. `is_text` is true if a list of bytes is written as a text, and `text` gives that text at a
--- level. `lies` gives the offset in bytes of a word of a message, and `below` extends a path by the number of an item.
--- `mark` gives the text before an item, from the number of items before that item, the offset of the item's subject,
--- and the path to the item. `piece` gives the text of a piece at a level.
+-- A rule of an emitter. `text` writes a list of bytes of which `is_text` is true, `mark` writes the text before an
+-- item, and `piece` writes a piece. `lies` gives the offset in bytes of a place, and `below` extends a path by the
+-- number of an item.
 pub record Rule : Type 0 where
   pub is_text : List ℕ → Bool
   pub text : ℕ → List ℕ → List ℕ
@@ -33,7 +31,7 @@ pub record Rule : Type 0 where
 
 -- ---- lines
 
--- The text of each piece in lines. Pieces that separate or close others are empty.
+-- The text of a piece in lines, at `level`. The text of `EndWords`, of `EndItems` and of `NoDigits` is empty.
 abbrev pub line_piece : ℕ → Piece → List ℕ
 line_piece level pieces.Nil = line level (codes "null")
 line_piece level (pieces.Cap k) = line level (named (codes "capability") k)
@@ -52,11 +50,12 @@ line_piece level pieces.Digits = replicate (2 * level) 32
 line_piece level pieces.EndDigits = 10 ∷ []
 line_piece level _ = []
 
--- True if texts are written between quotes (`quoted`) and the list of bytes `xs` is a text.
+-- True if `quoted` is true and the list of bytes `xs` is a text.
 abbrev pub is_quoted : Bool → List ℕ → Bool
 is_quoted quoted xs = if quoted then is_text xs else false
 
--- The rule of lines. `quoted` says whether texts are written between quotes. The other arguments are parts of the rule.
+-- The rule of lines. A list of bytes that is a text is written between quotes if `quoted` is true. `lies`, `below` and
+-- `mark` become fields of the rule.
 abbrev pub line_rule : Bool → (List (List ℕ) → Place → ℕ) → (List ℕ → ℕ → List ℕ) → (ℕ → List ℕ → List ℕ) → Rule
 line_rule quoted lies below mark = record {
   is_text = is_quoted quoted;
@@ -67,50 +66,52 @@ line_rule quoted lies below mark = record {
   piece = line_piece;
 }
 
--- The rule of lines without marks.
+-- The rule of lines without marks. A list of bytes that is a text is written between quotes if `quoted` is true.
 abbrev pub plain_rule : Bool → Rule
 plain_rule quoted = line_rule quoted (λ m at. 0) (λ path i. path) (λ byte path. [])
 
 -- ---- lists without pointers
 
 module _ (rule : Rule) where
-  -- The mark and the piece of each item, from item `i` on, and then the text `end`. Item `i` lies at the byte `first`,
-  -- and each item takes `size` bytes.
+  -- The mark and the text `piece_of x` of each item, from item `i` on, and then the text `end`. Item `i` lies at the
+  -- byte `first`, and each item takes `size` bytes.
   abbrev pub emitted_items : ℕ → (ℕ → List ℕ) → List ℕ → List ℕ → ℕ → ℕ → List ℕ → List ℕ
   emitted_items size piece_of end path i first [] = end
   emitted_items size piece_of end path i first (x ∷ xs) =
       rule.mark i first path ++ (piece_of x ++ emitted_items size piece_of end path (suc i) (first + size) xs)
 
-  -- The text of data words, which lie from the byte `first` on.
+  -- The text of the given data words, at `level`. The first word lies at the byte `first`.
   abbrev pub emitted_words : ℕ → List ℕ → ℕ → List ℕ → List ℕ
   emitted_words level path first =
       emitted_items 8 (λ w. rule.piece level (pieces.Word w)) (rule.piece level pieces.EndWords) path 0 first
 
-  -- The text of numbers of a width, which take `size` bytes each and lie from the byte `first` on.
+  -- The text of the given numbers of `width`, at `level`. The first number lies at the byte `first`, and each number
+  -- takes `size` bytes.
   abbrev pub emitted_each : Width → ℕ → ℕ → List ℕ → ℕ → List ℕ → List ℕ
   emitted_each width size level path first =
       emitted_items size (λ n. rule.piece level (pieces.Number width n)) (rule.piece level pieces.EndItems) path 0 first
 
-  -- The line of the digits of a list whose first element lies at the byte `first`.
+  -- The line of `digits` of a list whose first element lies at the byte `first`. If the list has no elements, only the
+  -- piece `NoDigits`.
   abbrev pub emitted_digits : ℕ → List ℕ → ℕ → ℕ → List ℕ → List ℕ
   emitted_digits level path first zero digits = rule.piece level pieces.NoDigits
   emitted_digits level path first (suc n) digits =
       rule.mark 0 first path
       ++ (rule.piece level pieces.Digits ++ (digits ++ rule.piece level pieces.EndDigits))
 
-  -- The text of a list of bytes in digits.
+  -- The text of the list of bytes `xs` in digits, at `level`. The first byte of `xs` lies at the offset `first`.
   abbrev pub digit_lines : ℕ → List ℕ → ℕ → List ℕ → List ℕ
   digit_lines level path first xs =
       rule.piece level (pieces.Bytes (length xs))
       ++ emitted_digits (level + 1) path first (length xs) (encode_lower xs)
 
-  -- The text of the list of bytes `xs`, between quotes or the like if `rule.is_text` is true of `xs`, and in digits
-  -- otherwise.
+  -- The text of the list of bytes `xs`: `rule.text` if `rule.is_text` is true of `xs`, and digits otherwise.
   abbrev pub text_or_digits : ℕ → List ℕ → ℕ → List ℕ → List ℕ
   text_or_digits level path first xs =
       if rule.is_text xs then rule.text level xs else digit_lines level path first xs
 
-  -- The text of a list of numbers, without the mark of the list.
+  -- The text of the list of numbers `xs`, at `level`, without the mark of the list. The first number lies at the byte
+  -- `first`.
   abbrev pub emitted_numbers : NumberWidth → ℕ → List ℕ → ℕ → List ℕ → List ℕ
   emitted_numbers bit level path first xs =
       rule.piece level (pieces.Bits (length xs))
@@ -127,7 +128,8 @@ module _ (rule : Rule) where
 
 module _ (m : List (List ℕ)) (rule : Rule) where
   abbrev mutual
-    -- The text of the value with the target `found` and of everything below it, without the mark of the value.
+    -- The text of a value, at `level`, without its mark. `found` is the target of the value, and `path` leads to the
+    -- value.
     pub emitted : ℕ → List ℕ → Target → Tree → List ℕ
     emitted level path found nil = rule.piece level pieces.Nil
     emitted level path found (node ws ss) =
@@ -142,8 +144,8 @@ module _ (m : List (List ℕ)) (rule : Rule) where
         rule.piece level (pieces.Rows (count_rows bs)) ++ emitted_rows (level + 1) path (row_of found) 0 bs
     emitted level path found (cap k) = rule.piece level (pieces.Cap k)
 
-    -- The texts of the values in slots, from item `i` on, and the piece that closes them. `place` gives the place of
-    -- each slot, and the mark of the slot has the offset of that place.
+    -- The marks and texts of the values in slots, from item `i` on, and then the piece `EndItems`. `place` gives the
+    -- place of each slot.
     pub emitted_slots : ℕ → List ℕ → (ℕ → Place) → ℕ → Trees → List ℕ
     emitted_slots level path place i no_trees = rule.piece level pieces.EndItems
     emitted_slots level path place i (tree t ts) =
@@ -151,8 +153,7 @@ module _ (m : List (List ℕ)) (rule : Rule) where
         ++ emitted level (rule.below path i) (named_by (target m (place i))) t)
         ++ emitted_slots level path place (suc i) ts
 
-    -- The texts of rows, from item `i` on, and the piece that closes them. The mark of a row has the offset at which
-    -- the row begins.
+    -- The marks and texts of rows, from item `i` on, and then the piece `EndItems`. `row` gives the target of each row.
     pub emitted_rows : ℕ → List ℕ → (ℕ → Target) → ℕ → Bodies → List ℕ
     emitted_rows level path row i no_bodies = rule.piece level pieces.EndItems
     emitted_rows level path row i (body ws ss bs) =
@@ -162,11 +163,11 @@ module _ (m : List (List ℕ)) (rule : Rule) where
         ++ emitted_slots (level + 1) (rule.below path i) (step_place (row i)) 0 ss)))
         ++ emitted_rows level path row (suc i) bs
 
-  -- The text of a struct, without the mark of the struct.
+  -- The text of the struct with the target `found`, the data words `ws` and the slots `ss`, without its mark.
   abbrev pub emitted_body : ℕ → List ℕ → Target → List ℕ → Trees → List ℕ
   emitted_body level path found ws ss = emitted level path found (node ws ss)
 
-  -- The mark and the text of the value in the slot at `at`, which is item `i` of its object.
+  -- The mark and the text of the value `t` in the slot at `at`. The slot is item `i` of its object.
   abbrev pub emitted_slot : ℕ → ℕ → List ℕ → Place → Tree → List ℕ
   emitted_slot level i path at t =
       rule.mark i (rule.lies m at) path ++ emitted level path (named_by (target m at)) t

@@ -1,5 +1,5 @@
--- Statements that a property `Says` holds of the text that an emitter writes for a place of a message. `Says` may be
--- that the text was added.
+-- Statements that a property `Says` holds of the text of a value of a message. For instance, `Says` states that the
+-- text was added to the output.
 use Rattle.std.specs.Prelude.{◌≡◌, ℕ, ◌+◌, ◌*◌, List, ◌++◌, length}
 use Rattle.capn_words.specs.declared.space.Place.{Place}
 use Rattle.capn_value.specs.Tree.{Tree, Trees, Bodies, count, count_rows}
@@ -10,8 +10,8 @@ use Rattle.capn_show.specs.Descent.{begin}
 use Rattle.capn_show.specs.Emitted.{Rule, emitted, emitted_body, emitted_rows, emitted_slot, emitted_slots}
 use Rattle.capn_show.specs.ReadyPlaces.{struct_at, AreDataWords, AreSlots, AreRowsAt}
 
--- The emitter `new` has the rule and the path of the emitter `old`, and is made for each message that `old` is made
--- for.
+-- The emitter `new` has the rule and the path of the emitter `old`. If `old` was made for the message `m`, `new` was
+-- made for `m` too.
 module _ {E : Type 0} (rule_of : E → Rule) (path_of : E → List ℕ) (is_of : E → List (List ℕ) → Type 0) where
   pub record Keeps (old new : E) : Type 0 where
     pub rule : rule_of new ≡ rule_of old
@@ -23,7 +23,7 @@ module _ (m : List (List ℕ)) where
   abbrev pub WordsEmitted : ℕ → ℕ → ℕ → (List ℕ → List ℕ) → (List ℕ → Type 0) → Type 0
   WordsEmitted s w number text Says = (ws : List ℕ) → AreDataWords m s w ws → length ws ≡ number → Says (text ws)
 
-  -- `Says` holds of the mark and the text of the value in the slot at `at`, which is item `i` of its object.
+  -- `Says` holds of the mark and the text of the value in the slot at `at`. The slot is item `i` of its object.
   abbrev pub IsEmitted : Rule → ℕ → ℕ → List ℕ → Place → (List ℕ → Type 0) → Type 0
   IsEmitted rule level i path at Says = (v : Tree) → IsAt m at v → Says (emitted_slot m rule level i path at v)
 
@@ -51,8 +51,8 @@ module _ (m : List (List ℕ)) where
     AreEmitted s w number Says = (ts : Trees) → AreSlots m s w ts → count ts ≡ number
         → Says (emitted_slots m rule level path (λ i. record { segment = s; word = w + i }) 0 ts)
 
-    -- `Says` holds of the texts of the `number` rows that begin at word `w` of segment `s`, with `a` data words and `b`
-    -- slots each.
+    -- `Says` holds of the texts of `number` rows of `a` data words and `b` slots each. The rows begin at word `w` of
+    -- segment `s`.
     abbrev pub RowsEmitted : ℕ → ℕ → ℕ → ℕ → ℕ → (List ℕ → Type 0) → Type 0
     RowsEmitted s w number a b Says = (bs : Bodies) → AreRowsAt m s w a b bs → count_rows bs ≡ number
         → Says (emitted_rows m rule level path (λ i. struct_at s (w + i * (a + b)) a b) 0 bs)

@@ -7,11 +7,11 @@ use Rattle.capn_value.specs.Tree.{Tree, nil, node, voids, numbers, links, rows, 
 use Rattle.capn_value.specs.Tree.{no_trees, tree, Bodies, no_bodies, body}
 use Rattle.capn_value.specs.Text.{hex16, digits_of, numbers_name}
 
--- A text between quotes.
+-- The `text` between quotes.
 abbrev pub quoted : List ℕ → List ℕ
 quoted text = 34 ∷ (text ++ 34 ∷ [])
 
--- The texts one after the other, each behind a comma.
+-- The texts one after the other, with a comma before each text.
 abbrev pub after_commas : List (List ℕ) → List ℕ
 after_commas [] = []
 after_commas (x ∷ xs) = 44 ∷ (x ++ after_commas xs)
@@ -25,14 +25,15 @@ with_commas (x ∷ xs) = x ++ after_commas xs
 abbrev pub array : List (List ℕ) → List ℕ
 array xs = 91 ∷ (with_commas xs ++ 93 ∷ [])
 
--- An object with one member, which has the given name and value.
+-- An object with one member, which has the given `name` and `value`.
 abbrev pub member : List ℕ → List ℕ → List ℕ
 member name value = 123 ∷ (quoted name ++ (58 ∷ (value ++ 125 ∷ [])))
 
--- The string of a data word (`word_text`), and that of a number which a reader of JSON might round (`number_text`).
+-- The 16 hexadecimal digits of the data word `w`, as a string.
 abbrev pub word_text : ℕ → List ℕ
 word_text w = quoted (hex16 w)
 
+-- The decimal digits of the number `n`, as a string.
 abbrev pub number_text : ℕ → List ℕ
 number_text n = quoted (decimal n)
 
@@ -41,18 +42,18 @@ abbrev pub struct_text : List ℕ → List (List ℕ) → List ℕ
 struct_text ws slots =
     codes "{\"words\":" ++ (array (map word_text ws) ++ (codes ",\"slots\":" ++ (array slots ++ codes "}")))
 
--- The JSON of the numbers of a list, except for a list of bytes. Bits are a string of digits, other numbers an array.
+-- The JSON of the numbers `xs`: bits are a string of digits, and other numbers are an array. In the array, 64-bit
+-- numbers are strings.
 abbrev pub numbers_text : NumberWidth → List ℕ → List ℕ
 numbers_text bit xs = quoted (digits_of (map is_set xs))
 numbers_text oct xs = array (map number_text xs)
 numbers_text _ xs = array (map decimal xs)
 
--- The JSON of a list of bytes as a string of digits.
+-- The JSON of the list of bytes `xs`, with its bytes as a string of hexadecimal digits.
 abbrev pub digits_json : List ℕ → List ℕ
 digits_json xs = member (codes "bytes") (quoted (encode_lower xs))
 
--- The JSON of a value, which is null or an object named after the kind of the value. `bytes_json` gives the JSON of a
--- list of bytes.
+-- The JSON of a value. `bytes_json` gives the JSON of a list of bytes.
 module _ (bytes_json : List ℕ → List ℕ) where
   abbrev mutual
     pub json_by : Tree → List ℕ
@@ -65,24 +66,25 @@ module _ (bytes_json : List ℕ → List ℕ) where
     json_by (rows bs) = member (codes "rows") (array (each_row_by bs))
     json_by (cap k) = member (codes "capability") (decimal k)
 
-    -- The JSON of each tree.
+    -- The JSON of each tree of the list.
     pub each_json_by : Trees → List (List ℕ)
     each_json_by no_trees = []
     each_json_by (tree t ts) = json_by t ∷ each_json_by ts
 
-    -- The JSON of each row, written as a struct.
+    -- The JSON of each row of the list, written as a struct.
     pub each_row_by : Bodies → List (List ℕ)
     each_row_by no_bodies = []
     each_row_by (body ws ss bs) = struct_text ws (each_json_by ss) ∷ each_row_by bs
 
--- The JSON of a value in which each list of bytes is a string of digits.
+-- The JSON of a value, with each list of bytes as a string of digits.
 abbrev pub json_of : Tree → List ℕ
 json_of = json_by digits_json
 
--- The JSON of a value as a line, where `bytes_json` gives the JSON of a list of bytes.
+-- The JSON of the value `t` and a newline. `bytes_json` gives the JSON of a list of bytes.
 abbrev pub json_line_by : (List ℕ → List ℕ) → Tree → List ℕ
 json_line_by bytes_json t = json_by bytes_json t ++ 10 ∷ []
 
+-- The JSON of a value and a newline, with each list of bytes as a string of digits.
 abbrev pub json_line : Tree → List ℕ
 json_line = json_line_by digits_json
 

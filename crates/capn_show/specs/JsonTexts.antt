@@ -7,7 +7,7 @@ use Rattle.hex.specs.Hex.{encode_with}
 use Rattle.capn_show.specs.Json.{member, quoted, digits_json}
 use Rattle.capn_show.specs.Quoting.{escapes_by}
 
--- True if `b` is a control character other than tab, newline and carriage return: U+0000 to U+001F, or U+007F.
+-- True if `b` is a control character (U+0000 to U+001F, or U+007F) other than tab, newline and carriage return.
 abbrev pub is_control : ℕ → Bool
 is_control b = (nat_le b 31 && not (b == 9 || (b == 10 || b == 13))) || b == 127
 
@@ -27,7 +27,7 @@ ends_in_zero [] = false
 ends_in_zero (b ∷ []) = b == 0
 ends_in_zero (b ∷ c ∷ bs) = ends_in_zero (c ∷ bs)
 
--- The bytes before the last one.
+-- The bytes `xs` without the last one.
 abbrev pub before_last : List ℕ → List ℕ
 before_last xs = take (length xs - 1) xs
 
@@ -35,17 +35,18 @@ before_last xs = take (length xs - 1) xs
 abbrev pub is_clear : List ℕ → Bool
 is_clear xs = is_utf8 xs && not (has_control xs)
 
--- True if the bytes `xs` are a text: the last byte is zero, and those before it are well-formed UTF-8 without control
--- characters other than tab, newline and carriage return.
+-- True if the bytes `xs` are a text. The last byte of a text is zero. The bytes before it are well-formed UTF-8 without
+-- control characters other than tab, newline and carriage return.
 abbrev pub is_json_text : List ℕ → Bool
 is_json_text xs = ends_in_zero xs && is_clear (before_last xs)
 
--- The bytes that stand between quotes for the byte `b` of a text.
+-- The byte `b` of a text, as JSON writes it between quotes.
 abbrev pub json_escaped : ℕ → List ℕ
 json_escaped b =
     if b == 34 then 92 ∷ 34 ∷ [] else if b == 92 then 92 ∷ 92 ∷ [] else if b == 9 then 92 ∷ 116 ∷ []
     else if b == 10 then 92 ∷ 110 ∷ [] else if b == 13 then 92 ∷ 114 ∷ [] else b ∷ []
 
+-- The bytes of a text, as JSON writes them between quotes.
 abbrev pub json_escapes : List ℕ → List ℕ
 json_escapes = escapes_by json_escaped
 

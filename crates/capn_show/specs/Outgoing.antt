@@ -1,5 +1,4 @@
--- The output of a text, a part of which is kept before it is written. A text is added to the output, or breaks off.
--- (Our own.)
+-- The output of a text, whose last bytes are stored before the writer gets them. (Our own.)
 use Rattle.std.specs.Prelude.{◌≡◌, ℕ, Bool, true, List, ◌++◌, take, Option}
 use Rattle.std.specs.Io.KnownBytes.{Appends}
 use Rattle.capn_words.specs.declared.watched.Watched.{Watched}
@@ -7,27 +6,28 @@ use Rattle.capn_words.specs.Watched.{inner_of, has_failed}
 use Rattle.capn_show.specs.declared.fault.Broken.{Broken}
 use Rattle.capn_show.specs.declared.fault.Broken.TheVariants as broken
 
--- The state of the output: the bytes that the writer has taken, the text that is kept and not yet written, and whether
--- a call of the writer has failed.
+-- The state of the output: the bytes `taken` that the writer has accepted, and the text `kept` that is not yet written.
+-- `failed` is true if a call of the writer has failed.
 pub record Outgoing : Type 0 where
   pub taken : Option (List ℕ)
   pub kept : List ℕ
   pub failed : Bool
 
--- The state of the output to `writer` with the kept text `kept`. `contents` gives the bytes that a writer has taken.
+-- The state of the output to `writer`, with the text `kept` not yet written. `contents` gives the bytes that a writer
+-- has accepted.
 abbrev pub outgoing : {W : Type 0} → (W → Option (List ℕ)) → Watched W → List ℕ → Outgoing
 outgoing contents writer kept = record { taken = contents (inner_of writer); kept = kept; failed = has_failed writer }
 
--- From `old` to `new`, `text` was added. A prefix of the old kept text followed by `text` was written, the rest is
--- kept, and no call of the writer failed.
+-- Adding `text` to `old` gives `new`. The writer accepts `written`, some bytes at the front of `old.kept ++ text`. The
+-- bytes after `written` are `new.kept`, and `failed` is unchanged.
 pub record Adds (old new : Outgoing) (text : List ℕ) : Type 0 where
   pub written : List ℕ
   pub taken : Appends old.taken new.taken written
   pub kept : written ++ new.kept ≡ old.kept ++ text
   pub failed : new.failed ≡ old.failed
 
--- From `old` to `new`, `text` was added only in part. If the reason is `Io`, the writer failed after it had taken a
--- prefix of the old kept text followed by `text`. If the reason is `Memory`, a prefix of `text` was added.
+-- Adding `text` to `old` fails, and the state is then `new`. For `Io`, the writer has accepted the first `count` bytes
+-- of `old.kept ++ text`, and has failed. For `Memory`, the first `count` bytes of `text` were added.
 abbrev pub BreaksOff : Outgoing → Outgoing → Broken → List ℕ → Type 0
 BreaksOff old new broken.Io text =
     (count : ℕ) × Appends old.taken new.taken (take count (old.kept ++ text)) × (new.failed ≡ true)

@@ -1,50 +1,50 @@
--- The part of a value at a path of numbers, and its text. (Our own.)
+-- A path of numbers from one value to another: the value at its end, and the text of that value. (Our own.)
 use Rattle.std.specs.Prelude.{◌≡◌, ℕ, zero, suc, List, [], ◌∷◌, Option, Some, None, codes, refl}
 use Rattle.capn_value.specs.NumberWidth.{oct}
 use Rattle.capn_value.specs.Tree.{Tree, nil, node, numbers, links, rows, cap, Trees, no_trees, tree, Bodies, no_bodies}
 use Rattle.capn_value.specs.Tree.{body}
 use Rattle.capn_value.specs.Text.{line, show_text}
 
--- The tree with the number `i`, counted from 0.
+-- Tree `i` of the list, counted from 0, or `None` if there is no tree `i`.
 abbrev pub nth_tree : Trees → ℕ → Option Tree
 nth_tree no_trees i = None
 nth_tree (tree t ts) zero = Some t
 nth_tree (tree t ts) (suc i) = nth_tree ts i
 
--- The row with the number `i`, counted from 0, as a struct.
+-- Row `i` of the list, counted from 0, as a struct, or `None` if there is no row `i`.
 abbrev pub nth_row : Bodies → ℕ → Option Tree
 nth_row no_bodies i = None
 nth_row (body ws ss bs) zero = Some (node ws ss)
 nth_row (body ws ss bs) (suc i) = nth_row bs i
 
--- The value one step below another: in a slot of a struct, an element of a list of pointers, or a row of a list of
--- structs.
+-- The value in slot `i` of a struct, in element `i` of a list of pointers, or in row `i` of a list of structs. `None`
+-- if there is no such value.
 abbrev pub step_down : Tree → ℕ → Option Tree
 step_down (node ws ss) i = nth_tree ss i
 step_down (links ts) i = nth_tree ts i
 step_down (rows bs) i = nth_row bs i
 step_down _ i = None
 
--- The value that a path leads to from `found`, or `None` if a step leads nowhere.
+-- The value to which the path leads from `found`, or `None` if a step of the path leads to no value.
 abbrev pub follow : List ℕ → Option Tree → Option Tree
 follow [] found = found
 follow (i ∷ path) None = None
 follow (i ∷ path) (Some t) = follow path (step_down t i)
 
--- The part of `t` at `path`, if there is one.
+-- The value at `path` from `t`, or `None` if there is no such value.
 abbrev pub at_path : Tree → List ℕ → Option Tree
 at_path t path = follow path (Some t)
 
--- The text of a part, which is the line `none` if there is no part.
+-- For `Some t`, the text of `t`. For `None`, the line `none`.
 abbrev pub part_text : Option Tree → List ℕ
 part_text None = line 0 (codes "none")
 part_text (Some t) = show_text t
 
--- The text of the part of `t` at `path`.
+-- The text of the value at `path` from `t`, or the line `none` if there is no such value.
 abbrev pub text_at : List ℕ → Tree → List ℕ
 text_at path t = part_text (at_path t path)
 
--- A list of two rows, each with a slot.
+-- A list of two rows with one slot each, for the examples in this file.
 abbrev two_rows : Tree
 two_rows = rows (body [] (tree (cap 4) no_trees) (body (7 ∷ []) (tree (numbers oct (8 ∷ [])) no_trees) no_bodies))
 

@@ -18,25 +18,27 @@ is_text [] = false
 is_text (b ∷ []) = is_printable b || b == 0
 is_text (b ∷ c ∷ bs) = is_printable b && is_text (c ∷ bs)
 
--- The bytes that stand between quotes for the byte `b` of a text.
+-- The byte `b` of a text, as lines show it between quotes.
 abbrev pub escaped : ℕ → List ℕ
 escaped b = if b == 34 then 92 ∷ 34 ∷ [] else if b == 92 then 92 ∷ 92 ∷ [] else if b == 0 then 92 ∷ 48 ∷ [] else b ∷ []
 
--- The bytes that stand between quotes for a text. `escaped_as` gives the bytes for one byte of the text.
+-- The bytes of a text, as they are written between quotes. `escaped_as` gives what is written for one byte.
 module _ (escaped_as : ℕ → List ℕ) where
   abbrev pub escapes_by : List ℕ → List ℕ
   escapes_by [] = []
   escapes_by (b ∷ bs) = escaped_as b ++ escapes_by bs
 
+-- The bytes of a text, as lines show them between quotes.
 abbrev pub escapes : List ℕ → List ℕ
 escapes = escapes_by escaped
 
--- The lines of a list of bytes in digits: a first line with the length, and a line with the digits.
+-- The lines of the list of bytes `xs` in digits, at `level`: a line with the length of `xs`, and the line of its
+-- digits. An empty list has no line of digits.
 abbrev pub plain_bytes : ℕ → List ℕ → List ℕ
 plain_bytes level xs =
     line level (named (codes "bytes") (length xs)) ++ one_line (level + 1) (length xs) (encode_lower xs)
 
--- The line of a list of bytes that is a text, with the text between quotes.
+-- The line of the list of bytes `xs`, at `level`, with the length of `xs` and its bytes between quotes.
 abbrev pub quoted_line : ℕ → List ℕ → List ℕ
 quoted_line level xs = line level (named (codes "bytes") (length xs) ++ 32 ∷ 34 ∷ (escapes xs ++ 34 ∷ []))
 
@@ -59,10 +61,12 @@ module _ (bytes_at : ℕ → List ℕ → List ℕ) where
     shown_by level (rows bs) = line level (named (codes "rows") (count_rows bs)) ++ shown_rows_by (level + 1) bs
     shown_by level (cap k) = line level (named (codes "capability") k)
 
+    -- The lines of each tree of the list, one tree after the other.
     pub shown_each_by : ℕ → Trees → List ℕ
     shown_each_by level no_trees = []
     shown_each_by level (tree t ts) = shown_by level t ++ shown_each_by level ts
 
+    -- The lines of each row of the list, one row after the other.
     pub shown_rows_by : ℕ → Bodies → List ℕ
     shown_rows_by level no_bodies = []
     shown_rows_by level (body ws ss bs) =

@@ -1,4 +1,4 @@
--- The values at places of a message whose text is to be written, and statements on the text that is written for them.
+-- Statements on the values at places of a message, and on the text that is written for these values.
 use Rattle.std.specs.Prelude.{◌≡◌, ℕ, ◌+◌, ◌*◌, ◌<◌, ◌≤◌, List, Bool, ◌++◌, length, map, slice_index, ⊤, Option}
 use Rattle.std.specs.Prelude.{Some, [], ◌∷◌, codes, replicate, true, false, ◌||◌, ◌==◌}
 use Rattle.std.specs.Fmt.{decimal}
@@ -25,7 +25,7 @@ use Rattle.capn_show.specs.declared.fault.ShowFault.TheVariants as ends
 use Rattle.capn_show.specs.declared.fault.Broken.{Broken}
 use Rattle.capn_show.specs.declared.fault.Broken.TheVariants as broken
 
--- The `ShowFault` of a text that breaks off for the given reason.
+-- The `ShowFault` for a text that breaks off, with the same reason: `Io` or `Memory`.
 abbrev pub as_fault : Broken → ShowFault
 as_fault broken.Io = ends.Io
 as_fault broken.Memory = ends.Memory
@@ -41,12 +41,13 @@ HasNumbers _ = ⊤
 abbrev pub struct_at : ℕ → ℕ → ℕ → ℕ → Target
 struct_at s w a b = targets.Content s w (shapes.Node a b) 0
 
--- The text of a list of bytes. The first argument says whether a text is written between quotes.
+-- The text of a list of bytes at a level. If the first argument is true, a list that is a text is written between
+-- quotes.
 abbrev pub bytes_of : Bool → ℕ → List ℕ → List ℕ
 bytes_of false = plain_bytes
 bytes_of true = quoted_bytes
 
--- The bytes that stand between quotes for a byte of a text, in JSON if the first argument is true, else in lines.
+-- A byte of a text, as it is written between quotes: in JSON if the first argument is true, and else in lines.
 abbrev pub escaped_of : Bool → ℕ → List ℕ
 escaped_of false = escaped
 escaped_of true = json_escaped
@@ -56,28 +57,29 @@ abbrev pub is_escaped : Bool → ℕ → Bool
 is_escaped false b = b == 34 || (b == 92 || b == 0)
 is_escaped true b = b == 34 || (b == 92 || (b == 9 || (b == 10 || b == 13)))
 
--- The style of lines. The argument says whether a list of bytes that is a text is written between quotes.
+-- The style of lines. If the argument is true, a list of bytes that is a text is written between quotes.
 abbrev pub lines_style : Bool → Style
 lines_style false = styles.Lines
 lines_style true = styles.Quoted
 
--- The style of JSON. The argument says whether a list of bytes that is a text is written as a string.
+-- The style of JSON. If the argument is true, a list of bytes that is a text is written as a string.
 abbrev pub json_style : Bool → Style
 json_style false = styles.Json
 json_style true = styles.JsonText
 
--- The first part of the line of a list of `n` bytes, up to and including the first quote.
+-- The front of the line of a text of `n` bytes, at `level`: the indent, the word `bytes`, the number `n` and the first
+-- quote.
 abbrev pub quoted_front : ℕ → ℕ → List ℕ
 quoted_front level n = replicate (2 * level) 32 ++ (codes "bytes " ++ ((decimal n ++ 32 ∷ []) ++ 34 ∷ []))
 
 module _ (m : List (List ℕ)) where
   -- ---- the values at places
 
-  -- The data words at word `w` of segment `s` begin with `ws`.
+  -- The words of the message from word `w` of segment `s` on begin with `ws`.
   abbrev pub AreDataWords : ℕ → ℕ → List ℕ → Type 0
   AreDataWords s w ws = (i : ℕ) → i < length ws → slice_index (words_from m s w) i ≡ slice_index ws i
 
-  -- The list whose content starts at word `w` of segment `s` begins with the elements `xs`.
+  -- The list with elements of `width` whose content starts at word `w` of segment `s` begins with the elements `xs`.
   abbrev pub AreNumbers : ℕ → ℕ → Width → List ℕ → Type 0
   AreNumbers s w width xs = (i : ℕ) → i < length xs → number_in width (words_from m s w) i ≡ slice_index xs i
 
@@ -90,21 +92,21 @@ module _ (m : List (List ℕ)) where
   AreRowsAt s w a b bs = (i : ℕ) → i < count_rows bs
       → ShowsStruct m (struct_at s (w + i * (a + b)) a b) (words_of_row bs i) (slots_of_row bs i)
 
-  -- ---- places and targets with a value of a height of at most `depth`
+  -- ---- values with a height of at most `depth`
 
-  -- A value of a height of at most `depth` is at `at`.
+  -- There is a value at `at`, and its height is at most `depth`.
   pub record IsReady (at : Place) (depth : ℕ) : Type 0 where
     pub value : Tree
     pub is : IsAt m at value
     pub low : height value ≤ depth
 
-  -- The target `found` has a value of a height of at most `depth`.
+  -- The target `found` has a value, and the height of that value is at most `depth`.
   pub record IsFound (found : Target) (depth : ℕ) : Type 0 where
     pub value : Tree
     pub is : Shows m found value
     pub low : height value ≤ depth
 
-  -- A struct of `a` data words and `b` slots is at word `w` of segment `s`, and its slots have values of a height of at
+  -- A struct of `a` data words and `b` slots is at word `w` of segment `s`. The values in its slots have a height of at
   -- most `depth`.
   pub record IsBody (s w a b depth : ℕ) : Type 0 where
     pub words : List ℕ
@@ -112,29 +114,30 @@ module _ (m : List (List ℕ)) where
     pub is : ShowsStruct m (struct_at s w a b) words slots
     pub low : greatest slots ≤ depth
 
-  -- The `number` slots from word `w` of segment `s` on have values of a height of at most `depth`.
+  -- The `number` slots from word `w` of segment `s` on have values. The height of each value is at most `depth`.
   pub record AreReady (s w number depth : ℕ) : Type 0 where
     pub values : Trees
     pub are : AreSlots s w values
     pub count : count values ≡ number
     pub low : greatest values ≤ depth
 
-  -- The `number` rows from word `w` of segment `s` on have values of a height of at most `depth` in their slots.
+  -- There are `number` rows from word `w` of segment `s` on, with `a` data words and `b` slots each. The values in the
+  -- slots have a height of at most `depth`.
   pub record AreRows (s w number a b depth : ℕ) : Type 0 where
     pub values : Bodies
     pub are : AreRowsAt s w a b values
     pub count : count_rows values ≡ number
     pub low : greatest_in_rows values ≤ depth
 
-  -- A value is at `at`.
+  -- Some value `v` is at `at`.
   abbrev pub Holds : Place → Type 0
   Holds at = (v : Tree) × IsAt m at v
 
-  -- The target `found` has a value.
+  -- The target `found` has some value `v`.
   abbrev pub HasValue : Target → Type 0
   HasValue found = (v : Tree) × Shows m found v
 
-  -- `below` is some value, which is that of the target `found` and is no higher than `v`.
+  -- `below` is `Some value`, and the target `found` has this `value`. The height of `value` is at most that of `v`.
   pub record LeadsTo (v : Tree) (below : Option Tree) (found : Target) : Type 0 where
     pub value : Tree
     pub is : below ≡ Some value
@@ -157,6 +160,7 @@ module _ (m : List (List ℕ)) where
   abbrev pub IsThereShown : Style → Target → (List ℕ → Type 0) → Type 0
   IsThereShown style found Says = (v : Tree) → Shows m found v → Says (part_in style (Some v))
 
-  -- `Says` holds of the text of the part at `path` from the root, in `style`.
+  -- `Says` holds of the text in `style` of the value at `path` from the root. If there is no such value, the text is
+  -- one line.
   abbrev pub IsPartShown : Style → List ℕ → (List ℕ → Type 0) → Type 0
   IsPartShown style path Says = (v : Tree) → IsAt m root v → Says (styled style path v)

@@ -1,4 +1,4 @@
--- A style: its properties, and the text of the part of a value at a path of numbers. (Our own.)
+-- The properties of a style, and the text, in a style, of the value to which a path of numbers leads. (Our own.)
 use Rattle.std.specs.Prelude.{◌≡◌, ℕ, List, [], ◌∷◌, ◌++◌, Bool, true, false, Option, Some, None, codes, refl}
 use Rattle.std.specs.Str.{chars, is_utf8}
 use Rattle.capn_value.specs.NumberWidth.{byte}
@@ -11,28 +11,28 @@ use Rattle.capn_show.specs.JsonTexts.{text_or_digits}
 use Rattle.capn_show.specs.declared.style.Style.{Style}
 use Rattle.capn_show.specs.declared.style.Style.TheVariants as styles
 
--- The end of the text of a message: the line `end`, or nothing in JSON, where a text is one line.
+-- The bytes after the text of a message: the line `end` for a style of lines, and none for JSON.
 abbrev pub end_of : Style → List ℕ
 end_of styles.Lines = codes "end" ++ 10 ∷ []
 end_of styles.Quoted = codes "end" ++ 10 ∷ []
 end_of styles.Json = []
 end_of styles.JsonText = []
 
--- True if the style writes lines, before which marks can stand.
+-- True for a style of lines, and false for a style of JSON.
 abbrev pub has_lines : Style → Bool
 has_lines styles.Lines = true
 has_lines styles.Quoted = true
 has_lines styles.Json = false
 has_lines styles.JsonText = false
 
--- True if the style writes lines with texts between quotes.
+-- True for `Quoted`, the style of lines in which texts are written between quotes.
 abbrev pub is_quoted : Style → Bool
 is_quoted styles.Lines = false
 is_quoted styles.Quoted = true
 is_quoted styles.Json = false
 is_quoted styles.JsonText = false
 
--- The text of a part in a style. If there is no part, the text is one line.
+-- For `Some t`, the text of `t` in a style. For `None`, one line.
 abbrev pub part_in : Style → Option Tree → List ℕ
 part_in styles.Lines part = part_text part
 part_in styles.Quoted None = line 0 (codes "none")
@@ -42,11 +42,11 @@ part_in styles.Json (Some t) = json_line t
 part_in styles.JsonText None = 10 ∷ []
 part_in styles.JsonText (Some t) = json_line_by text_or_digits t
 
--- The text of the part of `t` at `path`, in a style.
+-- The text in `style` of the value at `path` from `t`. If there is no such value, the text is one line.
 abbrev pub styled : Style → List ℕ → Tree → List ℕ
 styled style path t = part_in style (at_path t path)
 
--- A struct with one slot, which has the bytes of a text.
+-- A struct with one slot. The value in the slot is a list of bytes that is a text.
 abbrev with_text : Tree
 with_text = node [] (tree (numbers byte (104 ∷ 34 ∷ 0 ∷ [])) no_trees)
 

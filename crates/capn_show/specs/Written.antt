@@ -12,20 +12,20 @@ use Rattle.capn_show.specs.declared.fault.Broken.{Broken}
 use Rattle.capn_show.specs.declared.fault.Broken.TheVariants as broken
 
 module _ (m : List (List ℕ)) (limits : Bounds) (text_of : Tree → List ℕ) where
-  -- The message is accepted, and the text of its value was added.
+  -- The message `m` is accepted within `limits`, and the text of its `value` was added to the output.
   pub record IsWritten (p q : Outgoing) : Type 0 where
     pub value : Tree
     pub is : IsValueOf m limits value
     pub text : Adds p q (text_of value)
 
-  -- The message is accepted, and the text of its value breaks off.
+  -- The message `m` is accepted within `limits`, and the text of its `value` breaks off for the reason `e`.
   pub record IsBegun (p q : Outgoing) (e : Broken) : Type 0 where
     pub value : Tree
     pub is : IsValueOf m limits value
     pub text : BreaksOff p q e (text_of value)
 
-  -- The survey stopped, at a fault or because an allocation was refused, and nothing was added. Or the message is
-  -- accepted, and the text of its value breaks off.
+  -- For `Stopped s`, the survey of the message stopped as `s` says, and nothing was added. For `Io` and `Memory`, the
+  -- message is accepted, and the text of its value breaks off.
   abbrev pub IsUnwritten : ShowFault → Outgoing → Outgoing → Type 0
   IsUnwritten (ends.Stopped s) p q = (q ≡ p)
       × ((s.fault ≡ faults.Memory) ⊎ IsWalkRefused m limits s.fault s.place s.paid s.visits)

@@ -1,2 +1,2 @@
--- Definitions that no public clause cites.
+-- Definitions that are not used in the contract of any public function.
 pub mod JsonRule

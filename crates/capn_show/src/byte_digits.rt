@@ -21,8 +21,8 @@ use capn_words::{Place, Space, Watched, Width};
 use std::alloc::Allocator;
 use std::io::Write;
 
-/// Appends the list of `count` bytes at `start` to `text`, at this `level`. First come the mark of the line and the
-/// piece `Digits`, then the digits, then the piece `EndDigits`. An empty list gets only the piece `NoDigits`.
+/// Appends the line of digits of the list of `count` bytes at `start` to `text`, at this `level`. The line has its
+/// mark, the piece `Digits`, the digits and the piece `EndDigits`. An empty list gets only the piece `NoDigits`.
 pub fn show_bytes<S: Space, W: Write, A: Allocator, E: Emitter>(
     text: &mut Vec<u8, A>,
     writer: &mut Watched<W>,

@@ -37,8 +37,8 @@ fn ends_text(byte: u8) -> bool
     is_printable(byte) || byte == 0
 }
 
-/// Returns `true` if `bytes` is a text. A text is not empty, and each of its bytes is printable, except that the last
-/// may be zero.
+/// Returns `true` if `bytes` is a text. A text has at least one byte. Its bytes are from 0x20 to 0x7e, but the last
+/// byte may also be zero.
 pub fn is_text(bytes: &[u8]) -> bool
     ensures { result ≡ quoting.is_text bytes.now }
 {
@@ -54,7 +54,8 @@ pub fn is_text(bytes: &[u8]) -> bool
     ends_text(bytes[last])
 }
 
-/// Appends the line of a text of `count` bytes to `text`, at this `level`, up to and including the first quote.
+/// Appends the front of a line with bytes between quotes to `text`. The front is the indent of `level`, the word
+/// `bytes`, the number `count` and the first quote.
 fn quoted_front<W: Write, A: Allocator>(
     text: &mut Vec<u8, A>,
     writer: &mut Watched<W>,
@@ -89,8 +90,8 @@ pub fn show_quoted<W: Write, A: Allocator>(
     put(text, writer, b"\"\n")
 }
 
-/// Appends the list of `count` bytes at `start` to `text` in digits, at this `level`. The caller has written the mark
-/// of the list.
+/// Appends the list of `count` bytes at `start` to `text` in digits, at this `level`. The mark that `emitter` puts
+/// before the list is already written.
 fn show_digits<S: Space, W: Write, A: Allocator, E: Emitter>(
     text: &mut Vec<u8, A>,
     writer: &mut Watched<W>,
@@ -118,7 +119,8 @@ fn show_digits<S: Space, W: Write, A: Allocator, E: Emitter>(
 }
 
 /// Appends the list of `count` bytes at `start` to `text`, at this `level`. The list is written as a text if
-/// `emitter.is_text` accepts its bytes, and in digits otherwise. The caller has written the mark of the list.
+/// `emitter.is_text` accepts its bytes, and in digits otherwise. The mark that `emitter` puts before the list is
+/// already written.
 pub fn show_byte_list<S: Space, W: Write, A: Allocator, E: Emitter>(
     text: &mut Vec<u8, A>,
     writer: &mut Watched<W>,

@@ -25,7 +25,7 @@ pub struct Part {
 }
 
 /// Steps down from the target `found` to the slot, element or row with this `number`. Returns `None` if `found` has no
-/// part with this number.
+/// slot, element or row with this number.
 pub fn step_down<S: Space>(space: &S, found: Target, number: u64) -> Option<Part>
     requires message { IsMessage (S.message space.now) }
     requires inside { IsInMessage (S.message space.now) found }
@@ -98,7 +98,7 @@ pub fn step_down<S: Space>(space: &S, found: Target, number: u64) -> Option<Part
     }
 }
 
-/// Returns the target of the pointer at `at`. The caller has to know that there is a value at `at`.
+/// Returns the target of the pointer at `at`. There has to be a value at `at`.
 pub fn named<S: Space>(space: &S, at: Place) -> Target
     requires message { IsMessage (S.message space.now) }
     requires place { IsPlace (S.message space.now) at }

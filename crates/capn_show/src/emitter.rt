@@ -1,4 +1,4 @@
-//! The trait of emitters, which decide how each item of a message is written, and the emitter of plain lines.
+//! The trait of emitters, and the emitter of plain lines. An emitter decides how each item of a message is written.
 
 ghost use Rattle.std.specs.Prelude.{◌≡◌, ℕ, ◌<◌, ◌≤◌, ◌^◌, List, [], length, take, ⊤, IfErr, OnOk};
 ghost use Rattle.capn_words.specs.Message.{IsMessage, segment_at};
@@ -14,17 +14,18 @@ use capn_words::{Place, Space, Watched};
 use std::alloc::Allocator;
 use std::io::Write;
 
-/// An emitter of a text. An emitter puts a mark, or nothing, before each item, and writes the pieces. An emitter also
-/// keeps the path to the value that is being written.
+/// An emitter writes the text of a value: it turns each [`Piece`] into bytes, and puts a mark, which may be empty,
+/// before each item. An item is a word, a number, a line of digits, a slot or a row. An emitter also stores the path to
+/// the value that is being written.
 pub trait Emitter {
-    /// The rule of the text: a mark for each item, and the bytes of each piece.
+    /// The rule by which the emitter writes marks, pieces, texts, offsets and paths.
     ghost rule: { Self → Rule };
 
     /// The path to the value that is being written, as bytes of text (`0.3.1`), not as a list of numbers. An emitter
-    /// whose marks show no path need not keep the path up to date.
+    /// whose marks show no path need not update the path.
     ghost path: { Self → List ℕ };
 
-    /// The statement that the emitter was made for a message, given by the list of its segments.
+    /// The statement that the emitter was made for the message with these segments.
     ghost is_of: { Self → List (List ℕ) → Type 0 };
 
     /// Returns `true` if the list `bytes` is to be written as a text.
@@ -68,7 +69,7 @@ pub trait Emitter {
         ensures small { result < 2 ^ 66 };
 
     /// Appends the mark of an item to `text`. `number` is the number of items before this one in the same object, and
-    /// `byte` is the offset of the item. The mark may also show the path that the emitter keeps.
+    /// `byte` is the offset of the item. The mark may also show the path that the emitter stores.
     fn put_mark<W: Write, A: Allocator>(
         &self,
         text: &mut Vec<u8, A>,
@@ -81,11 +82,12 @@ pub trait Emitter {
         ensures cut { IfErr result (λ e. BreaksOff (outgoing W.contents writer.old text.old.items)
             (outgoing W.contents writer.new text.new.items) e ((rule self.now).mark number byte (path self.now))) };
 
-    /// Returns the length in bytes of the path that the emitter keeps.
+    /// Returns the length in bytes of the path that the emitter stores.
     fn path_length(&self) -> usize
         ensures { result ≡ length (path self.now) };
 
-    /// Appends `number` to the path, unless the marks of the emitter show no path.
+    /// Appends `number` to the path. An emitter whose marks show no path may leave the path as it is. Fails only if an
+    /// allocation is refused.
     fn step_below(&mut self, number: u32) -> Result<(), Broken>
         ensures below { OnOk result (path self.new ≡ (rule self.old).below (path self.old) number) }
         ensures back { OnOk result (take (length (path self.old)) (path self.new) ≡ path self.old) }
@@ -93,7 +95,7 @@ pub trait Emitter {
         ensures of { OnOk result ((m : List (List ℕ)) → is_of self.old m → is_of self.new m) }
         ensures memory { IfErr result (λ e. e ≡ broken.Memory) };
 
-    /// Cuts the path that the emitter keeps to its first `length` bytes.
+    /// Shortens the path that the emitter stores to its first `length` bytes.
     fn step_back(&mut self, length: usize)
         ensures path { path self.new ≡ take length (path self.old) }
         ensures rule { rule self.new ≡ rule self.old }

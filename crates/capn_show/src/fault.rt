@@ -1,4 +1,4 @@
-//! The reasons why the text of a message is not written, or only in part.
+//! The reasons why the text of a message is not written, or is written incompletely.
 
 ghost use Rattle.std.specs.Prelude.{◌≡◌};
 ghost use Rattle.capn_show.specs.declared.fault.ShowFault.TheVariants as faults;
@@ -7,17 +7,19 @@ ghost use Rattle.capn_show.specs.ReadyPlaces.{as_fault};
 use capn_walk::Stopped;
 use thiserror::Error;
 
-/// The reason why the text of a message is not written, or only in part.
+/// The reason why the text of a message is not written, or is written incompletely.
 #[derive(Clone, Copy, Debug, PartialEq, Eq, Error)]
 pub enum ShowFault {
     /// The message is not accepted within the limits, or an allocation of the survey was refused. Nothing was added to
     /// the text.
     #[error("{0}")]
     Stopped(Stopped),
-    /// The writer failed. The writer has taken a prefix of the kept text followed by the message's text.
+    /// The writer failed. The bytes to write were the stored text, and then the message's text. The writer may have
+    /// accepted some of these bytes, from the first on.
     #[error("the writer failed")]
     Io,
-    /// An allocation for the kept text was refused. A first part of the message's text was added to the kept text.
+    /// An allocation for the stored text was refused. Some bytes at the front of the message's text may have been added
+    /// to the stored text.
     #[error("out of memory")]
     Memory,
 }
@@ -27,7 +29,7 @@ pub enum ShowFault {
 pub enum Broken {
     /// The writer failed.
     Io,
-    /// An allocation for the kept text was refused.
+    /// An allocation for the stored text was refused.
     Memory,
 }
 

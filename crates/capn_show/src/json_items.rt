@@ -85,7 +85,8 @@ pub fn put_value<W: Write, A: Allocator>(
     put_plain(text, writer, n)
 }
 
-/// Returns `true` if the numbers of a list of this `width` are written between quotes. Only numbers of 64 bits are.
+/// Returns `true` if the numbers of a list of this `width` are written between quotes. That is so only for 64-bit
+/// numbers.
 pub fn is_quoted(width: Width) -> bool
     ensures { result ≡ places.is_quoted width }
 {
@@ -100,7 +101,7 @@ fn word_bytes(word: u64) -> [u8; 18]
     ensures { result ≡ word_text word }
 {
     let mut item = *b"\"0000000000000000\"";
-    // The slice has room for all 16 digits, so the call cannot fail.
+    // The slice has 16 bytes, one for each digit, so the call cannot fail.
     let _done = hex::encode_to_slice(word.to_be_bytes(), &mut item[1..17]);
     item
 }

@@ -54,8 +54,8 @@ fn is_well_formed(bytes: &[u8]) -> bool
     }
 }
 
-/// Returns `true` if `bytes` is a text: the last byte is zero, and those before it are well-formed UTF-8 without
-/// control characters other than tab, newline and carriage return.
+/// Returns `true` if `bytes` is a text. The last byte of a text is zero. The bytes before it are well-formed UTF-8
+/// without control characters other than tab, newline and carriage return.
 pub fn is_json_text(bytes: &[u8]) -> bool
     ensures { result ≡ texts.is_json_text bytes.now }
 {
@@ -70,7 +70,7 @@ pub fn is_json_text(bytes: &[u8]) -> bool
     is_well_formed(front) && !has_control(front)
 }
 
-/// Appends the JSON of the list `bytes` to `text`: an object that holds the bytes, without the last, as a string.
+/// Appends the JSON of the list `bytes` to `text`: an object with a string of the bytes before the last byte.
 pub fn json_text<W: Write, A: Allocator>(
     text: &mut Vec<u8, A>,
     writer: &mut Watched<W>,

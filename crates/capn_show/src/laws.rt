@@ -1,4 +1,4 @@
-//! The law that JSON with strings loses nothing, as the clause of an empty function.
+//! The law that JSON with strings loses nothing, as the contract of an empty function.
 
 ghost use Rattle.capn_show.specs.Laws.{OneJson};
 

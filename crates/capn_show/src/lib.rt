@@ -2,10 +2,10 @@
 //!
 //! [`show_message`] surveys a message within limits, and writes nothing if the message is refused. The text of an
 //! accepted message is what `capn_value::show` writes for the value that `capn_walk::walk` returns. The text is written
-//! slot by slot, in the order of the walk. Each line is added to a text that the caller keeps, so that small texts of
-//! many messages make one write. A kept text of 65,536 bytes or more is written and emptied, so the memory for the kept
-//! text does not grow with a message. [`show_part`] writes the value at a path of numbers from the root, in one of four
-//! styles.
+//! slot by slot, in the order of the walk. Each line is added to a text of the caller, so that small texts of many
+//! messages make one write. When that text has 65,536 bytes or more, it is written and emptied, so its memory does not
+//! grow with a message. [`show_part`] writes the value at a path of numbers from the root, in one of four styles. JSON
+//! is written by `json.rt` and the files whose names begin with `json`.
 //!
 //! ```text
 //! let mut text = Vec::new(alloc);
@@ -46,7 +46,7 @@ pub use message::show_message;
 pub use part::show_part;
 pub use style::Style;
 
-// The building blocks for texts of other forms: the kept text, its lines and lists, and the steps of a path.
+// Functions and types for other crates that write texts: lines, lists, emitters, and the steps of a path.
 pub use bytes::{is_text, show_quoted};
 pub use descent::{Part, named, step_down};
 pub use emitter::Emitter;

@@ -1,4 +1,4 @@
-//! The pieces of a text of lines, each as the line or the bytes that it stands for.
+//! The output of a piece in lines: a line, some bytes of a line, or nothing.
 
 ghost use Rattle.std.specs.Prelude.{IfErr, OnOk};
 ghost use Rattle.capn_show.specs.Emitted.{line_piece};
@@ -11,8 +11,8 @@ use capn_words::Watched;
 use std::alloc::Allocator;
 use std::io::Write;
 
-/// Appends the line or the part of a line that stands for `piece` to `text`, at this `level`. Pieces that only separate
-/// or close others add nothing.
+/// Appends the text that `piece` has in lines to `text`, at this `level`. The pieces `EndWords`, `EndItems` and
+/// `NoDigits` add nothing.
 #[inline(always)]
 pub fn put_line_piece<W: Write, A: Allocator>(
     text: &mut Vec<u8, A>,

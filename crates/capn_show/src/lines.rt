@@ -1,4 +1,4 @@
-//! The lines of a text, and their parts: indents, numbers and digits.
+//! The lines of a text, and the indents, numbers and digits in them.
 
 ghost use Rattle.std.specs.Prelude.{◌≡◌, ℕ, ◌<◌, ◌^◌, [], ◌∷◌, ◌++◌, ◌+◌, ◌*◌, IfErr, OnOk, codes, length, replicate};
 ghost use Rattle.std.specs.Prelude.{slice_index};
@@ -20,7 +20,7 @@ use std::io::Write;
 /// The indent of 32 levels, with two spaces for each level.
 const SPACES: [u8; 64] = [b' '; 64];
 
-/// Appends the indent of `level` to `text`, which is two spaces a level.
+/// Appends the indent of `level` to `text`: two spaces for each level.
 pub fn indent<W: Write, A: Allocator>(
     text: &mut Vec<u8, A>,
     writer: &mut Watched<W>,
@@ -145,7 +145,7 @@ fn word_bytes(word: u64) -> [u8; 22]
     ensures { result ≡ codes "word " ++ (form.hex16 word ++ 10 ∷ []) }
 {
     let mut line = *b"word 0000000000000000\n";
-    // The slice has room for all 16 digits, so the call cannot fail.
+    // The slice has 16 bytes, one for each digit, so the call cannot fail.
     let _done = hex::encode_to_slice(word.to_be_bytes(), &mut line[5..21]);
     line
 }
@@ -183,7 +183,7 @@ pub fn word_digits(word: u64) -> [u8; 16]
     ensures { result ≡ encode_lower (to_le_bytes w64 word) }
 {
     let mut digits = [0u8; 16];
-    // The array has room for all 16 digits, so the call cannot fail.
+    // The array has 16 bytes, one for each digit, so the call cannot fail.
     let _done = hex::encode_to_slice(word.to_le_bytes(), &mut digits);
     digits
 }

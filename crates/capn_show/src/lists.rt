@@ -20,7 +20,7 @@ use std::alloc::Allocator;
 use std::io::Write;
 
 /// Appends the text of the list of `count` elements of this `width` at `start` to `text`. The elements are neither
-/// pointers nor structs. The caller has written the mark of the list.
+/// pointers nor structs. The mark that `emitter` puts before the list is already written.
 pub fn show_list<S: Space, W: Write, A: Allocator, E: Emitter>(
     text: &mut Vec<u8, A>,
     writer: &mut Watched<W>,

@@ -1,4 +1,4 @@
-//! The text of a whole message in lines.
+//! The text of a complete message in lines.
 
 ghost use Rattle.std.specs.Prelude.{OnOk, IfErr};
 ghost use Rattle.capn_value.specs.Text.{show_text};
@@ -17,9 +17,9 @@ use std::io::Write;
 /// Appends the text of the value that the message `space` denotes within `limits` to `text`.
 ///
 /// The message is surveyed first, and nothing is added for a message that is refused. The caller keeps `text` between
-/// calls. Whenever `text` has 65,536 bytes or more, it is written to `writer` and emptied, and the caller writes the
-/// bytes that are left at the end. A call takes no memory except for `text` and for the survey. The survey takes none
-/// up to a depth of 64.
+/// calls. Whenever `text` has 65,536 bytes or more, it is written to `writer` and emptied. After the last call, the
+/// caller writes the bytes that are still in `text`. A call takes memory only for `text` and for the survey. Up to a
+/// depth of 64, the survey takes none.
 pub fn show_message<S: Space, W: Write, A: Allocator, B: Allocator + Copy>(
     alloc: B,
     text: &mut Vec<u8, A>,
@@ -30,9 +30,9 @@ pub fn show_message<S: Space, W: Write, A: Allocator, B: Allocator + Copy>(
     // If `result` is `Ok`, the message is accepted, and the text of its value was added.
     ensures shown { OnOk result (IsWritten (S.message space.now) limits show_text
         (outgoing W.contents writer.old text.old.items) (outgoing W.contents writer.new text.new.items)) }
-    // If the survey returns a refusal, `result` is that refusal (`Stopped`), and nothing was added. Any other refusal
-    // is of an accepted message: the writer failed after a first part of the text, or an allocation was refused after a
-    // first part was added.
+    // If `result` is `Stopped`, its field says why the survey stopped, and nothing was added. If `result` is `Io` or
+    // `Memory`, the message is accepted, and its text breaks off: the writer failed, or an allocation for `text` was
+    // refused.
     ensures refused { IfErr result (λ fault. IsUnwritten (S.message space.now) limits show_text fault
         (outgoing W.contents writer.old text.old.items) (outgoing W.contents writer.new text.new.items)) }
 {

@@ -59,8 +59,8 @@ fn put_item<W: Write, A: Allocator, E: Emitter>(
     emitter.put_piece(text, writer, level, piece)
 }
 
-/// Appends the mark of a line of digits to `text`, and the piece before the digits, at this `level`. The first element
-/// of the list lies at `byte`.
+/// Appends the mark of a line of digits to `text`, and then the piece `Digits`, at this `level`. The first element of
+/// the list lies at the offset `byte`.
 #[inline(always)]
 pub fn begin_digits<W: Write, A: Allocator, E: Emitter>(
     text: &mut Vec<u8, A>,
@@ -79,8 +79,8 @@ pub fn begin_digits<W: Write, A: Allocator, E: Emitter>(
     put_item(text, writer, emitter, 0, byte, level, Piece::Digits)
 }
 
-/// Appends a mark and a piece for each of the `count` data words at `start` to `text`, at this `level`, and then the
-/// piece `EndWords`.
+/// Appends a mark and a piece for each of the `count` data words at `start` to `text`, at this `level`. Then appends
+/// the piece `EndWords`.
 pub fn show_words<S: Space, W: Write, A: Allocator, E: Emitter>(
     text: &mut Vec<u8, A>,
     writer: &mut Watched<W>,
@@ -115,15 +115,15 @@ pub fn show_words<S: Space, W: Write, A: Allocator, E: Emitter>(
     emitter.put_piece(text, writer, level, Piece::EndWords)
 }
 
-/// Returns the size in bytes of an element of this `width`, which has at least 8 bits.
+/// Returns the size in bytes of an element of this `width`. The element has at least 8 bits.
 fn element_bytes(width: Width) -> u128
     ensures is { result ≡ 8 / seen.per_word width }
 {
     8 / per_word(width) as u128
 }
 
-/// Appends a mark and a piece for each of the `count` numbers of this `width` at `start` to `text`, at this `level`,
-/// and then the piece `EndItems`.
+/// Appends a mark and a piece for each of the `count` numbers of this `width` at `start` to `text`, at this `level`.
+/// Then appends the piece `EndItems`.
 pub fn show_numbers<S: Space, W: Write, A: Allocator, E: Emitter>(
     text: &mut Vec<u8, A>,
     writer: &mut Watched<W>,

@@ -1,4 +1,4 @@
-//! The output of a text, which is kept until it is long enough and is then written at once.
+//! The output of a text. The text is stored until it is long enough, and is then written at once.
 
 ghost use Rattle.std.specs.Prelude.{◌≡◌, [], ◌||◌, is_err, IfErr, OnOk};
 ghost use Rattle.std.specs.Io.KnownBytes.{Appends};
@@ -11,7 +11,7 @@ use capn_words::Watched;
 use std::alloc::Allocator;
 use std::io::Write;
 
-/// The length in bytes at which the kept text is written.
+/// The length in bytes at which the stored text is written.
 const BLOCK: usize = 65536;
 
 /// Writes `text` to `writer`, and then empties `text`.

@@ -22,14 +22,14 @@ use capn_words::{Place, Space, Watched};
 use std::alloc::Allocator;
 use std::io::Write;
 
-/// Appends the text of the value at a `path` of numbers from the root of the message `space` to `text`, in this
-/// `style`.
+/// Appends the text of the value at `path` to `text`, in this `style`. The numbers of `path` lead down from the root of
+/// the message `space`.
 ///
 /// If there is no value at `path`, the text is the line `none`, or an empty line in JSON.
 ///
-/// A number leads from a struct to a slot, from a list of pointers to an element, and from a list of structs to a row,
-/// which is written as a struct. The whole message is surveyed within `limits` first. The caller keeps `text` between
-/// calls, and `text` is written and emptied as [`show_message`](crate::show_message) says.
+/// A number leads from a struct to a slot, from a list of pointers to an element, and from a list of structs to a row.
+/// A row is written as a struct. The complete message is surveyed within `limits` first. The caller keeps `text`
+/// between calls, and `text` is written and emptied as [`show_message`](crate::show_message) says.
 pub fn show_part<S: Space, W: Write, A: Allocator, B: Allocator + Copy>(
     alloc: B,
     text: &mut Vec<u8, A>,
@@ -42,9 +42,9 @@ pub fn show_part<S: Space, W: Write, A: Allocator, B: Allocator + Copy>(
     // If `result` is `Ok`, the message is accepted, and the text of the value at `path` was added.
     ensures shown { OnOk result (IsWritten (S.message space.now) limits (styled style path.now)
         (outgoing W.contents writer.old text.old.items) (outgoing W.contents writer.new text.new.items)) }
-    // If the survey returns a refusal, `result` is that refusal (`Stopped`), and nothing was added. Any other refusal
-    // is of an accepted message: the writer failed after a first part of the text, or an allocation was refused after a
-    // first part was added.
+    // If `result` is `Stopped`, its field says why the survey stopped, and nothing was added. If `result` is `Io` or
+    // `Memory`, the message is accepted, and the text breaks off: the writer failed, or an allocation for `text` was
+    // refused.
     ensures refused { IfErr result (λ fault. IsUnwritten (S.message space.now) limits (styled style path.now) fault
         (outgoing W.contents writer.old text.old.items) (outgoing W.contents writer.new text.new.items)) }
 {
@@ -57,8 +57,8 @@ pub fn show_part<S: Space, W: Write, A: Allocator, B: Allocator + Copy>(
     }
 }
 
-/// Appends the text of the value at `path` from the root to `text`. If there is no value at `path`, appends the line
-/// that stands for no value.
+/// Appends the text of the value at `path` to `text`. If there is no value at `path`, appends the line that stands for
+/// no value.
 fn write_part<S: Space, W: Write, A: Allocator>(
     text: &mut Vec<u8, A>,
     writer: &mut Watched<W>,
@@ -83,7 +83,8 @@ fn write_part<S: Space, W: Write, A: Allocator>(
     }
 }
 
-/// Follows `path` from the target `found`. Returns the target at the end of `path`, or `None` if a step leads nowhere.
+/// Follows `path` from the target `found`. Returns the target at the end of `path`, or `None` if a step leads to no
+/// value.
 fn follow<S: Space>(space: &S, found: Target, path: &[u64]) -> Option<Target>
     requires message { IsMessage (S.message space.now) }
     requires inside { IsInMessage (S.message space.now) found }

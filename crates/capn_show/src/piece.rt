@@ -1,4 +1,5 @@
-//! The pieces from which an emitter makes a text. A list of bytes that is written as a text is not a piece.
+//! The pieces from which an emitter makes a text. A list of bytes that is a text has no piece: `put_text` writes the
+//! list.
 
 use capn_words::Width;
 
@@ -37,7 +38,7 @@ pub enum Piece {
     Number(Width, u64),
     /// The text before the digits of bits or bytes.
     Digits,
-    /// The text behind the digits of bits or bytes.
+    /// The text after the digits of bits or bytes.
     EndDigits,
     /// The text in place of the digits, if a list of bits or bytes is empty.
     NoDigits,

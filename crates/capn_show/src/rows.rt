@@ -1,4 +1,4 @@
-//! The text of a row of slots, and of the rows of a list of structs.
+//! The text of slots that lie one after the other, and of the rows of a list of structs.
 
 ghost use Rattle.std.specs.Prelude.{◌≡◌, ℕ, ◌<◌, ◌+◌, ◌*◌, ◌^◌, IfErr, OnOk};
 ghost use Rattle.capn_words.specs.Message.{IsMessage, IsPlace};
@@ -24,7 +24,8 @@ pub struct Size {
     pub slots: u16,
 }
 
-/// Appends the text of the values in the `count` slots from `first` on to `text`, and then the piece `EndItems`.
+/// Appends the values in `count` consecutive slots to `text`, and then the piece `EndItems`. The first slot is at
+/// `first`.
 #[cycle(slots)]
 #[inline(always)]
 pub fn show_slots<S: Space, W: Write, A: Allocator, E: Emitter>(
@@ -93,7 +94,8 @@ fn show_below<S: Space, W: Write, A: Allocator, E: Emitter>(
     Ok(())
 }
 
-/// Appends the text of the `count` rows of this `size` from `first` on to `text`, and then the piece `EndItems`.
+/// Appends the text of `count` rows of this `size` to `text`, and then the piece `EndItems`. The first row is at
+/// `first`.
 #[cycle(slots)]
 pub fn show_rows<S: Space, W: Write, A: Allocator, E: Emitter>(
     text: &mut Vec<u8, A>,

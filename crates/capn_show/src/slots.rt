@@ -1,4 +1,4 @@
-//! The walk over a message that writes its text: the value in a slot, with everything below the value.
+//! The walk that writes the text of the value in a slot, with everything below the value.
 
 ghost use Rattle.std.specs.Prelude.{◌≡◌, ℕ, ◌<◌, ◌+◌, ◌*◌, ◌^◌, IfErr, OnOk};
 ghost use Rattle.capn_words.specs.Message.{IsMessage, IsPlace};
@@ -56,8 +56,8 @@ pub fn show_slot<S: Space, W: Write, A: Allocator, E: Emitter>(
     }
 }
 
-/// Appends the text of the value with the target `found` to `text`, at this `level`. The caller has written the mark of
-/// the value, and the path of `emitter` leads to the value.
+/// Appends the text of the value with the target `found` to `text`, at this `level`. The mark that `emitter` puts
+/// before the value is already written, and the path of `emitter` leads to the value.
 #[cycle(slots)]
 #[inline(always)]
 pub fn show_found<S: Space, W: Write, A: Allocator, E: Emitter>(
@@ -150,8 +150,8 @@ pub fn show_found<S: Space, W: Write, A: Allocator, E: Emitter>(
     }
 }
 
-/// Appends the text of the struct of this `size` that starts at `start` to `text`, at this `level`. The caller has
-/// written the mark of the struct.
+/// Appends the text of the struct of this `size` that starts at `start` to `text`, at this `level`. The mark that
+/// `emitter` puts before the struct is already written.
 #[cycle(slots)]
 #[inline(always)]
 pub fn show_body<S: Space, W: Write, A: Allocator, E: Emitter>(

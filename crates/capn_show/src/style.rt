@@ -6,12 +6,12 @@ ghost use Rattle.capn_show.specs.Style as spec;
 /// A style of the text of a value.
 #[derive(Clone, Copy, Debug, PartialEq, Eq)]
 pub enum Style {
-    /// Lines, with the digits of each list of bytes.
+    /// Lines, in which every list of bytes is written in digits.
     Lines,
-    /// Lines, in which a list of bytes that is a text is written between quotes. The bytes of a text are from 0x20 to
-    /// 0x7e, and the last may also be zero.
+    /// Lines, in which a list of bytes that is a text is written between quotes. A text has at least one byte. Its
+    /// bytes are from 0x20 to 0x7e, but the last byte may also be zero.
     Quoted,
-    /// One line of JSON, with the digits of each list of bytes.
+    /// One line of JSON, in which every list of bytes is written in digits.
     Json,
     /// One line of JSON, in which a list of bytes that is a text is written as a string. The last byte of a text is
     /// zero, and those before it are well-formed UTF-8 without control characters other than tab, newline and carriage
@@ -20,7 +20,7 @@ pub enum Style {
 }
 
 impl Style {
-    /// Returns the end of the text of a message: the line `end`, or nothing in JSON, where a text is one line.
+    /// Returns the bytes after the text of a message: the line `end` for a style of lines, and none for JSON.
     pub fn end(self) -> &'static [u8]
         ensures { result.now ≡ spec.end_of self }
     {
@@ -30,7 +30,7 @@ impl Style {
         }
     }
 
-    /// Returns `true` if the style writes lines, before which offsets and paths can stand.
+    /// Returns `true` for a style of lines. In such a style, an offset and a path can stand before each line.
     pub fn has_lines(self) -> bool
         ensures { result ≡ spec.has_lines self }
     {
@@ -40,7 +40,7 @@ impl Style {
         }
     }
 
-    /// Returns `true` if the style writes lines with texts between quotes.
+    /// Returns `true` for the style of lines in which texts are written between quotes.
     pub fn is_quoted(self) -> bool
         ensures { result ≡ spec.is_quoted self }
     {

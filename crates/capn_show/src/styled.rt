@@ -1,4 +1,4 @@
-//! The text of a value in a style, or of the absence of a value.
+//! The text of a value in a style, and the text for no value.
 
 ghost use Rattle.std.specs.Prelude.{◌*◌, ◌<◌, ◌^◌, None, IfErr, OnOk};
 ghost use Rattle.capn_words.specs.Message.{IsMessage};

@@ -4,15 +4,15 @@ use Rattle.std.proofs.Common.{arith, length-append, length-drop, length-take}
 use Rattle.capn_stream.specs.inner.Stages.{Extends, IsDone, Rests, need}
 use Rattle.capn_stream.specs.declared.stage.Stage.{Stage}
 
--- `piece` has bytes, and the part of the stage `first` lacked some
+-- `piece` is not empty, and `old` has fewer bytes than the stage `first` needs
 abbrev pub Lacked : Stage → List ℕ → List ℕ → Type 0
 Lacked first old piece = (0 < length piece) × (length old < need first)
 
--- the stage and the bytes are still the first ones, or bytes of `piece` were needed
+-- `stage` is `first` and `bytes` are `old`, or `Lacked` holds
 abbrev pub Came : Stage → Stage → List ℕ → List ℕ → List ℕ → Type 0
 Came first stage old bytes piece = ((stage ≡ first) × (bytes ≡ old)) ⊎ Lacked first old piece
 
--- if a part lacks bytes and bytes of the piece are left, bytes of `piece` were needed
+-- if `bytes` has fewer bytes than `stage` needs, and `piece` has bytes from index `at` on, `Lacked` holds of `first`
 pub lacked_now : (first stage : Stage) (old bytes piece : List ℕ) (at end : ℕ) → end ≡ need stage
     → Came first stage old bytes piece
     → (0 < length (take (length piece - at) (drop at piece))) × (length bytes < end) → Lacked first old piece
@@ -22,7 +22,7 @@ lacked_now first stage old bytes piece at end is (inl (same, text)) (some, short
 )
 lacked_now first stage old bytes piece at end is (inr lacked) wanted = lacked
 
--- if a part becomes complete and is not the last one, bytes of `piece` were needed
+-- if `bytes` are not the complete frame, and `new` has all of the part that `stage` receives, `Lacked` holds of `first`
 pub lacked_whole : (first stage : Stage) (old bytes piece new : List ℕ) (at n end : ℕ) → end ≡ need stage
     → Rests first old → Came first stage old bytes piece
     → Extends bytes (take (length piece - at) (drop at piece)) end n new → end ≤ length new

@@ -14,18 +14,17 @@ use Rattle.capn_stream.specs.declared.stage.Stage.{Stage}
 use Rattle.capn_stream.specs.declared.stage.Stage.TheVariants as stages
 use Rattle.capn_stream.proofs.shared.Longer.{IsStage-extends, IsStop-append}
 
--- `at` bytes of `piece` were taken, `new` are the bytes of the frame so far, and `stage` is their stage
+-- the first `at` bytes of `piece` were appended to `old`, which gives `new`, and `stage` is the stage of `new`
 pub record Filled (stage : Stage) (old piece : List ℕ) (most at : ℕ) (new ends : List ℕ) : Type 0 where
   pub inside : at ≤ length piece
   pub text : new ≡ old ++ take at piece
   pub is : IsStage stage new most ends
 
--- the result if too many segments are announced
 pub stop_count : (bs : List ℕ) (most : ℕ) (e : FrameFault) → length bs ≡ 4
     → (e ≡ TooManySegments (announced_segments bs)) × (most_segments < announced_segments bs) → IsHeadRefused bs most e
 stop_count bs most e here h = rw h.0 (omega arith, refl, h.1)
 
--- the stage after the count is that of the table
+-- after the count is read, `Filled` holds with the stage `Table`
 pub is_table : (stage : Stage) (old piece : List ℕ) (most at segments : ℕ) (new ends : List ℕ)
     → Filled stage old piece most at new ends → HasCount new × (segments ≡ announced_segments new) → length new ≡ 4
     → Filled (stages.Table segments) old piece most at new ends
@@ -39,7 +38,7 @@ is_table stage old piece most at segments new ends f counted here = record {
   };
 }
 
--- the stage after the table is that of the contents
+-- after the table is read, `Filled` holds with the stage `Contents`
 pub is_contents : (segments : ℕ) (old piece : List ℕ) (most at start end : ℕ) (new ends cuts : List ℕ)
     → Filled (stages.Table segments) old piece most at new ends → Tabled new most start end cuts
     → Filled (stages.Contents start end) old piece most at new cuts
@@ -69,20 +68,19 @@ module _ (stage : Stage) (old piece : List ℕ) (most at n end : ℕ) (mid new e
         is = IsStage-extends stage mid (drop at piece) most n new ends is part;
       }
 
-  -- the old bytes and the whole piece are the new bytes and the rest of the piece
   pub filled_all : old ++ piece ≡ new ++ drop (at + n) piece
   filled_all =
       ap (λ (xs : List ℕ). old ++ xs) (sym (take-append-drop (at + n) piece))
       ∙ sym (append_assoc old (take (at + n) piece) (drop (at + n) piece))
       ∙ ap (λ (xs : List ℕ). xs ++ drop (at + n) piece) (sym filled.text)
 
-  -- a refusal of the bytes so far is a refusal of the old bytes and the whole piece
+  -- a fault of the bytes `new` is a fault of the bytes `old ++ piece`
   pub filled_stop : (e : FrameFault) → IsHeadRefused new most e → IsHeadRefused (old ++ piece) most e
   filled_stop e h =
       subst (λ (bs : List ℕ). IsHeadRefused bs most e) (sym filled_all)
       (IsStop-append new (drop (at + n) piece) most e h)
 
-  -- if a table announces too many words, the framer keeps all of the table
+  -- if the bytes `new` have the fault `e`, `KeepsHead` holds of `new`
   pub filled_kept : (e : FrameFault) → IsHeadRefused new most e → KeepsHead old piece most new e
   filled_kept Memory h = tt
   filled_kept Empty h = tt
@@ -91,7 +89,7 @@ module _ (stage : Stage) (old piece : List ℕ) (most at n end : ℕ) (mid new e
   filled_kept Cut h = tt
   filled_kept Failed h = tt
 
-  -- if the piece has ended, `Fills` holds
+  -- Case: if `new` has fewer than `end` bytes, all of `piece` was appended, and `Fills` holds.
   pub filled_short : length new < end → Fills old piece most (at + n) new stage ends
   filled_short short =
       let part = rw (take_rest piece at, end_is) at more in
@@ -104,7 +102,7 @@ module _ (stage : Stage) (old piece : List ℕ) (most at n end : ℕ) (mid new e
         stops = inl (omega (arith, part.stops (omega (arith, short, end_is)), length-drop at piece, inside));
       }
 
-  -- if the frame is whole, `Fills` holds
+  -- Case: if the frame is complete, `Fills` holds.
   pub filled_done : IsDone stage new → Fills old piece most (at + n) new stage ends
   filled_done done =
       let f = filled in

@@ -1,4 +1,4 @@
--- Worked examples of frames as bytes. The definitions give the bytes that the page's layout gives.
+-- Worked examples of frames as bytes: the definitions agree with the layout of the encoding page.
 use Rattle.std.proofs.Common.{◌≡◌, ℕ, List, [], ◌∷◌, refl}
 use Rattle.capn_words.specs.Message.{word_bytes}
 use Rattle.capn_stream.specs.Frames.{entry, frame_text}
@@ -22,13 +22,13 @@ one_segment_announced : (announced_segments one_segment ≡ 1) × (announced_wor
 unfolding one_segment entry_number
 one_segment_announced = (refl, refl, refl)
 
--- the frame of a struct behind a far pointer: two segments, of one word and of two, and 4 bytes of padding
+-- the frame of a far pointer and its struct: two segments, of one word and of two, and 4 bytes of padding
 two_segments : frame_text ((4294967298 ∷ []) ∷ (4294967296 ∷ 5 ∷ []) ∷ [])
     ≡ 1 ∷ 0 ∷ 0 ∷ 0 ∷ 1 ∷ 0 ∷ 0 ∷ 0 ∷ 2 ∷ 0 ∷ 0 ∷ 0 ∷ 0 ∷ 0 ∷ 0 ∷ 0 ∷ 2 ∷ 0 ∷ 0 ∷ 0 ∷ 1 ∷ 0 ∷ 0 ∷ 0
     ∷ 0 ∷ 0 ∷ 0 ∷ 0 ∷ 1 ∷ 0 ∷ 0 ∷ 0 ∷ 5 ∷ 0 ∷ 0 ∷ 0 ∷ 0 ∷ 0 ∷ 0 ∷ 0 ∷ []
 unfolding entry word_bytes
 two_segments = refl
 
--- a table with its padding is a whole number of words
+-- the lengths in bytes of the tables of 1, 2, 3 and 4,096 segments, each with its padding, are multiples of 8
 heads : (head_length 1 ≡ 8) × (head_length 2 ≡ 16) × (head_length 3 ≡ 16) × (head_length 4096 ≡ 16392)
 heads = (refl, refl, refl, refl)

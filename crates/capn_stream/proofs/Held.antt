@@ -1,4 +1,4 @@
--- Lemmas for `segments.rt`: the words, the bytes and the size of a message in segments that lie apart.
+-- Lemmas for `segments.rt`: the words, the bytes and the size of a message in segments that lie apart in memory.
 use Rattle.std.proofs.Common.{◌≡◌, ℕ, zero, suc, ◌+◌, ◌-◌, ◌*◌, ◌^◌, ◌<◌, ◌≤◌, List, [], ◌∷◌, length, take, drop, map}
 use Rattle.std.proofs.Common.{slice_index, slice_index_or, All, Bor, Some, None, min, refl, ap, sym, ◌∙◌, arith}
 use Rattle.std.proofs.lemmas.Bool.{lt-ltb, le-ltb}
@@ -22,13 +22,12 @@ none = record { ref_ptr = (0, 0); now = [] }
 abbrev pub AreHeld : Held → Type 0
 AreHeld segments = All (λ segment. All IsWord segment.now) segments
 
--- words of 8 bytes are numbers below 2^64
 numbers : (words : List (List ℕ)) → All IsWord words → AreWords (map word_number words)
 numbers [] h k = omega arith
 numbers (w ∷ ws) h zero = word_number-lt w (h 0 [] (omega arith)).1
 numbers (w ∷ ws) h (suc k) = numbers ws (λ i d l. h (suc i) d (omega (arith, l))) k
 
--- the bytes of the words' numbers are the words of 8 bytes, joined
+-- if words of 8 bytes are read as numbers, the bytes of these numbers are the joined words
 pub bytes_of_numbers : (words : List (List ℕ)) → All IsWord words → bytes (map word_number words) ≡ joined words
 bytes_of_numbers [] h = refl
 bytes_of_numbers (w ∷ ws) h =
@@ -38,7 +37,7 @@ bytes_of_numbers (w ∷ ws) h =
     let rest = bytes_of_numbers ws (λ i d l. h (suc i) d (omega (arith, l))) in
     rw (same, rest) refl
 
--- the number of words of the message is the sum over its segments
+-- the number of words of the message is the sum of the lengths of `segments`
 pub total_of : (segments : Held) → total (message_of segments) ≡ sum_by (λ segment. length segment.now) segments
 total_of [] = refl
 total_of (s ∷ segments) =
@@ -47,42 +46,37 @@ total_of (s ∷ segments) =
     ∙ ap (λ (n : ℕ). length s.now + n) (total_of segments)
     ∙ sym (sum_by-cons (λ segment. length segment.now) s segments)
 
--- the message has as many segments as were given
 pub count_of : (segments : Held) → length (message_of segments) ≡ length segments
 count_of segments = length-map segments (λ segment. map word_number segment.now)
 
--- segment `i` of the message has the words of segment `i`
+-- segment `i` of the message has the words of item `i` of `segments`
 pub segment_of : (segments : Held) (i : ℕ) (d : Bor (List (List ℕ))) → i < length segments
     → segment_at (message_of segments) i ≡ map word_number (slice_index_or segments i d).now
 segment_of segments i d h = get_or-map (λ segment. map word_number segment.now) segments i d [] h
 
--- a segment that does not exist has no words
 pub words_of-none : (message : List (List ℕ)) (s : ℕ) → length message ≤ s → words_of message s ≡ None
 words_of-none message s h = rw (le-ltb s (length message) h) refl
 
--- a segment that exists has its number of words
 pub words_of-some : (message : List (List ℕ)) (s : ℕ) → s < length message
     → words_of message s ≡ Some (length (segment_at message s))
 words_of-some message s h = rw (lt-ltb s (length message) h) refl
 
--- a place in range is in a segment that exists
 place_segment : (message : List (List ℕ)) (s k : ℕ) → k < length (segment_at message s) → s < length message
 place_segment [] s k h = absurd (omega arith)
 place_segment (ws ∷ message) zero k h = omega arith
 place_segment (ws ∷ message) (suc s) k h = let e = place_segment message s k h in omega (arith, e)
 
--- each word of each segment is below 2^64
 below : (segments : Held) → AreHeld segments → (s k : ℕ) → slice_index (segment_at (message_of segments) s) k < 2 ^ 64
 below [] h s k = omega arith
 below (x ∷ xs) h zero k = numbers x.now (h 0 x (omega arith)) k
 below (x ∷ xs) h (suc s) k = below xs (λ i d l. h (suc i) d (omega (arith, l))) s k
 
--- segments within the limits are a message
+-- if `segments` are within the limits, `IsMessage` holds of their message
 pub held_message : (segments : Held) → IsHeld (message_of segments) most_words → AreHeld segments
     → IsMessage (message_of segments)
 held_message segments h w = record { some = h.some; few = h.few; room = h.room; each = below segments w }
 
--- facts about segment `i` of the message, in terms of the words of 8 bytes that were given
+-- each lemma of this block is about segment `i` of `message`, in terms of the words of 8 bytes in `segments`
 module _ (segments : Held) (message : List (List ℕ)) (is : message_of segments ≡ message) (i : ℕ)
     (d : Bor (List (List ℕ))) where
   abbrev words : List (List ℕ)
@@ -91,7 +85,6 @@ module _ (segments : Held) (message : List (List ℕ)) (is : message_of segments
   pub seen_segment : i < length segments → segment_at message i ≡ map word_number words
   seen_segment h = ap (λ (m : List (List ℕ)). segment_at m i) (sym is) ∙ segment_of segments i d h
 
-  -- the segment exists
   pub seen_here : (k : ℕ) → k < length (segment_at message i) → i < length segments
   seen_here k h =
       let e = place_segment message i k h in omega (arith, e, ap length is, count_of segments)
@@ -99,7 +92,6 @@ module _ (segments : Held) (message : List (List ℕ)) (is : message_of segments
   pub seen_count : i < length message → i < length segments
   seen_count h = omega (arith, h, ap length is, count_of segments)
 
-  -- segment `i` has as many words as were given
   pub seen_length : i < length segments → length (segment_at message i) ≡ length words
   seen_length h = ap length (seen_segment h) ∙ length-map words word_number
 
@@ -108,7 +100,7 @@ module _ (segments : Held) (message : List (List ℕ)) (is : message_of segments
       let here : i < length message = omega (arith, h, ap length is, count_of segments) in
       ap Some (sym (seen_length h)) ∙ sym (words_of-some message i here)
 
-  -- segment `i` has fewer than 2^32 words, since all segments together do
+  -- if `segments` are within the limits, segment `i` has fewer than 2^32 words
   pub seen_room : IsHeld (message_of segments) most_words → i < length segments → length words < 2 ^ 32
   seen_room h here =
       let there : i < length (message_of segments) = omega (arith, here, count_of segments) in
@@ -116,7 +108,7 @@ module _ (segments : Held) (message : List (List ℕ)) (is : message_of segments
       let long = ap length (segment_of segments i d here) ∙ length-map words word_number in
       omega (arith, part, long, h.room)
 
-  -- one word of segment `i` is the number of the given 8 bytes
+  -- word `k` of segment `i` of `message` is the number of the 8 bytes of word `k` in `segments`
   pub seen_word : (k : ℕ) → k < length (segment_at message i)
       → word_number (slice_index_or words k []) ≡ slice_index (segment_at message i) k
   seen_word k h =
@@ -125,7 +117,8 @@ module _ (segments : Held) (message : List (List ℕ)) (is : message_of segments
       sym (get_or-map word_number words k [] 0 inside)
       ∙ ap (λ (ws : List ℕ). slice_index ws k) (sym (seen_segment here))
 
-  -- a range of bytes of segment `i` is a range of the given bytes
+  -- if `AreHeld` holds of `segments`, each range of the bytes of segment `i` of `message` is the same range of
+  -- `joined words`
   pub seen_bytes : AreHeld segments → (start len : ℕ) → i < length message
       → take len (drop (8 * start) (joined words)) ≡ take len (drop (8 * start) (bytes (segment_at message i)))
   seen_bytes h start len there =
@@ -136,7 +129,8 @@ module _ (segments : Held) (message : List (List ℕ)) (is : message_of segments
 min_again : (a b m : ℕ) → min (min a m + b) m ≡ min (a + b) m
 min_again a b m = omega arith
 
--- adding the length of segment `i` to the capped sum of the lengths before it gives the capped sum with it
+-- The sum of the lengths is capped at 2^64 - 1. Adding the length of segment `i` to the capped sum of the segments
+-- before `i` gives the capped sum of the first `i + 1` segments.
 pub counted_more : (segments : Held) (i : ℕ) (d : Bor (List (List ℕ))) → i < length segments → (old one new : ℕ)
     → old ≡ min (sum_by (λ segment. length segment.now) (take i segments)) (2 ^ 64 - 1)
     → one ≡ length (slice_index_or segments i d).now → new ≡ min (old + one) (2 ^ 64 - 1)

@@ -8,7 +8,6 @@ use Rattle.capn_stream.specs.Segments.{IsWord, joined}
 abbrev pub HaveEight : List (List ℕ) → Type 0
 HaveEight words = (i : ℕ) → i < length words → length (slice_index_or words i []) ≡ 8
 
--- the joined bytes of words are 8 for each word
 pub length-joined : (words : List (List ℕ)) → HaveEight words → 8 * length words ≡ length (joined words)
 length-joined [] h = refl
 length-joined (w ∷ ws) h =
@@ -16,18 +15,16 @@ length-joined (w ∷ ws) h =
     let rest = length-joined ws (λ i l. h (suc i) (omega (arith, l))) in
     omega (arith, first, rest, length-append w (joined ws))
 
--- a prefix of bytes is bytes
 AreBytes-front : (xs ys : List ℕ) → AreBytes (xs ++ ys) → AreBytes xs
 AreBytes-front [] ys h i = omega arith
 AreBytes-front (x ∷ xs) ys h zero = h 0
 AreBytes-front (x ∷ xs) ys h (suc i) = AreBytes-front xs ys (λ j. h (suc j)) i
 
--- the items after a prefix of bytes are bytes
 AreBytes-back : (xs ys : List ℕ) → AreBytes (xs ++ ys) → AreBytes ys
 AreBytes-back [] ys h = h
 AreBytes-back (x ∷ xs) ys h = AreBytes-back xs ys (λ j. h (suc j))
 
--- lists of 8 numbers are words if all the numbers are bytes
+-- if each of `words` has 8 numbers, and all numbers are bytes, `IsWord` holds of each of `words`
 pub all_words : (words : List (List ℕ)) → HaveEight words → AreBytes (joined words) → All IsWord words
 all_words [] h bs k d l = absurd (omega (arith, l))
 all_words (w ∷ ws) h bs zero d l = (h 0 (omega arith), AreBytes-front w (joined ws) bs)

@@ -6,13 +6,13 @@ use Rattle.capn_stream.specs.FrameRefusal.{IsWhole, announced_words, entries, en
 use Rattle.capn_stream.proofs.shared.FrameLaws.{announces, whole_of}
 use Rattle.capn_stream.proofs.shared.WholeFrames.{read_stands}
 
--- if `bs` announce one segment, the announced number of words is that segment's size
+-- if the count in `bs` is 0, the announced number of words is the first size after the count
 one_size : (bs : List ℕ) → entry_number bs ≡ 0 → announced_words bs ≡ entry_number (drop 4 bs)
 one_size bs one =
     let P : ℕ → ℕ = λ n. sum (entries (n + 1) (drop 4 bs)) in
     omega (arith, ap P one)
 
--- `bs` have the whole frame of one segment of `n` words
+-- `bs` have the complete frame of one segment of `n` words
 pub record HasOne (bs : List ℕ) (most n : ℕ) : Type 0 where
   pub table : 8 ≤ length bs
   pub one : entry_number bs ≡ 0
@@ -20,7 +20,7 @@ pub record HasOne (bs : List ℕ) (most n : ℕ) : Type 0 where
   pub room : n ≤ most
   pub contents : 8 + 8 * n ≤ length bs
 
--- bytes that begin with a message of one segment have the whole frame of the message
+-- bytes that begin with a message of one segment have the complete frame of the message
 pub has_one : (bs : List ℕ) (most : ℕ) (ws : List ℕ) (taken : ℕ) → StandsFirst bs most (ws ∷ []) taken
     → HasOne bs most (entry_number (drop 4 bs))
 has_one bs most ws taken h =
@@ -37,7 +37,7 @@ has_one bs most ws taken h =
       contents = omega (arith, whole.2, size, head);
     }
 
--- bytes that have the whole frame of one segment begin with the message of that segment
+-- bytes that have the complete frame of one segment begin with the message of that segment
 pub one_stands : (bs : List ℕ) (most n : ℕ) (ws : List ℕ) → most ≤ 2 ^ 28 → AreBytes bs → HasOne bs most n
     → IsBare (take (8 + 8 * n - 8) (drop 8 bs)) ws → StandsFirst bs most (ws ∷ []) (8 + 8 * n)
 one_stands bs most n ws small below h bare =

@@ -1,4 +1,4 @@
--- Lemmas for `read_message`: the result for the whole rest of the input.
+-- Lemmas for `read_message`: the result in terms of all input that the reader had before the call.
 use Rattle.std.proofs.Common.{◌≡◌, inl, inr, ℕ, ◌<◌, ◌≤◌, List, [], ◌++◌, length, take, Bool, IsErrOf}
 use Rattle.std.proofs.Common.{Option, Some, None, IfSome, Result, Ok, Err, refl, ap, sym, subst, ◌∙◌, arith, append-nil}
 use Rattle.std.proofs.Common.{length-append}
@@ -65,12 +65,11 @@ only input most (Err faults.Io) h message taken t = inr (inr refl)
 only input most (Err (faults.Frame e)) (refused, other, some) message taken t =
     absurd (other (refused_whole input most e (whole_of input most message taken t) refused))
 
--- `StopsInside` implies `ReadGives`
 pub read_gives : (old new : Option (List ℕ)) (failed : Bool) (most : ℕ) (r : Result (Option (List (List ℕ))) ReadFault)
     → StopsInside old new failed most r → ReadGives old new failed most r
 read_gives old new failed most r (bytes, received, place) = (bytes, received)
 
--- `Memory` is returned only if the input is not at its end
+-- the result is `Memory` only if the input is not at its end
 pub wants_first : (old new : Option (List ℕ)) (failed : Bool) (most : ℕ)
     (r : Result (Option (List (List ℕ))) ReadFault)
     → StopsInside old new failed most r → IfSome old (λ input. IsErrOf r faults.Memory → 0 < length input)

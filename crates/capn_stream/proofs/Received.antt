@@ -14,7 +14,7 @@ use Rattle.capn_stream.specs.declared.fault.ReadFault.{ReadFault}
 use Rattle.capn_stream.specs.declared.fault.ReadFault.TheVariants as faults
 use Rattle.capn_stream.proofs.shared.Wanting.{many_segments_end, many_words_end, taken_whole, unfinished_within}
 
--- if a frame needs all bytes of `piece`, all are taken, and `TakesIn` holds of the result
+-- if a frame needs all bytes of `piece`, the framer receives all of them, and `TakesIn` holds of the result
 pub takes_in : (before : Framing) (piece : List ℕ) (n : ℕ) (mid : Framing) (r : Option (List (List ℕ)))
     (after : Framing) → Feeds before piece n mid
     → ((more : List ℕ) → IsFrame (before.rest ++ more) before.most → length piece ≤ length more)
@@ -34,7 +34,7 @@ Consumes-kept (Some xs) None c bs read kept = absurd read
 Consumes-kept (Some xs) (Some ys) None bs read kept = absurd kept
 Consumes-kept (Some xs) (Some ys) (Some zs) bs read kept = read ∙ ap (λ (ts : List ℕ). bs ++ ts) (sym kept)
 
--- if the input has ended, `StopsInside` holds of the result
+-- Case: if the input has ended, `StopsInside` holds of the result.
 pub received_end : (a b : Option (List ℕ)) (rest : List ℕ) (most : ℕ) (failed : Bool)
     (r : Result (Option (List (List ℕ))) ReadFault) → EndGives rest most r → Consumes a b rest → IsAtEnd b
     → length rest ≤ most_bytes most → failed ≡ false
@@ -52,7 +52,7 @@ received_end a b rest most failed (Err (faults.Frame frames.Cut)) ends read end 
     (rest, record { read = read; bounded = bound; answer = ((ends, end), fine) }, end)
 received_end a b rest most failed (Err (faults.Frame frames.Failed)) ends read end bound fine = absurd ends
 
--- if the reader failed, `StopsInside` holds of `Io`
+-- Case: if the reader has failed, `StopsInside` holds of `Io`.
 pub received_io : (a b c : Option (List ℕ)) (rest : List ℕ) (most : ℕ) (failed : Bool) → Consumes a b rest → Keeps b c
     → length rest ≤ most_bytes most → IsUnfinished rest most → failed ≡ true
     → StopsInside a c failed most (Err faults.Io)
@@ -62,7 +62,7 @@ received_io a b c rest most failed read kept bound part broken = (
   unfinished_within rest most part,
 )
 
--- facts after `count` bytes were read into `buf` and taken by the framer
+-- each lemma of this block is about the state after `count` bytes were read into `buf` and fed to the framer
 module _ (a b c : Option (List ℕ)) (before : Framing) (buf : List ℕ) (count : ℕ) (after : Framing) (most : ℕ)
     (failed : Bool) (same : before.most ≡ most) (read : Consumes a b before.rest) (more : Consumes b c (take count buf))
     (within : count ≤ length buf)
@@ -107,33 +107,29 @@ module _ (a b c : Option (List ℕ)) (before : Framing) (buf : List ℕ) (count 
   received_err (faults.Frame frames.Cut) took = absurd took
   received_err (faults.Frame frames.Failed) took = absurd took
 
--- if a reader gave no byte, it is at its end
+-- a reader that gave no byte for a `buf` that is not empty is at its end
 pub received_none : (a b c : Option (List ℕ)) (rest buf : List ℕ) (n : ℕ) → n ≡ 0 → Consumes a b rest
     → Consumes b c (take n buf) × (n ≡ 0 → 0 < length buf → IsAtEnd c) → 0 < length buf → Consumes a c rest × IsAtEnd c
 received_none a b c rest buf n zero read more some =
     let none : Consumes b c [] = subst (λ (k : ℕ). Consumes b c (take k buf)) zero more.0 in
     (subst (Consumes a c) (append-nil rest) (Consumes-trans a b c rest [] read none), more.1 zero some)
 
--- after `count` more bytes were read, the framer has the same bytes as were read
 pub received_more : (a b c : Option (List ℕ)) (before : Framing) (buf : List ℕ) (count : ℕ) (after : Framing)
     → Consumes a b before.rest → Consumes b c (take count buf) → after.rest ≡ before.rest ++ take count buf
     → Consumes a c after.rest
 received_more a b c before buf count after read more e =
     subst (Consumes a c) (sym e) (Consumes-trans a b c before.rest (take count buf) read more)
 
--- the bytes that the framer took are the bytes that were read
 pub took_front : (before : Framing) (buf tail : List ℕ) (count : ℕ) (r : Result (Option (List (List ℕ))) ReadFault)
     (after : Framing) → count ≤ length buf → TakesIn before (take count (buf ++ tail)) r after
     → TakesIn before (take count buf) r after
 took_front before buf tail count r after within took =
     subst (λ (xs : List ℕ). TakesIn before xs r after) (take-append-le count buf tail within) took
 
--- `TakesIn` in the case that no message was whole
 pub took_none : (before : Framing) (piece : List ℕ) (r : Option (List (List ℕ))) (after : Framing) → r ≡ None
     → TakesIn before piece (Ok r) after → TakesIn before piece (Ok None) after
 took_none before piece r after e took = subst (λ (o : Option (List (List ℕ))). TakesIn before piece (Ok o) after) e took
 
--- `TakesIn` in the case that a message was whole
 pub took_some : (before : Framing) (piece : List ℕ) (r : Option (List (List ℕ))) (message : List (List ℕ))
     (after : Framing) → r ≡ Some message → TakesIn before piece (Ok r) after
     → TakesIn before piece (Ok (Some message)) after

@@ -12,11 +12,10 @@ use Rattle.std.proofs.lemmas.Bool.{cases_lt}
 use Rattle.std.specs.Io.KnownBytes.{Appends}
 use Rattle.std.proofs.KnownBytes.{Appends-trans}
 
--- a text that was written in full is also a prefix that was written
 pub begun_all : (a b : Option (List ℕ)) (text : List ℕ) → Appends a b text → HasBegun a b text
 begun_all a b text wrote = (length text, subst (Appends a b) (sym (take-length text)) wrote)
 
--- if a prefix of `front` was written, a prefix of the whole text was written
+-- if `text` begins with `front` and a prefix of `front` was written, a prefix of `text` was written
 pub begun_front : (a b : Option (List ℕ)) (front rest text : List ℕ) → text ≡ front ++ rest → HasBegun a b front
     → HasBegun a b text
 begun_front a b front rest text is (count, wrote) =
@@ -32,7 +31,7 @@ begun_front a b front rest text is (count, wrote) =
           ∙ take-length xs ∙ sym (take_all k xs past))
     ]
 
--- if `front` was written and then a prefix of `more`, a prefix of both, joined, was written
+-- if `front` was written and then a prefix of `more`, a prefix of `front ++ more` was written
 pub begun_more : (a b c : Option (List ℕ)) (front more : List ℕ) → Appends a b front → HasBegun b c more
     → HasBegun a c (front ++ more)
 begun_more a b c front more first (count, wrote) = (
@@ -41,7 +40,7 @@ begun_more a b c front more first (count, wrote) = (
       (Appends-trans a b c front (take count more) first wrote),
 )
 
--- the entries of the first `s + 1` sizes are those of the first `s` and then one more
+-- the entries of the first `s + 1` sizes are the entries of the first `s` sizes and then one more entry
 pub sizes_more : (message : List (List ℕ)) (s size : ℕ) → s < length message → size ≡ length (segment_at message s)
     → flat_map (λ ws. entry (length ws)) (take (s + 1) message) ≡ flat_map (λ ws. entry (length ws)) (take s message)
     ++ entry size
@@ -50,7 +49,7 @@ sizes_more message s size here is =
     ∙ sym (flat_map_more (λ ws. entry (length ws)) [] (take s message) (segment_at message s))
     ∙ ap (λ (n : ℕ). flat_map (λ ws. entry (length ws)) (take s message) ++ entry n) (sym is)
 
--- the bytes of the first `s + 1` segments are those of the first `s` and then those of segment `s`
+-- the bytes of the first `s + 1` segments are the bytes of the first `s` segments and then the bytes of segment `s`
 pub contents_more : (message : List (List ℕ)) (s : ℕ) → s < length message
     → segment_bytes (take (s + 1) message) ≡ segment_bytes (take s message) ++ bytes (segment_at message s)
 contents_more message s here = ap segment_bytes (take_more message s [] here)

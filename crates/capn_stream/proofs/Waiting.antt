@@ -1,4 +1,4 @@
--- Lemmas for `feed`, `finish` and `take`: a frame that is fed in pieces is whole or unfinished.
+-- Lemmas for `feed`, `finish` and `take`: a frame that is fed in pieces is complete or unfinished.
 use Rattle.std.proofs.Common.{◌≡◌, ◌⊎◌, inl, inr, ℕ, ◌*◌, ◌/◌, ◌^◌, ◌<◌, ◌≤◌, List, [], ◌∷◌, ◌++◌}
 use Rattle.std.proofs.Common.{length, take, drop, Bool, false, Some, Result, Ok, Err, IfOk, IfErr, is_err}
 use Rattle.std.proofs.Common.{refl, ap, sym, subst, ◌∙◌, arith, length-drop}
@@ -60,7 +60,7 @@ module _ (bs : List ℕ) (most start end : ℕ) (ends : List ℕ) (small : most 
   pub waiting_room : total (cut 0 ends (tail start bs)) ≤ most
   waiting_room = waiting_stands.room
 
--- bytes that reach the end of the last stage are a frame
+-- if `IsDone` holds of the stage and the bytes `bs`, `bs` are a frame
 pub frame_done : (stage : Stage) (bs : List ℕ) (most : ℕ) (ends : List ℕ) → most ≤ 2 ^ 28 → IsStage stage bs most ends
     → IsDone stage bs → IsFrame bs most
 frame_done stages.Count bs most ends small is done = absurd done
@@ -71,7 +71,7 @@ frame_done (stages.Contents start end) bs most ends small is done = (
   waiting_room bs most start end ends small is done,
 )
 
--- `bs` are unfinished if they are so whenever they are not empty
+-- empty bytes are unfinished, so it suffices to prove that bytes that are not empty are unfinished
 cut_or_empty : (bs : List ℕ) (most : ℕ) → (0 < length bs → IsUnfinished bs most) → IsUnfinished bs most
 cut_or_empty [] most h = inl refl
 cut_or_empty (b ∷ bs) most h = h (omega arith)
@@ -87,7 +87,7 @@ unfinished (stages.Contents start end) bs most ends knows (inl short) never =
     inr (inr (inr (knows.0, knows.1, omega (arith, short, knows.3))))
 unfinished stage bs most ends knows (inr done) never = absurd (never done)
 
--- bytes that do not reach the end of their stage are unfinished
+-- bytes `bs` that are shorter than `stage` needs are unfinished
 pub unfinished_stage : (stage : Stage) (bs : List ℕ) (most : ℕ) (ends : List ℕ) → IsStage stage bs most ends
     → length bs < need stage → IsUnfinished bs most
 unfinished_stage stages.Count bs most ends is short = unfinished stages.Count bs most ends is.knows (inl short) (λ d. d)
@@ -101,7 +101,8 @@ pub frame_held : (stage : Stage) (bs : List ℕ) (most : ℕ) (ends : List ℕ) 
 frame_held stage bs most ends small is (inr done) = inl (frame_done stage bs most ends small is done)
 frame_held stage bs most ends small is (inl short) = inr (unfinished_stage stage bs most ends is short)
 
--- the new fields of the framer give the result of `feed`
+-- for a framer without an earlier error, `FeedGives` follows from `Fills` if `feed` returns `Ok`, and from
+-- `IsHeadRefused` if `feed` returns an error
 pub feed_gives : (rest piece : List ℕ) (most : ℕ) (r : Result ℕ FrameFault) (stage : Stage) (new ends : List ℕ)
     (before after : Bool) → most ≤ 2 ^ 28 → before ≡ false → after ≡ is_err r
     → IfOk r (λ n. Fills rest piece most n new stage ends) → IfErr r (λ e. IsHeadRefused (rest ++ piece) most e)
@@ -126,7 +127,7 @@ feed_gives rest piece most (Err (TooManyWords n)) stage new ends before after sm
 feed_gives rest piece most (Err Cut) stage new ends before after small fine is_failed fills stop = stop
 feed_gives rest piece most (Err Failed) stage new ends before after small fine is_failed fills stop = absurd stop
 
--- if the frame is whole, `TakeGives` holds of the message
+-- if `bs` are a complete frame, `TakeGives` holds of its message
 pub take_gives : (bs : List ℕ) (most start end : ℕ) (ends : List ℕ) (failed : Bool) (message : List (List ℕ))
     → most ≤ 2 ^ 28 → IsStage (stages.Contents start end) bs most ends → length bs ≡ end → failed ≡ false
     → message ≡ cut 0 ends (tail start bs)

@@ -2,12 +2,13 @@
 use Rattle.std.specs.Prelude.{ℕ, ◌+◌, ◌-◌, ◌<◌, ◌≤◌, List, [], ◌∷◌, length, take, drop}
 use Rattle.capn_words.specs.Message.{AreWords, most_segments, most_words}
 
--- the words from index `from` on, cut into segments at the given ends; the last segment has the rest of the words
+-- The words from index `from` on, cut into segments at the given ends. The last segment has all words after the last
+-- end.
 abbrev pub cut : ℕ → List ℕ → List ℕ → List (List ℕ)
 cut from [] ws = drop from ws ∷ []
 cut from (end ∷ ends) ws = take (end - from) (drop from ws) ∷ cut end ends ws
 
--- `ends` do not fall, all are at least `from`, and the last is at most `len`
+-- `ends` never decrease, all are at least `from`, and the last is at most `len`
 abbrev pub AreRising : ℕ → List ℕ → ℕ → Type 0
 AreRising from [] len = from ≤ len
 AreRising from (end ∷ ends) len = (from ≤ end) × AreRising end ends len

@@ -33,56 +33,55 @@ head_length count = 4 + 4 * count + padding count
 abbrev pub frame_length : List ℕ → ℕ
 frame_length bs = head_length (announced_segments bs) + 8 * announced_words bs
 
--- `bs` have the whole count, which announces at most 4,096 segments
+-- `bs` have the complete count, which announces at most 4,096 segments
 abbrev pub HasCount : List ℕ → Type 0
 HasCount bs = (4 ≤ length bs) × (announced_segments bs ≤ most_segments)
 
--- `bs` have the whole table and its padding, and the count announces at most 4,096 segments
+-- `bs` have the complete table with its padding, and the count announces at most 4,096 segments
 abbrev pub HasHead : List ℕ → Type 0
 HasHead bs = HasCount bs × (head_length (announced_segments bs) ≤ length bs)
 
--- `bs` have the whole announced frame, which has at most `most` words
+-- `bs` have the complete announced frame, which has at most `most` words
 abbrev pub IsWhole : List ℕ → ℕ → Type 0
 IsWhole bs most = HasHead bs × (announced_words bs ≤ most) × (frame_length bs ≤ length bs)
 
--- the greatest number of segments of a message that is read without memory (our own)
+-- the greatest number of segments of a message that is read without an allocation (our own)
 abbrev pub most_few : ℕ
 most_few = 64
 
--- `bs` have the whole announced frame, with at most `most` words, and the table announces more than 64 segments, so
--- that memory is needed for their ends
+-- `bs` have the complete announced frame, with at most `most` words. The table announces more than 64 segments, so that
+-- memory is needed for the ends of the segments.
 abbrev pub HasTable : List ℕ → ℕ → Type 0
 HasTable bs most = IsWhole bs most × (most_few < announced_segments bs)
 
--- the count 63 announces the greatest number of segments that are read without memory
+-- the count 63 announces `most_few` segments, the most that are read without an allocation
 no_more : announced_segments (63 ∷ 0 ∷ 0 ∷ 0 ∷ []) ≡ most_few
 unfolding entry_number
 no_more = refl
 
--- the count 64 announces one segment more than are read without memory
+-- the count 64 announces one segment more than `most_few`
 one_more : announced_segments (64 ∷ 0 ∷ 0 ∷ 0 ∷ []) ≡ most_few + 1
 unfolding entry_number
 one_more = refl
 
--- `bs` are cut within a frame. Either the count is cut. Or at most 4,096 segments are announced, and the table or its
--- padding is cut. Or at most `most` words are announced too, and the contents are cut.
+-- `bs` end within a frame: within the count; within the table or its padding, if the count announces at most 4,096
+-- segments; or within the contents, if the table also announces at most `most` words.
 abbrev pub IsCut : List ℕ → ℕ → Type 0
 IsCut bs most =
     ((0 < length bs) × (length bs < 4))
     ⊎ (HasCount bs × (length bs < head_length (announced_segments bs)))
     ⊎ (HasHead bs × (announced_words bs ≤ most) × (length bs < frame_length bs))
 
--- `bs` do not go beyond the part of the frame that is needed next. Either `bs` end with the count or before. Or at most
--- 4,096 segments are announced, and `bs` end with the table and its padding or before. Or at most `most` words are
--- announced too, and `bs` end with the contents or before.
+-- `bs` do not go beyond the count; or not beyond the table and its padding, if the count announces at most 4,096
+-- segments; or not beyond the contents, if the table also announces at most `most` words.
 abbrev pub EndsWithin : List ℕ → ℕ → Type 0
 EndsWithin bs most =
     (length bs ≤ 4)
     ⊎ (HasCount bs × (length bs ≤ head_length (announced_segments bs)))
     ⊎ (HasHead bs × (announced_words bs ≤ most) × (length bs ≤ frame_length bs))
 
--- `bs` are refused with the given fault if at most `most` words are allowed. Each test requires that the tests before
--- it passed. `Memory` says nothing of the bytes, and `Failed` is never the fault.
+-- `bs` may be refused with the given fault if at most `most` words are allowed. Each test requires that the earlier
+-- tests passed. `Memory` is possible for all `bs`, and `Failed` for none.
 abbrev pub IsFrameRefused : List ℕ → ℕ → FrameFault → Type 0
 IsFrameRefused bs most Memory = ⊤
 IsFrameRefused bs most Empty = length bs ≡ 0

@@ -1,5 +1,5 @@
--- The frame of a message in a stream: the table of its segments, padding up to a whole word, and the segments. (Page:
--- serialization over a stream.)
+-- The frame of a message in a stream: the table of its segments, padding to a multiple of 8 bytes, and the segments.
+-- (Page: serialization over a stream.)
 use Rattle.std.specs.Prelude.{◌≡◌, ℕ, ◌+◌, ◌-◌, ◌/◌, ◌%◌, ◌^◌, ◌<◌, ◌≤◌, ◌==◌, if◌then◌else◌, List, ◌++◌, length, take}
 use Rattle.std.specs.Prelude.{replicate, slice_index}
 use Rattle.std.specs.List.{flat_map}
@@ -26,8 +26,8 @@ padding count = if count % 2 == 0 then 4 else 0
 abbrev pub segment_bytes : List (List ℕ) → List ℕ
 segment_bytes message = flat_map bytes message
 
--- an accepted table can announce `message`: `message` has 1 to 4,096 segments (our own: no more), each of fewer than
--- 2^32 words, which are below 2^64
+-- An accepted table can announce `message`. The message has 1 to 4,096 segments (our own: no more). Each segment has
+-- fewer than 2^32 words, and each word is below 2^64.
 pub record FitsTable (message : List (List ℕ)) : Type 0 where
   pub some : 0 < length message
   pub few : length message ≤ most_segments

@@ -5,17 +5,18 @@ use Rattle.capn_stream.specs.FrameRefusal.{IsFrameRefused}
 use Rattle.capn_stream.specs.declared.fault.FrameFault.{FrameFault}
 use Rattle.capn_stream.specs.declared.fault.FrameFault.TheVariants.{Memory}
 
--- bytes begin with the frame of at most one message, and that frame has one length, whatever number of words is allowed
+-- bytes `bs` begin with the frame of at most one message, and this frame has one length, whatever number of words is
+-- allowed
 abbrev pub OneFrame : Type 0
 OneFrame = (bs : List ℕ) (most limit : ℕ) (m n : List (List ℕ)) (taken len : ℕ)
     → StandsFirst bs most m taken → StandsFirst bs limit n len → (m ≡ n) × (taken ≡ len)
 
--- bytes are refused for at most one reason other than `Memory`
+-- for a given `most`, the bytes `bs` are refused for at most one reason other than `Memory`
 abbrev pub OneRefusal : Type 0
 OneRefusal = (bs : List ℕ) (most : ℕ) (e f : FrameFault)
     → IsFrameRefused bs most e → IsFrameRefused bs most f → e ≢ Memory → f ≢ Memory → e ≡ f
 
--- bytes that begin with the frame of a message within the limit are refused only for `Memory`
+-- bytes `bs` that begin with the frame of a message of at most `most` words are refused only for `Memory`
 abbrev pub FramedAreNotRefused : Type 0
 FramedAreNotRefused = (bs : List ℕ) (most : ℕ) (m : List (List ℕ)) (taken : ℕ) (e : FrameFault)
     → StandsFirst bs most m taken → IsFrameRefused bs most e → e ≡ Memory

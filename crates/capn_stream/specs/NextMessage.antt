@@ -15,8 +15,8 @@ use Rattle.capn_stream.specs.declared.fault.ReadFault.TheVariants as faults
 abbrev pub most_bytes : ℕ → ℕ
 most_bytes most = 8 * (most_table_words + most)
 
--- `bs`, which were read, are no frame for the given fault, which is `TooManySegments`, `TooManyWords` or `Cut`; after
--- `Cut` the reader is at its end
+-- The bytes `bs` were read, and are refused with `TooManySegments`, `TooManyWords` or `Cut`. For `Cut` the reader is at
+-- its end.
 abbrev pub IsUnread : List ℕ → ℕ → Option (List ℕ) → FrameFault → Type 0
 IsUnread bs most new frames.Memory = ⊥
 IsUnread bs most new frames.Empty = ⊥
@@ -25,7 +25,8 @@ IsUnread bs most new (frames.TooManyWords n) = IsFrameRefused bs most (frames.To
 IsUnread bs most new frames.Cut = IsFrameRefused bs most frames.Cut × IsAtEnd new
 IsUnread bs most new frames.Failed = ⊥
 
--- reading `bs` leads to the given result, if `new` is what the reader has left and `failed` says whether it failed
+-- the result of reading the bytes `bs`, if `new` is the reader's remaining input and `failed` says whether the reader
+-- failed
 abbrev pub ReadAnswers : List ℕ → ℕ → Option (List ℕ) → Bool → Result (Option (List (List ℕ))) ReadFault → Type 0
 ReadAnswers bs most new failed (Ok (Some message)) = Frames bs message × (total message ≤ most) × (failed ≡ false)
 ReadAnswers bs most new failed (Ok None) = (bs ≡ []) × IsAtEnd new × (failed ≡ false)
@@ -33,20 +34,20 @@ ReadAnswers bs most new failed (Err faults.Memory) = failed ≡ false
 ReadAnswers bs most new failed (Err faults.Io) = IsUnfinished bs most × (failed ≡ true)
 ReadAnswers bs most new failed (Err (faults.Frame e)) = IsUnread bs most new e × (failed ≡ false)
 
--- the reader gave `bytes`, which are no longer than the longest frame of `most` words, and they lead to `result`
+-- the reader gave `bytes`, which are no longer than the longest frame of `most` words, and `ReadAnswers` holds of them
 pub record Received (old new : Option (List ℕ)) (failed : Bool) (most : ℕ)
     (result : Result (Option (List (List ℕ))) ReadFault) (bytes : List ℕ) : Type 0 where
   pub read : Consumes old new bytes
   pub bounded : length bytes ≤ most_bytes most
   pub answer : ReadAnswers bytes most new failed result
 
--- the reader gave some bytes, which lead to `result`
+-- the reader gave some bytes, and `Received` holds of these bytes and `result`
 abbrev pub ReadGives : Option (List ℕ) → Option (List ℕ) → Bool → ℕ → Result (Option (List (List ℕ))) ReadFault → Type 0
 ReadGives old new failed most result = (bytes : List ℕ) × Received old new failed most result bytes
 
--- The place of the reader after a read that took `bs`. After a refusal the reader is inside the message: exactly after
--- the count if that announces too many segments, after the table and its padding if they announce too many words, and
--- at the end of the input if the message is cut. `Memory` requires that at least one byte was read.
+-- `bs` are the bytes that the reader gave. For `Memory` and `Io`, `EndsWithin` holds of `bs`, and for `Memory` there is
+-- at least one byte. For `TooManySegments`, `bs` are the count, for `TooManyWords` the table with its padding, and for
+-- `Cut` the reader is at its end.
 abbrev pub StandsInside : List ℕ → ℕ → Option (List ℕ) → Result (Option (List (List ℕ))) ReadFault → Type 0
 StandsInside bs most new (Ok answer) = ⊤
 StandsInside bs most new (Err faults.Memory) = (0 < length bs) × EndsWithin bs most
@@ -58,13 +59,14 @@ StandsInside bs most new (Err (faults.Frame (frames.TooManyWords n))) = length b
 StandsInside bs most new (Err (faults.Frame frames.Cut)) = IsAtEnd new
 StandsInside bs most new (Err (faults.Frame frames.Failed)) = ⊥
 
--- the reader gave some bytes, which lead to `result`, and after a refusal the reader is inside the message
+-- the reader gave some bytes, and `Received` and `StandsInside` hold of these bytes and `result`
 abbrev pub StopsInside : Option (List ℕ) → Option (List ℕ) → Bool → ℕ → Result (Option (List (List ℕ))) ReadFault
     → Type 0
 StopsInside old new failed most result = (bytes : List ℕ) × Received old new failed most result bytes
     × StandsInside bytes most new result
 
--- a framer took `piece`, after which a message is whole, or the frame is unfinished, or the frame is refused
+-- the result of feeding `piece` to a framer in the state `before`: a complete message, `None` for an unfinished frame,
+-- the fault of the frame, or `Memory`
 abbrev pub TakesIn : Framing → List ℕ → Result (Option (List (List ℕ))) ReadFault → Framing → Type 0
 TakesIn before piece (Ok (Some message)) after = Frames (before.rest ++ piece) message × (total message ≤ before.most)
 TakesIn before piece (Ok None) after =
@@ -81,7 +83,8 @@ TakesIn before piece (Err (faults.Frame (frames.TooManyWords n))) after =
 TakesIn before piece (Err (faults.Frame frames.Cut)) after = ⊥
 TakesIn before piece (Err (faults.Frame frames.Failed)) after = ⊥
 
--- the result at the end of the input, if `rest` was read: no message has begun, or the message is cut
+-- the result at the end of the input, if `rest` was read: `None` if `rest` is empty, or `Cut` if `rest` ends within a
+-- frame
 abbrev pub EndGives : List ℕ → ℕ → Result (Option (List (List ℕ))) ReadFault → Type 0
 EndGives rest most (Ok (Some message)) = ⊥
 EndGives rest most (Ok None) = rest ≡ []
@@ -94,8 +97,8 @@ EndGives rest most (Err (faults.Frame (frames.TooManyWords n))) = ⊥
 EndGives rest most (Err (faults.Frame frames.Cut)) = IsFrameRefused rest most frames.Cut
 EndGives rest most (Err (faults.Frame frames.Failed)) = ⊥
 
--- The result of a read, if `input` is all that the reader had to give. It is the first message in `input`, or no
--- message if `input` is empty, or the reason why `input` begins with no message. For `Memory` and `Io` nothing is said.
+-- The result of reading from a reader with the input `input`: the first message in `input`, or no message if `input` is
+-- empty, or the reason why `input` begins with no message. `Memory` and `Io` say nothing of `input`.
 abbrev pub ReadsFirst : ℕ → Result (Option (List (List ℕ))) ReadFault → List ℕ → Type 0
 ReadsFirst most (Ok (Some message)) input = (taken : ℕ) × StandsFirst input most message taken
 ReadsFirst most (Ok None) input = input ≡ []

@@ -1,4 +1,4 @@
--- A message in segments that lie apart, each a list of words of 8 bytes. (Our own.)
+-- A message in segments that lie apart in memory, each a list of words of 8 bytes. (Our own.)
 use Rattle.std.specs.Prelude.{◌≡◌, ℕ, ◌-◌, ◌^◌, ◌<◌, ◌≤◌, List, length, map, min, Result, Ok, Err}
 use Rattle.std.specs.Borrow.{Bor}
 use Rattle.std.specs.List.{flat_map}
@@ -28,15 +28,15 @@ pub record IsHeld (message : List (List ℕ)) (most : ℕ) : Type 0 where
 abbrev pub counted_words : List (List ℕ) → ℕ
 counted_words message = min (total message) (2 ^ 64 - 1)
 
--- the segments are no message of at most `most` words, for the given fault; each test requires that the tests before it
--- passed
+-- The segments are refused with the given fault if at most `most` words are allowed. Each test requires that the
+-- earlier tests passed.
 abbrev pub IsUnheld : List (List ℕ) → ℕ → SegmentsFault → Type 0
 IsUnheld message most Empty = length message ≡ 0
 IsUnheld message most (TooManySegments n) = (n ≡ length message) × (most_segments < n)
 IsUnheld message most (TooManyWords n) = (0 < length message) × (length message ≤ most_segments)
     × (most < total message) × (n ≡ counted_words message)
 
--- the result of reading the segments of `message`: `message` if it is within the limits, otherwise the first refusal
+-- the result of reading the segments of `message`: `message` if it is within the limits, otherwise the first fault
 abbrev pub ReadsSegments : List (List ℕ) → ℕ → Result (List (List ℕ)) SegmentsFault → Type 0
 ReadsSegments message most (Ok read) = (read ≡ message) × IsHeld message most
 ReadsSegments message most (Err e) = IsUnheld message most e

@@ -1,4 +1,4 @@
--- Definitions that no public clause cites.
+-- Definitions that are not used in the contract of any public function.
 pub mod StoredWords
 pub mod FrameOutput
 pub mod Stages

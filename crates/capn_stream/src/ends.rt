@@ -1,4 +1,4 @@
-//! The ends of the segments of a message. The first 63 are kept without memory.
+//! The ends of the segments of a message. The first 63 ends are stored without an allocation.
 
 ghost use Rattle.std.specs.Prelude.{◌≡◌, ◌+◌, ◌-◌, ◌*◌, ◌^◌, ◌<◌, ◌≤◌, ◌∷◌, ◌++◌, [], length, take, sum};
 ghost use Rattle.std.specs.Prelude.{slice_index, IfOk, OnErr};
@@ -10,14 +10,13 @@ ghost use Rattle.capn_stream.specs.inner.KeptEnds.{AreKept, kept};
 use crate::table::{ends_of, entry_at, total_of};
 use std::alloc::{AllocError, Allocator};
 
-/// The greatest number of ends that are kept in place.
+/// The greatest number of ends that are stored in the array.
 const MOST_KEPT: usize = 63;
 
-/// The ends of all segments of a message but the last: the first 63 in place, and the others in a list. Only the number
-/// of a segment decides which of the two has the segment's end.
+/// The ends of all segments of a message except the last. The first 63 ends are in an array, and the others in a list.
 #[derive(Debug, Drop)]
 pub(crate) struct Ends<A: Allocator> {
-    /// The number of ends in both parts.
+    /// The number of ends in `few` and `rest` together.
     count: usize,
     /// The first 63 ends. The items from index `count` on are not used.
     few: [u32; MOST_KEPT],
@@ -67,7 +66,8 @@ impl<A: Allocator> Ends<A> {
     }
 }
 
-/// Returns the ends of the first `count` segments of `sizes`, in words. The items from index `count` on are 0.
+/// Returns the ends, in words, of the first `count` segments with the sizes `sizes`. The items from index `count` on
+/// are 0.
 fn few_ends(sizes: &[u8], count: usize) -> [u32; MOST_KEPT]
     requires few { count ≤ 63 }
     requires inside { 4 * count ≤ length sizes.now }
@@ -83,8 +83,8 @@ fn few_ends(sizes: &[u8], count: usize) -> [u32; MOST_KEPT]
     ends
 }
 
-/// Returns the ends of the segments of `sizes` from number `first` on and below `count`, in words. Takes memory only if
-/// there is such a segment.
+/// Returns the ends, in words, of the segments from number `first` to number `count - 1`. `sizes` has the sizes of all
+/// segments. Takes memory only if `first` is below `count`.
 fn rest_ends<A: Allocator>(
     alloc: A,
     sizes: &[u8],
@@ -104,7 +104,8 @@ fn rest_ends<A: Allocator>(
     ends_of(alloc, &sizes[4 * first..], count - first, from)
 }
 
-/// Returns the ends of the first `count` segments of `sizes`, in words. Takes memory only if `count` is above 63.
+/// Returns the ends, in words, of the first `count` segments with the sizes `sizes`. Takes memory only if `count` is
+/// above 63.
 pub(crate) fn read_ends<A: Allocator>(
     alloc: A,
     sizes: &[u8],

@@ -19,7 +19,7 @@ pub enum FrameFault {
     TooManyWords(u64),
     /// The bytes end within the count, the table, its padding or the contents.
     Cut,
-    /// An earlier call was refused. Only a [`Framer`](crate::Framer) returns this fault.
+    /// An earlier call returned an error. Only a [`Framer`](crate::Framer) returns this fault.
     Failed,
 }
 

@@ -14,11 +14,11 @@ use std::alloc::Allocator;
 
 /// Reads the message whose frame is first in `bytes`. Returns the message and the number of bytes of the frame.
 ///
-/// The message borrows `bytes`. Memory is taken from `alloc` only for the ends of more than 64 segments. The refusals
-/// are tested in this order: `Empty`; `Cut` within the count; `TooManySegments`; `Cut` within the table or its padding;
+/// The message borrows `bytes`. Memory is taken from `alloc` only for the ends of more than 64 segments. The errors are
+/// tested in this order: `Empty`; `Cut` within the count; `TooManySegments`; `Cut` within the table or its padding;
 /// `TooManyWords` with the sum of the sizes, if that is above `max_words`; `Cut` within the contents. `Memory` is
-/// returned only if an allocation was refused, after all of those tests. `Failed` is never returned. Padding is
-/// ignored. (Page: serialization over a stream. The order of the tests is our own.)
+/// tested last, and is returned only if an allocation was refused. `Failed` is never returned. Padding is ignored.
+/// (Page: serialization over a stream. The order of the tests is our own.)
 pub fn first<'a, A: Allocator + Copy>(
     alloc: A,
     bytes: &'a [u8],
@@ -30,7 +30,7 @@ pub fn first<'a, A: Allocator + Copy>(
         → StandsFirst bytes.now max_words message taken
         → MatchResult result (λ answer. (answer.0 ≡ message) × (answer.1 ≡ taken)) (λ e. e ≡ FrameFault.Memory) }
     ensures refused { IfErr result (λ e. IsFrameRefused bytes.now max_words e) }
-    // `Memory` is returned only if a whole frame of more than 64 segments is first in `bytes`.
+    // `Memory` is returned only if a complete frame of more than 64 segments is first in `bytes`.
     ensures memory { IsErrOf result FrameFault.Memory → HasTable bytes.now max_words }
 {
     let head = read_head(bytes, max_words)?;
@@ -46,9 +46,9 @@ pub fn first<'a, A: Allocator + Copy>(
 /// Reads the message of one segment whose frame is first in `bytes`. Returns the message and the number of bytes of the
 /// frame.
 ///
-/// If the message has one segment and at most `max_words` words, the result is that of [`first`]. Otherwise the result
-/// is `None`, and [`first`] returns a message of more segments or a refusal. Takes no memory. (Page: serialization over
-/// a stream.)
+/// If the message has one segment and at most `max_words` words, the message and the number are those of [`first`].
+/// Otherwise the result is `None`, and [`first`] returns a message of more segments or an error. Takes no memory.
+/// (Page: serialization over a stream.)
 #[inline(always)]
 pub fn first_bare<'a>(bytes: &'a [u8], max_words: u32) -> Option<(Bare<'a>, usize)>
     requires { max_words ≤ most_message_words }

@@ -58,8 +58,8 @@ fn put_head<S: Space>(head: &mut [u8], space: &S) -> usize
     at
 }
 
-/// Writes the table of the message `space` and its padding to `writer`. Both are put together in `head`, which has room
-/// for them.
+/// Writes the table of the message `space` and its padding to `writer`. Both are put together in `head`, which is long
+/// enough for them.
 fn write_head<W: Write, S: Space>(
     writer: &mut Watched<W>,
     space: &S,
@@ -97,7 +97,7 @@ fn write_table<W: Write, S: Space>(writer: &mut Watched<W>, space: &S) -> Result
 
 /// Writes the frame of the message `space` to `writer`: its table, padding of zeros, and its contents.
 ///
-/// Returns `Io` exactly if the writer fails. A prefix of the frame was written then. Takes no memory.
+/// Returns `Io` exactly if the writer fails. In that case a prefix of the frame was written. Takes no memory.
 pub fn write_message<W: Write, S: Space>(writer: &mut Watched<W>, space: &S) -> Result<(), Io>
     requires { has_failed writer.old ≡ false }
     ensures ok { OnOk result (Appends (W.contents (inner_of writer.old)) (W.contents (inner_of writer.new))

@@ -11,8 +11,9 @@ use std::marker::Model;
 
 /// A message whose segments follow one another in borrowed bytes.
 ///
-/// No byte is copied. In addition to the borrow, the ends of all segments but the last are kept. Up to 63 of them are
-/// inside the value, so that a message of at most 64 segments takes no memory. Every segment is found in constant time.
+/// No byte is copied. The value has the borrow, and the ends of all segments except the last. Up to 63 ends are stored
+/// in the value itself, so that a message of at most 64 segments takes no memory. Every segment is found in constant
+/// time.
 #[derive(Debug, Drop)]
 pub struct Framed<'a, A: Allocator = Global> {
     words: Bare<'a>,
@@ -32,7 +33,7 @@ impl<'a, A: Allocator> Model for Framed<'a, A> {
 }
 
 impl<'a, A: Allocator> Framed<'a, A> {
-    /// Returns the message that `words` are, cut into segments at `ends`.
+    /// Returns the message whose segments are `words`, cut at `ends`.
     pub(crate) fn new(words: Bare<'a>, ends: Ends<A>) -> Framed<'a, A>
         requires kept { AreKept ends }
         requires ends { AreEnds (kept ends) words }

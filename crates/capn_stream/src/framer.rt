@@ -14,12 +14,12 @@ use std::alloc::{Allocator, Global};
 use std::marker::Model;
 use std::mem;
 
-/// A reader of messages from a stream that is given in pieces, cut anywhere. (Our own.)
+/// A reader of messages from a stream that is given in pieces. A piece may end anywhere. (Our own.)
 ///
-/// A framer keeps the bytes that were fed since the last message was taken. It also keeps what the table among those
-/// bytes announces, so that no byte is read twice. The buffer grows with the bytes that are fed, first by 64, and never
-/// by what a table announces. After any refusal each later `feed` and `finish` returns `Failed`, and `take` returns
-/// `None`.
+/// A framer stores the bytes that were fed since the last message was taken. It also stores what the table among those
+/// bytes announces, so that no byte is read twice. The first bytes of a frame reserve at least 64 bytes in the buffer.
+/// The buffer then grows with the bytes that are fed, and not with the size that a table announces. After any error
+/// each later `feed` and `finish` returns `Failed`, and `take` returns `None`.
 #[derive(Debug, Drop)]
 pub struct Framer<A: Allocator + Copy = Global> {
     alloc: A,
@@ -56,17 +56,17 @@ impl<A: Allocator + Copy> Framer<A> {
         }
     }
 
-    /// Takes bytes of `piece` until a message is whole or `piece` ends. Returns the number of bytes taken.
+    /// Reads bytes of `piece` until a message is complete or `piece` ends. Returns the number of bytes that were read.
     ///
-    /// While a whole message waits to be taken, `feed` takes no bytes. Refusals: `TooManySegments` once the count is
+    /// While a complete message waits to be taken, `feed` reads no bytes. Errors: `TooManySegments` once the count is
     /// read, `TooManyWords` once the table and its padding are read, `Memory` if an allocation was refused, `Failed`
-    /// after an earlier refusal.
+    /// after an earlier error.
     #[inline]
     pub fn feed(&mut self, piece: &[u8]) -> Result<usize, FrameFault>
         ensures gives { FeedGives self.old piece.now result self.new }
-        // If a table announces too many words, the framer keeps all of the table.
+        // If a table announces too many words, the framer stores all of the table.
         ensures kept { IfErr result (λ e. KeepsHead self.old.rest piece.now self.old.most self.new.rest e) }
-        // `Memory` is returned only if `piece` has bytes and no whole message waits.
+        // `Memory` is returned only if `piece` has bytes and no complete message waits.
         ensures memory { IsErrOf result FrameFault.Memory
             → (0 < length piece.now) × IsUnfinished self.old.rest self.old.most }
     {
@@ -85,8 +85,8 @@ impl<A: Allocator + Copy> Framer<A> {
         fed
     }
 
-    /// Returns the number of bytes that the current part of the frame still needs. No message is whole before that many
-    /// more bytes are fed.
+    /// Returns the number of bytes that the current part of the frame still needs. No message is complete before that
+    /// many more bytes are fed.
     pub(crate) fn wanted(&self) -> usize
         requires { self.now.failed ≡ false }
         ensures least { (more : List ℕ) → IsFrame (self.now.rest ++ more) self.now.most → result ≤ length more }
@@ -105,9 +105,9 @@ impl<A: Allocator + Copy> Framer<A> {
         self.frame.is_empty()
     }
 
-    /// Returns the bytes that were fed since the last message was taken: the whole frame of the message that waits, or
-    /// the first part of a frame. After a refusal with `TooManyWords` the result is a prefix of the frame with the
-    /// whole table. After other refusals the result is not specified.
+    /// Returns the bytes that were fed since the last message was taken: the complete frame of the message that waits,
+    /// or the beginning of a frame. After `TooManyWords` the result is a prefix of the frame with the complete table.
+    /// After other errors the result is not specified.
     #[inline]
     pub fn held(&self) -> &[u8]
         ensures { result.now ≡ self.now.rest }
@@ -115,7 +115,8 @@ impl<A: Allocator + Copy> Framer<A> {
         &self.frame
     }
 
-    /// Takes the message that waits, if there is one. Takes no memory, since the buffer is moved.
+    /// Returns the complete message that waits to be taken, and removes it from the framer. Returns `None` if no
+    /// message is complete, and after an error. Takes no memory, since the buffer is moved.
     #[inline]
     pub fn take(&mut self) -> Option<Stored<A>>
         ensures { TakeGives self.old result self.new }
@@ -136,8 +137,8 @@ impl<A: Allocator + Copy> Framer<A> {
 
     /// Tells the framer that the stream ends here.
     ///
-    /// Refusals: `Cut` if a message has begun and is not whole, `Failed` after an earlier refusal. After `Ok` the
-    /// stream may continue. Takes no memory.
+    /// Errors: `Cut` if a message has begun and is not complete, `Failed` after an earlier error. After `Ok` the stream
+    /// may continue. Takes no memory.
     pub fn finish(&mut self) -> Result<(), FrameFault>
         ensures { FinishGives self.old result self.new }
     {

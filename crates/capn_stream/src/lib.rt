@@ -1,4 +1,4 @@
-//! Messages in a stream, which are segment tables followed by segments: read, written, and received in pieces.
+//! Calls that read, write and receive the messages of a stream. A message is a segment table followed by segments.
 //!
 //! [`first`] reads the first message in some bytes, as a [`Framed`] that borrows them. [`first_bare`] reads a message
 //! of one segment, as a list of words without a table. [`frame`] writes a message as the bytes of its frame:
@@ -9,11 +9,12 @@
 //! ```
 //!
 //! Here `text` equals the first `taken` bytes of `input`, except for the padding of the table. Any bytes may be given.
-//! `first` returns a message if and only if the bytes begin with a frame within the limits, and otherwise the reason
-//! why they do not. Memory is never allocated for what a table only announces. [`laws`] states what holds of frames
-//! apart from any call: at most one frame is first, and bytes are refused for one reason. [`table`] reads only a table,
-//! for a caller that keeps the ends of the segments in its own way. [`Segments`] is a message whose segments lie apart,
-//! as a builder keeps them. A `Segments` reads like the frame of its segments, and takes no memory.
+//! If the bytes begin with a frame within the limits, `first` returns the message, or `Memory` if an allocation was
+//! refused. Otherwise `first` returns the reason why the bytes are refused. No memory is allocated for segments that a
+//! table announces but that are missing. [`laws`] states that bytes begin with at most one frame, and are refused for
+//! at most one reason other than `Memory`. [`table`] reads only a table, for a caller that keeps the ends of the
+//! segments in its own way. [`Segments`] is a message whose segments lie apart in memory, as a builder keeps them. It
+//! is read like a [`Framed`], and takes no memory.
 #![tactic(auto)]
 
 mod ends;

@@ -16,7 +16,8 @@ use std::io::Read;
 /// The greatest number of bytes that are requested from the reader at once.
 const PIECE: usize = 16_384;
 
-/// Feeds `piece` to `framer`, and takes the message if it is then whole. All of `piece` belongs to the current frame.
+/// Feeds `piece` to `framer`, and returns the message if it is then complete. All of `piece` belongs to the current
+/// frame.
 fn take_in<A: Allocator + Copy>(
     framer: &mut Framer<A>,
     piece: &[u8],
@@ -45,7 +46,7 @@ fn end_of<A: Allocator + Copy>(mut framer: Framer<A>) -> Result<Option<Stored<A>
     }
 }
 
-/// Reads the next message of `reader` in pieces. Takes the bytes of that message and no others.
+/// Reads the next message of `reader` in pieces. Reads the bytes of that message and no others.
 fn receive<R: Read, A: Allocator + Copy>(
     alloc: A,
     reader: &mut Watched<R>,
@@ -73,16 +74,16 @@ fn receive<R: Read, A: Allocator + Copy>(
     }
 }
 
-/// Reads the next message, of at most `max_words` words, from `reader`. Takes the bytes of that message and no others.
+/// Reads the next message, of at most `max_words` words, from `reader`. Reads the bytes of that message and no others.
 ///
 /// No single read requests more than 16,384 bytes, nor more than the current part of the message still needs. The
 /// message grows on `alloc` with the bytes that were read, never by what its table announces.
 ///
-/// Returns `None` exactly if the input ends between messages. Refusals: `Memory` if an allocation was refused, which
-/// can happen only if the input is not at its end. `Io` exactly if the reader fails. `Frame` with `TooManySegments`,
-/// `TooManyWords` or `Cut`. After a refusal the reader is inside the message, and never beyond it. For
-/// `TooManySegments` the reader is after the 4 bytes of the count, for `TooManyWords` after the table and its padding,
-/// for `Cut` at the end of the input.
+/// Returns `None` exactly if the input ends between messages. Errors: `Memory` if an allocation was refused, which can
+/// happen only if the input is not at its end. `Io` exactly if the reader fails. `Frame` with `TooManySegments`,
+/// `TooManyWords` or `Cut`. After an error the reader is within the message, and never beyond it. For `TooManySegments`
+/// the reader is after the 4 bytes of the count, for `TooManyWords` after the table and its padding, for `Cut` at the
+/// end of the input.
 pub fn read_message<R: Read, A: Allocator + Copy>(
     alloc: A,
     reader: &mut Watched<R>,
@@ -90,15 +91,15 @@ pub fn read_message<R: Read, A: Allocator + Copy>(
 ) -> Result<Option<Stored<A>>, ReadFault>
     requires small { max_words ≤ most_message_words }
     requires fine { has_failed reader.old ≡ false }
-    // `ReadsFirst` says what `result` means for the whole rest of the input. If that rest begins with a message, the
-    // message is returned, unless an allocation is refused or the reader fails.
+    // `ReadsFirst` states the meaning of `result` for all input that `reader` had before the call. If that input begins
+    // with a message, the message is returned, unless an allocation is refused or the reader fails.
     ensures exact { IfSome (R.remaining (inner_of reader.old)) (ReadsFirst max_words result) }
     ensures only { IfSome (R.remaining (inner_of reader.old)) (OnlyFirst max_words result) }
-    // Only the bytes of that message are taken. A reader that failed is reported.
+    // Only the bytes of that message are read. A reader that failed is reported.
     ensures gives { ReadGives (R.remaining (inner_of reader.old)) (R.remaining (inner_of reader.new))
         (has_failed reader.new)
         max_words result }
-    // After a refusal the reader is inside the message, at the place that `StopsInside` gives.
+    // After an error, the bytes that were read do not go beyond the message. `StopsInside` says where they end.
     ensures inside { StopsInside (R.remaining (inner_of reader.old)) (R.remaining (inner_of reader.new))
         (has_failed reader.new)
         max_words result }

@@ -15,7 +15,7 @@ fn joined_bytes(words: &[[u8; 8]], count: usize) -> &[u8]
     unsafe { slice::from_raw_parts(words.as_ptr() as *const u8, count) }
 }
 
-/// Returns `bytes`. The clause tells the prover that each is below 256.
+/// Returns `bytes`. The condition `each` tells the prover that each byte is below 256.
 fn as_bytes(bytes: &[u8]) -> &[u8]
     ensures same { result.now ≡ bytes.now }
     ensures each { AreBytes bytes.now }

@@ -1,4 +1,4 @@
-//! The type `Segments`, a message of borrowed segments that lie apart.
+//! The type `Segments`, a message of borrowed segments that lie apart in memory.
 
 ghost use Rattle.std.specs.Prelude.{◌≡◌, ◌≤◌, ◌<◌, length, All, List, ℕ, Ok};
 ghost use Rattle.capn_words.specs.Message.{most_message_words};
@@ -30,7 +30,7 @@ fn words_in(segments: &[&[[u8; 8]]]) -> u64
     words
 }
 
-/// A message over borrowed segments. Contracts see the message as the list of its segments' words.
+/// A message over borrowed segments. Contracts see the message as a list of segments, each a list of words.
 ///
 /// No byte is copied, and each word is found in constant time.
 #[derive(Debug, Drop)]
@@ -55,12 +55,12 @@ impl<'a> Segments<'a> {
     /// Reads `segments` as a message. Each segment is a list of words of 8 bytes, the least significant byte first, and
     /// may be empty. Nothing is copied.
     ///
-    /// Refusals: `Empty` if there are no segments. `TooManySegments` with the number of segments, if that is above
-    /// 4,096. `TooManyWords` with the number of words in all segments, if that is above `max_words`. (Our own: the
-    /// limits.)
+    /// Errors: `Empty` if there are no segments. `TooManySegments` with the number of segments, if that is above 4,096.
+    /// `TooManyWords` with the number of words in all segments, if that is above `max_words`. (Our own: the limits.)
     pub fn new(segments: &'a [&'a [[u8; 8]]], max_words: u32) -> Result<Segments<'a>, SegmentsFault>
         requires { max_words ≤ most_message_words }
-        // `ReadsSegments` says what each `result` means. If `segments` are within the limits, their words are returned.
+        // `ReadsSegments` states the meaning of `result`. If `segments` are within the limits, their words are
+        // returned.
         ensures exact { ReadsSegments (message_of segments.now) max_words result }
         ensures only { IsHeld (message_of segments.now) max_words → result ≡ Ok (message_of segments.now) }
     {

@@ -1,4 +1,4 @@
-//! The faults of segments that lie apart, read as a message.
+//! The reasons why separate segments are refused as a message.
 
 use std::error::Error;
 use std::fmt;

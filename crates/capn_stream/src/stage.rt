@@ -38,7 +38,7 @@ fn end_of(stage: Stage) -> usize
     }
 }
 
-/// Returns the number of bytes that the part of `stage` still lacks after `bytes`.
+/// Returns the number of bytes from the end of `bytes` to the end of the part that `stage` receives.
 pub(crate) fn part_left(stage: Stage, bytes: &[u8]) -> usize
     requires fits { FitsStage stage }
     requires within { length bytes.now ≤ spec.need stage }
@@ -97,7 +97,8 @@ fn read_count(bytes: &[u8]) -> Result<usize, FrameFault>
     Ok(count as usize)
 }
 
-/// What a table gives: the offsets in the frame at which the contents begin and end, and the ends of the segments.
+/// The result of reading a table: the offsets in the frame at which the contents begin and end, and the ends of the
+/// segments.
 #[derive(Drop)]
 struct Bounds<A: Allocator = Global> {
     start: usize,
@@ -131,8 +132,8 @@ fn read_table<A: Allocator>(
     })
 }
 
-/// Appends bytes of `piece` to the frame `bytes` until the frame is whole or `piece` ends. Returns the number of bytes
-/// appended. Updates `stage` and `ends`. The message may have at most `most` words.
+/// Appends bytes of `piece` to the frame `bytes` until the frame is complete or `piece` ends. Returns the number of
+/// bytes appended. Updates `stage` and `ends`. The message may have at most `most` words.
 pub(crate) fn fill<A: Allocator + Copy>(
     alloc: A,
     bytes: &mut Vec<u8, A>,

@@ -11,7 +11,7 @@ use capn_words::{Place, Space};
 use std::alloc::{Allocator, Global};
 use std::marker::Model;
 
-/// The words of a frame after its table. The value owns the whole frame.
+/// The words of a frame after its table. The value owns all of the frame.
 #[derive(Debug, Drop)]
 pub(crate) struct Words<A: Allocator = Global> {
     frame: Vec<u8, A>,
@@ -125,7 +125,7 @@ impl<A: Allocator> Model for Stored<A> {
 }
 
 impl<A: Allocator> Stored<A> {
-    /// Returns the message that the words of `frame` from byte `start` on are, cut into segments at `ends`.
+    /// Returns the message whose segments are the words of `frame` from byte `start` on, cut at `ends`.
     pub(crate) fn new(frame: Vec<u8, A>, start: usize, ends: Vec<u32, A>) -> Stored<A>
         requires tail { IsTail frame.items start }
         requires ends { AreEnds ends.items (words_in (length (drop start frame.items) / 8) (drop start frame.items)) }

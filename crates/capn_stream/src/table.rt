@@ -1,5 +1,5 @@
-//! The segment table of a frame: its numbers and length, and the refusals of a frame whose bytes are all there. Frames
-//! received in pieces are refused in `stage.rt` and `framer.rt`.
+//! The segment table of a frame: its numbers and length, and the faults of a frame that is given in one piece. The
+//! faults of frames that are received in pieces are found in `stage.rt` and `framer.rt`.
 
 ghost use Rattle.std.specs.Prelude.{◌≡◌, ℕ, ◌+◌, ◌*◌, ◌^◌, ◌<◌, ◌≤◌, length, drop, sum, IfOk, IfErr, IsErrOf, OnErr};
 ghost use Rattle.std.specs.Prelude.{vec_capacity};
@@ -40,8 +40,8 @@ pub fn total_of(sizes: &[u8], count: usize) -> u64
     total
 }
 
-/// Returns the ends of the first `count` segments of `sizes`, in words, if the first segment begins at word `from`.
-/// Allocates once, for exactly `count` ends, and all their sizes are present in `sizes`.
+/// Returns the ends, in words, of the first `count` segments with the sizes `sizes`. The first segment begins at word
+/// `from`. Allocates once, for exactly `count` ends.
 pub(crate) fn ends_of<A: Allocator>(
     alloc: A,
     sizes: &[u8],
@@ -82,10 +82,11 @@ pub struct Head {
     pub words: usize,
 }
 
-/// Reads the table at the front of `bytes`, if the frame is whole and has at most `max_words` words.
+/// Reads the table at the front of `bytes`, and returns its numbers if the frame is complete and has at most
+/// `max_words` words.
 ///
-/// The refusals are those of [`first`](crate::first), by the same tests in the same order, except that `Memory` is
-/// never returned, since no memory is taken. (Page: serialization over a stream. The order of the tests is our own.)
+/// The tests and their order are those of [`first`](crate::first). The call takes no memory, and never returns
+/// `Memory`. (Page: serialization over a stream. The order of the tests is our own.)
 pub fn read_head(bytes: &[u8], max_words: u32) -> Result<Head, FrameFault>
     requires { max_words ≤ most_message_words }
     ensures whole { IfOk result (λ head. IsWhole bytes.now max_words) }

@@ -1,4 +1,4 @@
--- The size of an object with a given form, and the definition of an object inside its message.
+-- The size of an object with a given form, and the condition that an object lies within its message.
 use Rattle.std.specs.Prelude.{ℕ, ◌+◌, ◌*◌, ◌<◌, ◌≤◌, List, length, ⊤}
 use Rattle.capn_words.specs.Message.{segment_at}
 use Rattle.capn_words.specs.declared.space.Place.{Place}
@@ -42,12 +42,12 @@ abbrev pub AreNumbers : Pointer → Type 0
 AreNumbers (Many o width n) = IsPlain width
 AreNumbers _ = ⊥
 
--- segment `at.segment` exists, and `n` words from `at` on are inside the segment
+-- segment `at.segment` exists, and `n` words from `at` on are within the segment
 pub record IsContent (message : List (List ℕ)) (at : Place) (n : ℕ) : Type 0 where
   pub exists : at.segment < length message
   pub within : at.word + n ≤ length (segment_at message at.segment)
 
--- if the target is content, the content lies inside its segment of `message`, and the rows of a composite list are
+-- if the target is content, the content lies within its segment of `message`, and the rows of a composite list are
 -- within the words that its pointer gives
 abbrev pub IsInMessage : List (List ℕ) → Target → Type 0
 IsInMessage message (targets.Content s start shape pads) =

@@ -15,7 +15,7 @@ use Rattle.capn_target.specs.declared.target.Fault.{Fault}
 use Rattle.capn_target.specs.declared.target.Fault.TheVariants as faults
 use Rattle.capn_words.specs.Pointers.{field, pointer_of}
 
--- the width in the pointer to a list of numbers of the given width
+-- the `Width` that the pointer to a list has, if the list's numbers have the given `NumberWidth`
 abbrev pub list_width : NumberWidth → Width
 list_width bit = W1
 list_width byte = W8
@@ -27,7 +27,8 @@ list_width oct = W64
 abbrev pub words_for : ℕ → ℕ
 words_for n = (n + 63) / 64
 
--- the number of words of the content of a list; for a composite list a tag word and `n` words after it
+-- The number of words of the content of a list of `n` elements. For a composite list, `n` is a number of words, and the
+-- tag word is added.
 abbrev pub content_words : Width → ℕ → ℕ
 content_words W0 n = 0
 content_words W1 n = words_for n
@@ -54,18 +55,19 @@ module _ (message : List (List ℕ)) where
       else Ok (targets.Content s start (shapes.Rows (field 2 30 tag) (field 32 16 tag) (field 48 16 tag) span) pads)
       else Err faults.BadTag
 
-  -- `found`, if `n` words from `start` on are inside the segment, otherwise `Range`; `n` may be 0 (our own)
+  -- `found` if `n` words from `start` on are within the segment, otherwise `Range` (our own: `n` may be 0)
   abbrev pub if_inside : (segment start n : ℕ) → Result Target Fault → Result Target Fault
   if_inside s start n found = if nat_lt (length (segment_at message s)) (start + n) then Err faults.Range else found
 
-  -- the list whose content starts at `start`: rows after a tag word, or elements of one width
+  -- The list whose content starts at `start`, or the fault of its range or of its tag word. The content is rows after a
+  -- tag word, or elements of one width.
   abbrev pub list : (segment start pads : ℕ) → Width → (n : ℕ) → Result Target Fault
   list s start pads Rows n =
       if_inside s start (1 + n) (tagged s start pads n (slice_index (segment_at message s) start))
   list s start pads width n =
       if_inside s start (content_words width n) (Ok (targets.Content s start (shapes.Many width n) pads))
 
-  -- the struct whose content starts at `start`, with the given sizes of its sections
+  -- the struct whose content starts at `start`, with the given sizes of its sections, or the fault of its range
   abbrev pub struct : (segment start pads data_words pointers : ℕ) → Result Target Fault
   struct s start pads data_words pointers =
       if_inside s start (data_words + pointers) (Ok (targets.Content s start (shapes.Node data_words pointers) pads))
@@ -80,15 +82,16 @@ module _ (message : List (List ℕ)) where
   list_from s (Ok start) pads width n = list s start pads width n
   list_from s (Err e) pads width n = Err e
 
-  -- the struct or list that the pointer at `word` of the segment leads to, in the slot itself or in a pad of one word
+  -- The struct or list that the given pointer leads to, or the fault. The pointer is at `word` of the segment, and is
+  -- the slot itself or a landing pad of one word.
   abbrev pub target_from : (segment word pads : ℕ) → Pointer → Result Target Fault
   target_from s w pads (Node o data_words pointers) = struct_from s (content_start w o) pads data_words pointers
   target_from s w pads (Many o width n) = list_from s (content_start w o) pads width n
   target_from s w pads _ = Err faults.BadPad
 
-  -- The content that the second word of a two-word landing pad describes. The first word gave `start`. A null second
-  -- word describes a struct without words, and any offset in the second word is ignored. (Our own: both.) Any other
-  -- pointer is `BadPad`.
+  -- The content at `start` that the second word of a two-word landing pad describes, or the fault. Null describes a
+  -- struct without words, and the offset of a struct or list pointer is ignored. (Our own: both.) Any other pointer is
+  -- `BadPad`.
   abbrev pub second_pad : (segment start : ℕ) → Pointer → Result Target Fault
   second_pad s start Nil = struct s start 2 0 0
   second_pad s start (Node o data_words pointers) = struct s start 2 data_words pointers
@@ -102,8 +105,8 @@ module _ (message : List (List ℕ)) where
   is_second_pad (Many o width n) = true
   is_second_pad _ = false
 
-  -- the target that a pad of two words leads to: the first is a far pointer to the content, and the second describes
-  -- the content
+  -- The target that a pad of two words leads to, or the fault. The first word has to be a far pointer to the content,
+  -- and the second word has to describe the content.
   abbrev pub two_pads : Pointer → Pointer → Result Target Fault
   two_pads (Far false w s) tag =
       if is_second_pad tag
@@ -115,7 +118,7 @@ module _ (message : List (List ℕ)) where
   abbrev pub pointer_in : (segment word : ℕ) → Pointer
   pointer_in s w = pointer_of (slice_index (segment_at message s) w)
 
-  -- `found`, if a landing pad of `n` words at `word` is inside an existing segment, otherwise the fault of the pad
+  -- `found` if a landing pad of `n` words at `word` is within an existing segment, otherwise the fault of the pad
   abbrev pub landing : (segment word n : ℕ) → Result Target Fault → Result Target Fault
   landing s w n found =
       if nat_lt s (length message)

@@ -25,12 +25,12 @@ HasRows tag n shape =
     × (field 2 30 tag * (field 32 16 tag + field 48 16 tag) ≤ n)
 
 module _ (message : List (List ℕ)) where
-  -- `n` words from `start` on are inside segment `s`
+  -- `n` words from `start` on are within segment `s`
   abbrev pub Lies : ℕ → ℕ → ℕ → Type 0
   Lies s start n = start + n ≤ length (segment_at message s)
 
   -- The pointer, without its offset, describes content of the form `shape` at word `start` of segment `s`. The content
-  -- is inside the segment.
+  -- is within the segment.
   abbrev pub Describes : Pointer → ℕ → ℕ → Shape → Type 0
   Describes Nil s start shape = (shape ≡ shapes.Node 0 0) × Lies s start 0
   Describes (Node offset words slots) s start shape = (shape ≡ shapes.Node words slots) × Lies s start (words + slots)
@@ -39,18 +39,19 @@ module _ (message : List (List ℕ)) where
   Describes (Many offset width n) s start shape = (shape ≡ shapes.Many width n) × Lies s start (content_words width n)
   Describes _ s start shape = ⊥
 
-  -- segment `s` exists, and a landing pad of `n` words at `word` is inside the segment
+  -- segment `s` exists, and a landing pad of `n` words at `word` is within the segment
   abbrev pub IsPad : ℕ → ℕ → ℕ → Type 0
   IsPad s word n = (s < length message) × Lies s word n
 
-  -- the pointer at `at` is a struct or list pointer, and leads to the content by its own offset
+  -- the pointer at `at` is a struct or list pointer, and leads by its own offset to the content of the form `shape` at
+  -- word `start` of segment `s`
   pub record Near (at : Place) (s start : ℕ) (shape : Shape) (pads : ℕ) : Type 0 where
     pub offset : LeadsTo at.word (pointer_in message at.segment at.word) start
     pub content : Describes (pointer_in message at.segment at.word) s start shape
     pub here : s ≡ at.segment
     pub none : pads ≡ 0
 
-  -- the pointer at `at` is a far pointer to a pad of one word, which is a struct or list pointer to the content
+  -- the pointer at `at` is a far pointer to a pad of one word, and this word is a struct or list pointer to the content
   pub record ByOnePad (at : Place) (s start : ℕ) (shape : Shape) (pads : ℕ) : Type 0 where
     pub word : ℕ
     pub far : pointer_in message at.segment at.word ≡ Far false word s
@@ -59,8 +60,8 @@ module _ (message : List (List ℕ)) where
     pub content : Describes (pointer_in message s word) s start shape
     pub one : pads ≡ 1
 
-  -- the pointer at `at` is a far pointer to a pad of two words: a far pointer to the content, and a word that describes
-  -- the content
+  -- the pointer at `at` is a far pointer to a pad of two words: the first is a far pointer to the content, and the
+  -- second describes the content
   pub record ByTwoPads (at : Place) (s start : ℕ) (shape : Shape) (pads : ℕ) : Type 0 where
     pub segment : ℕ
     pub word : ℕ

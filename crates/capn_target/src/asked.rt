@@ -1,10 +1,10 @@
-//! The trait `Asked`, a message on which one task is done by calls whose reads are counted.
+//! The trait `Asked`, a message on which one task can be run, and whose reads are counted.
 //!
-//! A call that takes an [`Asked`] in place of a `Space` can do only one task on the message, since the `Asked` is
-//! moved. The task ([`CountedTask`]) gets the message as a value whose reads are counted, and reads no more often than
-//! the message allows. A clause `requires work { M.allows message n }` therefore bounds the work of a call: the call's
-//! body is proved for every message that allows n reads, even one that allows no more. A reference to a `Space` allows
-//! any number of reads, so callers have nothing to prove.
+//! A call that gets an [`Asked`] in place of a `Space` can run only one task on the message, since the `Asked` is
+//! moved. The task, a [`CountedTask`], gets the message as a value whose reads are counted, and reads at most as often
+//! as the message allows. The body of a call with the condition `requires work { M.allows message n }` is proved for
+//! every message that allows n reads, including one that allows no more than n. So the condition bounds the work of the
+//! call. A reference to a `Space` allows any number of reads, so callers have nothing to prove.
 
 ghost use Rattle.std.specs.Prelude.{◌≡◌, ℕ, ◌+◌, ◌<◌, ◌≤◌, List};
 
@@ -13,9 +13,9 @@ use capn_words::Space;
 use std::marker::Brand;
 use std::sync::ledger::{Blank, Ledger};
 
-/// A task on a message, done by calls whose reads are counted.
+/// A task on a message whose reads are counted.
 pub trait CountedTask {
-    /// The result of the task.
+    /// The type of the task's result.
     type Told;
 
     /// The relation between a message and the result of the task on it.
@@ -24,7 +24,7 @@ pub trait CountedTask {
     /// The greatest number of reads and turns of loops that the task counts, for any message.
     ghost most: { Self → ℕ };
 
-    /// Does the task on the message `space`. The reads are counted in `reads`.
+    /// Runs the task on the message `space`, and counts the reads in `reads`.
     fn run<S: Space, L: Ledger>(
         self,
         space: &CountedSpace<'_, S, L>,
@@ -34,9 +34,9 @@ pub trait CountedTask {
         ensures work { reads.new ≤ reads.old + most self };
 }
 
-/// A task on a message and a buffer, done by calls whose reads are counted.
+/// A task on a message whose reads are counted, and on a buffer.
 pub trait CountedWriter {
-    /// The result of the task.
+    /// The type of the task's result.
     type Told;
 
     /// The type of the buffer's items.
@@ -48,7 +48,7 @@ pub trait CountedWriter {
     /// The greatest number of reads and turns of loops that the task counts, for any message.
     ghost most: { Self → ℕ };
 
-    /// Does the task on the message `space` and the buffer `out`. The reads are counted in `reads`.
+    /// Runs the task on the message `space` and the buffer `out`, and counts the reads in `reads`.
     fn run<S: Space, L: Ledger>(
         self,
         space: &CountedSpace<'_, S, L>,
@@ -59,7 +59,7 @@ pub trait CountedWriter {
         ensures work { reads.new ≤ reads.old + most self };
 }
 
-/// A message on which one task is done.
+/// A message on which one task can be run.
 pub trait Asked {
     /// The segments of the message, each as the list of its words.
     ghost message: { Self → List (List ℕ) };
@@ -67,14 +67,14 @@ pub trait Asked {
     /// The condition that the given number of reads is allowed.
     ghost allows: { Self → ℕ → Type 0 };
 
-    /// Does `task` with a new count. The count begins with one read of the number of segments, so the message has to
-    /// allow one read more than the task counts.
+    /// Runs `task` with a new count. The message has to allow one read more than the `most` of `task`, since the count
+    /// begins with one read of the number of segments.
     fn ask<T: CountedTask>(self, task: T) -> T::Told
         requires { allows self (T.most task + 1) }
         ensures { T.tells task (message self) result };
 
-    /// Does `task` on the buffer `out` with a new count. The count begins with one read of the number of segments, so
-    /// the message has to allow one read more than the task counts.
+    /// Runs `task` on the buffer `out` with a new count. The message has to allow one read more than the `most` of
+    /// `task`, since the count begins with one read of the number of segments.
     fn ask_into<T: CountedWriter>(self, task: T, out: &mut [T::Item]) -> T::Told
         requires { allows self (T.most task + 1) }
         ensures { T.tells task (message self) out.old out.new result };
@@ -98,7 +98,7 @@ impl<'s, S: Space> Asked for &'s S {
     }
 }
 
-/// Does `task` on the message `space` with a new count.
+/// Runs `task` on the message `space` with a new count.
 #[inline(always)]
 fn run_counted<S: Space, T: CountedTask>(space: &S, task: T) -> T::Told
     ensures { T.tells task (S.message space.now) result }
@@ -106,7 +106,7 @@ fn run_counted<S: Space, T: CountedTask>(space: &S, task: T) -> T::Told
     run_with_ledger::<S, T, Brand>(space, task, Blank::new(1))
 }
 
-/// Does `task` on the message `space` with a count in the new ledger `blank`.
+/// Runs `task` on the message `space` with a count in the new ledger `blank`.
 #[inline(always)]
 fn run_with_ledger<S: Space, T: CountedTask, L: Ledger>(space: &S, task: T, blank: Blank) -> T::Told
     requires name { blank.name ≡ L.name }
@@ -118,7 +118,7 @@ fn run_with_ledger<S: Space, T: CountedTask, L: Ledger>(space: &S, task: T, blan
     task.run(&space, &mut reads)
 }
 
-/// Does `task` on the message `space` and the buffer `out` with a new count.
+/// Runs `task` on the message `space` and the buffer `out` with a new count.
 #[inline(always)]
 fn write_counted<S: Space, T: CountedWriter>(space: &S, task: T, out: &mut [T::Item]) -> T::Told
     ensures { T.tells task (S.message space.now) out.old out.new result }
@@ -126,7 +126,7 @@ fn write_counted<S: Space, T: CountedWriter>(space: &S, task: T, out: &mut [T::I
     write_with_ledger::<S, T, Brand>(space, task, out, Blank::new(1))
 }
 
-/// Does `task` on the message `space` and the buffer `out` with a count in the new ledger `blank`.
+/// Runs `task` on the message `space` and the buffer `out` with a count in the new ledger `blank`.
 #[inline(always)]
 fn write_with_ledger<S: Space, T: CountedWriter, L: Ledger>(
     space: &S,

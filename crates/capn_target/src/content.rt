@@ -1,4 +1,5 @@
-//! The content at a known word of a segment: its form, or the fault of its range or of its tag word.
+//! The content that starts at a given word of a segment: the form of the content, or the fault of its range or tag
+//! word.
 
 ghost use Rattle.std.specs.Prelude.{◌≡◌, ℕ, ◌<◌, ◌≤◌, ◌+◌, ◌^◌, length, slice_index};
 ghost use Rattle.capn_words.specs.Message.{segment_at};
@@ -23,7 +24,8 @@ pub fn segment_length<S: Space, L: Ledger>(
     space.words(segment, reads).unwrap_or(0)
 }
 
-/// Returns the number of words of `segment`. Reads nothing if `segment` is `known`, which has `size` words.
+/// Returns the number of words of `segment`. Reads nothing if `segment` equals `known`. The segment `known` has `size`
+/// words.
 #[inline(always)]
 pub fn size_of<S: Space, L: Ledger>(
     space: &CountedSpace<'_, S, L>,
@@ -95,8 +97,9 @@ pub fn content_words(width: Width, count: u32) -> u64
     words
 }
 
-/// Returns the struct of `words` and `slots` whose content begins at word `start` of `segment`, which has `size` words.
-/// The landing pad of the struct's pointer has `pads` words. Returns `Range` if the content ends past the segment.
+/// Returns the struct with `words` data words and `slots` pointers whose content begins at word `start` of `segment`.
+/// The segment has `size` words. The landing pad of the struct's pointer has `pads` words. Returns `Range` if the
+/// content ends past the segment.
 #[inline(always)]
 pub fn node_at<S: Space, L: Ledger>(
     space: &CountedSpace<'_, S, L>,

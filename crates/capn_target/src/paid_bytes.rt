@@ -97,7 +97,8 @@ impl<'s> PaidBytes<'s> {
         out.copy_from_slice(self.bytes);
     }
 
-    /// Copies the bytes that are left into memory of `alloc` of exactly their size.
+    /// Copies the bytes that are left into new memory of `alloc`, which has exactly their size. Returns `AllocError` if
+    /// the allocation was refused.
     #[inline(always)]
     pub fn into_items<A: Allocator>(self, alloc: A) -> Result<Items<u8, A>, AllocError>
         ensures { IfOk result (λ bytes. bytes ≡ self.entry) }

@@ -24,14 +24,14 @@ pub fn segment_length<S: Space>(space: &S, segment: u32) -> u32
 
 /// Finds the target of the pointer at `at`, or the first fault of that slot.
 ///
-/// The place has to be in range. The refusals are `Reserved` to `TagOverrun`, tested in this order: the word itself,
-/// the landing pad, the range of the content, the tag word of a composite list. Reads at most four words and takes no
+/// The place has to be in range. The errors are `Reserved` to `TagOverrun`, tested in this order: the word itself, the
+/// landing pad, the range of the content, the tag word of a composite list. Reads at most four words and takes no
 /// memory. (Page: structs, lists, inter-segment pointers, capabilities. The order of the tests is our own.)
 #[inline(always)]
 pub fn resolve<S: Space>(space: &S, at: Place) -> Result<Target, Fault>
     requires { IsPlace (S.message space.now) at }
     ensures exact { result ≡ spec.target (S.message space.now) at }
-    // If `result` is content, the content lies inside its segment, which exists. The rows of a composite list are
+    // If `result` is content, the content lies within its segment, which exists. The rows of a composite list are
     // within the words that the list's pointer gives.
     ensures inside { IfOk result (λ t. IsInMessage (S.message space.now) t) }
 {
@@ -59,7 +59,7 @@ fn resolve_with_ledger<S: Space, L: Ledger>(
     requires one { 0 < blank.parts }
     requires place { IsPlace (S.message space.now) at }
     ensures exact { result ≡ spec.target (S.message space.now) at }
-    // If `result` is content, the content lies inside its segment, which exists. The rows of a composite list are
+    // If `result` is content, the content lies within its segment, which exists. The rows of a composite list are
     // within the words that the list's pointer gives.
     ensures inside { IfOk result (λ t. IsInMessage (S.message space.now) t) }
 {

@@ -1,12 +1,12 @@
 //! The type `CountedSpace`, a message that can be read only by calls that count their reads.
 //!
 //! A function that gets a [`CountedSpace`] in place of a `Space` can read the message only by the calls of
-//! `CountedSpace`, each of which counts. A clause on [`Reads`] therefore bounds the reads of a body, whatever the body
-//! returns. It is proved that each read is counted. The fields are private to this file, no other ledger fits the type,
-//! and no call returns a slice or a `Space`. [`PaidBytes`] are read once, and an [`OnlySegment`] is read by calls that
-//! count in the same ledger. Work on a copy of what was read is not counted. The turns of a loop are counted only if
-//! the author of the loop calls [`Reads::tick`]. A loop without that call is not refused, and its turns are not
-//! bounded.
+//! `CountedSpace`, each of which counts. A condition on [`Reads`] therefore bounds the reads of a body, whatever the
+//! body returns. It is proved that each read is counted. The fields are private to this file, no other ledger fits the
+//! type, and no call returns a slice or a `Space`. [`PaidBytes`] are read once, and an [`OnlySegment`] is read by calls
+//! that count in the same ledger. Work on a copy of what was read is not counted. The turns of a loop are counted only
+//! if the author of the loop calls [`Reads::tick`]. A loop that omits the call is accepted, and its turns are then
+//! unbounded.
 
 ghost use Rattle.std.specs.Prelude.{◌≡◌, ◌≢◌, ◌+◌, ◌/◌, ◌<◌, ◌≤◌, [], ◌∷◌, length, IfSome, IfNone};
 ghost use Rattle.capn_words.specs.Message.{IsMessage, IsPlace, IsRange, word_at, words_of, bytes_at};
@@ -63,8 +63,8 @@ impl<'s, S: Space, L: Ledger> Model for CountedSpace<'s, S, L> {
     ghost invariant = { λ c. IsMessage (S.message c.space.now) };
 }
 
-/// Begins the count of a message's reads. Returns the message of `space` as one that is read by calls that count, and a
-/// count of 1, since this call reads the number of segments once. The ledger `blank` is new.
+/// Begins the count of a message's reads. Returns the message of `space` as a `CountedSpace`, and a count of 1, since
+/// this call reads the number of segments once. The ledger `blank` is new.
 #[inline(always)]
 pub fn count_reads<'s, S: Space, L: Ledger>(
     space: &'s S,
@@ -141,7 +141,8 @@ impl<'s, S: Space, L: Ledger> CountedSpace<'s, S, L> {
     }
 
     /// Returns the `len` bytes from the start of the word at `at` on. Unlike with [`Space::bytes`], each byte can be
-    /// read only once. Counts in `reads` as one read for each 8 bytes, and as one read for a shorter rest.
+    /// read only once. Counts in `reads` as one read for each 8 bytes, and as one read for fewer than 8 bytes at the
+    /// end.
     #[inline(always)]
     pub fn bytes(&self, at: Place, len: usize, reads: &mut Reads<L>) -> PaidBytes<'s>
         requires { IsRange self.now at len }
@@ -152,8 +153,9 @@ impl<'s, S: Space, L: Ledger> CountedSpace<'s, S, L> {
         PaidBytes::of(self.space.bytes(at, len))
     }
 
-    /// Returns the words of the only segment of the message, or `None` if there are more segments. Reading those words
-    /// is faster than reading the message, and counts in the same ledger. Counts in `reads` as at most three reads.
+    /// Returns the words of the only segment of the message, or `None` if there are more segments. Reads of those words
+    /// are faster than reads of the message, and are counted in the same ledger. This call counts at most three reads
+    /// in `reads`.
     #[inline(always)]
     pub fn only_segment(&self, reads: &mut Reads<L>) -> Option<OnlySegment<'s, L>>
         ensures one { IfSome result (λ words. self.now ≡ words ∷ []) }

@@ -1,4 +1,4 @@
-//! The call `resolve`, which finds the target of a slot through any landing pads, or the first fault of its pointer.
+//! The call `resolve`, which follows a slot and its landing pads to the target, or to the first fault.
 
 ghost use Rattle.std.specs.Prelude.{◌≡◌, ℕ, ◌<◌, ◌≤◌, ◌+◌, ◌^◌, length, Ok, Err, IfOk, OnOk, nat_lt, if◌then◌else◌};
 ghost use Rattle.capn_words.specs.Message.{segment_at, IsPlace};
@@ -14,10 +14,9 @@ use std::sync::ledger::Ledger;
 
 /// Finds the target of the pointer at `at`, or the first fault of that slot.
 ///
-/// The place has to be in range. The refusals are `Reserved` to `TagOverrun`, tested in this order: the word itself,
-/// the landing pad, the range of the content, the tag word of a composite list. Reads at most four words, counted in
-/// `reads`, and takes no memory. (Page: structs, lists, inter-segment pointers, capabilities. The order of the tests is
-/// our own.)
+/// The place has to be in range. The errors are `Reserved` to `TagOverrun`, tested in this order: the word itself, the
+/// landing pad, the range of the content, the tag word of a composite list. Counts at most eight reads in `reads`.
+/// Takes no memory. (Page: structs, lists, inter-segment pointers, capabilities. The order of the tests is our own.)
 #[tactic(auto, unfolding(crate::specs::Target::target))]
 #[inline(always)]
 pub fn resolve<S: Space, L: Ledger>(
@@ -27,7 +26,7 @@ pub fn resolve<S: Space, L: Ledger>(
 ) -> Result<Target, Fault>
     requires { IsPlace space.now at }
     ensures exact { result ≡ spec.target space.now at }
-    // If `result` is content, the content lies inside its segment, which exists. The rows of a composite list are
+    // If `result` is content, the content lies within its segment, which exists. The rows of a composite list are
     // within the words that the list's pointer gives.
     ensures inside { IfOk result (λ t. IsInMessage space.now t) }
     ensures reads { reads.new ≤ reads.old + 8 }
@@ -85,9 +84,9 @@ pub fn pointer_at<S: Space, L: Ledger>(
     split(space.word(Place { segment, word }, reads))
 }
 
-/// Returns the content that `pointer`, a struct or list pointer at `word` of `segment`, leads to. The segment has
-/// `size` words. The pointer is the slot itself if `pads` is 0, and a landing pad of one word if `pads` is 1. Returns
-/// `BadPad` for any other pointer.
+/// Returns the content that the struct or list pointer `pointer` leads to, or the fault of that content. The pointer is
+/// at `word` of `segment`, which has `size` words. The pointer is the slot itself if `pads` is 0, and a landing pad of
+/// one word if `pads` is 1. Returns `BadPad` if `pointer` is neither a struct pointer nor a list pointer.
 #[inline(always)]
 pub fn near<S: Space, L: Ledger>(
     space: &CountedSpace<'_, S, L>,
@@ -162,8 +161,8 @@ fn behind_two<S: Space, L: Ledger>(
     named_by_two(space, first, second, reads)
 }
 
-/// Finds the target that a landing pad of two words leads to. `first` is a far pointer to the content, and `second`
-/// gives the form of the content.
+/// Finds the target that a landing pad of the words `first` and `second` leads to. `first` has to be a far pointer to
+/// the content, and `second` has to give the form of the content. Otherwise returns `BadPad`.
 fn named_by_two<S: Space, L: Ledger>(
     space: &CountedSpace<'_, S, L>,
     first: Pointer,
@@ -209,7 +208,7 @@ fn named_by_two<S: Space, L: Ledger>(
     }
 }
 
-/// Refuses a landing pad of `pads` words at `word` of `segment` that is not inside an existing segment.
+/// Returns an error if the landing pad of `pads` words at `word` of `segment` is not within an existing segment.
 fn landing<S: Space, L: Ledger>(
     space: &CountedSpace<'_, S, L>,
     segment: u32,
@@ -231,7 +230,7 @@ fn landing<S: Space, L: Ledger>(
     Ok(())
 }
 
-/// Refuses a `segment` that does not exist.
+/// Returns `NoSegment` if `segment` does not exist.
 fn exists<S: Space, L: Ledger>(
     space: &CountedSpace<'_, S, L>,
     segment: u32,

@@ -4,7 +4,7 @@ use capn_words::Width;
 use std::error::Error;
 use std::fmt;
 
-/// The form of the content that a pointer leads to. (Page: structs, lists.)
+/// The shape of the content that a pointer leads to. (Page: structs, lists.)
 #[derive(Clone, Copy, Debug, PartialEq, Eq)]
 pub enum Shape {
     /// A struct.
@@ -41,7 +41,7 @@ pub enum Target {
     Nil,
     /// A capability, given by its index.
     Cap(u32),
-    /// Content that lies inside its segment.
+    /// Content that lies within its segment.
     Content {
         /// The number of the segment.
         segment: u32,
@@ -65,9 +65,9 @@ pub enum Fault {
     RootKind,
     /// The word is a pointer of no known kind.
     Reserved,
-    /// The segment of the landing pad does not exist, or the segment of the content that a pad of two words leads to.
+    /// The segment of the landing pad, or of the content that a pad of two words leads to, does not exist.
     NoSegment,
-    /// The landing pad is not inside its segment.
+    /// The landing pad is not within its segment.
     PadRange,
     /// The landing pad has the wrong words. A pad of one word has to be a struct or list pointer. The first word of a
     /// pad of two has to be a far pointer whose double bit is 0, and the second a struct or list pointer, or zero.

@@ -1,4 +1,4 @@
--- Lemmas for `Unquotings`: a line with a prefix that begins no line between quotes stays as it is.
+-- Lemmas for `Unquotings`: a line is its own plain form if `may_begin` is false of its first bytes.
 use Rattle.std.proofs.Common.{◌≡◌, ℕ, zero, suc, ◌+◌, ◌==◌, ◌||◌, ◌⊎◌, inl, inr, Bool, true, false, cond}
 use Rattle.std.proofs.Common.{List, [], ◌∷◌, ◌++◌, codes, take, drop, Option, Some, None, refl, sym, ap, ap₂, ◌∙◌}
 use Rattle.std.proofs.Common.{append_assoc, arith}
@@ -22,7 +22,6 @@ or_right : (a b : Bool) → b ≡ true → (a || b) ≡ true
 or_right true b e = refl
 or_right false b e = e
 
--- The shorter of two prefixes of a text is a prefix of the longer.
 shorter : (w front rest t : List ℕ) → front ++ rest ≡ w ++ t
     → (begins w front ≡ true) ⊎ ((y : List ℕ) × (strip w front ≡ Some y) × (y ++ rest ≡ t))
 shorter [] front rest t e = inr (front, refl, e)
@@ -87,7 +86,7 @@ begun (suc level) front rest t e h =
 abbrev pub Never : List ℕ → Type 0
 Never front = (rest : List ℕ) → quoted_at (front ++ rest) ≡ None
 
--- A line whose prefix begins no line between quotes is not a line between quotes.
+-- If `may_begin` is false of the first bytes of `front`, no line that begins with `front` has bytes between quotes.
 pub never : (front : List ℕ) → may_begin (take looked_at front) ≡ false → Never front
 never front other rest = by (quoted_at (front ++ rest)) refl where
   by : (r : Option (ℕ × List ℕ)) → quoted_at (front ++ rest) ≡ r → r ≡ None

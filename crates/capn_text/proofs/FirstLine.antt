@@ -20,13 +20,12 @@ line_ends text =
     let k : ended_lines (text ++ 10 ∷ []) ≡ ended_lines text + 1 = lines_append text (10 ∷ []) in
     omega arith
 
--- A first line, and lines that can be below it, are read as a value.
 read_on : (h : Head) (first : List ℕ) (w : List ℕ) (v : Tree) → head_at 0 (first ++ w) ≡ Some (h, w)
     → content_at (tree_at 0) 0 h w ≡ Some (v, []) → tree_at 1 0 (first ++ w) ≡ Some (v, [])
 unfolding tree_at
 read_on h first w v head below = ap (λ o. o >>= λ k. content_at (tree_at 0) 0 k.0 k.1) head ∙ below
 
--- A first line that was read is the first line of some value.
+-- If `head_at` reads a first line from `t`, `t` begins as some value `v` (`BeginsAs`).
 pub begins : (t : List ℕ) (x : Head × List ℕ) → head_at 0 t ≡ Some x → (v : Tree) × BeginsAs t v
 begins t x e =
     let p = head_takes 0 t x.0 x.1 e in
@@ -40,14 +39,13 @@ first_or : (b : Bool) (n : ℕ) (x y : List ℕ) → 0 < cond b 1 0 + n → (0 <
 first_or true n x y some same = refl
 first_or false n x y some same = same (omega arith)
 
--- Texts that begin with the same bytes, in which a line ends, have the same first line.
 same_first : (front x y : List ℕ) → 0 < ended_lines front → first_lines 1 (front ++ x) ≡ first_lines 1 (front ++ y)
 same_first [] x y some = absurd (omega arith)
 same_first (c ∷ cs) x y some =
     ap (λ t. c ∷ t) (first_or (c == 10) (ended_lines cs) (first_lines 1 (cs ++ x)) (first_lines 1 (cs ++ y)) some
     (same_first cs x y))
 
--- A first line that is not read begins no value.
+-- If `head_at` reads no first line from `t`, `t` begins as no value `v` (`BeginsAs`).
 pub begins_none : (t : List ℕ) → head_at 0 t ≡ None → (v : Tree) → BeginsAs t v → ⊥
 begins_none t none v h =
     (first_line_wrong show_text [] (λ w. sym (append-nil (show_text w))) t none).6 v h.0

@@ -26,14 +26,14 @@ exact_front front y lines =
     let k : ended_lines front ≡ ended_lines front + 0 = omega arith in
     ap (λ n. first_lines n (front ++ y)) k ∙ lines 0 y ∙ append-nil front
 
--- A value that is read from whole lines `front` and bytes `y` has them as its text, and is showable.
+-- If the value `v` is read from all of `front ++ y`, these bytes are the text of `v`, and `v` is showable.
 pub completed : (room : ℕ) (front y : List ℕ) (v : Tree) → tree_at room 0 (front ++ y) ≡ Some (v, [])
     → (show_text v ≡ front ++ y) × IsShowable v
 completed room front y v e =
     let p = tree_takes room 0 (front ++ y) v [] e in
     (sym (p.0 ∙ append-nil (show_text v)), p.1)
 
--- Texts that are followed by `tail`.
+-- Let `spell` write the text of a value, followed by `tail`.
 module _ (spell : Tree → List ℕ) (tail : List ℕ) (is : (v : Tree) → spell v ≡ show_text v ++ tail) where
   pub first_wrong : (t : List ℕ) (left : ℕ) → Stops (tree_by 0) 256 t left
       → IsFirstWrong spell (ended_lines (take (length t - left) t) + 1) t
@@ -64,7 +64,6 @@ nothing_first : (after : List ℕ) → (after ≡ [] → ⊥) → first_lines 1 
 nothing_first [] more e = more refl
 nothing_first (c ∷ cs) more e = absurd cc
 
--- A text is whole lines.
 whole_text : (t : List ℕ) (v : Tree) (after : List ℕ) → tree_at 256 0 t ≡ Some (v, after) → AreLines (show_text v)
 whole_text t v after e =
     let p = tree_local 256 0 t v after e in
@@ -94,19 +93,19 @@ module _ (t : List ℕ) (v : Tree) (after : List ℕ) (e : tree_at 256 0 t ≡ S
             other (ap (first_lines 1) r.1 ∙ q.2),
       )
 
-  -- The line after the text of a value is the first wrong one, if the text is read without its line `end`.
+  -- If bytes follow the text of `v`, the line after that text is the first wrong one, for texts without `end`.
   pub more_wrong : (after ≡ [] → ⊥) → IsFirstWrong show_text (ended_lines (show_text v) + 1) t
   more_wrong more = next_wrong show_text [] (λ w. sym (append-nil (show_text w))) (nothing_first after more)
 
-  -- The line after the text of a value is the first wrong one, if the text is read with its line `end` and the line is
-  -- not `end`.
+  -- If the line `end` does not follow the text of `v`, the line after that text is the first wrong one, for texts with
+  -- `end`.
   pub no_end_wrong : strip end_line after ≡ None → IsFirstWrong ended_text (ended_lines (show_text v) + 1) t
   no_end_wrong none = next_wrong ended_text end_line (λ w. refl) (λ same.
       let f = first_front 1 after in
       let h = sym none ∙ ap (strip end_line) (f.1 ∙ ap (λ s. s ++ f.0) (sym same)) ∙ strip_again end_line f.0 in
       absurd cc)
 
--- A first line that begins no value is wrong.
+-- If `head_at` reads no first line from `t`, line 1 of `t` is the first wrong line.
 pub first_line_wrong : (spell : Tree → List ℕ) (tail : List ℕ) → ((w : Tree) → spell w ≡ show_text w ++ tail)
     → (t : List ℕ)
     → head_at 0 t ≡ None → IsFirstWrong spell 1 t

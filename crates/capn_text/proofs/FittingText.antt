@@ -21,7 +21,6 @@ fits_not t v m same f e = let h = sym f ∙ ap misfit (sym same) ∙ e in absurd
 pub misfit_is : (m n : Misfit) → faults.Misfit m ≡ faults.Misfit n → m ≡ n
 misfit_is m n e = cc
 
--- A fault of a line is not the fault `Memory`.
 pub line_or_memory : (e : TextFault) (n : ℕ) → e ≡ faults.Line n → e ≡ faults.Memory → ⊥
 line_or_memory e n a b = let k = sym a ∙ b in absurd cc
 
@@ -34,12 +33,11 @@ pub first_again : (t : List ℕ) (v : Tree) (rest : List ℕ) → IsShowable v �
     → t ≡ show_text v ++ rest → tree_at 256 0 t ≡ Some (v, rest)
 first_again t v rest s low e = ap (tree_at 256 0) e ∙ tree_again 256 0 v rest low s
 
--- If the text of a showable value of at most 256 levels is at the front, something is read.
+-- If the text of a showable `v` of at most 256 levels is at the front of `t`, a value is read from `t`.
 pub no_first : (t : List ℕ) (v : Tree) (rest : List ℕ) → tree_at 256 0 t ≡ None → IsShowable v → height v ≤ most_height
     → t ≡ show_text v ++ rest → ⊥
 no_first t v rest none s low e = let h = sym (first_again t v rest s low e) ∙ none in absurd cc
 
--- No value is read other than the one whose text is at the front.
 pub is_first : (t : List ℕ) (v w : Tree) (rest after : List ℕ) → IsShowable v → height v ≤ most_height
     → t ≡ show_text v ++ rest → tree_at 256 0 t ≡ Some (w, after) → (w ≡ v) × (after ≡ rest)
 is_first t v w rest after s low e h =

@@ -34,13 +34,12 @@ name_text names.Rows = codes "rows"
 name_text names.Cap = codes "capability"
 name_text (names.Leaf leaf) = leaf_text leaf
 
--- The first line of a value, without its indent.
+-- The first line of a value, without its indent and its newline.
 abbrev pub head_text : Head → List ℕ
 head_text heads.Null = codes "null"
 head_text (heads.Struct w s) = codes "struct " ++ (decimal w ++ 32 ∷ decimal s)
 head_text (heads.Named name n) = named (name_text name) n
 
--- The number after a name has at most 64 bits.
 pub number_below : (name : Name) → greatest_number name < 2 ^ 64
 number_below names.Links = omega arith
 number_below names.Rows = omega arith
@@ -66,7 +65,6 @@ name_again (names.Leaf leaves.Quads) z = refl
 name_again (names.Leaf leaves.Octs) z = refl
 name_again names.Cap z = refl
 
--- A name is neither `null` nor `struct`.
 no_other : (name : Name) (z : List ℕ) → null_or (strip (codes "null\n") (name_text name ++ 32 ∷ z))
     (name_text name ++ 32 ∷ z)
     ≡ named_at (name_text name ++ 32 ∷ z)
@@ -129,7 +127,6 @@ sizes_again w s rest fw fs =
     ∙ ap (λ (r : Option (ℕ × List ℕ)). r >>= λ j. strip (10 ∷ []) j.1 >>= λ z. Some (heads.Struct w j.0, z))
     (decimal_again s 10 rest fs refl)
 
--- A first line that was written is read after its indent.
 after_indent : (h : Head) (rest : List ℕ) → Holds h
     → null_or (strip (codes "null\n") (head_text h ++ 10 ∷ rest)) (head_text h ++ 10 ∷ rest) ≡ Some (h, rest)
 after_indent heads.Null rest fits = refl
@@ -146,7 +143,7 @@ unfolding head_at
 head_again level h rest fits =
     in_line level (head_text h) rest (λ l. null_or (strip (codes "null\n") l) l) ∙ after_indent h rest fits
 
--- The text `t`, after its indent, consists of the first line `x.0` and the bytes `x.1`.
+-- `t` is the first line `x.0` without its indent, and then the bytes `x.1`. The numbers of `x.0` are in range.
 abbrev Lined : List ℕ → Head × List ℕ → Type 0
 Lined t x = (t ≡ head_text x.0 ++ 10 ∷ x.1) × Holds x.0
 

@@ -1,4 +1,4 @@
--- Lemmas for `first_value`: a tree that is read is no higher than the reader allows.
+-- Lemmas for `first_value`: a tree that `tree_at room` reads is no higher than `room`.
 use Rattle.std.proofs.Common.{◌≡◌, ℕ, zero, suc, ◌+◌, ◌≤◌, arith, List, [], ◌∷◌, Option, Some, subst, map}
 use Rattle.std.proofs.Math.Nat.{max-le}
 use Rattle.std.specs.List.{AllByRecursion}
@@ -16,7 +16,7 @@ use Rattle.capn_text.specs.declared.heads.Head.{Head}
 use Rattle.capn_text.specs.declared.heads.Head.TheVariants as heads
 use Rattle.capn_text.proofs.Steps.{bind_some, some_is}
 
--- A statement that holds of each item that is read holds of all of them.
+-- If `P` holds of each item that `one` reads, `P` holds of all items that `many one n` reads.
 many_all : {X : Type 0} (one : List ℕ → Option (X × List ℕ)) (P : X → Type 0)
     → ((t : List ℕ) (x : X) (rest : List ℕ) → one t ≡ Some (x, rest) → P x)
     → (n : ℕ) (t : List ℕ) (xs : List X) (rest : List ℕ) → many one n t ≡ Some (xs, rest) → AllByRecursion P xs
@@ -41,7 +41,6 @@ rows_low room (b ∷ bs) all = max-le all.0 (rows_low room bs all.1)
 abbrev Within : ℕ → Tree × List ℕ → Type 0
 Within most x = height x.0 ≤ most
 
--- A list without values in it.
 made_low : {X : Type 0} (most : ℕ) (make : X → Tree) (r : Option (X × List ℕ)) (x : Tree × List ℕ)
     → ((y : X) → height (make y) ≤ most) → (r >>= λ y. Some (make y.0, y.1)) ≡ Some x → Within most x
 made_low most make r x low e =
@@ -118,7 +117,7 @@ module _ (room : ℕ) (low : (level : ℕ) (t : List ℕ) (v : Tree) (rest : Lis
       subst (Within (suc room)) (some_is (rows (rows_from b.0.0), b.0.1) x b.2) (omega arith)
   content_low (heads.Named (names.Leaf leaf) n) level t x e = leaf_low room level leaf n t x e
 
--- Null and a capability have the height 0.
+-- A tree that `low_at` gives has the height 0.
 flat_low : (h : Head) (t : List ℕ) (x : Tree × List ℕ) → low_at h t ≡ Some x → Within 0 x
 flat_low heads.Null t x e = subst (Within 0) (some_is (nil, t) x e) (omega arith)
 flat_low (heads.Struct w s) t x e = absurd cc

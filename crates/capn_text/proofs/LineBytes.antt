@@ -1,5 +1,5 @@
--- Lemmas for `LineStops`, `OwnLines` and `PartStops`: each line that is written is one line, since there is no newline
--- in it.
+-- Lemmas for `LineStops`, `OwnLines` and `PartStops`: a line that is written has only one newline, which is its last
+-- byte.
 use Rattle.std.proofs.Common.{◌≡◌, ◌+◌, ◌/◌, ◌%◌, ◌^◌, ◌<◌, ◌==◌, ℕ, suc, Bool, true, false, cond}
 use Rattle.std.proofs.Common.{List, [], ◌∷◌}
 use Rattle.std.proofs.Common.{◌++◌, length, codes, refl, ap, ap₂, ◌∙◌, arith}
@@ -24,7 +24,7 @@ use Rattle.capn_text.proofs.HeadText.{name_text, head_text, number_below}
 use Rattle.capn_text.proofs.Numbers.{word_text, number_text}
 use Rattle.capn_text.proofs.WholeLines.{are_none, line_is_one}
 
--- No line ends within the bytes.
+-- No line ends in the bytes `x`.
 abbrev pub IsQuiet : List ℕ → Type 0
 IsQuiet x = ended_lines x ≡ 0
 

@@ -1,4 +1,4 @@
--- Lemmas for `lines_before`, `lines_in` and `read_next`: the number of lines that end within bytes.
+-- Lemmas for `lines_before`, `lines_in` and `read_next`: the number of lines that end in a list of bytes.
 use Rattle.std.proofs.Common.{◌≡◌, ◌≤◌, ◌+◌, ◌==◌, ℕ, Bool, true, false, cond, List, [], ◌∷◌, ◌++◌}
 use Rattle.std.proofs.Common.{length, take, drop, ap, arith}
 use Rattle.std.proofs.lemmas.List.{take-append-drop}

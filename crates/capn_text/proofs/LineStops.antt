@@ -1,4 +1,4 @@
--- Lemmas for `leaves.rt`: the stop on one line.
+-- Lemmas for `leaves.rt`: the stop if one line is not read.
 use Rattle.std.proofs.Common.{◌≡◌, ◌^◌, ◌<◌, ℕ, zero, suc, Bool, true, List, [], ◌∷◌, ◌++◌, length}
 use Rattle.std.proofs.Common.{Option, Some, None, refl, sym, ap, subst, arith}
 use Rattle.std.specs.Prelude.{⊤}
@@ -19,7 +19,7 @@ use Rattle.capn_text.proofs.LineBytes.{head_is_line, word_is_line, number_is_lin
 use Rattle.capn_text.proofs.LineBytes.{bytes_are_lines, bytes_are_line}
 use Rattle.capn_text.proofs.StopLaws.{Local, Full, local_lines, full_line, line_stops}
 
--- The failure of a line is one of reading at any height.
+-- Let `read` read one line. It does not depend on the height, so its stop is the same stop at any height `room`.
 module _ {X : Type 0} (read : List ℕ → Option (X × List ℕ)) (room : ℕ)
     (stop : (t : List ℕ) → read t ≡ None → Stops (λ r. read) room t (length t)) where
   pub line_fails : (e : Stop) (t : List ℕ) → LineFails e read t → FailsAt (λ r. read) room e t

@@ -7,7 +7,7 @@ use Rattle.capn_text.specs.declared.fault.Stop.{Stop}
 use Rattle.capn_text.specs.declared.fault.Stop.TheVariants as stops
 use Rattle.capn_text.specs.inner.Tokens.{◌>>=◌, Fails, many, strip, indent_at}
 
--- The items that were read before, and those that are read from the rest.
+-- The items `front`, followed by the items in `read`, or `None` if `read` is `None`.
 abbrev pub with_front : {X : Type 0} → List X → Option (List X × List ℕ) → Option (List X × List ℕ)
 with_front front read = read >>= λ xs. Some (front ++ xs.0, xs.1)
 

@@ -1,5 +1,5 @@
--- Lemmas for `head_at`, `number_line_at` and `word_line_at`: lines that cannot be read whatever follows, and lines that
--- can still be completed.
+-- Lemmas for `head_at`, `number_line_at` and `word_line_at`: lines that no bytes can complete, and lines that some
+-- bytes can complete.
 use Rattle.std.proofs.Common.{◌≡◌, ◌+◌, ◌*◌, ◌≤◌, ◌<◌, ◌^◌, ℕ, suc, Bool, true, false, cond}
 use Rattle.std.proofs.Common.{List, [], ◌∷◌, ◌++◌, length, replicate, Option, Some, None, codes}
 use Rattle.std.proofs.Common.{refl, sym, ap, ◌∙◌, arith}
@@ -49,7 +49,8 @@ module _ {X : Type 0} (read : List ℕ → Option (X × List ℕ)) (show : X →
       absurd cc
   by_answer t z none long None is = is
 
-  -- If a text as long as any line is not read now, it is not read whatever follows.
+  -- Let `t` be at least as long as each line that `show` writes. If nothing is read from `t`, nothing is read from
+  -- `t ++ z`, for any bytes `z`.
   pub long_lost : (t : List ℕ) → read t ≡ None → ((x : X) → P x → length (show x) ≤ length t) → IsLineLost read t
   long_lost t none long z = by_answer t z none long (read (t ++ z)) refl
 
@@ -64,7 +65,8 @@ module _ {X : Type 0} (read : List ℕ → Option (X × List ℕ)) (show : X →
       let high = ltb-false (length t) few is in
       (none, refl, long_lost t none (λ x q. let s = short x q in omega arith))
 
-  -- The stop on a line that is not read is `stop_in`.
+  -- Let some line exist, and let each line have at most `few` bytes. If nothing is read from `t`, the stop on `t` is
+  -- `stop_in t`.
   pub line_stop : (some : X) → P some → ((x : X) → P x → length (show x) ≤ few) → (t : List ℕ) → read t ≡ None
       → LineFails (stop_in t) read t
   line_stop some p short t none = by_length (nat_lt (length t) few) t refl some p none short

@@ -1,5 +1,4 @@
--- Lemmas for `one_text.rt` and `texts.rt`: texts that are refused whatever follows, and texts that can still be
--- completed.
+-- Lemmas for `one_text.rt` and `texts.rt`: texts that no bytes can complete, and texts that some bytes can complete.
 use Rattle.std.proofs.Common.{◌≡◌, ◌≢◌, ◌≤◌, ◌+◌, ◌-◌, ℕ, List, [], ◌++◌, length, take, Option, Some, None, inl, inr}
 use Rattle.std.proofs.Common.{refl, sym, ap, subst, ◌∙◌, append_assoc, arith}
 use Rattle.std.proofs.Common.{Bool, true, false, cond}
@@ -70,7 +69,6 @@ is_few t short = let low = ltb-true (length t) few (sym short) in omega arith
 
 -- ---- refused whatever follows
 
--- If reading stops whatever follows, it stops at the same line of a longer text.
 stops_on : (t : List ℕ) (n : ℕ) → Stops (tree_by 0) 256 t n → IsLost (tree_by 0) 256 t → (more : List ℕ)
     → Stops (tree_by 0) 256 (t ++ more) (n + length more)
 stops_on t n h lost more = (
@@ -109,7 +107,7 @@ pub lost_none : (t : List ℕ) → IsLost (tree_by 0) 256 t → (more : List ℕ
     → IsShowable v → height v ≤ most_height → t ++ more ≢ show_text v ++ rest
 lost_none t lost more v rest s low e = no_first (t ++ more) v rest (lost 256 more (omega arith)) s low e
 
--- The first line is wrong whatever follows.
+-- If no first line is read from `t ++ z`, for any bytes `z`, line 1 of `t ++ more` is the first wrong line.
 pub head_wrong : (t : List ℕ) → IsLineLost (head_at 0) t → (more : List ℕ) → IsFirstWrong ended_text 1 (t ++ more)
 head_wrong t lost more = first_line_wrong ended_text end_line (λ v. refl) (t ++ more) (lost more)
 
@@ -117,7 +115,7 @@ pub head_none : (t : List ℕ) → IsLineLost (head_at 0) t → (more : List ℕ
     → IsShowable v → height v ≤ most_height → t ++ more ≢ show_text v ++ rest
 head_none t lost more v rest s low e = no_first (t ++ more) v rest (no_head 256 0 (t ++ more) (lost more)) s low e
 
--- The line after a value is wrong whatever follows.
+-- If the line after the text of `v` is not `end`, that line is the first wrong line of `t ++ more`.
 pub end_wrong : (t : List ℕ) (v : Tree) (after more : List ℕ) → tree_at 256 0 t ≡ Some (v, after)
     → strip end_line (after ++ more) ≡ None → IsFirstWrong ended_text (ended_lines (show_text v) + 1) (t ++ more)
 end_wrong t v after more e none =
@@ -134,7 +132,8 @@ no_end_by after more none long (Some r) e =
     absurd cc
 no_end_by after more none long None e = e
 
--- Four bytes or more that are not the line `end` do not become it.
+-- If `after` has at least four bytes and does not begin with the line `end`, `after ++ more` does not begin with it
+-- either.
 pub no_end_on : (after more : List ℕ) → strip end_line after ≡ None → 4 ≤ length after
     → strip end_line (after ++ more) ≡ None
 no_end_on after more none long = no_end_by after more none long (strip end_line (after ++ more)) refl

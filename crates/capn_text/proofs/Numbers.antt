@@ -20,7 +20,6 @@ line_is level x rest =
     append_assoc (replicate (2 * level) 32) (x ++ 10 ∷ []) rest
     ∙ ap (λ y. replicate (2 * level) 32 ++ y) (append_assoc x (10 ∷ []) rest)
 
--- The reading of a line after its indent.
 pub in_line : {A : Type 0} (level : ℕ) (x rest : List ℕ) (f : List ℕ → Option A)
     → (indent_at level (line level x ++ rest) >>= f) ≡ f (x ++ 10 ∷ rest)
 in_line level x rest f =
@@ -117,7 +116,6 @@ bit_takes (c ∷ cs) b rest e =
 module _ {X : Type 0} (one : List ℕ → Option (X × List ℕ)) (show : X → List ℕ) (text : List X → List ℕ)
     (P : X → Type 0) (none : text [] ≡ []) (more : (x : X) (xs : List X) → text (x ∷ xs) ≡ show x ++ text xs)
     (level : ℕ) where
-  -- The line of digits, if there is at least one item.
   row_line-some : (n : ℕ) (t : List ℕ) → row_line_at one level (suc n) t
       ≡ (indent_at level t >>= λ l. many one (suc n) l >>= λ ys. strip (10 ∷ []) ys.1 >>= λ r. Some (ys.0, r))
   unfolding row_line_at

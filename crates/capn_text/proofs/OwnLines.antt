@@ -20,7 +20,7 @@ use Rattle.capn_text.proofs.LineBytes.{head_is_line, bytes_are_line}
 use Rattle.capn_text.proofs.QuotedLines.{was_read, has_size}
 use Rattle.capn_text.proofs.PlainTexts.{plain_is_line}
 
--- ---- the number of lines that are at most another
+-- ---- the number of elements that are at most `n`
 
 counted : (q n : ℕ) → q ≤ n → (qs : List ℕ) → count_to n (q ∷ qs) ≡ 1 + count_to n qs
 counted q n below qs = ap (λ (b : Bool). cond b 1 0 + count_to n qs) (le-leb q n below)
@@ -87,11 +87,12 @@ digits_last n before (c ∷ cs) quiet = last-by (c == 10) refl (digits_last n (b
 
 -- ---- the places of lines of digits
 
--- The lines of digits of a line and of the bytes after it, by whether the line has bytes between quotes.
+-- The numbers of the lines of digits for a line and for the bytes `cs` after it. `q` is true if the line has bytes
+-- between quotes. The plain form of the line begins at line `n`.
 abbrev step : Bool → ℕ → List ℕ → List ℕ
 step q n cs = cond q ((n + 1) ∷ []) [] ++ digits_after (n + cond q 2 1) [] cs
 
--- No line of digits comes before the second line of the plain form.
+-- If the plain form begins at line `l`, each line of digits that it adds is after line `l`.
 pub none_before : (text before : List ℕ) (l n : ℕ) → n ≤ l → count_to n (digits_after l before text) ≡ 0
 none_before [] before l n low = refl
 none_before (c ∷ cs) before l n low =
@@ -108,7 +109,7 @@ none_before (c ∷ cs) before l n low =
 abbrev Few : List ℕ → Type 0
 Few cs = (m j : ℕ) → count_to (m + j) (digits_after m [] cs) ≤ j
 
--- Two lines of digits never follow one another.
+-- If the plain form begins at line `l`, it adds at most `i` lines of digits from line `l` to line `l + i`.
 pub few_within : (text before : List ℕ) (l i : ℕ) → count_to (l + i) (digits_after l before text) ≤ i
 few_within [] before l i = omega arith
 few_within (c ∷ cs) before l i =
@@ -182,8 +183,7 @@ first_lines_of front first fits quiet e = ap ended_lines e ∙ line_lines front 
 
 -- ---- the line of the text
 
--- The line of `text` to which a line of the plain form belongs. `text` begins at line `l` of the plain form, and the
--- line of the plain form is line `l + i`.
+-- The line of `text` to which line `l + i` of the plain form belongs. The plain form of `text` begins at line `l`.
 abbrev own_after : ℕ → List ℕ → ℕ → ℕ
 own_after l text i = suc i - count_to (l + i) (digits_after l [] text)
 

@@ -1,4 +1,4 @@
--- Lemmas for the cycle `value_at`, `first_value` and `leaf_at`: the stops in the parts of a value, as the code reads
+-- Lemmas for the cycle `value_at`, `first_value` and `leaf_at`: the stops in structs, lists and rows, as the code reads
 -- them.
 use Rattle.std.proofs.Common.{◌≡◌, ◌+◌, ◌-◌, ◌^◌, ◌<◌, ◌≤◌, ℕ, zero, suc, List, [], ◌++◌, length, Option}
 use Rattle.std.proofs.Common.{Some, None, Bool, true, false, cond, append_assoc}
@@ -94,7 +94,6 @@ module _ (room level : ℕ) (e : Stop) (t : List ℕ) where
       (λ r. local_all (tree_by (level + 1)) r (tree_local r (level + 1)) s)
       (λ ss. full_given (ws, trees ss)) e after h)
 
-  -- The content of a value fails if its parts do, by its first line.
   pub struct_fails : (h : Head) (w s : ℕ) → h ≡ heads.Struct w s → FailsAt (body_by level w s) room e t
       → FailsAt (content_by level h) room e t
   struct_fails h w s is f =
@@ -119,7 +118,6 @@ module _ (room level : ℕ) (e : Stop) (t : List ℕ) where
       (λ r. local_all (row_by (level + 1)) r (row_local r (tree_local r) (level + 1)) n)
       (λ bs. full_given (rows (rows_from bs))) e t f)
 
--- A list without values in it is read as a value.
 pub leaf_gives : {X : Type 0} (view : X → Tree × List ℕ) (result : Result X Stop) (room level : ℕ) (h : Head)
     (leaf : Leaf)
     (n : ℕ) (t : List ℕ) → h ≡ heads.Named (names.Leaf leaf) n → GivesAt view result (λ r. leaf_at level leaf n) 0 t
@@ -130,7 +128,6 @@ leaf_gives view (Err e) room level h leaf n t is g =
 
 -- ---- a value
 
--- A first line that a value of height 0 cannot have is refused whatever follows.
 not_low : (h : Head) (t z : List ℕ) → low_at h t ≡ None → low_at h z ≡ None
 not_low heads.Null t z e = absurd cc
 not_low (heads.Struct w s) t z e = refl
@@ -143,7 +140,6 @@ module _ (level : ℕ) where
   abbrev headed : Reads Tree
   headed = both (λ r. head_at level) (content_by level)
 
-  -- A statement on reading the contents of values at a height holds of reading whole values at a height one greater.
   from : (m : ℕ) (s : List ℕ) (v : Option (Tree × List ℕ)) → ((r : ℕ) → m ≤ r → headed r s ≡ v)
       → (r : ℕ) → suc m ≤ r → tree_at r level s ≡ v
   unfolding tree_at
@@ -195,7 +191,7 @@ module _ (level : ℕ) where
       not_read (head_at level) (λ h. line level (head_text h)) Holds (head_takes level) (head_again level) t z
       (head_is_line level) none same (head_at level z) refl
 
--- The first line is wrong.
+-- If no first line is read from `t`, reading a value from `t` stops at that line.
 pub tree_line_fails : (room level : ℕ) (t : List ℕ) → head_at level t ≡ None → Stops (tree_by level) room t (length t)
 tree_line_fails room level t none =
     let w = tree_full level in (
@@ -207,13 +203,11 @@ tree_line_fails room level t none =
       λ r z low same. no_head r level z (head_same level t z none same),
     )
 
--- The stop on a wrong first line.
 of_stop : (b : Bool) (n : ℕ) (P : Stop → Type 0) → (b ≡ true → P (stops.Cut n)) → P (stops.Left n)
     → P (cond b (stops.Cut n) (stops.Left n))
 of_stop true n P cut left = cut refl
 of_stop false n P cut left = left
 
--- A line at which reading stops cannot be completed, or is short.
 short_or_lost : {X : Type 0} (read : List ℕ → Option (X × List ℕ)) (t : List ℕ) (e : Stop) → e ≡ stop_in t
     → LineFails e read t → (P : Stop → Type 0) → (length t ≤ few → P (stops.Cut (length t)))
     → (IsLineLost read t → P (stops.Left (length t))) → P e
@@ -243,7 +237,7 @@ tree_line_stops room level e t is h =
     (λ short. (stop, ([], t, refl, short, w.0, w.1, λ r low. w.2 r)))
     (λ lost. (stop, λ r z low. no_head r level (t ++ z) (lost z)))
 
--- The value is too deep.
+-- Case: `room` is 0, and `h` is the first line of the value.
 pub low_gives : {X : Type 0} (view : X → Tree × List ℕ) (result : Result X Stop) (room level : ℕ) (t after : List ℕ)
     (h : Head)
     → room ≡ 0 → head_at level t ≡ Some (h, after) → Gives view result (low_at h after)
@@ -255,7 +249,7 @@ low_gives view (Err stop) room level t after h is e g deep =
     (subst (λ n. Deepens (tree_by level) n t) (sym is)
     (too_deep level t after h e (subst (λ s. Fails s (low_at h after)) deep g)))
 
--- A value, from its first line.
+-- Case: `room` is not 0, and `h` is the first line of the value.
 pub content_gives : {X : Type 0} (view : X → Tree × List ℕ) (result : Result X Stop) (room level : ℕ)
     (t after : List ℕ) (h : Head)
     → 0 < room → head_at level t ≡ Some (h, after) → GivesAt view result (content_by level h) (room - 1) after
@@ -270,7 +264,7 @@ content_gives view (Err stop) room level t after h low e g =
 -- ---- a row
 
 module _ (level : ℕ) where
-  -- Texts with the same first line have the same first line of a value.
+  -- If `head_at` reads `h` from `t`, it also reads `h` from any `z` that has the same first line as `t`.
   head_again_same : (t z after : List ℕ) (h : Head) → head_at level t ≡ Some (h, after)
       → first_lines 1 z ≡ first_lines 1 t
       → (rest : List ℕ) × (head_at level z ≡ Some (h, rest))
@@ -306,7 +300,7 @@ module _ (level : ℕ) where
       (λ short. (stop, ([], t, refl, short, w.0, w.1, λ r low. w.2 r)))
       (λ lost. (stop, λ r z low. ap (λ o. o >>= λ k. row_of (tree_at r) level k.0 k.1) (lost z)))
 
-  -- The first line of a row is one of another kind of value.
+  -- If no row has the first line `h`, reading a row from `t` stops at that line.
   pub row_kind_fails : (room : ℕ) (t after : List ℕ) (h : Head) → head_at level t ≡ Some (h, after)
       → ((r : ℕ) (y : List ℕ) → row_of (tree_at r) level h y ≡ None)
       → FailsAt (row_by level) room (stops.Left (length t)) t

@@ -1,4 +1,5 @@
--- Lemmas for `plain_form.rt`: the lines of bytes, written part by part, and the end of a line, found byte by byte.
+-- Lemmas for `plain_form.rt`: the lines of a list of bytes, written step by step, and the end of a line, found byte by
+-- byte.
 use Rattle.std.proofs.Common.{◌≡◌, ℕ, ◌+◌, ◌*◌, ◌<◌, ◌==◌, cond, Bool, List, [], ◌∷◌, ◌++◌, length, take}
 use Rattle.std.proofs.Common.{get_or, codes, replicate, sym, ap, refl, ◌∙◌, append_assoc, arith}
 use Rattle.std.specs.Prelude.{slice_index}
@@ -27,7 +28,6 @@ pub indented : (o out : List ℕ) (i level : ℕ) → i ≡ level → out ≡ o 
     → out ≡ o ++ replicate (2 * level) 32
 indented o out i level e so_far = so_far ∙ ap (λ n. o ++ replicate (2 * n) 32) e
 
--- The lines of bytes, part by part.
 pub bytes_lines : (o : List ℕ) (level : ℕ) (xs : List ℕ) → 0 < length xs
     → (((((o ++ replicate (2 * level) 32) ++ codes "bytes ") ++ (decimal (length xs) ++ 10 ∷ []))
     ++ replicate (2 * (level + 1)) 32) ++ encode_lower xs) ++ 10 ∷ [] ≡ o ++ plain_bytes level xs
@@ -40,7 +40,7 @@ bytes_lines o level (x ∷ xs) some =
           → (((((o ++ a) ++ b) ++ c) ++ d) ++ e) ++ f ≡ o ++ ((a ++ (b ++ c)) ++ (d ++ (e ++ f)))
       joined o a b c d e f = simp append_assoc refl
 
--- One more byte is not a newline.
+-- If byte `i` is not a newline and no line ends before it, no line ends in the first `i + 1` bytes.
 pub quiet_more : (t : List ℕ) (i : ℕ) → i < length t → (slice_index t i ≡ 10 → ⊥) → ended_lines (take i t) ≡ 0
     → ended_lines (take (i + 1) t) ≡ 0
 quiet_more t i below other so_far =

@@ -1,4 +1,4 @@
--- Lemmas for `plain_forms` and `plain_text`: the plain form that is found is one, and the only one.
+-- Lemmas for `plain_forms` and `plain_text`: the function `plain` gives the only plain form of a text.
 use Rattle.std.proofs.Common.{◌≡◌, ℕ, suc, ◌+◌, ◌^◌, ◌<◌, ◌==◌, Bool, true, false, cond}
 use Rattle.std.proofs.Common.{List, [], ◌∷◌, ◌++◌, length, Option, Some, None, refl, sym, ap, ap₂, ◌∙◌}
 use Rattle.std.proofs.Common.{append_assoc, arith, inl, inr, subst}
@@ -20,7 +20,6 @@ pair q = Some q
 some_not : (q : ℕ × List ℕ) → pair q ≡ None → ⊥
 some_not q e = absurd cc
 
--- The plain form that is found for a line is a plain form of the line.
 line_by : (text : List ℕ) → length text < 2 ^ 64 → (r : Option (ℕ × List ℕ)) → quoted_at text ≡ r
     → IsPlainLine (text ++ 10 ∷ []) (plain_or r text)
 line_by text fits (Some q) e = inl (q.0, q.1, was_read text q.0 q.1 e, refl)
@@ -30,7 +29,6 @@ line_by text fits None e =
 pub line_is_plain : (text : List ℕ) → length text < 2 ^ 64 → IsPlainLine (text ++ 10 ∷ []) (plain_line text)
 line_is_plain text fits = line_by text fits (quoted_at text) refl
 
--- A line has no other plain form.
 pub plain_is_line : (text first : List ℕ) → length text < 2 ^ 64 → IsPlainLine (text ++ 10 ∷ []) first
     → first ≡ plain_line text
 plain_is_line text first fits (inl (level, xs, h, e)) =
@@ -43,7 +41,7 @@ plain_is_line text first fits (inr (e, other_than)) = other (quoted_at text) ref
 
 -- ---- line by line
 
--- The plain form after a line whose bytes are known.
+-- The plain form of a text is the plain form of its first line, `before ++ front`, and then the plain form of `after`.
 pub plain_split : (before front after : List ℕ) → ended_lines front ≡ 0
     → plain_after before (front ++ 10 ∷ after) ≡ plain_line (before ++ front) ++ plain after
 plain_split before [] after quiet =
@@ -79,9 +77,9 @@ plain_last before (c ∷ cs) quiet = last-by (c == 10) refl (plain_last (before 
       ∙ below (omega arith)
       ∙ append_assoc before (c ∷ []) cs
 
--- ---- the whole
+-- ---- a complete text
 
--- A text has no other plain form.
+-- Each plain form of a `text` of fewer than 2^64 bytes equals `plain text`.
 pub is_plain : (fronts : List (List ℕ)) (text form : List ℕ) → length text < 2 ^ 64 → IsPlainBy fronts text form
     → form ≡ plain text
 is_plain [] text form fits (quiet, e) = e ∙ sym (plain_last [] text quiet)

@@ -1,4 +1,4 @@
--- Lemmas for `Beginnings`, `OwnLines`, `PlainTexts` and `ShownPlain`: a line of bytes between quotes is read as it is
+-- Lemmas for `Beginnings`, `OwnLines`, `PlainTexts` and `ShownPlain`: a line with bytes between quotes is read as it is
 -- written.
 use Rattle.std.proofs.Common.{◌≡◌, ℕ, zero, suc, ◌+◌, ◌*◌, ◌^◌, ◌%◌, ◌≤◌, ◌<◌, ◌==◌, ◌&&◌, ◌||◌, ◌⊎◌}
 use Rattle.std.proofs.Common.{Bool, true, false, cond}
@@ -32,7 +32,8 @@ levels_again (suc level) rest =
     ap (λ (x : List ℕ). levels_at (x ++ 98 ∷ rest)) (two_more level)
     ∙ ap (λ (p : ℕ × List ℕ). (suc p.0, p.1)) (levels_again level rest)
 
--- One more level is there, or none.
+-- If `b` is true, the number of levels in `below` and one more, and the bytes in `below`. Otherwise 0 levels, and the
+-- bytes `t`.
 abbrev levels_of : Bool → ℕ × List ℕ → List ℕ → ℕ × List ℕ
 levels_of b below t = cond b (suc below.0, below.1) (0, t)
 
@@ -53,11 +54,11 @@ levels_take (c ∷ d ∷ cs) = levels_by c d cs (levels_at cs) (32 == c) (32 == 
 
 -- ---- the bytes after the name
 
--- The bytes between quotes, and the closing quote.
+-- The bytes `xs` as they stand between quotes, and the closing quote.
 abbrev pub inside : List ℕ → List ℕ
 inside xs = escapes xs ++ 34 ∷ []
 
--- The count, a space, and the opening quote.
+-- The count `n`, a space, the opening quote, and `rest`.
 abbrev pub with_count : ℕ → List ℕ → List ℕ
 with_count n rest = decimal n ++ 32 ∷ 34 ∷ rest
 
@@ -87,7 +88,6 @@ in_takes t xs e =
 abbrev counted_after : ℕ × List ℕ → Option (List ℕ)
 counted_after n = strip (codes " \"") n.1 >>= λ rest. text_in rest >>= λ xs. cond (length xs == n.0) (Some xs) None
 
--- The list of bytes is read again from its count and its quoted bytes, since a number begins with no quote.
 count_again : (xs : List ℕ) → length xs < 2 ^ 64 → is_text xs ≡ true
     → counted_text (with_count (length xs) (inside xs)) ≡ Some xs
 count_again xs fits p =
@@ -143,7 +143,8 @@ bare_line : (level : ℕ) (xs : List ℕ) → uncounted_line level xs ≡ uncoun
 unfolding line
 bare_line level xs = sym (append_assoc (spaces level) (codes "bytes " ++ 34 ∷ inside xs) (10 ∷ []))
 
--- The bytes that are read after the name.
+-- The bytes between the quotes of a line, or `None`. `rest` has the bytes of the line after the name `bytes` and a
+-- space.
 abbrev after_name : List ℕ → Option (List ℕ)
 after_name rest = counted_or (strip (34 ∷ []) rest) rest
 
@@ -155,7 +156,7 @@ quoted_again level rest xs e =
     (levels_again level (codes "ytes " ++ rest))
     ∙ ap (λ (r : Option (List ℕ)). r >>= λ ys. Some (level, ys)) e
 
--- The digits `ds` of `n`, whatever follows them, do not begin with a quote.
+-- The digits `ds` of `n` do not begin with a quote, whatever bytes `rest` follow them.
 abbrev HasNoQuote : ℕ → List ℕ → Type 0
 HasNoQuote n ds = (rest : List ℕ) → strip (34 ∷ []) (ds ++ rest) ≡ None
 
@@ -230,7 +231,7 @@ escapes_size (x ∷ xs) =
 within : (a b : List ℕ) → length b ≤ length (a ++ b)
 within a b = let h = length-append a b in omega arith
 
--- The number of bytes between quotes is no greater than the length of their line, so it is below 2^64.
+-- If a line has fewer than 2^64 bytes, the list `xs` between its quotes has fewer than 2^64 bytes.
 pub has_size : (level : ℕ) (text xs : List ℕ) → length text < 2 ^ 64 → IsQuoted (text ++ 10 ∷ []) level xs
     → length xs < 2 ^ 64
 has_size level text xs fits (p, inl e) =
@@ -274,7 +275,6 @@ has_quote level text xs (p, inr e) = (
 
 -- ---- the first bytes after the name
 
--- A count begins with a digit, and bytes without a count with a quote.
 first_fits : (rest xs : List ℕ) → after_name rest ≡ Some xs → may_follow rest ≡ true
 first_fits [] xs e = absurd cc
 first_fits (c ∷ cs) xs e = quoted (34 == c) refl e where
@@ -292,7 +292,7 @@ first_fits (c ∷ cs) xs e = quoted (34 == c) refl e where
     last true d = refl
     last false d = d
 
--- A line between quotes has an indent, the name, and a digit or a quote.
+-- A line with bytes between quotes has an indent, the name `bytes`, and then a digit or a quote.
 pub names_line : (text : List ℕ) (q : ℕ × List ℕ) → quoted_at text ≡ Some q
     → (level : ℕ) × (t : List ℕ) × (text ≡ spaces level ++ (codes "bytes " ++ t)) × (may_follow t ≡ true)
 unfolding quoted_at

@@ -12,7 +12,7 @@ use Rattle.capn_text.specs.inner.Tokens.{◌>>=◌, strip}
 use Rattle.capn_text.specs.inner.QuotedLines.{preceded, closed, last_zero, unquoted, unescaped, levels_at}
 use Rattle.capn_text.proofs.Steps.{guard_read, some_is, bind_some, chosen}
 
--- The bytes that were read before, and those that are read from the rest.
+-- The bytes `front`, followed by the bytes in `read`, or `None` if `read` is `None`.
 abbrev pub after_items : List ℕ → Option (List ℕ) → Option (List ℕ)
 after_items front read = read >>= λ xs. Some (front ++ xs)
 
@@ -79,7 +79,7 @@ escaped_byte front (c ∷ cs) total h e k f p so_far =
 
 -- ---- the levels of a line
 
--- The levels that were counted before, and those of the rest.
+-- The pair `p` of a number of levels and bytes, with `n` added to the number.
 abbrev pub added : ℕ → ℕ × List ℕ → ℕ × List ℕ
 added n p = (n + p.0, p.1)
 
@@ -102,7 +102,6 @@ level_more n (c ∷ d ∷ cs) after total e so_far =
 abbrev none : List ℕ
 none = []
 
--- No indent is left.
 unindented : (x y : Bool) (cs : List ℕ) (p q : ℕ × List ℕ) → cond x (cond y (some cs) None) None ≡ None
     → cond (x && y) p q ≡ q
 unindented true true cs p q e = absurd cc
@@ -132,7 +131,8 @@ bare_is c cs e f p =
     ∙ ap (λ b. cond b (unescaped cs) (cond (is_printable c) (preceded c (unquoted cs)) None)) f
     ∙ ap (λ b. cond b (preceded c (unquoted cs)) None) p
 
--- The bytes that are written for a byte, by which of three special ones it is.
+-- The bytes that stand for the byte `b` between quotes. `b` is a quote if `x`, a backslash if `y`, and a last zero if
+-- `z`.
 abbrev escaped_by : Bool → Bool → Bool → ℕ → List ℕ
 escaped_by x y z b = cond x (92 ∷ 34 ∷ []) (cond y (92 ∷ 92 ∷ []) (cond z (92 ∷ 48 ∷ []) (b ∷ [])))
 
@@ -171,7 +171,7 @@ text_again (b ∷ c ∷ bs) p =
 abbrev Reads : List ℕ → List ℕ → Type 0
 Reads t xs = (t ≡ escapes xs ++ 34 ∷ []) × ((xs ≡ []) ⊎ (is_text xs ≡ true))
 
--- One byte before others makes a text.
+-- If `b` is printable, and `ys` is empty or a text, `b ∷ ys` is a text.
 more_text : (b : ℕ) (ys : List ℕ) → is_printable b ≡ true → (ys ≡ []) ⊎ (is_text ys ≡ true) → is_text (b ∷ ys) ≡ true
 more_text b [] p h = ap (λ (x : Bool). x || b == 0) p
 more_text b (y ∷ ys) p (inl h) = absurd cc
@@ -213,7 +213,7 @@ bare_by b false false true p e f g h k =
     absurd cc
 bare_by b false false false p e f g h k = refl
 
--- A byte behind a backslash, and the bytes after it.
+-- Case: the byte `c` stands after a backslash.
 marked : (c : ℕ) (cs xs : List ℕ) (x : Bool) → (c == 34) ≡ x → (x || c == 92) ≡ true
     → preceded c (unquoted cs) ≡ Some xs → ((ys : List ℕ) → unquoted cs ≡ Some ys → Reads cs ys)
     → (92 ∷ c ∷ cs ≡ escapes xs ++ 34 ∷ []) × (is_text xs ≡ true)

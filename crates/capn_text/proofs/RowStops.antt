@@ -1,5 +1,5 @@
--- Lemmas for `stop_in_bits` and `stop_in_bytes`: lines of digits that are not read, and whether they can still be
--- completed.
+-- Lemmas for `stop_in_bits` and `stop_in_bytes`: lines of digits that no bytes can complete, and lines of digits that
+-- some bytes can complete.
 use Rattle.std.proofs.Common.{◌≡◌, ◌+◌, ◌-◌, ◌*◌, ◌≤◌, ◌<◌, ◌==◌, ◌&&◌, ◌||◌, ℕ, zero, suc, Bool, true, false, cond}
 use Rattle.std.proofs.Common.{List, [], ◌∷◌, ◌++◌, length, replicate, Option, Some, None}
 use Rattle.std.proofs.Common.{refl, sym, ap, subst, ◌∙◌, append_assoc, arith, inl, inr}
@@ -39,7 +39,6 @@ newline_by : (b : Bool) (x y r : List ℕ) → cond b (Some y) None ≡ Some r �
 newline_by true x y r e = refl
 newline_by false x y r e = absurd cc
 
--- A newline that is stripped is the first byte.
 newline : (c : ℕ) (cs z r : List ℕ) → strip (10 ∷ []) ((c ∷ cs) ++ z) ≡ Some r → strip (10 ∷ []) (c ∷ cs) ≡ Some cs
 newline c cs z r e = newline_by (10 == c) cs (cs ++ z) r e
 
@@ -134,7 +133,6 @@ module _ {X : Type 0} (one : List ℕ → Option (X × List ℕ)) (level : ℕ) 
       ap (indent_at level) (ap (λ x. x ++ z) (indent_takes level t digits e)
       ∙ append_assoc (replicate (2 * level) 32) digits z) ∙ indent_again level (digits ++ z)
 
-  -- The newline after all items.
   ended : (n : ℕ) (l : List ℕ) (xs : List X) → many one (suc n) (l ++ 10 ∷ []) ≡ Some (xs, 10 ∷ [])
       → within n (l ++ 10 ∷ []) ≡ Some (xs, [])
   ended n l xs e = ap (λ (o : Option (List X × List ℕ)). o >>= λ ys. strip (10 ∷ []) ys.1 >>= λ r. Some (ys.0, r)) e
@@ -147,7 +145,7 @@ module _ {X : Type 0} (one : List ℕ → Option (X × List ℕ)) (level : ℕ) 
       (all_in : (n : ℕ) (ds z : List ℕ) (xs : List X) (rest : List ℕ) → many one n (ds ++ z) ≡ Some (xs, rest)
       → width * n ≤ length ds
       → (u : List ℕ) × (many one n ds ≡ Some (xs, u)) × (rest ≡ u ++ z) × (width * n < length ds → 0 < length u)) where
-    -- A line that has no more digits than it needs can be completed.
+    -- If `digits` are valid digits, and no more than the line needs, some bytes `y` complete the line.
     open_row : (n : ℕ) (t digits : List ℕ) → indent_at level t ≡ Some digits → are_all is digits ≡ true
         → length digits ≤ width * suc n → (y : List ℕ) × (xs : List X)
         × (row_line_at one level (suc n) (t ++ y) ≡ Some (xs, []))
@@ -164,7 +162,7 @@ module _ {X : Type 0} (one : List ℕ → Option (X × List ℕ)) (level : ℕ) 
               ∙ ap (within n) (sym (append_assoc digits more (10 ∷ []))) ∙ ended n (digits ++ more) f.0 f.1,
         )
 
-    -- A line with more digits than it needs is not completed by any bytes.
+    -- Case: the bytes `u` are left after the items of `digits`. Then no bytes `z` complete the line.
     too_long : (n : ℕ) (t digits z : List ℕ) → indent_at level t ≡ Some digits
         → row_line_at one level (suc n) t ≡ None → (u : List ℕ) (xs : List X) (r : List ℕ)
         → many one (suc n) digits ≡ Some (xs, u) → strip (10 ∷ []) (u ++ z) ≡ Some r → 0 < length u → ⊥
@@ -197,7 +195,7 @@ module _ {X : Type 0} (one : List ℕ → Option (X × List ℕ)) (level : ℕ) 
     lost_by n t digits z e none other (Some y) read = absurd (never_read n t digits z e none other y read)
     lost_by n t digits z e none other None read = read
 
-    -- Any other line is not completed by any bytes.
+    -- No bytes complete a line that has too many digits, or a byte that is no digit.
     lost_row : (n : ℕ) (t digits : List ℕ) → indent_at level t ≡ Some digits
         → row_line_at one level (suc n) t ≡ None → (length digits ≤ width * suc n → are_all is digits ≡ true → ⊥)
         → IsLineLost (row_line_at one level (suc n)) t

@@ -100,7 +100,6 @@ quiet (c ∷ cs) p =
 rest_is : (d c : ℕ) (x y : List ℕ) → ◌≡◌ {A = List ℕ} (d ∷ x) (c ∷ y) → x ≡ y
 rest_is d c x y e = cc
 
--- There is no quote in clean bytes.
 no_quote : (x a b : List ℕ) → IsClean x → x ≡ a ++ 34 ∷ b → ⊥
 no_quote x [] b p e = let q : IsClean (34 ∷ b) = sym (ap clean e) ∙ p in absurd cc
 no_quote [] (c ∷ cs) b p e = absurd cc
@@ -120,7 +119,7 @@ kept_both : (x y u v : List ℕ) → Keeps x y → Keeps u v → Keeps (x ++ u) 
 kept_both x y u v first second rest form h =
     rw (append_assoc x u rest, append_assoc y v form) (first (u ++ rest) (v ++ form) (second rest form h))
 
--- A line without a quote stays as it is.
+-- A line of clean bytes `x` is its own plain form.
 kept_line : (level : ℕ) (x : List ℕ) → IsClean x → Keeps (line level x) (line level x)
 unfolding line
 kept_line level x p rest form (fronts, h) =
@@ -318,7 +317,6 @@ kept_end : Keeps end_line end_line
 unfolding line
 kept_end = kept_line 0 (codes "end") refl
 
--- The texts of values, each with its end.
 pub stream_kept : (vs : List Tree) → AllByRecursion IsShowable vs → IsPlain (quoted_stream vs) (stream_text vs)
 stream_kept [] all = ([], (refl, refl))
 stream_kept (v ∷ vs) all =

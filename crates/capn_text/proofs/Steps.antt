@@ -32,7 +32,7 @@ some_is x y e = cc
 pub then : (t a b x y : List ℕ) → t ≡ a ++ x → x ≡ b ++ y → t ≡ (a ++ b) ++ y
 then t a b x y e f = e ∙ ap (λ z. a ++ z) f ∙ sym (append_assoc a b y)
 
--- `one` reads an item at the front exactly as `show` writes it, and `text` is the text of a list of items.
+-- Let `text` write the items of a list one after the other, each as `show` writes it.
 module _ {X : Type 0} (one : List ℕ → Option (X × List ℕ)) (show : X → List ℕ) (text : List X → List ℕ)
     (P : X → Type 0) (none : text [] ≡ []) (more : (x : X) (xs : List X) → text (x ∷ xs) ≡ show x ++ text xs) where
   pub many_again : ((x : X) (rest : List ℕ) → P x → one (show x ++ rest) ≡ Some (x, rest))

@@ -1,4 +1,4 @@
--- Lemmas for `contents.rt`, `heads.rt`, `leaves.rt` and `tokens.rt`: the stops of parts that are read one after the
+-- Lemmas for `contents.rt`, `heads.rt`, `leaves.rt` and `tokens.rt`: the stops of readers that read one after the
 -- other.
 use Rattle.std.proofs.Common.{◌≡◌, ◌+◌, ◌-◌, ◌≤◌, ◌<◌, ℕ, zero, suc, List, [], ◌∷◌, ◌++◌, length, Option, Some, None}
 use Rattle.std.proofs.Common.{refl, sym, ap, subst, ◌∙◌, append_assoc, arith}
@@ -11,25 +11,26 @@ use Rattle.capn_text.specs.inner.Stops.{AreLines, GoesOn, Stops, IsLost, IsOpen,
 use Rattle.capn_text.proofs.Steps.{bind_some, some_is, then}
 use Rattle.capn_text.proofs.WholeLines.{are_none, are_both, first_front}
 
--- A reader by height, such as `read r` in `Stops`.
+-- A reader: from a height and bytes, it gives an item and the bytes after it, or `None`.
 abbrev pub Reads : Type 0 → Type 0
 Reads X = ℕ → List ℕ → Option (X × List ℕ)
 
--- The text that was read is whole lines, after which anything may follow. A greater height changes nothing.
+-- If `read room` reads `x` from `t`, the bytes `c` that it reads are complete lines. It also reads `x` from `c`
+-- followed by any bytes `z`, and at any greater height `r`.
 abbrev pub Local : {X : Type 0} → Reads X → ℕ → Type 0
 Local {X} read room = (t : List ℕ) (x : X) (after : List ℕ) → read room t ≡ Some (x, after)
     → (c : List ℕ) × (t ≡ c ++ after) × AreLines c
     × ((r : ℕ) (z : List ℕ) → room ≤ r → read r (c ++ z) ≡ Some (x, z))
 
--- The reader can read something, at any height.
+-- For some bytes `w` and some `x`, `read` reads `x` from all of `w` at every height `r`.
 abbrev pub Full : {X : Type 0} → Reads X → Type 0
 Full {X} read = (w : List ℕ) × (x : X) × ((r : ℕ) → read r w ≡ Some (x, []))
 
--- Two readers, one after the other.
+-- The reader that first reads with `f`, and then reads with `g` from the bytes that `f` has left.
 abbrev pub both : {X Y : Type 0} → Reads X → (X → Reads Y) → Reads Y
 both f g r t = f r t >>= λ x. g x.0 r x.1
 
--- A reader that reads nothing, and gives `y`.
+-- The reader that reads no bytes, and gives `y`.
 abbrev pub given : {Y : Type 0} → Y → Reads Y
 given y r t = Some (y, t)
 
@@ -42,7 +43,7 @@ local_given {Y} y room t x after e =
 pub full_given : {Y : Type 0} (y : Y) → Full (given y)
 full_given y = ([], y, λ r. refl)
 
--- A reader that takes all of a text takes it before any other text.
+-- Let `f` be `Local`. If `f` reads `x` from all of `w`, it also reads `x` from `w` followed by any bytes `z`.
 pub past : {X : Type 0} (f : Reads X) (least : ℕ) (w : List ℕ) (x : X) → Local f least
     → ((r : ℕ) → least ≤ r → f r w ≡ Some (x, [])) → (r : ℕ) (z : List ℕ) → least ≤ r → f r (w ++ z) ≡ Some (x, z)
 past f least w x near h r z low =
@@ -127,7 +128,7 @@ module _ {X Y : Type 0} (f : Reads X) (g : X → Reads Y) (room : ℕ) where
     λ z. ap (λ o. o >>= λ x. g x.0 room x.1) (h.4 z),
   )
 
-  -- The second reader stops, after what the first read.
+  -- Let `f` be `Local`. If `f` reads `x` and then `g x` stops before the last `n` bytes, `both f g` also stops there.
   stops_second : Local f room → (t : List ℕ) (x : X) (after : List ℕ) → f room t ≡ Some (x, after) → (n : ℕ)
       → Stops (g x) room after n → Stops (both f g) room t n
   stops_second near t x after is n h =
@@ -207,7 +208,8 @@ local_all one room near (suc n) =
     (λ x. local_both (all one n) (λ xs. given (x ∷ xs)) room (local_all one room near n)
     (λ xs. local_given (x ∷ xs) room))
 
--- If the items that are left fail, all items fail. A loop keeps this fact as its invariant.
+-- If reading the last `count - i` items from `rest` fails with `e`, reading all `count` items from `text` fails with
+-- `e`. This is the invariant of a loop.
 abbrev pub PassesOn : {X : Type 0} → Reads X → ℕ → ℕ → ℕ → List ℕ → List ℕ → Type 0
 PassesOn one room count i rest text = (e : Stop) → FailsAt (all one (count - i)) room e rest
     → FailsAt (all one count) room e text
@@ -295,7 +297,7 @@ idle_none (stops.Left n) r h = h
 idle_none (stops.Cut n) r h = h
 idle_none stops.Deep r h = h
 
--- A reader that does not depend on the height can be taken at height 0.
+-- `f` does not depend on the height, so a stop at height 0 is a stop at height `room`.
 module _ {X : Type 0} (f : List ℕ → Option (X × List ℕ)) (room : ℕ) where
   any_stops : (t : List ℕ) (n : ℕ) → Stops (λ r. f) 0 t n → Stops (λ r. f) room t n
   any_stops t n h = (

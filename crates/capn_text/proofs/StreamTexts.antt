@@ -24,12 +24,11 @@ line_number m n e = cc
 one_end : (rest : List ℕ) → ended_lines (end_line ++ rest) ≡ 1 + ended_lines rest
 one_end rest = lines_append end_line rest
 
--- If line `a + n` is not line `b`, which equals line `a`, then `n` is not 0.
 pub later : (a n b : ℕ) → a ≡ b → (faults.Line (a + n) ≡ faults.Line b → ⊥) → 0 < n
 later a zero b same other = absurd (other (ap (λ k. faults.Line k) (omega arith)))
 later a (suc n) b same other = omega arith
 
--- The text of `w` is at the front.
+-- Let `t` be the text of `w`, and then the bytes `after`.
 module _ (t : List ℕ) (w : Tree) (after : List ℕ) (front : t ≡ show_text w ++ after) where
   pub lines_of_front : ended_lines t ≡ ended_lines (show_text w) + ended_lines after
   lines_of_front = ap ended_lines front ∙ lines_append (show_text w) after
@@ -37,7 +36,7 @@ module _ (t : List ℕ) (w : Tree) (after : List ℕ) (front : t ≡ show_text w
   pub lines_counted : ended_lines (take (length t - length after) t) ≡ ended_lines (show_text w)
   lines_counted = ap ended_lines (before t (show_text w) after front)
 
-  -- The end of the text was read.
+  -- Let `after` be the line `end`, and then the bytes `rest`.
   module _ (rest : List ℕ) (end : strip end_line after ≡ Some rest) where
     pub with_end : t ≡ show_text w ++ (end_line ++ rest)
     with_end = front ∙ ap (λ x. show_text w ++ x) (strip_takes end_line after rest end)
@@ -57,7 +56,7 @@ module _ (t : List ℕ) (w : Tree) (after : List ℕ) (front : t ≡ show_text w
         let few = lines_within (show_text w) in
         omega arith
 
--- The end of the text follows it.
+-- Let `after` be the line `end`, and then the bytes `rest`.
 module _ (after rest : List ℕ) (is : after ≡ end_line ++ rest) where
   pub rest_is : (left : List ℕ) → strip end_line after ≡ Some left → left ≡ rest
   rest_is left h = some_is left rest (sym h ∙ ap (strip end_line) is ∙ strip_again end_line rest)

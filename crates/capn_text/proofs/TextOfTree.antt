@@ -32,7 +32,7 @@ use Rattle.capn_text.proofs.HeadText.{head_text, head_takes}
 use Rattle.capn_text.proofs.TreeOfText.{count-trees, count-rows, body_text, row_text, each_text, rows_text}
 use Rattle.capn_text.proofs.TreeOfText.{rows_text-cons}
 
--- The text `t` is that of the tree `x.0` at `level`, followed by `x.1`, and the tree is showable.
+-- `t` is the text of the tree `x.0` at `level`, followed by `x.1`. The tree is showable.
 abbrev pub Spelled : ℕ → List ℕ → Tree × List ℕ → Type 0
 Spelled level t x = (t ≡ shown level x.0 ++ x.1) × IsShowable x.0
 
@@ -47,7 +47,6 @@ numbers_take greatest level n t x e =
     many_takes (number_line_at greatest level) (number_text level) (number_lines level) (λ k. k < suc greatest) refl
     (λ y ys. refl) (number_line_takes greatest level) n t x.0 x.1 e
 
--- A list of numbers, by the way in which its tree is made.
 list_take : {X : Type 0} (P : X → Type 0) (make : List X → Tree) (texts : List X → List ℕ) (name : Name) (level n : ℕ)
     (t t2 : List ℕ) (r : Option (List X × List ℕ)) (x : Tree × List ℕ)
     → ((xs : List X) → shown level (make xs) ≡ line level (head_text (heads.Named name (length xs))) ++ texts xs)
@@ -102,7 +101,7 @@ each_showable : (us : List Tree) → AllByRecursion IsShowable us → EachShowab
 each_showable [] all = tt
 each_showable (u ∷ us) all = (all.0, each_showable us all.1)
 
--- The data words and the slots are showable.
+-- The data words `b.0` and the slots `b.1` of a struct are showable.
 abbrev BodyShowable : List ℕ × Trees → Type 0
 BodyShowable b = (length b.0 < 2 ^ 64) × (count b.1 < 2 ^ 64) × AllBelow (2 ^ 64) b.0 × EachShowable b.1
 
@@ -140,7 +139,6 @@ module _ (room : ℕ) (takes : Takes room) where
         (omega (arith, m.1), omega (arith, count-trees b.0.0, n.1), m.2, n.2),
       )
 
-  -- A struct after its first line.
   after_first_line : (level w s : ℕ) (t t2 : List ℕ) (x : (List ℕ × Trees) × List ℕ)
       → w < 2 ^ 64 → s < 2 ^ 64 → t ≡ line level (head_text (heads.Struct w s)) ++ t2
       → body_at (tree_at room) level w s t2 ≡ Some x

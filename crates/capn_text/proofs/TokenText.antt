@@ -1,5 +1,5 @@
--- Lemmas on the tokens of a line: a reader takes exactly the text of the token that it gives, and gives the token for
--- which a text was written. (For `levels_at`.)
+-- Lemmas on the tokens of a line: a reader reads exactly the text of the token that it gives, and reads each token from
+-- its own text. (For `levels_at`.)
 use Rattle.std.proofs.Common.{◌≡◌, ℕ, zero, suc, ◌+◌, ◌-◌, ◌*◌, ◌/◌, ◌%◌, ◌^◌, ◌≤◌, ◌<◌, Bool, true, false, cond}
 use Rattle.std.proofs.Common.{List, [], ◌∷◌, ◌++◌}
 use Rattle.std.proofs.Common.{get_or, Option, Some, None, codes, replicate, refl, sym, ap, ap₂, subst, ◌∙◌}
@@ -64,7 +64,6 @@ one_more n d rest lt fits =
     ∙ ap (λ b. cond b (digits_at (n * 10 + (48 + d - 48)) rest) None) below
     ∙ ap (λ k. digits_at (n * 10 + k) rest) same
 
--- A digit other than 0 begins a number.
 begins : (d : ℕ) (rest : List ℕ) → 0 < d → d < 10 → decimal_at ((48 + d) ∷ rest) ≡ digits_at d rest
 begins d rest low lt =
     let other : (48 + d == 48) ≡ false = ne_eqb (48 + d) 48 (λ e. omega arith) in

@@ -1,5 +1,4 @@
--- Lemmas for the law `texts`: the text of a tree is read as that tree, and what is read as a tree is the text of that
--- tree.
+-- Lemmas for the law `texts`: a tree is read from its own text, and from no other text.
 use Rattle.std.proofs.Common.{◌≡◌, ℕ, zero, suc, ◌+◌, ◌^◌, ◌≤◌, ◌<◌, Bool, List, [], ◌∷◌, ◌++◌, length, Option}
 use Rattle.std.proofs.Common.{Some}
 use Rattle.std.proofs.Common.{map, refl, sym, ap, ap₂, ◌∙◌, append_assoc, arith}
@@ -68,7 +67,7 @@ pub count-rows : (bs : List (List ℕ × Trees)) → count_rows (rows_from bs) �
 count-rows [] = refl
 count-rows (b ∷ bs) = ap suc (count-rows bs)
 
--- ---- texts of parts
+-- ---- the texts of the data words, slots and rows of a value
 
 abbrev pub body_text : ℕ → List ℕ × Trees → List ℕ
 body_text level b = word_lines (level + 1) b.0 ++ shown_each (level + 1) b.1
@@ -251,7 +250,7 @@ tree_again (suc room) level (rows bs) rest low s =
 tree_again (suc room) level (cap k) rest low s =
     plain room level (heads.Named names.Cap k) rest (omega arith)
 
--- No text of a value begins the text of another value.
+-- The law `TextsAreApart` holds.
 pub apart : (level : ℕ) (v w : Tree) (x y : List ℕ) → IsShowable v → IsShowable w
     → shown level v ++ x ≡ shown level w ++ y → (v ≡ w) × (x ≡ y)
 apart level v w x y sv sw e =

@@ -1,4 +1,4 @@
--- Lemmas for `contents.rt` and `leaves.rt`: the stops in a tree.
+-- Lemmas for `contents.rt` and `leaves.rt`: the stops of the readers of trees.
 use Rattle.std.proofs.Common.{◌≡◌, ◌+◌, ◌^◌, ◌<◌, ◌≤◌, ℕ, zero, suc, List, [], ◌++◌, Some}
 use Rattle.std.proofs.Common.{map, refl, ap, subst, ◌∙◌, arith}
 use Rattle.std.specs.Int.{from_bool}
@@ -22,7 +22,7 @@ use Rattle.capn_text.proofs.StopLaws.{Reads, Local, Full, both, given, all, loca
 use Rattle.capn_text.proofs.StopLaws.{full_both}
 use Rattle.capn_text.proofs.StopLaws.{local_all, full_all}
 
--- The readers of values, structs and rows, by height.
+-- The reader of a value at `level`, by its greatest height `r`.
 abbrev pub tree_by : ℕ → Reads Tree
 tree_by level r = tree_at r level
 
@@ -41,11 +41,11 @@ words_by level r = word_line_at level
 abbrev pub numbers_by : ℕ → ℕ → Reads ℕ
 numbers_by greatest level r = number_line_at greatest level
 
--- The slots of a struct, after its data words.
+-- The reader of the `s` slots of a struct, which gives them with the data words `ws`.
 abbrev pub slots_by : ℕ → ℕ → List ℕ → Reads (List ℕ × Trees)
 slots_by level s ws = both (all (tree_by (level + 1)) s) (λ ss. given (ws, trees ss))
 
--- ---- the text that was read is whole lines
+-- ---- the bytes that are read are complete lines
 
 numbers_local : (greatest level n room : ℕ) (make : List ℕ → Tree) → greatest < 2 ^ 64
     → Local (both (all (numbers_by greatest level) n) (λ xs. given (make xs))) room
@@ -106,7 +106,6 @@ module _ (room : ℕ) (near : (level : ℕ) → Local (tree_by level) room) wher
       (local_all (row_by (level + 1)) room (row_local (level + 1)) n) (λ bs. local_given (rows (rows_from bs)) room)
   content_local level (heads.Named (names.Leaf leaf) n) = leaf_local level leaf n room
 
--- A value of height 0 is read at any height.
 low_any : (h : Head) (t : List ℕ) (x : Tree) (after : List ℕ) → low_at h t ≡ Some (x, after)
     → (t ≡ after) × ((r level : ℕ) (z : List ℕ) → (low_at h z ≡ Some (x, z)) × (content_by level h r z ≡ Some (x, z)))
 low_any heads.Null t x after e =
@@ -123,7 +122,6 @@ low_any (heads.Named names.Cap n) t x after e =
     × (content_by level (heads.Named names.Cap n) r z ≡ Some (q.0, z)))) p (refl, λ r level z. (refl, refl))
 low_any (heads.Named (names.Leaf leaf) n) t x after e = absurd cc
 
--- A value is read at any height, from its first line.
 by_height : (level : ℕ) (h : Head) (x : Tree) (c : List ℕ)
     → ((z : List ℕ) → head_at level (c ++ z) ≡ Some (h, z))
     → ((r : ℕ) (z : List ℕ) → (low_at h z ≡ Some (x, z)) × (content_by level h r z ≡ Some (x, z)))

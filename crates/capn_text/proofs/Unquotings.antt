@@ -17,7 +17,6 @@ use Rattle.capn_text.proofs.shared.Counts.{count_append}
 
 -- ---- numbers counted
 
--- If one more line of digits is before `line`, it is also counted.
 pub gone_more : (qs : List ℕ) (i line : ℕ) → i < length qs → slice_index qs i < line
     → ((n : ℕ) → line ≤ n → count_to n (take i qs) ≡ i) → (n : ℕ) → line ≤ n → count_to n (take (i + 1) qs) ≡ i + 1
 gone_more qs i line below low so_far n at =
@@ -28,11 +27,9 @@ gone_more qs i line below low so_far n at =
     let before = so_far n at in
     omega arith
 
--- The line of digits `i` is not before `line`.
 pub starts_here : (qs : List ℕ) (i line : ℕ) → i < length qs → line ≤ slice_index qs i → StartFrom line (drop i qs)
 starts_here qs i line below high = subst (StartFrom line) (sym (drop-cons qs i 0 below)) high
 
--- All lines of digits are before `line`.
 pub none_starts : (qs : List ℕ) (i line : ℕ) → i ≡ length qs → StartFrom line (drop i qs)
 none_starts qs i line e =
     subst (StartFrom line) (sym (ap (λ k. drop k qs) e ∙ drop-length qs)) tt
@@ -74,7 +71,7 @@ digits_past n before (c ∷ cs) more quiet = past-by (c == 10) refl (digits_past
 
 -- ---- chunks
 
--- The plain form of the rest, if the front of its line is kept, and if it was given.
+-- Cases of `plain_on` and `digits_on`: `through` is false, or `through` is true.
 on_kept : (u : Unquoting) (more : List ℕ) → u.through ≡ false → plain_on u more ≡ plain_after u.front more
 on_kept u more e = ap (λ b. cond b (plain_through more) (plain_after u.front more)) e
 
@@ -104,11 +101,11 @@ both_pieces u v w a b x y first next = record {
   passed = next.passed ∙ first.passed;
 }
 
--- `bytes` were taken, and the converter, which went from `u` to `v`, extended the plain form `old` to `new`.
+-- A converter reads `bytes`, goes from the state `u` to the state `v`, and extends the output from `old` to `new`.
 abbrev pub Adds : Unquoting → Unquoting → List ℕ → List ℕ → List ℕ → Type 0
 Adds u v bytes old new = (added : List ℕ) × (new ≡ old ++ added) × Unquotes u v bytes added
 
--- A line that was kept from its beginning ends.
+-- Case: a newline ends a line, none of whose bytes are in the output yet.
 pub line_kept : (u v : Unquoting) (old new : List ℕ) → u.through ≡ false → v.through ≡ u.through → v.front ≡ []
     → v.line ≡ u.line + lines_of u.front → v.digits ≡ u.digits ++ digits_of u.line u.front → v.passed ≡ u.passed
     → new ≡ old ++ plain_line u.front → Adds u v (10 ∷ []) old new
@@ -131,7 +128,7 @@ line_kept u v old new kept same front line digits passed is =
       },
     )
 
--- A line whose front was given ends.
+-- Case: a newline ends a line whose front is already in the output.
 pub line_given : (u v : Unquoting) (old new : List ℕ) → u.through ≡ true → v.through ≡ false → v.front ≡ []
     → v.line ≡ u.line + 1 → v.digits ≡ u.digits → v.passed ≡ u.passed → new ≡ old ++ 10 ∷ []
     → Adds u v (10 ∷ []) old new
@@ -150,7 +147,7 @@ line_given u v old new given held front line digits passed is = (
   },
 )
 
--- Bytes without a newline are taken.
+-- Case: the bytes `text`, which have no newline, are appended to the stored `front` of their line.
 pub part_kept : (u v : Unquoting) (text old : List ℕ) → ended_lines text ≡ 0 → u.through ≡ false
     → v.through ≡ u.through → v.front ≡ u.front ++ text → v.line ≡ u.line → v.digits ≡ u.digits
     → v.passed ≡ u.passed → Adds u v text old old
@@ -188,7 +185,7 @@ part_given u text old new quiet given is = (
   },
 )
 
--- The front of a line is given, since the line cannot have bytes between quotes.
+-- Case: the front of a line is added to the output, since the line cannot have bytes between quotes.
 pub front_given : (u v : Unquoting) (old new : List ℕ) → u.through ≡ false → v.through ≡ true
     → may_begin (take looked_at u.front) ≡ false → v.line ≡ u.line → v.digits ≡ u.digits → v.passed ≡ u.passed
     → new ≡ old ++ u.front → Adds u v [] old new
@@ -208,7 +205,7 @@ front_given u v old new kept given other line digits passed is =
       },
     )
 
--- The front of a line is given, stated field by field.
+-- The lemma `front_given`, with the fields of both states as arguments.
 pub given_front : (front cleared digits old new : List ℕ) (line passed : ℕ) (through : Bool) → through ≡ false
     → may_begin (take looked_at front) ≡ false → new ≡ old ++ front
     → Adds (record { front = front; line = line; digits = digits; passed = passed; through = through })
@@ -218,7 +215,7 @@ given_front front cleared digits old new line passed through kept other is =
     (record { front = cleared; line = line; digits = digits; passed = passed; through = true }) old new kept refl other
     refl refl refl is
 
--- The front of a line that was given is cleared.
+-- Case: the stored `front` of a line is cleared, since these bytes are already in the output.
 pub front_cleared : (u v : Unquoting) (old : List ℕ) → u.through ≡ true → v.through ≡ u.through → v.line ≡ u.line
     → v.digits ≡ u.digits → v.passed ≡ u.passed → Adds u v [] old old
 front_cleared u v old given same line digits passed = (
@@ -239,7 +236,7 @@ nothing_given u old = ([], sym (append-nil old), no_piece u)
 
 -- ---- the loop over a chunk
 
--- The bytes of the chunk before `rest` were taken.
+-- The converter has read the `bytes` of the chunk `piece` before `rest`.
 pub record HasPushed (u v : Unquoting) (piece rest old new : List ℕ) : Type 0 where
   pub bytes : List ℕ
   pub are : piece ≡ bytes ++ rest
@@ -256,7 +253,7 @@ both_added u v w a b old mid new first next = (
   both_pieces u v w a b first.0 next.0 first.2 next.2,
 )
 
--- One more line of the chunk is taken.
+-- If `HasPushed` holds before a line `text` of the chunk is read, it holds after that line.
 pub step_pushed : (u v m w : Unquoting) (piece rest old new mid next text after : List ℕ)
     → HasPushed u v piece rest old new → (rest ≡ text ++ 10 ∷ after) × (ended_lines text ≡ 0)
     → Adds v m text new mid → Adds m w (10 ∷ []) mid next → HasPushed u w piece after old next

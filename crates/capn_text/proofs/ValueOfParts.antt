@@ -1,4 +1,4 @@
--- Lemmas for `contents.rt` and `one_text.rt`: the value that is made of what a step of reading gives.
+-- Lemmas for `contents.rt` and `one_text.rt`: the value that each step of the parser makes.
 use Rattle.std.proofs.Common.{◌≡◌, ℕ, zero, suc, None, ◌+◌, ◌-◌, ◌<◌, List, [], ◌∷◌, map, Option, Some, refl, sym, ap}
 use Rattle.std.proofs.Common.{ap₂, ◌∙◌}
 use Rattle.std.proofs.Common.{arith}
@@ -14,10 +14,10 @@ use Rattle.capn_text.specs.declared.heads.Name.TheVariants as names
 use Rattle.capn_text.specs.declared.heads.Head.{Head}
 use Rattle.capn_text.specs.declared.heads.Head.TheVariants as heads
 
--- The rules of the steps, and of the views of values.
+-- The rules `common_steps` and `views`, in one ruleset.
 pub ruleset steps_and_views = (common_steps, views)
 
--- A value, from its first line.
+-- Let the first line `h` be read from `t`, and let `after` be the bytes after that line.
 module _ (room level : ℕ) (t after : List ℕ) (h : Head) (e : head_at level t ≡ Some (h, after)) where
   pub by_low_head : room ≡ 0 → tree_at room level t ≡ low_at h after
   unfolding tree_at

@@ -1,4 +1,4 @@
--- Lemmas for the law `whole_lines`: the facts about a text that its whole lines decide, whatever follows.
+-- Lemmas for the law `whole_lines`: facts about the complete lines of a text hold whatever bytes follow.
 use Rattle.std.proofs.Common.{◌≡◌, inl, inr, ◌++◌, sym, ap, ◌∙◌, append_assoc, arith}
 use Rattle.std.proofs.lemmas.Bool.{cases_lt}
 use Rattle.capn_value.specs.Text.{show_text}

@@ -1,4 +1,4 @@
--- Lemmas on whole lines, and on the first lines of a text. (For `FirstWrong`, `LineBytes`, `LostTexts` and others.)
+-- Lemmas on complete lines, and on the first lines of a text. (For `FirstWrong`, `LineBytes`, `LostTexts` and others.)
 use Rattle.std.proofs.Common.{◌≡◌, ◌+◌, ◌==◌, ℕ, zero, suc, Bool, true, false, cond, List, [], ◌∷◌, ◌++◌, replicate}
 use Rattle.std.proofs.Common.{refl, sym, ap, ◌∙◌, append_assoc, arith, ◌*◌}
 use Rattle.capn_value.specs.Text.{line}
@@ -6,7 +6,7 @@ use Rattle.capn_text.specs.Streams.{first_lines, ended_lines}
 use Rattle.capn_text.specs.inner.Stops.{AreLines}
 use Rattle.capn_text.proofs.LineCounts.{lines_append}
 
--- ---- whole lines
+-- ---- complete lines
 
 pub are_none : AreLines []
 are_none n y = ap (λ k. first_lines k y) (omega arith)
@@ -72,7 +72,7 @@ cancel : (x y z : List ℕ) → x ++ y ≡ x ++ z → y ≡ z
 cancel [] y z e = e
 cancel (c ∷ cs) y z e = cancel cs y z cc
 
--- A text with the same lines up to the one after `front` begins with `front`, and the line after that is the same.
+-- If `t` and `front ++ rest` have the same lines up to the line after `front`, `t` begins with `front`.
 pub same_front : (front rest t : List ℕ) → AreLines front
     → first_lines (ended_lines front + 1) t ≡ first_lines (ended_lines front + 1) (front ++ rest)
     → (z : List ℕ) × (t ≡ front ++ z) × (first_lines 1 z ≡ first_lines 1 rest)

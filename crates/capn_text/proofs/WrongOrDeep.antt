@@ -1,4 +1,4 @@
--- Lemmas for the law `refusals`: a text has at most one first wrong line, or it goes too deep.
+-- Lemmas for the law `refusals`: a text has at most one first wrong line, and none if the text goes too deep.
 use Rattle.std.proofs.Common.{◌≡◌, inl, inr, ℕ, zero, suc, ◌+◌, ◌≤◌, ◌<◌, ◌==◌, Bool, true, false, cond}
 use Rattle.std.proofs.Common.{List, [], ◌∷◌, ◌++◌, refl, sym, ap, subst, ◌∙◌, append_assoc, arith}
 use Rattle.std.proofs.lemmas.Bool.{cases_lt}
@@ -15,7 +15,6 @@ use Rattle.capn_text.proofs.WholeLines.{first_front}
 
 -- ---- first lines
 
--- The first lines of a longer first part of a text are those of the text, by whether the next byte is a newline.
 by_newline : (k : Bool) (p q x y : List ℕ) (f g : List ℕ → List ℕ) → f p ≡ x → g q ≡ y
     → cond k (f (cond k p q)) (g (cond k p q)) ≡ cond k x y
 by_newline true p q x y f g e h = e
@@ -33,13 +32,12 @@ fewer (suc a) (suc b) (c ∷ cs) low =
 same_fewer : (a b : ℕ) (x y : List ℕ) → a ≤ b → first_lines b x ≡ first_lines b y → first_lines a x ≡ first_lines a y
 same_fewer a b x y low e = sym (fewer a b x low) ∙ ap (first_lines a) e ∙ fewer a b y low
 
--- A line has ended, or it has not.
 by_end : (k : Bool) (n m : ℕ) (x y : ℕ → List ℕ) → suc n ≤ cond k 1 0 + m → ((a : ℕ) → a ≤ m → x a ≡ y a)
     → cond k (x n) (x (suc n)) ≡ cond k (y n) (y (suc n))
 by_end true n m x y low h = h n (omega arith)
 by_end false n m x y low h = h (suc n) (omega arith)
 
--- The first `n` lines of `x` with bytes `y` after it are those of `x`, if `x` has `n` lines or more.
+-- If `x` has at least `n` complete lines, bytes after `x` do not change its first `n` lines.
 pub within : (n : ℕ) (x y : List ℕ) → n ≤ ended_lines x → first_lines n (x ++ y) ≡ first_lines n x
 within zero x y low = refl
 within (suc n) [] y low = absurd (omega arith)
@@ -52,7 +50,7 @@ by_rest : (k : Bool) (n m : ℕ) (x : ℕ → List ℕ) (y : List ℕ) → cond 
 by_rest true n m x y more h = h n (omega arith)
 by_rest false n m x y more h = h (suc n) (omega arith)
 
--- The first `n` lines of `x` with bytes `y` after it begin with all of `x`, if `x` has fewer than `n` lines.
+-- If `x` has fewer than `n` complete lines, the first `n` lines of `x ++ y` begin with all of `x`.
 pub beyond : (n : ℕ) (x y : List ℕ) → ended_lines x < n → (z : List ℕ) × (first_lines n (x ++ y) ≡ x ++ z)
 beyond n [] y more = (first_lines n y, refl)
 beyond zero (c ∷ cs) y more = absurd (omega arith)
@@ -72,7 +70,7 @@ counted (suc n) [] low = absurd (omega arith)
 counted (suc n) (c ∷ cs) low =
     count_by (c == 10) n (ended_lines cs) (λ a. first_lines a cs) low (λ a few. counted a cs few)
 
--- A text with the same first lines has as many lines.
+-- If `x` and `y` have the same first `n` lines, and these are complete in `y`, they are complete in `x` too.
 as_many : (n : ℕ) (x y : List ℕ) → n ≤ ended_lines y → first_lines n x ≡ first_lines n y → n ≤ ended_lines x
 as_many n x y low e =
     let f = first_front n x in
@@ -98,7 +96,8 @@ one_wrong_line spell m n t h g = elim (cases_lt m n) [
 -- ---- too deep
 
 module _ (t : List ℕ) (deep : GoesTooDeep t) where
-  -- A value is too high if its text, with something after it, has the lines that go too deep.
+  -- Let `v` be showable. If `show_text v ++ x` and `t` have the same first `deep.0` lines, `v` has more than 256
+  -- levels.
   has_lines : (v : Tree) (x : List ℕ) → IsShowable v → first_lines deep.0 (show_text v ++ x) ≡ first_lines deep.0 t
       → most_height < height v
   has_lines v x s e = elim (cases_lt (ended_lines (show_text v)) deep.0) [

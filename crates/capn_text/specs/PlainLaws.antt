@@ -8,23 +8,24 @@ use Rattle.capn_text.specs.PlainForm.{plain, own_line}
 use Rattle.capn_text.specs.Showable.{IsShowable}
 use Rattle.capn_text.specs.Streams.{end_line, stream_text}
 
--- The texts of values with lists between quotes, each followed by the line `end`.
+-- The texts of the given values as `quoted_bytes` shows them, each followed by the line `end`.
 abbrev pub quoted_stream : List Tree → List ℕ
 quoted_stream [] = []
 quoted_stream (v ∷ vs) = shown_by quoted_bytes 0 v ++ (end_line ++ quoted_stream vs)
 
--- The plain form of the texts of values with lists between quotes is the texts of the values without quotes.
+-- If the values `vs` are showable, `stream_text vs` is the plain form of `quoted_stream vs`.
 abbrev pub QuotedIsPlain : Type 0
 QuotedIsPlain = (vs : List Tree) → AllByRecursion IsShowable vs → IsPlain (quoted_stream vs) (stream_text vs)
 
--- A text has at most one plain form.
+-- If `text` has fewer than 2^64 bytes, its plain forms `a` and `b` are equal.
 abbrev pub OnePlain : Type 0
 OnePlain = (text a b : List ℕ) → length text < 2 ^ 64 → IsPlain text a → IsPlain text b → a ≡ b
 
--- The plain form of a text is the one that is found from left to right.
+-- If `text` has fewer than 2^64 bytes, `plain text` is its plain form.
 abbrev pub PlainIsFound : Type 0
 PlainIsFound = (text : List ℕ) → length text < 2 ^ 64 → IsPlain text (plain text)
 
--- The line of a text to which line `n` of its plain form belongs is the one that is found from left to right.
+-- If `text` has fewer than 2^64 bytes and `n` is at least 1, line `n` of its plain form belongs to its line
+-- `own_line text n`.
 abbrev pub OwnLineIsFound : Type 0
 OwnLineIsFound = (text : List ℕ) (n : ℕ) → length text < 2 ^ 64 → 0 < n → IsOwnLine text n (own_line text n)

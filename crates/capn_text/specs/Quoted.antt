@@ -4,22 +4,23 @@ use Rattle.capn_value.specs.Text.{line, named}
 use Rattle.capn_show.specs.Quoting.{is_text, escapes, quoted_line, plain_bytes}
 use Rattle.capn_text.specs.Streams.{ended_lines}
 
--- The line of a text between quotes, without the length of the text.
+-- The line at `level` that has the bytes `xs` between quotes, but not the number of these bytes.
 abbrev pub uncounted_line : ℕ → List ℕ → List ℕ
 uncounted_line level xs = line level (codes "bytes " ++ 34 ∷ (escapes xs ++ 34 ∷ []))
 
--- The line `text`, with its newline, has the bytes `xs` between quotes at `level`, with or without the length of `xs`.
+-- The line `text`, with its newline, has the bytes `xs` between quotes at `level`. The number of bytes may stand before
+-- the first quote.
 abbrev pub IsQuoted : List ℕ → ℕ → List ℕ → Type 0
 IsQuoted text level xs = (is_text xs ≡ true) × ((text ≡ quoted_line level xs) ⊎ (text ≡ uncounted_line level xs))
 
--- `plain` is the plain form of the line `text`. If `text` has bytes between quotes, `plain` is their lines of digits,
--- and otherwise `plain` is `text`.
+-- `plain` is the plain form of the line `text`. If `text` has bytes between quotes, `plain` has the lines that show
+-- these bytes without quotes. Otherwise `plain` is `text`.
 abbrev pub IsPlainLine : List ℕ → List ℕ → Type 0
 IsPlainLine text plain = ((level : ℕ) × (xs : List ℕ) × IsQuoted text level xs × (plain ≡ plain_bytes level xs))
     ⊎ ((plain ≡ text) × ((level : ℕ) (xs : List ℕ) → IsQuoted text level xs → ⊥))
 
--- `plain` is the plain form of `text`, which has the given lines, without their newlines. `plain` has the plain form of
--- each line, and then the bytes after the last line unchanged.
+-- `plain` is the plain form of `text`: the plain form of each complete line, and then the bytes after the last newline.
+-- The first argument is the list of the complete lines of `text`, without their newlines.
 abbrev pub IsPlainBy : List (List ℕ) → List ℕ → List ℕ → Type 0
 IsPlainBy [] text plain = (ended_lines text ≡ 0) × (plain ≡ text)
 IsPlainBy (front ∷ fronts) text plain = (ended_lines front ≡ 0) × (first : List ℕ) × (after : List ℕ)
@@ -30,9 +31,8 @@ IsPlainBy (front ∷ fronts) text plain = (ended_lines front ≡ 0) × (first : 
 abbrev pub IsPlain : List ℕ → List ℕ → Type 0
 IsPlain text plain = (fronts : List (List ℕ)) × IsPlainBy fronts text plain
 
--- Line `n` of the plain form of a text with the given lines belongs to line `m` of the text, both counted from 1. The
--- lines of the plain form of the first line belong to line 1, and the others to later lines. After the last of the
--- given lines, `n` and `m` advance together.
+-- Line `n` of the plain form of a text belongs to line `m` of the text, both counted from 1. The first argument is the
+-- list of the complete lines of the text, without their newlines. If the list is empty, `m` is `n`.
 abbrev pub IsOwnBy : List (List ℕ) → ℕ → ℕ → Type 0
 IsOwnBy [] n m = m ≡ n
 IsOwnBy (front ∷ fronts) n m = (first : List ℕ) × IsPlainLine (front ++ 10 ∷ []) first

@@ -5,6 +5,8 @@ use Rattle.capn_value.specs.NumberWidth.{bits_in}
 use Rattle.capn_value.specs.Tree.{Tree, nil, node, voids, numbers, links, rows, cap, Trees}
 use Rattle.capn_value.specs.Tree.{no_trees, tree, Bodies, no_bodies, body, count, count_rows}
 
+-- The value is showable: its numbers are in the range of their types. Its counts are below 2^64, or below 2^32 for
+-- elements without bits.
 abbrev mutual
   pub IsShowable : Tree → Type 0
   IsShowable nil = ⊤
@@ -15,10 +17,12 @@ abbrev mutual
   IsShowable (rows bs) = (count_rows bs < 2 ^ 64) × RowsShowable bs
   IsShowable (cap k) = k < 2 ^ 32
 
+  -- Each tree of the list is showable.
   pub EachShowable : Trees → Type 0
   EachShowable no_trees = ⊤
   EachShowable (tree t ts) = IsShowable t × EachShowable ts
 
+  -- Each row of the list is showable: its numbers are in range, and its slots are showable.
   pub RowsShowable : Bodies → Type 0
   RowsShowable no_bodies = ⊤
   RowsShowable (body ws ss bs) =

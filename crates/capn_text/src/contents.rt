@@ -1,4 +1,4 @@
-//! The parser of values: a recursion over the lines of a text, which reads a value with everything in it.
+//! The parser of values. It is a recursion over the lines of a text, and reads a value with everything in it.
 
 ghost use Rattle.std.specs.Prelude.{◌≡◌, ◌+◌, ◌*◌, ◌≤◌, map, IfErr};
 ghost use Rattle.capn_value.specs.TreeOf.{tree_of, body_of};
@@ -15,8 +15,8 @@ use crate::leaves::{leaf_at, words_at};
 use capn_value::{Body, Items, Value};
 use std::alloc::Allocator;
 
-/// Reads the value at the front of `text`, whose first line is at this `level` and whose height is at most `room`.
-/// Returns the value with the bytes after it.
+/// Reads the value at the front of `text`, and returns the value with the bytes after it. The first line of the value
+/// is at this `level`. A value higher than `room` is refused.
 #[cycle(value_at)]
 pub fn value_at<'t, A: Allocator + Copy>(
     alloc: A,
@@ -34,7 +34,8 @@ pub fn value_at<'t, A: Allocator + Copy>(
     content_at(alloc, room - 1, level, head, rest)
 }
 
-// Reads a value of height 0, whose first line is `head`: null or a capability. Any other value is too deep.
+// Makes the value of height 0 with the first line `head`: null or a capability. For any other first line the stop is
+// `Deep`.
 #[tactic(auto, using(crate::proofs::ValueOfParts::steps_and_views))]
 fn low_at<'t, A: Allocator>(head: Head, text: &'t [u8]) -> Result<(Value<A>, &'t [u8]), Stop>
     requires { Holds head }
@@ -48,8 +49,8 @@ fn low_at<'t, A: Allocator>(head: Head, text: &'t [u8]) -> Result<(Value<A>, &'t
     }
 }
 
-// Reads the rest of the value whose first line, `head`, was at this `level`. The values in it have a height of at most
-// `room`.
+// Reads the lines of a value after its first line, `head`, which was at this `level`. The values in it have a height of
+// at most `room`.
 #[cycle(value_at)]
 #[tactic(auto, using(crate::proofs::ValueOfParts::steps_and_views))]
 fn content_at<'t, A: Allocator + Copy>(
@@ -85,7 +86,7 @@ fn content_at<'t, A: Allocator + Copy>(
     }
 }
 
-// Reads the data words and the slots of a struct, whose first line was at this `level`.
+// Reads the data words and the slots of a struct. The first line of the struct was at this `level`.
 #[cycle(value_at)]
 #[tactic(auto, unfolding(crate::specs::inner::Values::body_at))]
 fn body_at<'t, A: Allocator + Copy>(
@@ -132,7 +133,7 @@ fn values_at<'t, A: Allocator + Copy>(
     Ok((items, rest))
 }
 
-// Reads one row at this `level`. The values in it have a height of at most `room`.
+// Reads one row at this `level`. The values in the row have a height of at most `room`.
 #[cycle(value_at)]
 #[tactic(auto, unfolding(crate::specs::inner::Values::row_at))]
 fn row_at<'t, A: Allocator + Copy>(

@@ -11,15 +11,15 @@ use std::alloc::{AllocError, AllocFailed};
 pub enum TextFault {
     /// An allocation was refused.
     Memory,
-    /// The number of the first wrong line, counted from 1. The lines before that line begin the text of some value, but
-    /// no text of a value has the wrong line after them. If a line is missing, the number is that of the line after the
-    /// last. [`crate::Texts`] returns this only if it is true whatever bytes follow.
+    /// The number of the first wrong line, counted from 1. The lines before it begin the text of some value. No text of
+    /// a value has those lines and then the wrong line. If a line is missing, the number is that of the line after the
+    /// last line. [`crate::Texts`] returns this fault only if the line is wrong whatever bytes follow.
     Line(u64),
-    /// The number of the first line, counted from 1, that is wrong if no bytes follow. More bytes may complete the
+    /// The number, counted from 1, of the first line that is wrong if no bytes follow. More bytes may complete the
     /// text.
     Cut(u64),
-    /// The text is that of a value that fits into no message. The misfit is `Tall` if the text goes deeper than any
-    /// value that fits, whatever bytes follow.
+    /// The text is that of a value that fits into no message. The misfit is also `Tall` if the text goes deeper than
+    /// any value that fits, whatever bytes follow.
     Misfit(Misfit),
 }
 
@@ -29,11 +29,11 @@ pub enum Stop {
     /// An allocation was refused.
     Memory,
     /// A line is wrong. The field is the number of bytes from the beginning of that line to the end of the text.
-    /// Functions that read a part of a line may count from any place on the line.
+    /// Functions that read less than a line may count from any place on the line.
     Left(usize),
     /// A line is unfinished. The field is the number of bytes from the beginning of that line to the end of the text.
     Cut(usize),
-    /// A value is deeper than any that fits into a message.
+    /// A value is deeper than any value that fits into a message.
     Deep,
 }
 

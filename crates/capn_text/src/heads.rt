@@ -1,4 +1,4 @@
-//! The first line of a value, which has its kind and its sizes.
+//! The first line of a value, with the kind and the sizes of the value.
 
 ghost use Rattle.std.specs.Prelude.{◌≡◌, ◌≤◌, IfOk, IfErr};
 ghost use Rattle.capn_text.specs.inner.Tokens.{GivesIdly};
@@ -10,7 +10,7 @@ ghost use Rattle.capn_text.specs.inner.Stops.{GivesLine};
 use crate::fault::Stop;
 use crate::tokens::{decimal_at, indent_at, pass, skip, stop_in};
 
-/// The kind of a list whose elements hold no other values.
+/// The kind of a list of numbers, of bits, or of elements without bits.
 #[derive(Clone, Copy)]
 pub enum Leaf {
     Voids,

@@ -16,8 +16,8 @@ use crate::tokens::{
 use capn_value::{Items, Value};
 use std::alloc::Allocator;
 
-/// Reads a list of `count` elements, whose kind `leaf` holds no other value. The first line of the list was at this
-/// `level`. Returns the list with the bytes after it.
+/// Reads the lines of a list of the kind `leaf` with `count` elements, after its first line, which was at this `level`.
+/// Returns the list with the bytes after it.
 #[tactic(auto, using(crate::proofs::ValueOfParts::steps_and_views), unfolding(crate::specs::inner::Values::leaf_at))]
 pub fn leaf_at<'t, A: Allocator>(
     alloc: A,
@@ -56,7 +56,7 @@ pub fn leaf_at<'t, A: Allocator>(
 }
 
 /// Returns the stop for a `text` that does not begin with a line of `count` bits. The stop is `Cut` if more bytes can
-/// complete the line.
+/// complete the line, and `Left` otherwise.
 fn stop_in_bits(level: u32, count: u64, text: &[u8]) -> Stop
     requires level { level ≤ 600 }
     requires none { tokens.row_line_at tokens.bit_at level count text.now ≡ None }
@@ -128,7 +128,7 @@ fn bit_digits_at<A: Allocator>(
 }
 
 /// Returns the stop for a `text` that does not begin with a line of `count` bytes. The stop is `Cut` if more bytes can
-/// complete the line.
+/// complete the line, and `Left` otherwise.
 fn stop_in_bytes(level: u32, count: u64, text: &[u8]) -> Stop
     requires level { level ≤ 600 }
     requires none { tokens.row_line_at tokens.byte_at level count text.now ≡ None }

@@ -1,11 +1,13 @@
 //! The text of a tree, read back: the inverse of [`capn_value::show`].
 //!
 //! The text has no grammar of its own: a text is that of a tree if and only if `show` writes the text for the tree.
-//! [`read`] returns the tree of a text. [`read`] refuses any other text at the first wrong line, with which no text of
-//! a value continues. [`Texts`] reads texts one after the other, each followed by its line `end`. [`plain_text`] turns
-//! lists of bytes between quotes into the lines that `show` writes for them.
+//! [`read`] returns the tree of a text. [`read`] refuses other bytes at the first wrong line. The lines before the
+//! wrong line begin the text of some value, but no text of a value goes on with the wrong line. [`read`] also refuses
+//! the text of a value that fits into no message. [`Texts`] reads texts one after the other, each followed by its line
+//! `end`. [`plain_text`] turns lists of bytes between quotes into the lines that `show` writes for them.
 //!
-//! Memory grows with the lines that are read, and never by a number that a line announces.
+//! The parser of values is in `contents.rt` and `heads.rt`, over the tokens of `tokens.rt`. Memory grows with the lines
+//! that are read, and never by a number that a line announces.
 #![tactic(auto)]
 
 mod contents;

@@ -1,4 +1,4 @@
-//! The counting of lines.
+//! Functions that count lines.
 
 ghost use Rattle.std.specs.Prelude.{◌≡◌, ◌+◌, ◌-◌, ◌≤◌, length, take};
 ghost use Rattle.capn_text.specs.Streams.{ended_lines};

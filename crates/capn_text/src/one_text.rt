@@ -1,4 +1,4 @@
-//! The reading of one text to its tree, and of the value at the front of a longer text.
+//! The reading of one text as a tree, and of the value at the front of a longer text.
 
 ghost use Rattle.std.specs.Prelude.{◌≡◌, ◌≢◌, ◌⊎◌, ◌≤◌, ◌+◌, ◌++◌, ℕ, List, [], length, IfOk, IfErr, OnOk, OnErr};
 ghost use Rattle.std.specs.Prelude.{MatchResult, Some, None, true, false};
@@ -28,25 +28,26 @@ use std::alloc::Allocator;
 
 /// Reads `text` as the tree for which [`capn_value::show`] writes this text.
 ///
-/// Refuses with [`TextFault::Line`] if the bytes are not the text of a value, then with [`TextFault::Misfit`] if that
-/// value fits into no message. A text of more than 256 levels is `Tall`, whatever bytes follow. Takes time linear in
-/// the text. Takes memory of `alloc` for the tree, up to twice as much for lists while they grow. The stack holds at
-/// most 257 values.
+/// Returns [`TextFault::Line`] if `text` is not the text of a value. Returns [`TextFault::Misfit`] if `text` is the
+/// text of a value that fits into no message. A text of more than 256 levels is `Tall`, whatever bytes follow. Returns
+/// [`TextFault::Memory`] if an allocation is refused. Takes time linear in the text. Takes memory of `alloc` for the
+/// tree, up to twice as much for lists while they grow. The stack holds at most 257 values.
 pub fn read<A: Allocator + Copy>(alloc: A, text: &[u8]) -> Result<Tree<A>, TextFault>
     // If a tree is returned, `text` is its text.
     ensures found { IfOk result (λ t. text.now ≡ show_text t) }
     // If `text` is the text of a tree, that tree is returned, unless an allocation is refused.
     ensures only { (v : trees.Tree) → Fits v → InRange v → text.now ≡ show_text v →
         MatchResult result (λ t. t ≡ v) (λ e. e ≡ faults.Memory) }
-    // If a line is refused, `text` is not the text of any value of at most 256 levels, even of one that does not fit.
+    // If the fault is `Line`, `text` is not the text of any showable value of at most 256 levels. The value need not
+    // fit into a message.
     ensures line { IfErr result (λ e. (n : ℕ) → e ≡ faults.Line n → (v : trees.Tree) → IsShowable v →
         height v ≤ most_height → text.now ≢ show_text v) }
-    // If the first line of `text` begins no value, line 1 is refused, which takes no memory.
+    // If an error does not name line 1, the first line of `text` begins some value.
     ensures begun { IfErr result (λ e. e ≢ faults.Line 1 → (v : trees.Tree) × BeginsAs text.now v) }
-    // If a line is refused, it is the first wrong line of `text`.
+    // If the fault is `Line`, that line is the first wrong line of `text`.
     ensures first { IfErr result (λ e. (n : ℕ) → e ≡ faults.Line n → IsFirstWrong show_text n text.now) }
-    // A misfit is that of the value of at most 256 levels with this text, or the text goes too deep whatever bytes
-    // follow.
+    // If the fault is a misfit, there are two cases. Either `text` is the text of a value of at most 256 levels with
+    // that misfit, or `text` goes too deep whatever bytes follow.
     ensures misfit { IfErr result (λ e. (m : Misfit) → e ≡ faults.Misfit m →
         ((m ≡ Tall) × GoesTooDeep text.now) ⊎ ((v : trees.Tree) × InRange v × IsShowable v
         × (height v ≤ most_height) × (text.now ≡ show_text v) × (misfit v ≡ Some m))) }
@@ -63,7 +64,7 @@ pub fn read<A: Allocator + Copy>(alloc: A, text: &[u8]) -> Result<Tree<A>, TextF
     Ok(tree)
 }
 
-// Converts the fault of a text to the fault that the text has if no bytes follow. A `Cut` line is then a wrong line.
+// Converts a `Cut` line to a wrong `Line`, since no bytes follow. Returns any other `fault` as it is.
 fn ended(fault: TextFault) -> TextFault
     ensures memory { fault ≡ faults.Memory → result ≡ faults.Memory }
     ensures line { (n : ℕ) → result ≡ faults.Line n → Names fault n }
@@ -89,8 +90,8 @@ pub fn has_more(rest: &[u8]) -> bool
     }
 }
 
-/// Reads the value whose text is at the front of `text`, even one that fits into no message. Returns the value with the
-/// bytes after its text.
+/// Reads the value whose text is at the front of `text`, and returns the value with the bytes after its text. The value
+/// need not fit into a message.
 pub fn first_value<A: Allocator + Copy>(
     alloc: A,
     text: &[u8],
@@ -99,37 +100,42 @@ pub fn first_value<A: Allocator + Copy>(
     ensures range { IfOk result (λ x. InRange (tree_of x.0)) }
     ensures showable { IfOk result (λ x. IsShowable (tree_of x.0)) }
     ensures low { IfOk result (λ x. height (tree_of x.0) ≤ most_height) }
-    // If the text of a value of at most 256 levels is at the front, that value is read, unless an allocation is
-    // refused.
+    // If the text of a showable value of at most 256 levels is at the front, that value is read, unless an allocation
+    // is refused.
     ensures only { (v : trees.Tree) (rest : List ℕ) → IsShowable v → height v ≤ most_height →
         text.now ≡ show_text v ++ rest →
         MatchResult result (λ x. (tree_of x.0 ≡ v) × (x.1.now ≡ rest)) (λ e. e ≡ faults.Memory) }
-    // If a line is refused, it is a line of `text`, or the line after the last.
+    // If the fault names a line, it is a line of `text`, or the line after the last line.
     ensures place { IfErr result (λ e. (n : ℕ) → Names e n → (1 ≤ n) × (n ≤ ended_lines text.now + 1)) }
-    // If the first line of `text` begins no value, line 1 is refused, which takes no memory.
+    // If a value is read, or if an error does not name line 1, the first line of `text` begins some value.
     ensures begins { IfOk result (λ x. (v : trees.Tree) × BeginsAs text.now v) }
     ensures begun { IfErr result (λ e. (Names e 1 → ⊥) → (v : trees.Tree) × BeginsAs text.now v) }
-    // If a line is refused, that line is the first wrong one, both of a text without and of a text with its line `end`.
+    // If the fault names a line, that line is the first wrong line of `text`, both for texts without the line `end` and
+    // for texts with it.
     ensures first { IfErr result (λ e. (n : ℕ) → Names e n → IsFirstWrong show_text n text.now) }
     ensures first_ended { IfErr result (λ e. (n : ℕ) → Names e n → IsFirstWrong ended_text n text.now) }
-    // If the fault is `Line`, the line is wrong whatever bytes follow. If the fault is `Cut`, all of the text except
-    // for a few bytes at its end can still be completed.
+    // If the fault is `Line`, that line is the first wrong line whatever bytes follow `text`, for texts with the line
+    // `end`.
     ensures lost { IfErr result (λ e. (n : ℕ) → e ≡ faults.Line n → (more : List ℕ) →
         IsFirstWrong ended_text n (text.now ++ more)) }
+    // If the fault is `Line`, `text ++ more` does not begin with the text of a showable value of at most 256 levels,
+    // for any bytes `more`.
     ensures none { IfErr result (λ e. (n : ℕ) → e ≡ faults.Line n → (more : List ℕ) → (v : trees.Tree)
         (rest : List ℕ) → IsShowable v → height v ≤ most_height → text.now ++ more ≢ show_text v ++ rest) }
+    // If the fault is `Cut`, `text` without its last bytes, at most 2,048, is a prefix of the text and line `end` of
+    // some value.
     ensures open { IfErr result (λ e. (n : ℕ) → e ≡ faults.Cut n → MayGoOn text.now) }
-    // If bytes follow the value that was read, their first line is the first wrong line of `text` as a text without its
-    // end. Unless these bytes begin with the line `end`, that also holds for a text with its end.
+    // If bytes follow the value that was read, the line after the value is the first wrong line for texts without the
+    // line `end`. If that line is not `end`, it is also the first wrong line for texts with the line `end`.
     ensures more { IfOk result (λ x. x.1.now ≢ [] →
         IsFirstWrong show_text (ended_lines (show_text (tree_of x.0)) + 1) text.now) }
     ensures no_end { IfOk result (λ x. (more : List ℕ) → strip end_line (x.1.now ++ more) ≡ None →
         IsFirstWrong ended_text (ended_lines (show_text (tree_of x.0)) + 1) (text.now ++ more)) }
-    // If the fault is a misfit, the text goes too deep whatever bytes follow.
+    // If the fault is a misfit, it is `Tall`, and `text` goes too deep.
     ensures tall { IfErr result (λ e. (m : Misfit) → e ≡ faults.Misfit m → m ≡ Tall) }
     ensures deep { IfErr result (λ e. (m : Misfit) → e ≡ faults.Misfit m → GoesTooDeep text.now) }
 {
-    // The first line is tested before any memory is taken.
+    // The first line is tested before any allocation.
     if let Err(fault) = first_line(text) {
         return Err(fault);
     }
@@ -175,7 +181,7 @@ pub fn fitting<A: Allocator>(value: Value<A>) -> Result<Tree<A>, TextFault>
     match Tree::new(value) {
         Ok(tree) => Ok(tree),
         Err((value, flaw)) => {
-            // One call is cheaper to check than fields that are dropped one by one.
+            // One call of `drop` is quicker to prove than a drop of each field.
             drop(value);
             Err(TextFault::Misfit(flaw))
         }

@@ -1,5 +1,4 @@
-//! The plain form of a text, in which the lines of digits stand for lists of bytes between quotes, and other lines are
-//! unchanged.
+//! The plain form of a text: lists of bytes between quotes become lines of digits, and other lines are unchanged.
 
 ghost use Rattle.std.specs.Prelude.{◌≡◌, ◌≢◌, ◌≤◌, ◌<◌, ◌+◌, ◌*◌, ◌^◌, [], ◌∷◌, ◌++◌, length, replicate};
 ghost use Rattle.std.specs.Prelude.{IfOk, OnOk, OnErr, MatchOption};
@@ -14,7 +13,7 @@ use crate::fault::Stop;
 use crate::quoted_line::quoted_at;
 use std::alloc::{AllocError, Allocator};
 
-/// Appends the indent of `level` to `out`, which is two spaces a level.
+/// Appends the indent of `level` to `out`: two spaces for each level.
 fn push_indent<A: Allocator>(out: &mut Vec<u8, A>, level: usize) -> Result<(), AllocError>
     ensures { OnOk result (out.new.items ≡ out.old.items ++ replicate (2 * level) 32) }
 {
@@ -38,12 +37,12 @@ fn push_byte<A: Allocator>(out: &mut Vec<u8, A>, byte: u8) -> Result<(), AllocEr
     ensures { OnOk result (out.new.items ≡ out.old.items ++ encode_lower (byte ∷ [])) }
 {
     let mut digits = [0u8; 2];
-    // The array has room for both digits, so the call cannot fail.
+    // The array has a byte for each of the two digits, so the call cannot fail.
     let _done = hex::encode_to_slice([byte], &mut digits);
     out.extend_from_slice(&digits)
 }
 
-/// Appends the hexadecimal digits of `bytes` to `out`, two for each.
+/// Appends the hexadecimal digits of `bytes` to `out`, two for each byte.
 #[tactic(auto, using(std::proofs::lemmas::Grind::common_steps, crate::proofs::PlainLines::digits))]
 fn push_digits<A: Allocator>(out: &mut Vec<u8, A>, bytes: &[u8]) -> Result<(), AllocError>
     ensures { OnOk result (out.new.items ≡ out.old.items ++ encode_lower bytes.now) }
@@ -112,16 +111,16 @@ pub fn next_line(text: &[u8]) -> Option<(&[u8], &[u8])>
     None
 }
 
-/// Writes the plain form of `text`, in which a list of bytes may stand between quotes, as a line `bytes N "T"` or
-/// `bytes "T"`. Such a line becomes the lines that [`capn_value::show`] writes for the bytes of T, and any other line
-/// stays as it is. T has at least one byte. Its bytes are from 0x20 to 0x7e, except that the last may be zero. In T a
-/// quote is `\"`, a backslash `\\`, a last zero `\0`. (Our own.)
+/// Returns the plain form of `text`. In `text`, a list of bytes may stand between quotes, as a line `bytes N "T"` or
+/// `bytes "T"`. Such a line becomes the lines that [`capn_value::show`] writes for the bytes of T. Any other line stays
+/// as it is. T has at least one byte. Its bytes are from 0x20 to 0x7e, except that the last may be zero. In T a quote
+/// is `\"`, a backslash `\\`, a last zero `\0`. (Our own.)
 ///
 /// Takes time linear in the text. Takes memory of `alloc` for the plain form, up to twice as much while it grows, and
 /// for the bytes of one line.
 pub fn plain_text<A: Allocator + Copy>(alloc: A, text: &[u8]) -> Result<Vec<u8, A>, AllocError>
     ensures found { IfOk result (λ plain. IsPlain text.now plain.items) }
-    // If `text` is empty, no memory is needed.
+    // If `text` is empty, the call does not fail.
     ensures memory { OnErr result (text.now ≢ []) }
 {
     if text.is_empty() {

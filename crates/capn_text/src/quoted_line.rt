@@ -17,7 +17,7 @@ fn is_printable(byte: u8) -> bool
     b' ' <= byte && byte <= b'~'
 }
 
-/// Returns `true` if `byte` has to stand behind a backslash between quotes.
+/// Returns `true` if `byte` is a quote or a backslash. Between quotes such a byte stands after a backslash.
 fn is_marked(byte: u8) -> bool
     ensures { result ≡ (byte == 34 || byte == 92) }
 {
@@ -76,7 +76,7 @@ fn text_in<A: Allocator>(alloc: A, text: &[u8]) -> Result<Vec<u8, A>, Stop>
     Ok(bytes)
 }
 
-/// Reads the count at the front of `text`, and the bytes between quotes behind the count. There has to be at least one
+/// Reads the count at the front of `text`, and the bytes between quotes after the count. There has to be at least one
 /// byte, and the number of bytes has to be the count.
 fn counted_text<A: Allocator>(alloc: A, text: &[u8]) -> Result<Vec<u8, A>, Stop>
     ensures found { Gives (λ x. x.items) result (quotes.counted_text text.now) }
@@ -92,7 +92,7 @@ fn counted_text<A: Allocator>(alloc: A, text: &[u8]) -> Result<Vec<u8, A>, Stop>
 }
 
 /// Counts the levels of a line by the spaces at its front, two for each level. Returns the number of levels and the
-/// bytes behind the spaces.
+/// bytes after the spaces.
 fn levels_at(text: &[u8]) -> (usize, &[u8])
     ensures levels { (result.0, result.1.now) ≡ quotes.levels_at text.now }
     ensures within { 2 * result.0 ≤ length text.now }
@@ -106,7 +106,7 @@ fn levels_at(text: &[u8]) -> (usize, &[u8])
     (level, rest)
 }
 
-/// Reads `text`, a line of bytes between quotes without its newline. Returns the level and the bytes of the line.
+/// Reads `text`, a line with bytes between quotes, which is given without its newline. Returns the level and the bytes.
 #[tactic(auto, unfolding(crate::specs::inner::QuotedLines::quoted_at))]
 pub fn quoted_at<A: Allocator>(alloc: A, text: &[u8]) -> Result<(usize, Vec<u8, A>), Stop>
     ensures found { Gives (λ x. (x.0, x.1.items)) result (quotes.quoted_at text.now) }
@@ -122,8 +122,8 @@ pub fn quoted_at<A: Allocator>(alloc: A, text: &[u8]) -> Result<(usize, Vec<u8, 
     Ok((level, bytes))
 }
 
-/// Returns the first 1,024 bytes of `line`, or all of `line` if it has fewer. They decide whether an unfinished line
-/// may have bytes between quotes.
+/// Returns the first 1,024 bytes of `line`, or all of `line` if it has fewer. These bytes decide whether an unfinished
+/// line may have bytes between quotes.
 pub fn looked_at(line: &[u8]) -> &[u8]
     ensures { result.now ≡ take beginnings.looked_at line.now }
 {
@@ -144,8 +144,8 @@ fn begins(whole: &[u8], front: &[u8]) -> bool
     }
 }
 
-/// Returns `true` if `rest` is empty, or begins with a quote or a digit. The bytes after the name of a list of bytes
-/// have to.
+/// Returns `true` if `rest` may follow `bytes ` on a line with bytes between quotes. Then `rest` is empty, or begins
+/// with a quote or a digit.
 fn may_follow(rest: &[u8]) -> bool
     ensures { result ≡ beginnings.may_follow rest.now }
 {

@@ -1,4 +1,4 @@
-//! The reader of a stream of texts, which takes one after the other.
+//! The reader of texts that stand one after the other.
 
 ghost use Rattle.std.specs.Prelude.{◌≡◌, ◌≢◌, ◌⊎◌, ◌≤◌, ◌<◌, ◌+◌, ◌-◌, ◌^◌, ◌++◌, ℕ, List, [], length};
 ghost use Rattle.std.specs.Prelude.{IfOk, IfErr, OnErr, IfSome, IsSome, MatchResult};
@@ -53,8 +53,8 @@ impl<'t> Texts<'t> {
         }
     }
 
-    /// Creates a reader of `input`, which is the rest of a longer input from the beginning of `line` on. Returns `None`
-    /// if the number of the last line of `input` might pass 64 bits. Takes no memory.
+    /// Creates a reader of `input`, the bytes of a longer input from the beginning of `line` on. Returns `None` if the
+    /// number of the last line of `input` might pass 64 bits. Takes no memory.
     pub fn from_line(input: &'t [u8], line: u64) -> Option<Texts<'t>>
         ensures found { IfSome result (λ t. t ≡ record { rest = input.now; line = line }) }
         ensures only { line + length input.now < 2 ^ 64 → IsSome result }
@@ -66,7 +66,7 @@ impl<'t> Texts<'t> {
     }
 
     /// Returns the number of the line at which the next text begins. At the end of the input, that is the line after
-    /// the last. Lines are counted from 1 over the whole input.
+    /// the last line. Lines are counted from 1 over the complete input.
     pub fn line(&self) -> u64
         ensures { result ≡ self.now.line }
     {
@@ -99,8 +99,8 @@ impl<'t> Texts<'t> {
         }
     }
 
-    /// Returns `true` if the next line does not begin a value yet, but more bytes may complete a line that does. Then
-    /// only a few bytes are left. Takes no memory.
+    /// Returns `true` if the next line does not begin a value, and fewer than 2,048 bytes are left. More bytes may then
+    /// complete the line. Takes no memory.
     pub fn may_begin(&self) -> bool
         ensures lost { result ≡ false → ((v : trees.Tree) → BeginsAs self.now.rest v → ⊥) →
             (more : List ℕ) (v : trees.Tree) → BeginsAs (self.now.rest ++ more) v → ⊥ }
@@ -114,17 +114,17 @@ impl<'t> Texts<'t> {
 
     /// Reads the next text. Returns its tree, or `None` at the end of the input.
     ///
-    /// A text is read together with its line `end`. If another line stands in place of `end`, that line is refused
-    /// before a misfit is. A text of more than 256 levels is `Tall`, whatever bytes follow. After a refusal the reader
-    /// has not moved, so each later call returns the same refusal. The line of a refusal is counted over the whole
-    /// input. A misfit is that of the text that begins at [`Texts::line`]. A call takes memory of `alloc` for the tree,
-    /// and up to twice as much for lists while they grow.
+    /// A text is read together with its line `end`. If another line stands in place of `end`, the fault names that
+    /// line, even if the value is a misfit. A text of more than 256 levels is `Tall`, whatever bytes follow. After an
+    /// error the reader has not moved, so the next call begins with the same text. The line of an error is counted over
+    /// the complete input. A misfit belongs to the text that begins at [`Texts::line`]. A call takes memory of `alloc`
+    /// for the tree, and up to twice as much for lists while they grow.
     pub fn read_next<A: Allocator + Copy>(&mut self, alloc: A) -> Result<Option<Tree<A>>, TextFault>
-        // If a tree is returned, the input had the text of that tree and the line `end` next, and the bytes behind
-        // `end` are left. If `None` is returned, no bytes were left.
+        // If a tree is returned, its text and the line `end` were next, and the bytes after `end` are left. If `None`
+        // is returned, no bytes were left.
         ensures found { IfOk result (λ o. MatchOption o ((self.old.rest ≡ []) × (self.new ≡ self.old))
             (λ t. self.old.rest ≡ show_text t ++ (end_line ++ self.new.rest))) }
-        // If the text of a tree and its end are next, that tree is read, unless an allocation is refused.
+        // If the text of a tree and the line `end` are next, that tree is read, unless an allocation is refused.
         ensures only { (v : trees.Tree) (rest : List ℕ) → Fits v → InRange v →
             self.old.rest ≡ show_text v ++ (end_line ++ rest) →
             MatchResult result (λ o. (o ≡ Some v) × (self.new.rest ≡ rest)) (λ e. e ≡ faults.Memory) }
@@ -132,33 +132,36 @@ impl<'t> Texts<'t> {
         ensures ended { self.old.rest ≡ [] → result ≡ Ok None }
         // The line number grows by one for each line that was read.
         ensures counted { self.new.line + ended_lines self.new.rest ≡ self.old.line + ended_lines self.old.rest }
-        // After a refusal nothing has changed.
+        // After an error the reader is unchanged.
         ensures kept { OnErr result (self.new ≡ self.old) }
-        // If a line is refused, the input does not continue with the text and end of any value of at most 256 levels,
-        // even of one that does not fit.
+        // If the fault names a line, the input does not go on with the text and line `end` of any showable value of at
+        // most 256 levels. The value need not fit into a message.
         ensures line { IfErr result (λ e. (n : ℕ) → Names e n → (v : trees.Tree) (rest : List ℕ) →
             IsShowable v → height v ≤ most_height → self.old.rest ≢ show_text v ++ (end_line ++ rest)) }
-        // A line that is refused is not before the next text, and at most the line after the last of the input.
+        // If the fault names line `n`, `n` is at least the number of the line at which the text begins. `n` is at most
+        // the number of the line after the last line of the input.
         ensures place { IfErr result (λ e. (n : ℕ) → Names e n →
             (self.old.line ≤ n) × (n ≤ self.old.line + ended_lines self.old.rest)) }
-        // If the text of a value of at most 256 levels is next, and a line is refused, that line is the one after the
-        // text, where `end` is missing. The value need not fit into a message.
+        // Let the text of a showable value of at most 256 levels be next. The value need not fit into a message. If the
+        // fault names a line, it is the line after that text.
         ensures end { (v : trees.Tree) (rest : List ℕ) → IsShowable v → height v ≤ most_height →
             self.old.rest ≡ show_text v ++ rest →
             IfErr result (λ e. (n : ℕ) → Names e n → n ≡ self.old.line + ended_lines (show_text v)) }
-        // If the next line begins no value, that line is refused, which takes no memory.
+        // If an error does not name the next line, that line begins some value. So no memory is needed to find a wrong
+        // first line.
         ensures begun { IfErr result (λ e. (Names e self.old.line → ⊥) →
             (v : trees.Tree) × BeginsAs self.old.rest v) }
-        // A line that is refused is the first wrong line of a text with its end.
+        // If the fault names a line, it is the first wrong line of a text with its line `end`.
         ensures first { IfErr result (λ e. (n : ℕ) → Names e n →
             (k : ℕ) × (n + 1 ≡ self.old.line + k) × IsFirstWrong ended_text k self.old.rest) }
-        // If the fault is `Line`, the line is wrong whatever bytes follow. If the fault is `Cut`, all of the input
-        // except for a few bytes at its end can still be completed.
+        // If the fault is `Line`, that line is the first wrong line whatever bytes follow the input.
         ensures lost { IfErr result (λ e. (n : ℕ) → e ≡ faults.Line n → (more : List ℕ) →
             IsWrongAt self.old.line (self.old.rest ++ more) n) }
+        // If the fault is `Cut`, the input without its last bytes, at most 2,048, is a prefix of the text and line
+        // `end` of some value.
         ensures open { IfErr result (λ e. (n : ℕ) → e ≡ faults.Cut n → MayGoOn self.old.rest) }
-        // A misfit is that of the value of at most 256 levels whose text and end are next, or the text goes too deep
-        // whatever bytes follow.
+        // If the fault is a misfit, there are two cases. In one, the text and line `end` of a value of at most 256
+        // levels with that misfit are next. In the other, the misfit is `Tall`, and the input goes too deep.
         ensures misfit { IfErr result (λ e. (m : Misfit) → e ≡ faults.Misfit m →
             ((m ≡ Tall) × GoesTooDeep self.old.rest) ⊎ ((v : trees.Tree) × (rest : List ℕ) × InRange v
             × IsShowable v × (height v ≤ most_height) × (self.old.rest ≡ show_text v ++ (end_line ++ rest))
@@ -183,7 +186,7 @@ impl<'t> Texts<'t> {
     }
 }
 
-// Converts the fault of a text that begins at `line` to a fault whose line is counted over the whole input.
+// Returns `fault` with its line counted from `line` instead of from 1. Returns a fault without a line unchanged.
 fn counted_from(line: u64, fault: TextFault) -> TextFault
     requires { (n : ℕ) → Names fault n → line + (n - 1) < 2 ^ 64 }
     ensures memory { fault ≡ faults.Memory → result ≡ faults.Memory }

@@ -40,7 +40,7 @@ pub fn pass<'t>(text: &'t [u8], front: &[u8]) -> Result<&'t [u8], Stop>
     }
 }
 
-/// Returns the bytes of `text` after its indent, which is two spaces for each `level`.
+/// Returns the bytes of `text` after the indent of `level`: two spaces for each level.
 pub fn indent_at(level: u32, text: &[u8]) -> Result<&[u8], Stop>
     ensures { GivesIdly (λ rest. rest.now) result (tokens.indent_at level text.now) }
 {
@@ -91,7 +91,7 @@ pub fn is_digit(c: u8) -> bool
     b'0' <= c && c <= b'9'
 }
 
-/// Reads the byte at the front of `text`, which is given by two hexadecimal digits.
+/// Reads two hexadecimal digits at the front of `text` as a byte.
 pub fn byte_at(text: &[u8]) -> Result<(u8, &[u8]), Stop>
     ensures { Gives (λ x. (x.0, x.1.now)) result (tokens.byte_at text.now) }
 {
@@ -146,7 +146,7 @@ fn nibble(c: u8) -> Option<u8>
     }
 }
 
-/// Reads the bit at the front of `text`, which is the digit 0 or 1.
+/// Reads the digit 0 or 1 at the front of `text` as a bit.
 pub fn bit_at(text: &[u8]) -> Result<(bool, &[u8]), Stop>
     ensures { Gives (λ x. (x.0, x.1.now)) result (tokens.bit_at text.now) }
 {
@@ -171,7 +171,7 @@ fn eight_at(text: &[u8]) -> Result<([u8; 8], &[u8]), Stop>
     Ok((bytes, rest))
 }
 
-/// Reads the number at the front of `text`, which is given by 16 hexadecimal digits.
+/// Reads 16 hexadecimal digits at the front of `text` as a number.
 pub fn word_at(text: &[u8]) -> Result<(u64, &[u8]), Stop>
     ensures { Gives (λ x. (x.0, x.1.now)) result (tokens.word_at text.now) }
 {
@@ -179,7 +179,7 @@ pub fn word_at(text: &[u8]) -> Result<(u64, &[u8]), Stop>
     Ok((u64::from_be_bytes(bytes), rest))
 }
 
-/// The greatest number of bytes in a line, except for a line with the digits of a list.
+/// An upper bound for the number of bytes in a line, unless the line has the digits of a list.
 const FEW: usize = 2048;
 
 /// Returns `true` if `text` has fewer than [`FEW`] bytes.
@@ -189,8 +189,8 @@ pub fn is_short(text: &[u8]) -> bool
     text.len() < FEW
 }
 
-/// Returns the stop for a `text` that does not begin with the line that was expected, which has at most [`FEW`] bytes.
-/// The stop is `Cut` if `text` has fewer bytes, so that more may complete the line, and `Left` otherwise.
+/// Returns the stop for a `text` that does not begin with the expected line. Such a line has at most [`FEW`] bytes. The
+/// stop is `Cut` if `text` has fewer bytes, so that more may complete the line, and `Left` otherwise.
 pub fn stop_in(text: &[u8]) -> Stop
     ensures { result ≡ spec.stop_in text.now }
 {

@@ -12,12 +12,12 @@ use crate::quoted_line::{looked_at, may_begin};
 use std::alloc::{AllocError, Allocator};
 use std::marker::Model;
 
-/// A converter of a text with lists of bytes between quotes to its plain form. The text may arrive in chunks that are
-/// cut anywhere.
+/// A converter of a text with lists of bytes between quotes to its plain form. The text may arrive in chunks of any
+/// sizes.
 ///
-/// The unfinished line is kept while its first 1,024 bytes can begin a line of bytes between quotes. The converter
-/// finds the line of the text for a line of the plain form. For that it keeps eight bytes for each line between quotes,
-/// until [`Unquoter::forget`] drops them.
+/// The converter stores the unfinished line while its first 1,024 bytes can begin a line with bytes between quotes.
+/// [`Unquoter::own_line`] finds the line of the text for a line of the plain form. For this, the converter stores eight
+/// bytes for each line with bytes between quotes until [`Unquoter::forget`] drops them.
 #[derive(Debug, Drop)]
 pub struct Unquoter<A: Allocator + Copy> {
     alloc: A,
@@ -87,7 +87,7 @@ impl<A: Allocator + Copy> Unquoter<A> {
         }
     }
 
-    /// Appends `part`, in which no line ends, to the unfinished line that is kept.
+    /// Appends `part`, in which no line ends, to the stored bytes `front` of the unfinished line.
     fn keep(&mut self, part: &[u8]) -> Result<(), AllocError>
         requires { ended_lines part.now ≡ 0 }
         ensures quiet { ended_lines self.new.front ≡ 0 }
@@ -100,8 +100,8 @@ impl<A: Allocator + Copy> Unquoter<A> {
         self.front.extend_from_slice(part)
     }
 
-    /// Takes `part`, in which no line ends. Appends `part` to `out` if the front of its line was given to `out`, and
-    /// keeps it otherwise.
+    /// Appends `part`, in which no line ends, to `out` if the front of its line is already in `out`. Otherwise appends
+    /// `part` to the stored bytes of the unfinished line.
     fn take(&mut self, part: &[u8], out: &mut Vec<u8, A>) -> Result<(), AllocError>
         requires { ended_lines part.now ≡ 0 }
         ensures { OnOk result ((added : List ℕ) × (out.new.items ≡ out.old.items ++ added)
@@ -115,8 +115,8 @@ impl<A: Allocator + Copy> Unquoter<A> {
         Ok(())
     }
 
-    /// Ends a line that was kept from its beginning, and appends its plain form to `out`. Also fails if the number of a
-    /// line would pass 64 bits.
+    /// Ends the unfinished line, of which all bytes are stored, and appends its plain form to `out`. Also fails if the
+    /// number of a line would pass 64 bits.
     fn end_kept(&mut self, out: &mut Vec<u8, A>) -> Result<(), AllocError>
         ensures front { OnOk result (self.new.front ≡ []) }
         ensures line { OnOk result (self.new.line ≡ self.old.line + form.lines_of self.old.front) }
@@ -138,8 +138,8 @@ impl<A: Allocator + Copy> Unquoter<A> {
         Ok(())
     }
 
-    /// Ends the unfinished line, and appends to `out` the part of its plain form that is not in `out` yet. Also fails
-    /// if the number of a line would pass 64 bits.
+    /// Ends the unfinished line. Appends the bytes of its plain form to `out`, unless they are already in `out`. Also
+    /// fails if the number of a line would pass 64 bits.
     fn end_line(&mut self, out: &mut Vec<u8, A>) -> Result<(), AllocError>
         ensures { OnOk result ((added : List ℕ) × (out.new.items ≡ out.old.items ++ added)
             × Unquotes self.old self.new (10 ∷ []) added) }
@@ -179,9 +179,9 @@ impl<A: Allocator + Copy> Unquoter<A> {
         Ok(())
     }
 
-    /// Takes the next chunk, `piece`, and appends the plain form of each line that `piece` completes to `out`. The
-    /// arrived part of the unfinished line is also appended, if its first bytes, at most 1,024, show that the line has
-    /// no bytes between quotes. After a failure the state of the converter is unspecified.
+    /// Reads the next chunk, `piece`. Appends to `out` the plain form of each line that ends in `piece`. Also appends
+    /// the arrived bytes of the unfinished line, if its first bytes, at most 1,024, show that it has no bytes between
+    /// quotes. After an error the state of the converter is unspecified.
     pub fn push(&mut self, piece: &[u8], out: &mut Vec<u8, A>) -> Result<(), AllocError>
         ensures quiet { OnOk result (ended_lines self.new.front ≡ 0) }
         ensures empty { OnOk result (self.new.through ≡ true → self.new.front ≡ []) }
@@ -200,7 +200,8 @@ impl<A: Allocator + Copy> Unquoter<A> {
         Ok(())
     }
 
-    /// Appends the last line, which has no newline, of a text that has ended to `out`.
+    /// Appends the stored bytes of the unfinished line to `out`, at the end of a text. Cannot fail if no bytes are
+    /// stored.
     pub fn finish(&self, out: &mut Vec<u8, A>) -> Result<(), AllocError>
         ensures memory { OnErr result (self.now.front ≢ []) }
         ensures added { OnOk result (out.new.items ≡ out.old.items ++ self.now.front) }
@@ -208,7 +209,8 @@ impl<A: Allocator + Copy> Unquoter<A> {
         out.extend_from_slice(&self.front)
     }
 
-    /// Drops the numbers that are kept for lines of digits before this `line` of the plain form. Takes no memory.
+    /// Drops the stored numbers of the lines of digits before `line`, which is a line of the plain form. Takes no
+    /// memory.
     pub fn forget(&mut self, line: u64)
         ensures { Forgets line self.old self.new }
     {
@@ -217,7 +219,7 @@ impl<A: Allocator + Copy> Unquoter<A> {
         self.passed += gone as u64;
     }
 
-    /// Returns the line of the text to which this `line` of the plain form belongs. `line` must not be before a line
+    /// Returns the line of the text to which this `line` of the plain form belongs. `line` has to be at least each line
     /// that was given to [`Unquoter::forget`]. Takes no memory.
     pub fn own_line(&self, line: u64) -> u64
         ensures { result ≡ spec.own_at self.now line }

@@ -22,7 +22,7 @@ Ending = Result (Unit {0}) ToolFault
 abbrev stopped : ToolFault → Ending
 stopped fault = Err fault
 
--- `s`, the result after the flush, is `r`, the result of the run, or `Io`.
+-- The result `s` after the flush is the result `r` of the run, or `Io`.
 abbrev Flushed : Ending → Ending → Type 0
 Flushed r s = (s ≡ r) ⊎ (s ≡ Err faults.Io)
 
@@ -73,7 +73,6 @@ keeps_up (plans.Each piece limits) a b c m d k (bytes, text, due, read, is, writ
 keeps_up (plans.Packed piece limits) a b c m d k (bytes, text, due, read, is, written) =
     (bytes, text, due, read, is, kept c m d text k written)
 
--- The flush writes nothing. So what holds for the output that was written before the last chunk was read still holds.
 stays : (Written : List ℕ → Option (List ℕ) → Option (List ℕ) → Type 0) (a b c m d : Option (List ℕ)) → Keeps m d
     → StaysAhead Written a b c m → StaysAhead Written a b c d
 stays Written a b c m d k (bytes, read, (before, piece, mid, more, is, small, all, wrote)) =
@@ -84,7 +83,6 @@ ahead (plans.Whole whole) a b c m d k h = tt
 ahead (plans.Each piece limits) a b c m d k h = stays (HasWrittenAll piece limits) a b c m d k h
 ahead (plans.Packed piece limits) a b c m d k h = stays (HasWrittenAllPacked piece limits) a b c m d k h
 
--- The result after the flush is Memory only if the result of the run is Memory.
 memory : (r s : Ending) (old new : Bool) → EndsFlushed faults.Io r old new s → IsErrOf s faults.Memory
     → IsErrOf r faults.Memory
 memory (Ok u) s old new (inl (is, same)) bad = absurd (let no : Ok u ≡ Err faults.Memory = sym is ∙ bad in cc)
@@ -96,8 +94,6 @@ memory (Err fault) s old new (is, failed) bad = sym is ∙ bad
 abbrev InRun : Bool → Bool → Type 0
 InRun unread old = (unread ≡ true) ⊎ (old ≡ true)
 
--- The result after the flush is Io if and only if the input or the output failed in the run, or the run was done and
--- the flush failed.
 io : (r s : Ending) (unread old new : Bool) → EndsFlushed faults.Io r old new s
     → (IsErrOf r faults.Io ↔ InRun unread old) → IsErrOf s faults.Io ↔ (InRun unread old ⊎ ((r ≡ Ok tt) × (new ≡ true)))
 io (Ok u) s unread old new (inl (is, same)) g = (

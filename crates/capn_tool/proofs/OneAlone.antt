@@ -1,4 +1,4 @@
--- Lemmas that the text shown for an input that is exactly one message is unique. (For `one_alone`.)
+-- Lemmas for `one_alone`: the text that `show` writes for an input of exactly one message is unique.
 use Rattle.std.proofs.Common.{◌≡◌, inl, inr, ℕ, List, Bool, true, false, Result, Ok, Err}
 use Rattle.capn_walk.specs.Limits.{Bounds}
 use Rattle.capn_serve.specs.declared.pick.StreamForm.{StreamForm}

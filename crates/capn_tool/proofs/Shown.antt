@@ -1,4 +1,4 @@
--- Lemmas on help or the version that was shown. (For `show_help` and `show_version`.)
+-- Lemmas on the help text or the version line that was written. (For `show_help` and `show_version`.)
 use Rattle.std.proofs.Common.{◌≡◌, ◌∙◌, inl, inr, ℕ, List, Bool, true, Option, Result, Ok, Err, IsErr, IsErrAnd}
 use Rattle.std.proofs.Common.{IsErrOf, ◌↔◌, ap}
 use Rattle.std.specs.Io.KnownBytes.{Appends, Keeps}

@@ -8,26 +8,22 @@ use Rattle.capn_serve.specs.Line.{WritesLine}
 use Rattle.capn_commands.specs.declared.fault.ToolFault.{ToolFault}
 use Rattle.capn_commands.specs.declared.fault.ToolFault.TheVariants as faults
 
--- A text that was appended before a flush is still appended after that flush.
 pub kept : (c m d : Option (List ℕ)) (text : List ℕ) → Keeps m d → Appends c m text → Appends c d text
 kept None m d text k a = tt
 kept (Some x) None d text k a = absurd a
 kept (Some x) (Some y) None text k a = absurd k
 kept (Some x) (Some y) (Some z) text k a = k ∙ a
 
--- If a text was appended, a prefix of that text was appended.
 pub begun_all : (c d : Option (List ℕ)) (text : List ℕ) → Appends c d text → HasBegun c d text
 begun_all c d text a = (length text, subst (λ (t : List ℕ). Appends c d t) (sym (take-length text)) a)
 
 abbrev done : Result (Unit {0}) ToolFault
 done = Ok tt
 
--- A writer that has written without error has not failed.
 pub sound : (failed : Bool) → (IsErrOf done faults.Io ↔ (failed ≡ true)) → failed ≡ false
 sound false io = refl
 sound true io = absurd (let bad = io.1 refl in cc)
 
--- A text was written, or a prefix of that text if the writer has failed.
 pub told : {T E : Type 0} (text : List ℕ) (c d : Option (List ℕ)) (old new : Bool) (r : Result T E) → old ≡ false
     → OnOk r (Appends c d text) → HasBegun c d text → new ≡ (old || is_err r) → WritesLine text c d new
 told text c d old new (Ok u) fine ok begun is = rw (is, fine) ok

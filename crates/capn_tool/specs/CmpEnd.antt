@@ -13,36 +13,36 @@ use Rattle.capn_serve.specs.declared.fault.RunFault.TheVariants as run_faults
 use Rattle.capn_tool.specs.Course.{Course}
 use Rattle.capn_tool.specs.Flushed.{EndsFlushed, RunOver}
 
--- The outcome of a run of `cmp`: done if `found` is a comparison, whatever its answer, or the fault.
+-- The outcome of a run of `cmp` with the result `found`: `Ok` for any comparison, and otherwise the fault.
 abbrev pub done_of : Result Comparison CmpFault → Result (Unit {0}) CmpFault
 done_of (Ok comparison) = Ok tt
 done_of (Err fault) = Err fault
 
--- A run compared the messages with the result `found`, and `r` is the outcome of that run.
+-- A run of `cmp` compared the messages with the result `found`, and `r` is the outcome `done_of found`.
 abbrev pub Finds : CmpOrder → Result Comparison CmpFault → RunOver CmpFault
 Finds order found a b c d reader_failed writer_failed r =
     Compared order a b c d reader_failed writer_failed found × (r ≡ done_of found)
 
--- The exit status if the flush succeeded: 0 if all messages have the same value, 1 if one differs, and otherwise the
--- status of the fault.
+-- The exit status after a flush without error. It is 0 if all messages have the same value, 1 if a message differs, and
+-- otherwise the status of the fault.
 abbrev pub found_status : Result Comparison CmpFault → ℕ
 found_status (Ok comparisons.Same) = 0
 found_status (Ok comparisons.Different) = 1
 found_status (Err fault) = status_of fault
 
--- The exit status after the flush. `found` is the comparison or a fault, and the second argument is the outcome after
--- the flush.
+-- The exit status of a run of `cmp` with the result `found`. The second argument is the outcome after the flush. After
+-- `Ok`, `found` decides the status, and after an `Err`, the fault does.
 abbrev pub cmp_status : Result Comparison CmpFault → Result (Unit {0}) CmpFault → ℕ
 cmp_status found (Ok u) = found_status found
 cmp_status found (Err fault) = status_of fault
 
--- The fault of an output that failed.
+-- The fault that ends a run of `cmp` if its output failed.
 abbrev pub io : CmpFault
 io = faults.Run run_faults.Io
 
--- A run of `cmp` with the result `found` has ended. `failed` says whether the output had failed before the flush. The
--- flush writes nothing. If the outcome is a fault, its error line was written to the errors. `status` is the exit
--- status.
+-- After a run of `cmp` with the result `found`, the output was flushed, and the program ended with the exit status
+-- `status`. `outcome` is the outcome after the flush, and decides what was written to `errors`. `failed` says whether
+-- the output had failed before the flush.
 pub record EndsFound (found : Result Comparison CmpFault) (failed : Bool) (flush errors : Course) (status : ℕ)
     : Type 0 where
   pub outcome : Result (Unit {0}) CmpFault

@@ -7,9 +7,10 @@ pub record Course : Type 0 where
   pub after : Option (List ℕ)
   pub failed : Bool
 
+-- The `Course` with the fields `before`, `after` and `failed`.
 abbrev pub course : Option (List ℕ) → Option (List ℕ) → Bool → Course
 course before after failed = record { before = before; after = after; failed = failed }
 
--- The reader or writer was not used, and has not failed.
+-- The content of the reader or writer is the same before and after the call, and the reader or writer has not failed.
 abbrev pub IsUntouched : Course → Type 0
 IsUntouched end = (end.after ≡ end.before) × (end.failed ≡ false)

@@ -22,22 +22,27 @@ skipped : fault_text_line (archive_text (faults.Skipped (record {
 unfolding digits
 skipped = refl
 
--- The ending of a run over an archive was written.
+-- `WritesEnding` for a run over an archive: after `Ok` nothing was written, and after an `Err` the error line or a
+-- prefix of that line.
 abbrev pub WritesArchiveEnding : Result (Unit {0}) ArchiveFault → Option (List ℕ) → Option (List ℕ) → Bool → Type 0
 WritesArchiveEnding = WritesEnding archive_text
 
--- The ending of a run that picks messages was written.
+-- `WritesEnding` for a run that picks messages: after `Ok` nothing was written, and after an `Err` the error line or a
+-- prefix of that line.
 abbrev pub WritesPickEnding : Result (Unit {0}) RunFault → Option (List ℕ) → Option (List ℕ) → Bool → Type 0
 WritesPickEnding = WritesEnding served.fault_text
 
--- The ending of a run that explains every refused message was written.
+-- `WritesEnding` for a run that explains every refused message: after `Ok` nothing was written, and after an `Err` the
+-- error line or a prefix of that line.
 abbrev pub WritesReportEnding : Result (Unit {0}) ReportFault → Option (List ℕ) → Option (List ℕ) → Bool → Type 0
 WritesReportEnding = WritesEnding reported.report_text
 
--- The ending of a run that makes messages from texts was written.
+-- `WritesEnding` for a run that makes messages from texts: after `Ok` nothing was written, and after an `Err` the error
+-- line or a prefix of that line.
 abbrev pub WritesMakeEnding : Result (Unit {0}) MakeFault → Option (List ℕ) → Option (List ℕ) → Bool → Type 0
 WritesMakeEnding = WritesEnding made.fault_text
 
--- The ending of a run that packs or unpacks a stream was written.
+-- `WritesEnding` for a run that packs or unpacks a stream: after `Ok` nothing was written, and after an `Err` the error
+-- line or a prefix of that line.
 abbrev pub WritesFlowEnding : Result (Unit {0}) FlowFault → Option (List ℕ) → Option (List ℕ) → Bool → Type 0
 WritesFlowEnding = WritesEnding flowing.fault_text

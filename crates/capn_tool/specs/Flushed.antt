@@ -19,22 +19,21 @@ use Rattle.capn_tool.specs.Course.{Course}
 use Rattle.capn_args.specs.declared.invocation.Flow.{Flow}
 use Rattle.capn_args.specs.declared.invocation.Flow.TheVariants as flows
 
--- `result` is the outcome of a run after the flush of its output. If the run was done and the flush failed, `result` is
--- `io`, the fault of an output that failed. Any other outcome stays the same. `old` and `new` say whether the output
--- had failed before the flush and after the flush.
+-- `result` is the outcome of a run after the flush of its output. If the run ended with `Ok` and the flush failed,
+-- `result` is the fault `io`. Otherwise `result` is the outcome before the flush.
 abbrev pub EndsFlushed : {F : Type 0} → F → Result (Unit {0}) F → Bool → Bool → Result (Unit {0}) F → Type 0
 EndsFlushed io (Ok u) old new result = ((result ≡ Ok u) × (new ≡ old)) ⊎ ((result ≡ Err io) × (new ≡ true))
 EndsFlushed io (Err fault) old new result = (result ≡ Err fault) × ((new ≡ old) ⊎ (new ≡ true))
 
--- If `command` gives `input` a text and an ending, that text was written and the run ended with that ending, or memory
--- was refused, or the input or the output failed.
+-- Let `text` and `due` be the text and the ending of `command` for `input`. Then `text` was written and `outcome` is
+-- `due`, or `outcome` is `Memory` or `Io`.
 abbrev pub EndsByText : Command → Option (List ℕ) → Option (List ℕ) → Result (Unit {0}) ToolFault → List ℕ → Type 0
 EndsByText command c d outcome input =
     (text : List ℕ) (due : Result (Unit {0}) ToolFault) → IsText command input text due → EndsBy text due c d outcome
 
--- `command` was carried out, and the output was flushed. `run` is the result before the flush, which writes nothing,
--- and `failed` says whether the output had failed before the flush. `outcome` is `Io` if and only if the input or the
--- output failed in the run, or the run was done and the flush failed.
+-- `command` was carried out with the result `run`, and the flush of the output gave `outcome`. `failed` says whether
+-- the output had failed before the flush. `outcome` is `Io` exactly if the input or the output failed in the run, or if
+-- `run` is `Ok` and the flush failed.
 pub record CarriesOut (command : Command) (input output : Course) (outcome : Result (Unit {0}) ToolFault) : Type 0 where
   pub run : Result (Unit {0}) ToolFault
   pub failed : Bool
@@ -50,15 +49,14 @@ pub record CarriesOut (command : Command) (input output : Course) (outcome : Res
   pub ahead : StaysAheadAs command input.before input.after output.before output.after
   pub memory : IsErrOf outcome faults.Memory → MayNeedMemory command input.before input.after
 
--- The type of a statement about a run. The arguments are the reader before and after the run, the writer before and
--- after the run, whether the reader failed, whether the writer failed, and the result.
+-- The type of a statement about a run. The arguments are the reader and the writer, each before and after the run,
+-- whether each has failed, and the result.
 abbrev pub RunOver : Type 0 → Type 1
 RunOver F = Option (List ℕ) → Option (List ℕ) → Option (List ℕ) → Option (List ℕ) → Bool → Bool
     → Result (Unit {0}) F → Type 0
 
--- A run for which `Runs` holds went from the input to the output, and the output was flushed. `run` is the result
--- before the flush, `written` is the output before the flush, and `failed` says whether the output had failed before
--- the flush. The flush writes nothing.
+-- A run for which `Runs` holds had the result `run`, and the flush of its output gave `outcome`. `written` is the
+-- output before the flush. `failed` says whether the output had failed before the flush.
 pub record RunsFlushed {F : Type 0} (io : F) (Runs : RunOver F) (input output : Course)
     (outcome : Result (Unit {0}) F) : Type 0 where
   pub run : Result (Unit {0}) F
@@ -68,8 +66,9 @@ pub record RunsFlushed {F : Type 0} (io : F) (Runs : RunOver F) (input output : 
   pub kept : Keeps written output.after
   pub flushed : EndsFlushed io run failed output.failed outcome
 
--- A run with the result `run` has ended. `failed` says whether the output had failed before the flush. The flush writes
--- nothing. If the outcome is a fault, its error line was written to the errors. `status` is the exit status.
+-- After a run with the result `run`, the output was flushed, and the program ended with the exit status `status`.
+-- `outcome` is the outcome after the flush, and decides what was written to `errors`. `failed` says whether the output
+-- had failed before the flush.
 pub record EndsRun {F : Type 0} (text : F → List ℕ) (exit : F → ℕ) (io : F) (run : Result (Unit {0}) F) (failed : Bool)
     (flush errors : Course) (status : ℕ) : Type 0 where
   pub outcome : Result (Unit {0}) F
@@ -78,12 +77,12 @@ pub record EndsRun {F : Type 0} (text : F → List ℕ) (exit : F → ℕ) (io :
   pub told : WritesEnding text outcome errors.before errors.after errors.failed
   pub is : status ≡ status_of_ending exit outcome
 
--- Messages were made from texts. The first argument says whether lists of bytes may stand between quotes.
+-- Messages in `form` were made from texts. The first argument says whether lists of bytes may stand between quotes.
 abbrev pub MadeBy : Bool → Form → RunOver MakeFault
 MadeBy true form = MadeTexts form
 MadeBy false form = Made form
 
--- A stream was packed or unpacked.
+-- A stream was packed or unpacked, as the first argument says.
 abbrev pub Flowed : Flow → RunOver FlowFault
 Flowed flows.Pack = Runs packing
 Flowed flows.Unpack = Runs unpacking

@@ -14,20 +14,21 @@ use Rattle.capn_commands.specs.declared.part_texts.PartTexts.{PartTexts}
 use Rattle.capn_tool.specs.PartRun.{Follows}
 use Rattle.capn_args.specs.declared.invocation.Show.{Show}
 
--- The text that `show` writes for the value at a path in an input is unique, and so is the ending of the run.
+-- The options `show`, the `path` and the `input` determine the text that `show` writes and the result of the run.
 abbrev pub OneShown : Type 0
 OneShown = (show : Show) (path : List ℕ) (p q : PartTexts) → Follows show path p → Follows show path q
     → (input t u : List ℕ) (r s : Result (Unit {0}) RunFault) (y z : Run PartTexts)
     → AreMessages (part_fold show.limits.message_words) (first_run p) show.form input t r y
     → AreMessages (part_fold show.limits.message_words) (first_run q) show.form input u s z → (t ≡ u) × (r ≡ s)
 
--- `text` and `ending` are those of an input that is one message in a frame, shown by the service `p`.
+-- A run of the service `p` over `input` writes `text` and ends with `ending`. `input` has to be exactly one message in
+-- a frame.
 abbrev pub IsShownAlone : PartTexts → ℕ → StreamForm → List ℕ → Bool → List ℕ → Result (Unit {0}) ToolFault → Type 0
 IsShownAlone p most frame input is_longer text ending =
     IsDueOf (WritesOne serves refuses p most frame) (RefusesOne serves refuses p most frame) input is_longer text ending
 
--- The text that `show` writes for the value at a path in exactly one message is unique, and so is the ending of the
--- run.
+-- The options `show`, the `path` and an `input` of exactly one message determine the text that `show` writes and the
+-- result of the run.
 abbrev pub OneShownAlone : Type 0
 OneShownAlone = (show : Show) (path : List ℕ) (p q : PartTexts) → Follows show path p → Follows show path q
     → (frame : StreamForm) (input : List ℕ) (is_longer : Bool) (t u : List ℕ) (r s : Result (Unit {0}) ToolFault)

@@ -21,7 +21,7 @@ abbrev pub unplaced_end : Result (Unit {0}) RunFault → Result (Unit {0}) ToolF
 unplaced_end (Ok u) = Ok u
 unplaced_end (Err fault) = Err (unplaced fault)
 
--- `service` has the numbers of `path`, and the other options of `show`.
+-- `service` has the path `path`, and its other options are those of `show`.
 pub record Follows (show : Show) (path : List ℕ) (service : PartTexts) : Type 0 where
   pub numbers : service.path.now ≡ path
   pub form : service.form ≡ show.form
@@ -30,7 +30,8 @@ pub record Follows (show : Show) (path : List ℕ) (service : PartTexts) : Type 
   pub offsets : service.offsets ≡ show.offsets
   pub ways : service.ways ≡ show.ways
 
--- The messages of an input were served from the first one on, by a service with the options of `show`.
+-- A service with the path `path` and the options of `show` showed the messages of an input. `r` is the result of that
+-- run, without the position of a refused message.
 pub record Served (show : Show) (path : List ℕ) (a b c d : Option (List ℕ)) (reader_failed writer_failed : Bool)
     (r : Result (Unit {0}) ToolFault) : Type 0 where
   pub service : PartTexts
@@ -39,7 +40,8 @@ pub record Served (show : Show) (path : List ℕ) (a b c d : Option (List ℕ)) 
   pub shown : Shown service a b c d reader_failed writer_failed ending
   pub is : r ≡ unplaced_end ending
 
--- The one message of an input, whose frame is the whole input, was served by a service with the options of `show`.
+-- A service with the path `path` and the options of `show` showed the one message of an input, with the result `r`. The
+-- frame of the message has to be the complete input.
 pub record ServedOne (show : Show) (frame : StreamForm) (path : List ℕ) (a b c d : Option (List ℕ))
     (reader_failed writer_failed : Bool) (r : Result (Unit {0}) ToolFault) : Type 0 where
   pub service : PartTexts
@@ -47,14 +49,16 @@ pub record ServedOne (show : Show) (frame : StreamForm) (path : List ℕ) (a b c
   pub shown : RunsWhole (WritesOne serves refuses service show.limits.message_words frame)
       (RefusesOne serves refuses service show.limits.message_words frame) a b c d reader_failed writer_failed r
 
--- The encoding of the input if `show` selects exactly one message and that message is in a frame, and otherwise `None`.
+-- If the first argument is `true`, exactly one message is to be shown. Then the result is the encoding of its frame, or
+-- `None` for the form `Bare`. If the first argument is `false`, the result is `None`.
 abbrev pub one_frame : Bool → Form → Option StreamForm
 one_frame false form = None
 one_frame true forms.Stream = Some streams.Stream
 one_frame true forms.Packed = Some streams.Packed
 one_frame true forms.Bare = None
 
--- The messages of the input were served. With `Some frame` the input is exactly one message in a frame.
+-- For `None`, a service showed the messages of the input. For `Some frame`, a service showed the one message of the
+-- input.
 abbrev pub ServedBy : Option StreamForm → Show → List ℕ → Option (List ℕ) → Option (List ℕ) → Option (List ℕ)
     → Option (List ℕ) → Bool → Bool → Result (Unit {0}) ToolFault → Type 0
 ServedBy None show path a b c d reader_failed writer_failed r = Served show path a b c d reader_failed writer_failed r
@@ -67,9 +71,8 @@ abbrev pub NeedsMemory : Show → Option (List ℕ) → Option (List ℕ) → Op
 NeedsMemory show a b c d reader_failed writer_failed r = (is_some show.path ≡ true) × (r ≡ Err faults.Memory)
     × (b ≡ a) × (d ≡ c) × (reader_failed ≡ false) × (writer_failed ≡ false)
 
--- States the effect of a run on a reader (from `a` to `b`) and a writer (from `c` to `d`), and the result of the run.
--- If `show` has a path, the value at that path is shown. Otherwise all of each message is shown, at the empty path. If
--- `show` selects exactly one message, that message is the whole input.
+-- The effect of a run of `show` with the result `r`. Memory was refused for the numbers of the path of `show`, or the
+-- values at that path were shown.
 abbrev pub PartsShown : Show → Option (List ℕ) → Option (List ℕ) → Option (List ℕ) → Option (List ℕ) → Bool → Bool
     → Result (Unit {0}) ToolFault → Type 0
 PartsShown show a b c d reader_failed writer_failed r = (path : List ℕ) → numbers_of show.path ≡ Some path

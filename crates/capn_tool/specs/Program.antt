@@ -35,8 +35,8 @@ use Rattle.capn_args.specs.declared.invocation.Explanation.TheVariants as explan
 use Rattle.capn_args.specs.declared.invocation.Invocation.{Invocation}
 use Rattle.capn_args.specs.declared.invocation.Invocation.TheVariants as invocations
 
--- The words mean the invocation `name order`. That invocation was carried out, from the input to the output. The exit
--- status and the text on the errors are those of its outcome.
+-- The words mean the invocation `name order`, and that invocation was carried out over the input and the output.
+-- `WritesEnd` states what was written to `errors` after `outcome`. The exit status is `status_of_end outcome`.
 pub record EndsOrder {O F : Type 0} (name : O → Invocation)
     (CarriesOut : O → Course → Course → Result (Unit {0}) F → Type 0)
     (WritesEnd : Result (Unit {0}) F → Option (List ℕ) → Option (List ℕ) → Bool → Type 0)
@@ -49,50 +49,57 @@ pub record EndsOrder {O F : Type 0} (name : O → Invocation)
   pub told : WritesEnd outcome errors.before errors.after errors.failed
   pub is : status ≡ status_of_end outcome
 
--- The words mean the invocation `name order`, for a run that `Runs order` describes, followed by a flush. `io` is the
--- fault of an output that failed.
+-- The words mean the invocation `name order`. A run for which `Runs order` holds was carried out and its output was
+-- flushed. Its outcome decides what was written to `errors`, and the exit status.
 abbrev pub EndsRunOrder : {O F : Type 0} → (O → Invocation) → F → (O → RunOver F)
     → (Result (Unit {0}) F → Option (List ℕ) → Option (List ℕ) → Bool → Type 0) → (Result (Unit {0}) F → ℕ)
     → List Text → Course → Course → Course → ℕ → Type 0
 EndsRunOrder name io Runs = EndsOrder name (λ order. RunsFlushed io (Runs order))
 
--- The words mean a command over messages or bytes.
+-- The words mean a command over messages or bytes. The command was carried out, and its outcome decides what was
+-- written to `errors`, and the exit status.
 abbrev pub EndsMessage : List Text → Course → Course → Course → ℕ → Type 0
 EndsMessage = EndsOrder (λ command. invocations.Message command) CarriesOut ReportsEnding status_of
 
--- The words mean that messages, or parts of them, are shown.
+-- The words mean that messages or values in them are to be shown. That run was carried out, and its outcome decides
+-- what was written to `errors`, and the exit status.
 abbrev pub EndsShow : List Text → Course → Course → Course → ℕ → Type 0
 EndsShow = EndsRunOrder (λ show. invocations.Show show) faults.Io PartsShown ReportsEnding status_of
 
--- The words mean that one message is explained.
+-- The words mean that one message is to be explained. That run was carried out, and its outcome decides what was
+-- written to `errors`, and the exit status.
 abbrev pub EndsExplain : List Text → Course → Course → Course → ℕ → Type 0
 EndsExplain =
     EndsRunOrder (λ explain. invocations.Explain (explanations.One explain)) run_faults.Io Explained WritesPickEnding
     pick_status
 
--- The words mean that every refused message is explained.
+-- The words mean that every refused message is to be explained. That run was carried out, and its outcome decides what
+-- was written to `errors`, and the exit status.
 abbrev pub EndsExplainRefused : List Text → Course → Course → Course → ℕ → Type 0
 EndsExplainRefused =
     EndsRunOrder (λ refused. invocations.Explain (explanations.Refused refused)) (report_faults.Ended run_faults.Io)
     ExplainedRefused WritesReportEnding report_status
 
--- The words mean a run over an archive.
+-- The words mean a run over an archive. The run was carried out, and its outcome decides what was written to `errors`,
+-- and the exit status.
 abbrev pub EndsArchive : List Text → Course → Course → Course → ℕ → Type 0
 EndsArchive =
     EndsRunOrder (λ archive. invocations.Archive archive) archive_faults.Io Archived WritesArchiveEnding archive_status
 
--- The words mean that duplicates are left out or counted.
+-- The words mean that duplicates are to be omitted or counted. That run was carried out, and its outcome decides what
+-- was written to `errors`, and the exit status.
 abbrev pub EndsUniq : List Text → Course → Course → Course → ℕ → Type 0
 EndsUniq =
     EndsRunOrder (λ uniq. invocations.Uniq uniq) archive_faults.Io Deduplicated WritesArchiveEnding archive_status
 
--- The words mean that accepted messages are written.
+-- The words mean that accepted messages are to be written. That run was carried out, and its outcome decides what was
+-- written to `errors`, and the exit status.
 abbrev pub EndsFilter : List Text → Course → Course → Course → ℕ → Type 0
 EndsFilter =
     EndsRunOrder (λ filter. invocations.Filter filter) archive_faults.Io Filtered WritesArchiveEnding archive_status
 
--- The words mean that messages are compared. The run over the input had the result `found`, and the output was flushed.
--- The text on the errors is that of the outcome, and the exit status also says whether a message differs.
+-- The words mean that messages are to be compared. The run had the result `found`, and the flush of the output gave
+-- `outcome`. `outcome` decides what was written to `errors`, and `found` and `outcome` decide the exit status.
 pub record EndsCmp (words : List Text) (input output errors : Course) (status : ℕ) : Type 0 where
   pub order : CmpOrder
   pub found : Result Comparison CmpFault
@@ -102,27 +109,32 @@ pub record EndsCmp (words : List Text) (input output errors : Course) (status : 
   pub told : WritesEnding cmp_text outcome errors.before errors.after errors.failed
   pub is : status ≡ cmp_status found outcome
 
--- The words mean that messages are picked by a range of numbers.
+-- The words mean that messages are to be picked by a range of numbers. That run was carried out, and its outcome
+-- decides what was written to `errors`, and the exit status.
 abbrev pub EndsPick : List Text → Course → Course → Course → ℕ → Type 0
 EndsPick =
     EndsRunOrder (λ pick. invocations.Pick pick) run_faults.Io (λ pick. Picks pick.limits.message_words pick pick.form)
     WritesPickEnding pick_status
 
--- The words mean that the messages of a list are picked.
+-- The words mean that the messages of a list are to be picked. That run was carried out, and its outcome decides what
+-- was written to `errors`, and the exit status.
 abbrev pub EndsOnly : List Text → Course → Course → Course → ℕ → Type 0
 EndsOnly = EndsRunOrder (λ only. invocations.Only only) run_faults.Io OnlyPicked WritesPickEnding pick_status
 
--- The words mean that a stream is packed or unpacked.
+-- The words mean that a stream is to be packed or unpacked. That run was carried out, and its outcome decides what was
+-- written to `errors`, and the exit status.
 abbrev pub EndsFlow : List Text → Course → Course → Course → ℕ → Type 0
 EndsFlow = EndsRunOrder (λ flow. invocations.Flow flow) flow_faults.Io Flowed WritesFlowEnding flow_status
 
--- The words mean that messages are made from texts.
+-- The words mean that messages are to be made from texts. That run was carried out, and its outcome decides what was
+-- written to `errors`, and the exit status.
 abbrev pub EndsMake : List Text → Course → Course → Course → ℕ → Type 0
 EndsMake =
     EndsRunOrder (λ make. invocations.Make make) make_faults.Io (λ make. MadeBy make.quoted make.form) WritesMakeEnding
     make_status
 
--- States the effect of the program started with `words`, and its exit status.
+-- States the effect and the exit status of the program with these `words`. The program ended after one of the runs of
+-- this file, or `Unordered` holds.
 abbrev pub Ends : List Text → Course → Course → Course → ℕ → Type 0
 Ends words input output errors status =
     EndsMessage words input output errors status

@@ -16,8 +16,8 @@ use Rattle.capn_args.specs.Meaning.{MeansInvocation}
 use Rattle.capn_args.specs.Usage.{IsHelp, IsReason, version_line}
 use Rattle.capn_args.specs.declared.invocation.Invocation.{Invocation}
 
--- The help text was written to the output. After `Ok` all of the text was written, and the output has not failed. After
--- `Io` a prefix of the text was written, and the output has failed. After `Memory` nothing was written.
+-- After `Ok` the help text was written, and the output has not failed. After `Io` a prefix of the help text was
+-- written, and the output has failed. After `Memory` nothing was written.
 abbrev pub ShowsHelp : Course → Result (Unit {0}) ToolFault → Type 0
 ShowsHelp output (Ok u) =
     (text : List ℕ) × IsHelp text × Appends output.before output.after text × (output.failed ≡ false)
@@ -28,7 +28,7 @@ ShowsHelp output (Err faults.InputTooLong) = ⊥
 ShowsHelp output (Err (faults.NotWhole n)) = ⊥
 ShowsHelp output (Err (faults.Refused refusal)) = ⊥
 
--- The words ask for help. Help was shown with the result `outcome`, which was reported to the errors and decides the
+-- The words ask for help. Help was shown with the result `outcome`, which decides what was written to `errors`, and the
 -- exit status.
 pub record EndsHelp (output errors : Course) (status : ℕ) : Type 0 where
   pub outcome : Result (Unit {0}) ToolFault
@@ -36,8 +36,8 @@ pub record EndsHelp (output errors : Course) (status : ℕ) : Type 0 where
   pub told : ReportsEnding outcome errors.before errors.after errors.failed
   pub is : status ≡ status_of outcome
 
--- The version line was written to the output. After `Ok` all of the line was written, and the output has not failed.
--- After `Io` a prefix of the line was written, and the output has failed.
+-- After `Ok` the version line was written, and the output has not failed. After `Io` a prefix of the version line was
+-- written, and the output has failed.
 abbrev pub ShowsVersion : Course → Result (Unit {0}) ToolFault → Type 0
 ShowsVersion output (Ok u) = Appends output.before output.after version_line × (output.failed ≡ false)
 ShowsVersion output (Err faults.Memory) = ⊥
@@ -46,22 +46,22 @@ ShowsVersion output (Err faults.InputTooLong) = ⊥
 ShowsVersion output (Err (faults.NotWhole n)) = ⊥
 ShowsVersion output (Err (faults.Refused refusal)) = ⊥
 
--- The words ask for the version. The version was shown with the result `outcome`, which was reported to the errors and
--- decides the exit status.
+-- The words ask for the version. The version was shown with the result `outcome`, which decides what was written to
+-- `errors`, and the exit status.
 pub record EndsVersion (output errors : Course) (status : ℕ) : Type 0 where
   pub outcome : Result (Unit {0}) ToolFault
   pub shown : ShowsVersion output outcome
   pub told : ReportsEnding outcome errors.before errors.after errors.failed
   pub is : status ≡ status_of outcome
 
--- A text was written to the errors, or the error line of `Memory` if there was no memory for the text. If the errors
--- have failed, a prefix of the text or of the line was written.
+-- A text was written to `errors`, or the error line of `Memory` if there was no memory for the text. If `errors` has
+-- failed, a prefix of the text or of the line was written.
 abbrev pub WritesText : Course → Type 0
 WritesText errors = ((text : List ℕ) × WritesLine text errors.before errors.after errors.failed)
     ⊎ WritesLine (fault_line faults.Memory) errors.before errors.after errors.failed
 
--- The program has ended because the words start no run, for a reason of the kind `kind`: memory was refused, the words
--- ask for help or the version, or the words are a mistake.
+-- The program has ended for the reason `kind`, because its words start no run. `kind` decides what was written to
+-- `output` and `errors`, and the exit status.
 pub record EndsUnordered (kind : ErrorKind) (output errors : Course) (status : ℕ) : Type 0 where
   pub memory : kind ≡ kinds.OutOfMemory
       → IsUntouched output × ReportsEnding (Err faults.Memory) errors.before errors.after errors.failed × (status ≡ 3)

@@ -12,8 +12,7 @@ use capn_serve::{Ending, RunFault, end};
 use capn_words::Watched;
 use std::io::Write;
 
-/// Returns the outcome of a run of `cmp`: `Ok` if `found` is a comparison, whatever its answer, and otherwise the
-/// fault.
+/// Returns the outcome of a run of `cmp`: `Ok` if `found` is any comparison, and otherwise the fault.
 fn done_of(found: Result<Comparison, CmpFault>) -> Result<(), CmpFault>
     ensures { result ≡ spec.done_of found }
 {
@@ -39,8 +38,8 @@ fn status_after(found: Result<Comparison, CmpFault>, ended: &Result<(), CmpFault
 }
 
 /// Flushes the output after a run of `cmp`, writes an error line if the run ended with a fault, and returns the exit
-/// status. If a message differs, the status is 1, and no line is written to `errors`. If `found` is a comparison but
-/// the flush fails, the run ends with the fault of an output that failed.
+/// status. If a message differs and the flush succeeds, the status is 1, and no line is written to `errors`. If `found`
+/// is a comparison but the flush fails, the run ends with the fault of an output that failed.
 pub(crate) fn finish_found<W: Write, E: Write>(
     found: Result<Comparison, CmpFault>,
     writer: &mut Watched<W>,

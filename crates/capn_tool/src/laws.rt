@@ -9,7 +9,7 @@ pub fn one_text()
     ensures { OneShown }
 {}
 
-/// States that the options of `show` for exactly one message and an input determine the text that is shown, and how the
+/// States that the options of `show` and an input of exactly one message determine the text that is shown, and how the
 /// run ends.
 pub fn one_alone()
     ensures { OneShownAlone }

@@ -1,10 +1,11 @@
 //! The program `capn`, over any reader and writers: its command line, and its runs.
 //!
-//! [`program`] is the whole program, from the words of the command line to the exit status. [`invocation_of`], of
-//! [`capn_args`], reads the words and returns the invocation that they stand for. An invocation starts one of:
+//! [`program`] is the complete program, from the words of the command line to the exit status. [`invocation_of`], of
+//! [`capn_args`], reads the words and returns the invocation that they stand for. An invocation starts one run, and
+//! [`program`] lists these runs.
 //!
-//! [`command_of`] reads the words of a command of [`capn_commands`], [`run`] carries the command out, and [`end`]
-//! reports how that run ended.
+//! One kind of run carries out a command of [`capn_commands`]: [`command_of`] reads the words of the command, [`run`]
+//! carries the command out, and [`end`] reports how the run ended.
 //!
 //! ```text
 //! let invocation = invocation_of(alloc, &["capn", "list", "--keep-going"])?;
@@ -35,7 +36,7 @@ pub use capn_args::{
 // The commands over messages and bytes, the function `run` that carries a command out, and the end of a run.
 pub use capn_commands::{Command, MessageText, ToolFault, end, fault_text, run, status};
 
-// Types of the signatures above.
+// Types in the signatures of the functions that this crate exports.
 pub use capn_archive::{
     ArchiveFault, ArchiveOrder, FilterOrder, Position, RunFault, Skipped, Task, UniqOrder,
 };

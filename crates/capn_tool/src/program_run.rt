@@ -1,4 +1,4 @@
-//! The whole program, from the command line to the exit status.
+//! The complete program, from the command line to the exit status.
 
 ghost use Rattle.std.specs.Prelude.{◌≡◌, map, false};
 ghost use Rattle.capn_words.specs.Watched.{inner_of, has_failed};
@@ -24,17 +24,13 @@ use std::alloc::Global;
 use std::convert::AsStr;
 use std::io::{Read, Write};
 
-/// Runs the whole program, from the words of the command line to the exit status. The first word is the program's name.
+/// Runs the program, from the words of the command line to the exit status. The first word is the program's name.
 ///
-/// The words choose a run, which reads from `reader`, writes to `writer`, and ends with a flush. The run is one of:
-/// - a command, by [`capn_commands::run`];
-/// - the text of messages or of parts of them, by [`show_parts`];
-/// - the explanation of a message, or of each that is refused, by [`run_explain`] or [`run_explain_refused`];
-/// - a run over an archive, by [`run_archive`], [`run_uniq`] or [`run_filter`];
-/// - a comparison, by [`run_cmp`];
-/// - picked messages, by [`run_pick`] or [`pick_only`];
-/// - packing or unpacking, by [`pack_stream`] or [`unpack_stream`];
-/// - the messages of texts, by [`capn_make::make`] or [`capn_make::make_texts`].
+/// The words choose a run, which reads from `reader`, writes to `writer`, and ends with a flush. [`capn_commands::run`]
+/// carries out a command. [`show_parts`] shows messages or values in them. [`run_explain`] explains a message, and
+/// [`run_explain_refused`] each message that is refused. [`run_archive`], [`run_uniq`] and [`run_filter`] are runs over
+/// an archive. [`run_cmp`] compares messages. [`run_pick`] and [`pick_only`] pick messages. [`pack_stream`] packs, and
+/// [`unpack_stream`] unpacks. [`capn_make::make`] and [`capn_make::make_texts`] make messages from texts.
 ///
 /// If the run has no fault and the flush fails, the program ends as if the output had failed. After a fault a failed
 /// flush changes nothing. The status is 0 if the run has no fault and no message differs. The status is 1 if the input

@@ -75,7 +75,7 @@ fn tell_mistake<E: Write>(alloc: Global, usage: &Usage, errors: &mut Watched<E>)
 }
 
 /// Ends the program if its command line starts no run, and returns the exit status. Help and the version are written to
-/// `writer`. The text about a mistake, or the error line of refused memory, is written to `errors`.
+/// `writer`. The text about a mistake, or the error line of `Memory`, is written to `errors`.
 pub(crate) fn end_unordered<W: Write, E: Write>(
     alloc: Global,
     usage: &Usage,

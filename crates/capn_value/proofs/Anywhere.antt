@@ -1,4 +1,5 @@
--- Lemmas for the cycle `flaws_of`: whether a test holds anywhere in a value follows from the parts of the value.
+-- Lemmas for the cycle `flaws_of`: `anywhere test` of a value is computed from `test` of the value and `anywhere test`
+-- of the values below it.
 use Rattle.std.proofs.Common.{◌≡◌, ℕ, suc, ◌+◌, ◌<◌, List, [], ◌∷◌, Bool, true, false, ◌||◌, ◌⊎◌, inl, inr, length}
 use Rattle.std.proofs.Common.{get_or, drop, refl, sym, ap, ap₂, ◌∙◌, add-one}
 use Rattle.std.proofs.Math.Seq.{drop-cons, drop-length}
@@ -11,12 +12,10 @@ use Rattle.capn_value.specs.declared.value.Value.{Value, Nil, Node, Voids, Bits,
 use Rattle.capn_value.specs.declared.value.Value.{Cap}
 use Rattle.capn_value.specs.declared.value.Body.{Body}
 
--- the items from index `i` on are item `i` and the items from `i + 1` on
 pub drop-next : {X : Type 0} (xs : List X) (i : ℕ) (x : X) → i < length xs → x ≡ get_or xs i x
     → drop i xs ≡ x ∷ drop (i + 1) xs
 drop-next xs i x h e = rw add-one (drop-cons xs i x h ∙ ap (λ y. y ∷ drop (suc i) xs) (sym e))
 
--- no items are left from the end of a list on
 pub drop-past : {X : Type 0} (xs : List X) (i : ℕ) → i ≡ length xs → drop i xs ≡ []
 drop-past xs i e = ap (λ n. drop n xs) e ∙ drop-length xs
 
@@ -52,7 +51,7 @@ module _ {A : Type 0} (test : Tree → Bool) where
           ∙ ap (λ cs. anywhere_in_rows test (rows_of cs)) f)
           ∙ sym (ap (anywhere test) (ap tree_of e ∙ tree_of-Rows bs))
 
-  -- the result of a loop over values, after one more value and after all
+  -- this block is about a loop over `items` that computes `anywhere_in`: one more value, and the end of the loop
   module _ (items : List (Value A)) (i : ℕ) (f : Bool) {all : Bool}
       (so_far : (f || anywhere_in test (trees_of (drop i items))) ≡ all) where
     pub each_joins : (v : Value A) {r n : Bool} → i < length items → v ≡ get_or items i v → n ≡ (f || r)
@@ -66,7 +65,7 @@ module _ {A : Type 0} (test : Tree → Bool) where
     pub each_joined : i ≡ length items → f ≡ all
     each_joined e = or_no_more f ∙ sym (ap (λ vs. f || anywhere_in test (trees_of vs)) (drop-past items i e)) ∙ so_far
 
-  -- the result of a loop over rows, after one more row and after all
+  -- this block is about a loop over `rows` that computes `anywhere_in_rows`: one more row, and the end of the loop
   module _ (rows : List (Body A)) (i : ℕ) (f : Bool) {all : Bool}
       (so_far : (f || anywhere_in_rows test (rows_of (drop i rows))) ≡ all) where
     pub row_joins : (b : Body A) (s : List (Value A)) {r n : Bool} → i < length rows → b ≡ get_or rows i b → s ≡ b.slots

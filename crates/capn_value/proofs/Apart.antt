@@ -46,7 +46,6 @@ no_voids A _ k n = refl
 pub not_voids : {A : Type 0} (w : Value A) (k : ℕ) → ((m : ℕ) → w ≡ Voids m → ⊥) → test (voids k) (tree_of w) ≡ false
 not_voids {A} w k n = no_voids A (tree_of w) k (λ m e. n m (sym (value_of-tree_of A w) ∙ e))
 
--- the test of a list of numbers and any value that is no list of numbers of the same width is false
 no_numbers : (u : Tree) (a : NumberWidth) (xs : List ℕ) → ((ys : List ℕ) → u ≡ numbers a ys → ⊥)
     → test (numbers a xs) u ≡ false
 no_numbers (numbers b ys) a xs n =
@@ -118,7 +117,7 @@ pub test_slots-past_right : (ss ts : Trees) → count ts ≡ 0 → test_slots ss
 test_slots-past_right ss no_trees e = test_slots-no_more ss ∙ and_true _
 test_slots-past_right ss (tree t ts) e = absurd (omega arith)
 
--- facts about two values whose kinds are known
+-- this block is about the test of two values `v` and `w` whose kinds are known
 module _ {A B : Type 0} (v : Value A) (w : Value B) where
   seen : (t u : Tree) {r : Bool} → tree_of v ≡ t → tree_of w ≡ u → r ≡ test t u → r ≡ test (tree_of v) (tree_of w)
   seen t u e f h = h ∙ sym (ap₂ test e f)
@@ -135,7 +134,7 @@ module _ {A B : Type 0} (v : Value A) (w : Value B) where
       seen (node a.words (trees_of a.slots)) (node b.words (trees_of b.slots)) (ap tree_of e ∙ tree_of-Node a)
       (ap tree_of f ∙ tree_of-Node b)
 
-  -- `s` and `t` are the slices of the elements of `v` and `w`
+  -- Case: two lists of pointers. `s` and `t` are the slices of the elements of `v` and `w`.
   pub both_links : (xs s : List (Value A)) (ys t : List (Value B)) {r : Bool} → v ≡ Links xs → w ≡ Links ys → s ≡ xs
       → t ≡ ys → r ≡ test_each (trees_of s) (trees_of t) → r ≡ test (tree_of v) (tree_of w)
   both_links xs s ys t e f g h tested =
@@ -194,7 +193,8 @@ module _ {A B : Type 0} (v : Value A) (w : Value B) where
 pub ruleset apart =
     (views, not_null, test_each-uneven, test_rows-uneven, test_slots-past_left, test_slots-past_right)
 
--- the test of all slots is the test of the slots after those that both lists have
+-- once the slots up to the end of the shorter list are equal, the test is whether all later slots of either list are
+-- null
 pub test_slots-past_shared : {A B : Type 0} (a : List (Value A)) (b : List (Value B)) (i s : ℕ)
     → s ≡ min (length a) (length b) → i ≡ s →
     test_slots (trees_of (drop i a)) (trees_of (drop i b)) ≡ test_slots (trees_of a) (trees_of b) →

@@ -15,7 +15,7 @@ use Rattle.capn_value.specs.declared.value.Body.{Body}
 use Rattle.capn_value.proofs.Anywhere.{or_no_more}
 use Rattle.capn_value.proofs.Inverse.{value_of, value_of-tree_of}
 
--- facts about the tree of a value whose kind is known
+-- this block is about the tree of a value `v` whose kind is known
 module _ {A X : Type 0} (f : Tree → X) (v : Value A) where
   pub node_seen : (b : Body A) → v ≡ Node b → f (node b.words (trees_of b.slots)) ≡ f (tree_of v)
   node_seen b e = sym (ap f (ap tree_of e ∙ tree_of-Node b))
@@ -34,7 +34,6 @@ abbrev pub IsNot : {A X : Type 0} → (X → Value A) → Value A → Type 0
 IsNot {A = A} {X} kind v = (x : X) → v ≡ kind x → ⊥
 
 module _ {A : Type 0} where
-  -- the value made of the tree of `v` is not of the given kind either
   pub still_not : {X : Type 0} (kind : X → Value A) (v : Value A) → IsNot kind v → IsNot kind (value_of A (tree_of v))
   still_not kind v n x e = n x (sym (value_of-tree_of A v) ∙ e)
 
@@ -89,7 +88,7 @@ module _ {A : Type 0} where
   above_none test (rows bs) m l r = absurd (r _ refl)
   above_none test _ m l r = refl
 
-  -- a test holds anywhere in a value with no values below it if it holds of the value
+  -- if `v` has no values below it, `test` holds anywhere in `v` exactly if it holds of `v`
   pub alone : (test : Tree → Bool) (v : Value A) → IsNot Node v → IsNot Links v → IsNot Rows v
       → test (tree_of v) ≡ anywhere test (tree_of v)
   alone test v m l r =
@@ -117,7 +116,7 @@ module _ {A : Type 0} where
   short v (inr (inl p)) = sym (ap is_long (ap tree_of p.1 ∙ tree_of-Node p.0))
   short v (inr (inr p)) = cap_seen is_long v p.1
 
-  -- a list that is not of structs is long exactly if it has too many elements
+  -- if `v` is no list of structs, `v` is long exactly if it has more than 2^29 - 1 elements
   counted : (v : Value A) (t : Tree) {n : ℕ} → tree_of v ≡ t → words_in_rows t ≡ 0 → n ≡ elements t
       → nat_lt 536870911 n ≡ is_long (tree_of v)
   counted v t {n} e f g =

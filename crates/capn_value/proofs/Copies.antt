@@ -27,12 +27,11 @@ module _ (A : Type 0) {B : Type 0} (v : Value B) where
   pub cap_kept : {k : ℕ} → v ≡ Cap k → tree_of {A = A} (Cap k) ≡ tree_of v
   cap_kept {k} e = tree_of-Cap A k ∙ sym (ap tree_of e ∙ tree_of-Cap B k)
 
--- if a copy has the numbers of a list, it has the tree of the list
 pub numbers_kept : {B : Type 0} (v : Value B) {t : Tree} {a : NumberWidth} {xs ys : List ℕ} → t ≡ numbers a ys → ys ≡ xs
     → tree_of v ≡ numbers a xs → t ≡ tree_of v
 numbers_kept v {a = a} e f g = e ∙ ap (numbers a) f ∙ sym g
 
--- facts about a value that has no values below it
+-- this block is about a value that has no values below it
 module _ {A : Type 0} where
   parts_cut : (t : Tree) → IsNot {A = A} Node (value_of A t) → IsNot {A = A} Links (value_of A t)
       → IsNot {A = A} Rows (value_of A t) → t ≡ trimmed t
@@ -41,7 +40,7 @@ module _ {A : Type 0} where
   parts_cut (rows bs) m l r = absurd (r _ refl)
   parts_cut _ m l r = refl
 
-  -- trimming does not change a value that has no values below it
+  -- if `v` has no values below it, a copy of `v` is also a trimmed copy of `v`
   plain_kept : {B E : Type 0} (v : Value A) (r : Result (Value B) E) → IsNot Node v → IsNot Links v → IsNot Rows v
       → IfOk r (λ u. tree_of u ≡ tree_of v) → IfOk r (λ u. tree_of u ≡ trimmed (tree_of v))
   plain_kept v r m l n h =
@@ -75,7 +74,7 @@ list_anew : (cut : Bool) (bs : Bodies) → rows (rows_anew (kept_of_rows cut bs)
 list_anew true bs = refl
 list_anew false bs = refl
 
--- the copy of a value is made of the copies of the values below it
+-- this block is about the copy of `v`, which is made of the copies of the values below `v`
 module _ {A B : Type 0} (cut : Bool) (v : Value B) where
   pub node_made : (b : Body B) (r : Body A) {kept : Option (ℕ × ℕ)} → v ≡ Node b
       → kept ≡ kept_of_body cut b.words (trees_of b.slots) → r.words ≡ words_anew kept b.words
@@ -85,7 +84,7 @@ module _ {A B : Type 0} (cut : Bool) (v : Value B) where
       ∙ ap₂ node (f ∙ ap (λ k. words_anew k b.words) e) (h ∙ ap (λ k. slots_anew k (trees_of b.slots)) e)
       ∙ node_anew cut b.words (trees_of b.slots) ∙ node_seen (anew cut) v b is
 
-  -- `s` is the slice of the elements of `v`
+  -- Case: a list of pointers. `s` is the slice of the elements of `v`.
   pub links_made : (vs s : List (Value B)) (us : List (Value A)) {n : ℕ} → v ≡ Links vs → s ≡ vs → n ≡ length vs
       → trees_of us ≡ front n (each_anew cut (trees_of s)) → tree_of (Links us) ≡ anew cut (tree_of v)
   links_made vs s us is f e h =

@@ -1,4 +1,4 @@
--- Lemmas for the cycle `cost`: the capped cost of a value is that of the capped costs of its parts.
+-- Lemmas for the cycle `cost`: the capped cost of a value is computed from the capped costs of the values below it.
 use Rattle.std.proofs.Common.{◌≡◌, ℕ, ◌+◌, ◌<◌, ◌≤◌, ◌^◌, List, length, get_or, drop, min, refl, sym, ap, ap₂}
 use Rattle.std.proofs.Common.{◌∙◌, arith}
 use Rattle.std.proofs.Math.Path.{subst}
@@ -16,7 +16,6 @@ use Rattle.capn_value.proofs.Anywhere.{drop-next, drop-past}
 pub div_ceil-one : (n : ℕ) → n ≡ div_ceil n 1
 div_ceil-one n = omega arith
 
--- capping a part of a capped sum does not change the sum
 part_capped : (a b cap y r : ℕ) → y ≡ min b cap → r ≡ min (a + y) cap → r ≡ min (a + b) cap
 part_capped a b cap y r e f = omega arith
 
@@ -26,7 +25,7 @@ parts_capped a b cap x y r e f g = omega arith
 regrouped : (a b c d : ℕ) → (a + (b + c)) + d ≡ a + b + c + d
 regrouped a b c d = omega arith
 
--- `s` and `w` are slices of the parts of the value
+-- this block is about the capped cost `r` of the value `v`, by the kind of `v`
 module _ {A : Type 0} (base cap : ℕ) (v : Value A) {r : ℕ} where
   priced : (t : Tree) {k n : ℕ} → tree_of v ≡ t → cost base t ≡ base + n → k ≡ n → r ≡ min (base + k) cap
       → r ≡ min (cost base (tree_of v)) cap
@@ -77,7 +76,7 @@ module _ {A : Type 0} (base cap : ℕ) (v : Value A) {r : ℕ} where
       parts_capped (base + 1 + rows_price (rows_of bs)) (costs_in_rows base (rows_of bs)) cap o below r own rest l
       ∙ sym (ap (λ u. min (cost base u) cap) (ap tree_of e ∙ tree_of-Rows bs))
 
--- facts about the ranges of the numbers of a value
+-- this block shows that a value `v` is in range if its numbers and the values below it are in range
 module _ {A : Type 0} (v : Value A) where
   pub numbers_ranged : {a : NumberWidth} {xs s : List ℕ} → tree_of v ≡ numbers a xs → s ≡ xs
       → AllBelow (2 ^ bits_in a) s → InRange (tree_of v)
@@ -100,7 +99,7 @@ module _ {A : Type 0} (v : Value A) where
   rows_ranged {bs} e f h =
       subst InRange (sym (ap tree_of e ∙ tree_of-Rows bs)) (subst (λ cs. RowsInRange (rows_of cs)) f h)
 
--- when the loop adds one more part, the capped sum over all parts is still `all`
+-- after the loop has added one more `part`, the capped sum of `n` and `rest` is still `all`
 added : (sum n part k whole rest cap all : ℕ) → min (sum + whole) cap ≡ all → whole ≡ part + rest → k ≡ min part cap
     → n ≡ min (sum + k) cap → min (n + rest) cap ≡ all
 added sum n part k whole rest cap all so_far e f g = omega arith

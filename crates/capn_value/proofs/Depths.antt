@@ -5,7 +5,7 @@ use denote.Param.Weighed.{most, at_most}
 use Rattle.capn_value.specs.declared.value.Value.{Value, Node, Links, Rows, size-Value, the_lemmas}
 use Rattle.capn_value.specs.declared.value.Body.{Body, size-Body}
 
--- the measure falls from one function of a cycle to the next
+-- the measure of a call on a less deep value, `2 * x + 0`, is below the caller's measure `t`
 pub falls : (x y q t : ℕ) → 2 * y + q ≡ t → x < y → 2 * x + 0 < t
 falls x y q t e h = omega arith
 

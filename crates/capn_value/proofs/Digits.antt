@@ -9,7 +9,7 @@ use Rattle.hex.specs.Hex.{encode_with, encode_lower, lower_digits}
 pub replicate-two : (n x : ℕ) → replicate (n + 2) x ≡ replicate n x ++ x ∷ x ∷ []
 replicate-two n x = sym (replicate-append-replicate n 2 x)
 
--- two more spaces give the indentation of one more level
+-- the indentation of `i` levels and two more spaces are the indentation of `i + 1` levels
 pub indented_more : (o out more : List ℕ) (i : ℕ) → out ≡ o ++ replicate (2 * i) 32 → more ≡ out ++ 32 ∷ 32 ∷ []
     → more ≡ o ++ replicate (2 * (i + 1)) 32
 indented_more o out more i so_far e =
@@ -17,7 +17,6 @@ indented_more o out more i so_far e =
     e ∙ ap (λ (l : List ℕ). l ++ 32 ∷ 32 ∷ []) so_far ∙ append_assoc o (replicate (2 * i) 32) (32 ∷ 32 ∷ [])
     ∙ ap (λ (l : List ℕ). o ++ l) (sym (replicate-two (2 * i) 32)) ∙ ap (λ n. o ++ replicate n 32) next
 
--- after the loop, the indentation is that of all levels
 pub indented : (o out : List ℕ) (i level : ℕ) → i ≡ level → out ≡ o ++ replicate (2 * i) 32
     → out ≡ o ++ replicate (2 * level) 32
 indented o out i level e so_far = so_far ∙ ap (λ n. o ++ replicate (2 * n) 32) e
@@ -37,27 +36,22 @@ encode_lower-one b = refl
 
 pub ruleset digits = (encode_lower-none, encode_lower-cons)
 
--- if a call succeeded, the clause for success holds
 pub on_ok : {T E P : Type 0} (r : Result T E) → IsOk r → OnOk r P → P
 on_ok (Ok x) h p = p
 on_ok (Err e) h p = absurd (cc)
 
--- if the last call succeeds and appends, the text is the appended one
 pub appended : {T E : Type 0} (r : Result T E) (n a b x : List ℕ) → n ≡ (if is_ok r then a else b) → a ≡ x
     → OnOk r (n ≡ x)
 appended (Ok y) n a b x e f = e ∙ f
 appended (Err y) n a b x e f = tt
 
--- a hexadecimal digit is ASCII
 pub digit-ascii : (k : ℕ) → slice_index lower_digits k < 128
 digit-ascii k = search (rules)
 
--- the digits of two lists of bits, joined, are the digits of both, joined
 pub digits_of-append : (xs ys : List Bool) → digits_of (xs ++ ys) ≡ digits_of xs ++ digits_of ys
 digits_of-append [] ys = refl
 digits_of-append (x ∷ xs) ys = ap (λ (l : List ℕ). digit x ∷ l) (digits_of-append xs ys)
 
--- a block of digits is appended after the digits before it
 pub digits_of-block : (out more all : List ℕ) (bits block rest : List Bool) → more ≡ out ++ digits_of block
     → bits ≡ block ++ rest → out ++ digits_of bits ≡ all → more ++ digits_of rest ≡ all
 digits_of-block out more all bits block rest e is so_far =
@@ -66,14 +60,13 @@ digits_of-block out more all bits block rest e is so_far =
     ∙ ap (λ (l : List ℕ). out ++ l) (sym (ap digits_of is ∙ digits_of-append block rest))
     ∙ so_far
 
--- digits of bits are ASCII
 pub digits_of-ascii : (xs : List Bool) → IsAscii (digits_of xs)
 digits_of-ascii [] i = omega arith
 digits_of-ascii (true ∷ xs) zero = omega arith
 digits_of-ascii (false ∷ xs) zero = omega arith
 digits_of-ascii (x ∷ xs) (suc i) = digits_of-ascii xs i
 
--- after digit `i` is written, the first `i + 1` digits are those of the first `i + 1` bits
+-- after digit `i` is written, the first `i + 1` digits stand for the first `i + 1` bits
 pub digits_of-more : (ds : List ℕ) (bits : List Bool) (i d : ℕ) → i < length ds → i < length bits
     → d ≡ digit (get_or bits i false) → take i ds ≡ digits_of (take i bits)
     → take (i + 1) (set ds i d) ≡ digits_of (take (i + 1) bits)
@@ -82,7 +75,7 @@ digits_of-more ds bits i d room below is so_far =
     ∙ ap₂ (λ (xs : List ℕ) (x : ℕ). xs ++ x ∷ []) so_far is
     ∙ sym (ap digits_of (take_more bits i false below) ∙ digits_of-append (take i bits) (get_or bits i false ∷ []))
 
--- after the loop, the digits are those of all bits
+-- after the loop, when `i` is `n`, the first `n` digits stand for all `bits`
 pub digits_of-all : (ds : List ℕ) (bits : List Bool) (i n : ℕ) → i ≡ n → length bits ≤ n
     → take i ds ≡ digits_of (take i bits) → take n ds ≡ digits_of bits
 digits_of-all ds bits i n e le so_far =

@@ -7,7 +7,8 @@ use Rattle.capn_value.specs.declared.tariff.Tariff.TheVariants.{Plain}
 use Rattle.capn_value.specs.declared.misfit.Misfit.{Misfit}
 use Rattle.capn_value.specs.declared.misfit.Misfit.TheVariants.{Wide, Long, Ragged, Costly, Tall, BadRoot}
 
--- the misfit that belongs to the first of six tests that is true
+-- The misfit of the first of the tests `a` to `e` that is true. If none of these is true: `BadRoot` if `f` is false,
+-- otherwise `None`.
 abbrev choice : (a b c d e f : Bool) → Option Misfit
 choice a b c d e f =
     cond a (Some Wide)
@@ -77,7 +78,7 @@ choosing a b c d e f BadRoot h = rw (h.0, h.1, h.2, h.3, h.4, h.5) refl
 both : (a b c d e f : Bool) (k : Misfit) → (choice a b c d e f ≡ Some k) ↔ IsChoice k a b c d e f
 both a b c d e f k = (chosen a b c d e f k, choosing a b c d e f k)
 
--- the misfit of a value is `k` if and only if `k` is the first that the value has
+-- the misfit of the value `t` is `k` if and only if `k` is the first misfit that `t` has
 pub first_misfit : (t : Tree) (k : Misfit) → (misfit t ≡ Some k) ↔ IsFirst k t
 unfolding misfit
 first_misfit t Wide =

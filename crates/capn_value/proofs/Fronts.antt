@@ -16,14 +16,12 @@ use Rattle.capn_value.specs.declared.value.Body.{Body}
 use Rattle.capn_value.proofs.Anywhere.{drop-next, drop-past}
 use Rattle.capn_value.proofs.shared.Trimmed.{count-trimmed_each}
 
--- the first `i + 1` trees are the first `i` and then tree `i`
 pub front-suc : (i : ℕ) (ts : Trees) → i < count ts
     → front (suc i) ts ≡ joined (front i ts) (tree (tree_at ts i) no_trees)
 front-suc i no_trees h = absurd (omega arith)
 front-suc zero (tree t ts) h = refl
 front-suc (suc i) (tree t ts) h = ap (tree t) (front-suc i ts (omega arith))
 
--- the first `count ts` trees are all trees
 pub front-count : (ts : Trees) → front (count ts) ts ≡ ts
 front-count no_trees = refl
 front-count (tree t ts) = ap (tree t) (front-count ts)
@@ -66,7 +64,6 @@ module _ {A : Type 0} where
     pub count-anew : count (each_anew cut (trees_of vs)) ≡ length vs
     count-anew = count-each_anew cut (trees_of vs) ∙ count-trees_of vs
 
-    -- the copies of the first `length vs` values are the copies of all values
     pub anew_front-length : front (length vs) (each_anew cut (trees_of vs)) ≡ each_anew cut (trees_of vs)
     anew_front-length = ap (λ n. front n (each_anew cut (trees_of vs))) (sym count-anew)
         ∙ front-count (each_anew cut (trees_of vs))
@@ -76,7 +73,7 @@ module _ {A : Type 0} where
     anew_front-min n = ap (λ k. front (min n k) (each_anew cut (trees_of vs))) (sym count-anew)
         ∙ front-min n (each_anew cut (trees_of vs))
 
--- the next value is copied, and pushed after the copies before it
+-- this block is about the copy of the next value `v`, which is pushed after the earlier copies in `out`
 module _ {A B : Type 0} (cut : Bool) (out : List (Value A)) (items : List (Value B)) (i : ℕ) (v : Value B)
     (so_far : trees_of out ≡ front i (each_anew cut (trees_of items))) (within : i < length items)
     (here : v ≡ get_or items i v) where
@@ -91,7 +88,7 @@ module _ {A B : Type 0} (cut : Bool) (out : List (Value A)) (items : List (Value
       (trees_of-push out r ∙ ap₂ (λ ts t. joined ts (tree t no_trees)) so_far next
       ∙ sym (front-suc i all (omega (arith, count-anew cut items))))
 
-  -- the same as `anew_front-push`, for the result of a call that made the copy
+  -- `anew_front-push` for the result of a call that made the copy
   pub front_made : {E : Type 0} (r : Result (Value A) E) (more : List (Value A))
       → IfOk r (λ u. tree_of u ≡ anew cut (tree_of v)) → IsOkAnd r (λ u. more ≡ out ++ u ∷ [])
       → trees_of more ≡ front (i + 1) (each_anew cut (trees_of items))
@@ -116,7 +113,7 @@ rows_anew-body : (kept : Option (ℕ × ℕ)) (ws : List ℕ) (ss : Trees) (bs :
 rows_anew-body (Some k) ws ss bs = refl
 rows_anew-body None ws ss bs = refl
 
--- the next row is copied, and pushed after the copies before it
+-- this block is about the copy of the next row, which is pushed after the earlier copies in `out`
 module _ {A B : Type 0} (kept : Option (ℕ × ℕ)) (out : List (Body A)) (rows : List (Body B)) (i : ℕ) {all : Bodies}
     (so_far : joined_rows (rows_of out) (rows_anew kept (rows_of (drop i rows))) ≡ all) where
   row_pushed : (b : Body B) (r : Body A) {more : List (Body A)} → i < length rows → b ≡ get_or rows i b
@@ -130,7 +127,7 @@ module _ {A B : Type 0} (kept : Option (ℕ × ℕ)) (out : List (Body A)) (rows
       ∙ ap (joined_rows (rows_of out)) (sym (rows_anew-body kept b.words (trees_of b.slots) rest))
       ∙ sym (ap (λ bs. joined_rows (rows_of out) (rows_anew kept (rows_of bs))) (drop-next rows i b h at)) ∙ so_far
 
-  -- the same as `row_pushed`, for the result of a call that made the copy
+  -- `row_pushed` for the result of a call that made the copy
   pub row_made : {E : Type 0} (b : Body B) (r : Result (Body A) E) (more : List (Body A)) → i < length rows
       → b ≡ get_or rows i b → IfOk r (λ u. u.words ≡ words_anew kept b.words)
       → IfOk r (λ u. trees_of u.slots ≡ slots_anew kept (trees_of b.slots))
@@ -144,7 +141,6 @@ module _ {A B : Type 0} (kept : Option (ℕ × ℕ)) (out : List (Body A)) (rows
       sym (joined_rows-none (rows_of out)) ∙ ap (joined_rows (rows_of out)) (sym (rows_anew-none kept))
       ∙ sym (ap (λ bs. joined_rows (rows_of out) (rows_anew kept (rows_of bs))) (drop-past rows i e)) ∙ so_far
 
--- the number of the first `k` numbers of a slice
 pub cut_length : (k : ℕ) (s : List ℕ) {m : ℕ} → m ≡ min k (length s) → m ≡ length (take m s)
 cut_length k s {m} e = sym (length-take-le m s (omega arith))
 
@@ -158,7 +154,7 @@ all_slots : {A : Type 0} (kept : Option (ℕ × ℕ)) (a b : ℕ) (vs : List (Va
 all_slots (Some k) a b vs e = refl
 all_slots None a b vs e = ap (λ n. front n (trees_of vs)) e ∙ front-length vs
 
--- the words and the slots that are kept of a body, or all if the body is not trimmed
+-- this block shows that the words and slots of a copied body are `words_anew kept` and `slots_anew kept` of its parts
 module _ (kept : Option (ℕ × ℕ)) {p : ℕ × ℕ} (a b : ℕ) (chosen : p ≡ unwrap_or kept (a, b)) where
   pub words_made : {xs s w : List ℕ} {m : ℕ} → s ≡ xs → a ≡ length xs → m ≡ min p.0 (length s) → w ≡ take m s
       → w ≡ words_anew kept xs

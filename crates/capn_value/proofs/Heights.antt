@@ -1,4 +1,5 @@
--- Lemmas for the cycle `height`: the capped height of a value is that of the capped heights of its parts.
+-- Lemmas for the cycle `height`: the capped height of a value is computed from the capped heights of the values below
+-- it.
 use Rattle.std.proofs.Common.{◌≡◌, ℕ, ◌+◌, ◌<◌, ◌≤◌, List, length, get_or, drop, min, max, refl, ap, ◌∙◌, arith}
 use Rattle.capn_value.specs.TreeOf.{tree_of, trees_of, rows_of}
 use Rattle.capn_value.specs.Views.{tree_of-Node, tree_of-Links, tree_of-Rows}
@@ -31,7 +32,7 @@ module _ {A : Type 0} where
         one_more (height (tree_of v)) below (greatest_in_rows (rows_of bs)) cap r _
         (h ∙ ap (λ cs. min (greatest_in_rows (rows_of cs)) cap) f) one refl (ap height (ap tree_of e ∙ tree_of-Rows bs))
 
--- when the loop takes one more part, the greatest height over all parts is still `all`
+-- after the loop has added one more `part`, the greater of `n` and `rest`, once capped, is still `all`
 taken : (most n part k whole rest cap all : ℕ) → min (max most whole) cap ≡ all → whole ≡ max part rest
     → k ≡ min part cap → n ≡ max k most → min (max n rest) cap ≡ all
 taken most n part k whole rest cap all so_far e f g = omega arith

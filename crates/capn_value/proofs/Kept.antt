@@ -1,5 +1,5 @@
--- Lemmas for `kept_slots`, `kept_slots_of_rows`, `kept_words` and `kept_words_of_rows`: the lengths that are kept of a
--- prefix, which a loop shortens by one at a time.
+-- Lemmas for `kept_slots`, `kept_slots_of_rows`, `kept_words` and `kept_words_of_rows`: the lengths that trimming keeps
+-- of a prefix, which a loop shortens by one at a time.
 use Rattle.std.proofs.Common.{◌≡◌, ◌≢◌, ℕ, zero, suc, ◌+◌, ◌<◌, List, [], ◌∷◌, length, get_or, take, drop, max, arith}
 use Rattle.std.proofs.Common.{ap, ◌∙◌, Bool, true, false}
 use Rattle.std.proofs.lemmas.Bool.Decides.{nat_tests}
@@ -20,14 +20,14 @@ behind_one b e = rw e
 behind_more : (b : Bool) (m : ℕ) → kept_behind b (suc m) ≡ suc (suc m)
 behind_more b m = grind (arith, nat_tests)
 
--- a zero word at the end of a prefix is not kept
+-- trimming does not keep a zero word at the end of a prefix
 pub kept_words-zero : (m : ℕ) (ws : List ℕ) → m < length ws → slice_index ws m ≡ 0
     → kept_words (take (suc m) ws) ≡ kept_words (take m ws)
 kept_words-zero m [] h e = absurd (omega arith)
 kept_words-zero zero (w ∷ ws) h e = behind_none (w == 0) (rw e)
 kept_words-zero (suc m) (w ∷ ws) h e = ap (kept_behind (w == 0)) (kept_words-zero m ws (omega arith) e)
 
--- if the last word of a prefix is not 0, all of the prefix is kept
+-- if the last word of a prefix is not 0, trimming keeps all of the prefix
 pub kept_words-some : (m : ℕ) (ws : List ℕ) → m < length ws → slice_index ws m ≢ 0
     → kept_words (take (suc m) ws) ≡ suc m
 kept_words-some m [] h n = absurd (omega arith)
@@ -50,7 +50,7 @@ kept_slots-some (suc m) (tree s ss) h e = ap (kept_behind (is_null s)) (kept_slo
 
 pub ruleset kept = (kept_words-zero, kept_words-some, kept_slots-null, kept_slots-some)
 
--- when the loop takes one more row, the greatest kept length over all rows is still `all`
+-- after the loop has added one more row, the greater of `n` and `rest` is still `all`
 row_taken : (most n part k whole rest all : ℕ) → max most whole ≡ all → whole ≡ max part rest → k ≡ part
     → n ≡ max k most → max n rest ≡ all
 row_taken most n part k whole rest all so_far e f g = omega arith

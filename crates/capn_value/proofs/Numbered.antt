@@ -39,6 +39,5 @@ module _ (out : List ℕ) (level : ℕ) (xs : List ℕ) (i : ℕ) {all : List �
   words_written e =
       sym (append-nil out) ∙ sym (ap (λ (l : List ℕ). out ++ word_lines level l) (drop-past xs i e)) ∙ so_far
 
--- a first line and then lines that are appended are a text that is appended at once
 pub behind_first : (o m x y : List ℕ) {out : List ℕ} → out ≡ m ++ y → m ≡ o ++ x → out ≡ o ++ (x ++ y)
 behind_first o m x y e f = e ∙ ap (λ l. l ++ y) f ∙ append_assoc o x y

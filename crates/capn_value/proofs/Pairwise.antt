@@ -8,7 +8,6 @@ use Rattle.capn_value.specs.declared.value.Value.{Value}
 use Rattle.capn_value.specs.declared.value.Body.{Body}
 use Rattle.capn_value.proofs.Anywhere.{drop-next, drop-past}
 
--- a loop ends exactly at its limit
 pub ended : (i n : ℕ) → i ≤ n → n ≤ i → i ≡ n
 ended i n h k = omega arith
 
@@ -18,14 +17,13 @@ in_left s i m n e h = omega arith
 pub in_right : (s i m n : ℕ) → s ≡ min m n → i < s → i < n
 in_right s i m n e h = omega arith
 
--- the conjunction of two tests fails if the first fails
 pub fails : (b rest : Bool) {r all : Bool} → r ≡ b → r ≡ false → (b && rest) ≡ all → false ≡ all
 fails b rest e f so_far = ap (λ x. x && rest) (sym f ∙ e) ∙ so_far
 
 pub holds : (b rest : Bool) {r all : Bool} → r ≡ b → r ≡ true → (b && rest) ≡ all → rest ≡ all
 holds b rest e f so_far = ap (λ x. x && rest) (sym f ∙ e) ∙ so_far
 
--- the test of two bodies is the test of their words and then of their slots
+-- this block is about the test of two bodies, which is the test of their words and then of their slots
 module _ {ws ys w v : List ℕ} (e : w ≡ ws) (f : v ≡ ys) {r : Bool} (same : r ≡ test_words w v) where
   here : r ≡ test_words ws ys
   here = same ∙ ap₂ test_words e f
@@ -94,7 +92,7 @@ module _ {A B : Type 0} (a : List (Body A)) (b : List (Body B)) (i : ℕ) {all :
   rows_tested e f = sym (ap₂ (λ us vs. test_rows (rows_of us) (rows_of vs)) (drop-past a i e) (drop-past b i f))
       ∙ so_far
 
--- the loop that tests whether each element of one list is null
+-- this block is about the loop that tests whether each value of `items` is null
 module _ {A : Type 0} (items : List (Value A)) (i : ℕ) {all : Bool} (so_far : are_null (trees_of (drop i items)) ≡ all)
   where
     module _ (v : Value A) (h : i < length items) (e : v ≡ get_or items i v) {r : Bool}

@@ -1,4 +1,5 @@
--- Lemmas for the cycle `show`: the text of a value is made of the texts of its parts, and levels stay below 2^32.
+-- Lemmas for the cycle `show`: the text of a value is made of the texts of the values below it, and levels stay below
+-- 2^32.
 use Rattle.std.proofs.Common.{◌≡◌, ℕ, ◌+◌, ◌*◌, ◌<◌, ◌≤◌, List, ◌++◌, length, codes, get_or, drop, max, sym, ap}
 use Rattle.std.proofs.Common.{ap₂, ◌∙◌, arith, append_assoc}
 use Rattle.std.proofs.lemmas.List.{append-nil}
@@ -16,17 +17,15 @@ use Rattle.capn_value.specs.declared.value.Value.{Value, Nil, Node, Voids, Links
 use Rattle.capn_value.specs.declared.value.Body.{Body}
 use Rattle.capn_value.proofs.Anywhere.{drop-next, drop-past}
 
--- an appended text may be replaced by an equal one
 pub appends : {T E : Type 0} (r : Result T E) (n o x y : List ℕ) → x ≡ y → OnOk r (n ≡ o ++ x) → OnOk r (n ≡ o ++ y)
 appends r n o x y e h = on_ok_weaker r (λ (f : n ≡ o ++ x). f ∙ ap (λ z. o ++ z) e) h
 
--- two appended texts are one appended text
 pub appends_both : {T E : Type 0} (r : Result T E) (n m o x y z : List ℕ) → m ≡ o ++ x → x ++ y ≡ z
     → OnOk r (n ≡ m ++ y) → OnOk r (n ≡ o ++ z)
 appends_both r n m o x y z e f h =
     on_ok_weaker r (λ (g : n ≡ m ++ y). g ∙ ap (λ k. k ++ y) e ∙ append_assoc o x y ∙ ap (λ k. o ++ k) f) h
 
--- `s` and `w` are slices of the parts of the value
+-- this block is about the text of the value `v`, by the kind of `v`
 module _ {A : Type 0} (level : ℕ) (v : Value A) where
   pub nil_shown : v ≡ Nil → line level (codes "null") ≡ shown level (tree_of v)
   nil_shown e = sym (ap (shown level) (ap tree_of e ∙ tree_of-Nil A))
@@ -86,7 +85,7 @@ body_shown level r n m l o {ws} {w} {ss} {s} {k} e f g h i =
     appends_both r n m o (first ++ words) slots _ (i ∙ ap (λ x. x ++ words) h
     ∙ append_assoc o first words) (append_assoc first words slots ∙ whole)
 
--- the text after a loop over elements, after one more element and after all
+-- this block is about a loop over elements or rows that appends their texts to `o`
 module _ {A : Type 0} (level : ℕ) (o : List ℕ) where
   module _ (items : List (Value A)) (i : ℕ) {all : List ℕ}
       (so_far : o ++ shown_each level (trees_of (drop i items)) ≡ all) where
@@ -125,7 +124,8 @@ module _ {A : Type 0} (level : ℕ) (o : List ℕ) where
     all_rows_shown e = sym (append-nil o) ∙ sym (ap (λ bs. o ++ shown_rows level (rows_of bs)) (drop-past bodies i e))
         ∙ so_far
 
--- if the levels of a value stay below `top`, so do those of the values below it
+-- This block shows that the levels of all values below `v` are below `top`. By the assumption `room`, `level` plus
+-- twice the height of `v` is below `top`.
 module _ {A : Type 0} (level top : ℕ) (v : Value A) (room : level + 2 * height (tree_of v) < top) where
   list_room : height (tree_of v) ≡ 1 → level + 1 < top
   list_room e = omega arith
@@ -152,7 +152,8 @@ module _ {A : Type 0} (level top : ℕ) (v : Value A) (room : level + 2 * height
 lower : (whole part rest all : ℕ) → whole ≡ max part rest → whole ≤ all → (part ≤ all) × (rest ≤ all)
 lower whole part rest all e h = (omega arith, omega arith)
 
--- each element of a list, and the rest of the list, is no higher than the whole list
+-- this block shows that a bound `all` on the heights of the items from index `i` on is a bound for item `i`, and for
+-- the items after it
 module _ {A : Type 0} {all : ℕ} where
   pub each_low : (items : List (Value A)) (i : ℕ) → greatest (trees_of (drop i items)) ≤ all → (v : Value A)
       → i < length items → v ≡ get_or items i v →

@@ -11,7 +11,6 @@ use Rattle.capn_value.specs.Fits.{is_wide_body, has_wide_row, are_even}
 use Rattle.capn_value.specs.declared.value.Body.{Body}
 use Rattle.capn_value.proofs.Anywhere.{drop-next, drop-past}
 
--- if two numbers differ, their test for equality is false
 differ : (m n : ℕ) → (m ≡ n → ⊥) → (m == n) ≡ false
 differ m n h = grind (arith, nat_tests)
 
@@ -27,7 +26,7 @@ differs_then p q rest e f = ap₂ (λ a b. a && b && rest) e f
 agrees_both : (p q rest : Bool) → p ≡ true → q ≡ true → (p && q && rest) ≡ rest
 agrees_both p q rest e f = ap₂ (λ a b. a && b && rest) e f
 
--- when the loop adds one more row, the capped sum over all rows is still `all`
+-- after the loop has added one more row, the capped sum of `m` and `rest` is still `all`
 counted_more : (words w s n m part rest cap all : ℕ) → n ≡ min (words + w) cap → m ≡ min (n + s) cap
     → part ≡ w + s + rest → min (words + part) cap ≡ all → min (m + rest) cap ≡ all
 counted_more words w s n m part rest cap all e f g so_far = omega arith
@@ -35,7 +34,7 @@ counted_more words w s n m part rest cap all e f g so_far = omega arith
 none_more : (words rest : ℕ) → rest ≡ 0 → words ≡ words + rest
 none_more words rest e = omega arith
 
--- a capped number is above a limit below the cap exactly if the number is
+-- if `m` and `n` are equal once capped, and `most` is below `cap`, `m` is above `most` exactly if `n` is
 pub above : (m n cap most : ℕ) → most < cap → min m cap ≡ min n cap → nat_lt most m ≡ nat_lt most n
 above m n cap most h e = grind (arith, nat_tests)
 

@@ -6,7 +6,8 @@ use Rattle.capn_value.specs.Same.{Same}
 use Rattle.capn_value.proofs.shared.Told.{same_to_reader}
 use Rattle.capn_value.specs.Getters.{null, struct, Step, to_pointer, to_element, Answer, get}
 
--- a struct of the words 5 and 0 with two slots: a list of three bytes, and two rows, the second with a capability
+-- A struct of the words 5 and 0 with two slots: a list of three bytes, and a list of two rows. The second row has a
+-- capability.
 abbrev worked : Tree
 worked = node (5 ∷ 0 ∷ []) (tree (numbers byte (7 ∷ 8 ∷ 9 ∷ []))
     (tree (rows (body (1 ∷ []) (tree nil no_trees) (body (2 ∷ []) (tree (cap 6) no_trees) no_bodies))) no_trees))
@@ -38,7 +39,7 @@ a_capability_in_a_row = refl
 past_the_end_of_null : (get worked (to_pointer 9 ∷ to_pointer 9 ∷ [])).kind ≡ null
 past_the_end_of_null = refl
 
--- the getters agree on a struct and on the same struct with one more zero word
+-- along paths that begin with pointer 0, the getters agree on a struct of one zero word and on an empty struct
 longer : (p : List Step) → get (node (0 ∷ []) no_trees) (to_pointer 0 ∷ p) ≡ get (node [] no_trees) (to_pointer 0 ∷ p)
 longer p = refl
 
@@ -52,13 +53,13 @@ of_numbers = refl
 of_structs : first_words (get (rows (body (7 ∷ 1 ∷ []) no_trees (body (8 ∷ 0 ∷ []) no_trees no_bodies)))) 1 ≡ 8
 of_structs = refl
 
--- `first_words` is equal for values that are the same
+-- `first_words` is equal for values `v` and `w` that are the same
 first_words_alike : (v w : Tree) → Same v w → (i : ℕ) → first_words (get v) i ≡ first_words (get w) i
 first_words_alike v w h i = same_to_reader (λ g. first_words g i) v w h
 
 -- ---- values that differ only in their kind
 
--- the getters' results without the kind
+-- the results `a` of the getters, with the kind replaced by null
 abbrev but_kind : Answer → Answer
 but_kind a = record a { kind = null }
 

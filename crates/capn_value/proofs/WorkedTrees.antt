@@ -16,22 +16,22 @@ use Rattle.capn_value.specs.declared.misfit.Misfit.TheVariants.{Long, Ragged, Ba
 struct_trimmed : trimmed (node (5 ∷ 0 ∷ []) (tree (cap 3) (tree nil no_trees))) ≡ node (5 ∷ []) (tree (cap 3) no_trees)
 struct_trimmed = refl
 
--- trimming keeps an empty struct in a slot
+-- trimming a struct of one zero word in a slot makes the struct empty, and not null
 empty_struct_stays : trimmed (node [] (tree (node (0 ∷ []) no_trees) no_trees))
     ≡ node [] (tree (node [] no_trees) no_trees)
 empty_struct_stays = refl
 
--- trimming cuts rows to one size, so the second word of each row is kept if one row needs it
+-- trimming shortens all rows to one size, so the second word of each row stays if one row needs it
 rows_trimmed : trimmed (rows (body (1 ∷ 2 ∷ []) no_trees (body (3 ∷ 0 ∷ []) no_trees no_bodies)))
     ≡ rows (body (1 ∷ 2 ∷ []) no_trees (body (3 ∷ 0 ∷ []) no_trees no_bodies))
 rows_trimmed = refl
 
--- trimming keeps the number of rows even if nothing is kept of each
+-- trimming leaves the number of rows unchanged, even if it removes all words of each row
 rows_left_empty : trimmed (rows (body (0 ∷ []) no_trees (body (0 ∷ []) no_trees no_bodies)))
     ≡ rows (body [] no_trees (body [] no_trees no_bodies))
 rows_left_empty = refl
 
--- trimming keeps null elements of a list of pointers
+-- trimming removes no null element of a list of pointers
 links_stay : trimmed (links (tree nil (tree nil no_trees))) ≡ links (tree nil (tree nil no_trees))
 links_stay = refl
 
@@ -39,7 +39,7 @@ links_stay = refl
 struct_anew : anew false (node (5 ∷ 0 ∷ []) (tree nil no_trees)) ≡ node (5 ∷ 0 ∷ []) (tree nil no_trees)
 struct_anew = refl
 
--- rows are cut to one word and no slot each
+-- rows are shortened to one word and no slot each
 rows_cut : rows_anew (Some (1, 0)) (body (1 ∷ 2 ∷ []) (tree nil no_trees) (body [] no_trees no_bodies))
     ≡ body (1 ∷ []) no_trees (body [] no_trees no_bodies)
 rows_cut = refl
@@ -48,7 +48,7 @@ rows_cut = refl
 struct_costs : cost 1 (node (5 ∷ []) (tree (numbers byte (1 ∷ 2 ∷ 3 ∷ [])) no_trees)) ≡ 5
 struct_costs = refl
 
--- each element without size costs a word
+-- a list of seven elements without size costs 8: 1 for the list, and 1 for each element
 voids_cost : cost 1 (voids 7) ≡ 8
 voids_cost = refl
 
@@ -61,18 +61,18 @@ rows_cost = refl
 chain_height : height (node [] (tree (node [] no_trees) no_trees)) ≡ 2
 chain_height = refl
 
--- rows with different numbers of words are ragged, and so is a value with them in a slot
+-- a value is `Ragged` if a slot has a list of two rows with different numbers of words
 ragged_rows : misfit (node [] (tree (rows (body (1 ∷ []) no_trees (body [] no_trees no_bodies))) no_trees))
     ≡ Some Ragged
 unfolding misfit
 ragged_rows = refl
 
--- a list of more elements than a pointer can count is too long, even if they have no size
+-- a list of 2^29 elements is `Long`, even if the elements have no size
 long_list : misfit (voids 536870912) ≡ Some Long
 unfolding misfit
 long_list = refl
 
--- a capability fits in a slot, and not as the root
+-- this block shows that a capability fits as an element of a list, and not as the root
 capability_fits : misfit (links (tree (cap 0) no_trees)) ≡ None
 unfolding misfit
 capability_fits = refl
@@ -81,7 +81,7 @@ capability_root : misfit (cap 0) ≡ Some BadRoot
 unfolding misfit
 capability_root = refl
 
--- the texts of null, of a capability, and of a struct with a word and a list of two bits
+-- this block has the texts of null, of a capability, and of a struct with a word and a list of two bits
 null_text : show_text nil ≡ codes "null\n"
 unfolding line
 null_text = refl

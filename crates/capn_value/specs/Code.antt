@@ -17,9 +17,10 @@ use Rattle.capn_value.specs.declared.value.Value.{Cap}
 use Rattle.capn_value.specs.declared.value.Body.{Body}
 use Rattle.capn_value.specs.contracts.value.Value as stored
 
--- the `Value` of a tree, and the lists of a tree as lists of values; `bits_from` turns numbers into bits
+-- This block is about the `Value` of a tree, and about the lists of a tree as lists of values. `bits_from` turns
+-- numbers into bits.
 module _ (A : Type 0) (bits_from : List ℕ → List Bool) where
-  -- a list of numbers
+  -- the `Value` of a list of the numbers `xs`
   abbrev pub numbers_of : NumberWidth → List ℕ → Value A
   numbers_of bit xs = Bits (bits_from xs)
   numbers_of byte xs = Bytes xs
@@ -45,8 +46,8 @@ module _ (A : Type 0) (bits_from : List ℕ → List Bool) where
     bodies_of no_bodies = []
     bodies_of (body ws ss bs) = (record { words = ws; slots = values_of ss }) ∷ bodies_of bs
 
--- The bits that stand for a list of any numbers, since a tree may have numbers that are no bits. A number is stored as
--- that many set bits, and then one bit that is not set.
+-- The bits of the number `n`, and then the bits `bs`. The numbers of a tree have no bound, so `n` is stored as `n` set
+-- bits and one bit that is not set.
 abbrev after_set : ℕ → List Bool → List Bool
 after_set zero bs = false ∷ bs
 after_set (suc n) bs = true ∷ after_set n bs
@@ -78,7 +79,7 @@ abbrev numbers_from : NumberWidth → List ℕ → List ℕ
 numbers_from bit xs = from_bits xs
 numbers_from _ xs = xs
 
--- the original tree, from the tree of the `Value` that it was stored as
+-- the tree that was stored, computed from the tree of its `Value`
 abbrev mutual
   pub stored_tree : Tree → Tree
   stored_tree (node ws ss) = node ws (stored_each ss)
@@ -121,7 +122,7 @@ module _ (A : Type 0) where
     rows-stored no_bodies = refl
     rows-stored (body ws ss bs) = ap₂ (body ws) (trees-stored ss) (rows-stored bs)
 
--- a tree is coded as its `Value`
+-- the code of trees, which stores each tree as its `Value`
 abbrev pub tree_code : Coded Tree
 tree_code = code_by (Value Global) (stored.the_row heap.the_row ghosts).coded (value_of Global in_bits)
     (λ v. stored_tree (tree_of v)) (tree-stored Global)

@@ -40,16 +40,16 @@ abbrev mutual
 unfoldable pub rows_price : Bodies → ℕ
 rows_price bs = cond (row_words bs == 0) (count_rows bs) (row_words bs)
 
--- the greatest cost of a value that fits, by the plain tariff, which is also the greatest budget
+-- The greatest cost of a value that fits, by the plain tariff. This is also the greatest budget.
 abbrev pub most_cost : ℕ
 most_cost = 2 ^ 28
 
--- the greatest height of a value that fits, which is also the greatest limit on the depth
+-- The greatest height of a value that fits. This is also the greatest limit on the depth.
 abbrev pub most_height : ℕ
 most_height = 256
 
--- one more than the greatest cost of a value that fits, by any tariff, so that sums of costs may be capped at this
--- number
+-- one more than the bound on the cost of a value that fits, by either tariff, so that sums of costs may be capped at
+-- this number
 abbrev pub dear : ℕ
 dear = 2 * most_cost + 2
 

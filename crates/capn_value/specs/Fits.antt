@@ -29,7 +29,7 @@ module _ (test : Tree → Bool) where
     anywhere_in_rows no_bodies = false
     anywhere_in_rows (body ws ss bs) = anywhere_in ss || anywhere_in_rows bs
 
--- true if a body has more than 65,535 words or slots
+-- true if the body with the words `ws` and the slots `ss` has more than 65,535 words or slots
 abbrev pub is_wide_body : List ℕ → Trees → Bool
 is_wide_body ws ss = nat_lt 65535 (length ws) || nat_lt 65535 (count ss)
 
@@ -57,7 +57,8 @@ abbrev pub words_in_rows : Tree → ℕ
 words_in_rows (rows bs) = row_words bs
 words_in_rows _ = 0
 
--- true of a list of more than 2^29 - 1 elements, and of a list of rows with more than 2^29 - 1 words in all
+-- true of a list of more than 2^29 - 1 elements, and of a list of rows with more than 2^29 - 1 data words and slots in
+-- all
 abbrev pub is_long : Tree → Bool
 is_long t = nat_lt 536870911 (elements t) || nat_lt 536870911 (words_in_rows t)
 
@@ -66,17 +67,17 @@ abbrev pub are_even : ℕ → ℕ → Bodies → Bool
 are_even w s no_bodies = true
 are_even w s (body ws ss bs) = (length ws == w) && (count ss == s) && are_even w s bs
 
--- true of a list of rows if two rows differ in words or slots
+-- true of a list of rows if two rows differ in their number of words or of slots
 abbrev pub is_ragged : Tree → Bool
 is_ragged (rows (body ws ss bs)) = not (are_even (length ws) (count ss) bs)
 is_ragged _ = false
 
--- true if the value may be a root, as any value but a capability may (our own)
+-- true if the value may be a root, which means that it is no capability (our own)
 abbrev pub is_root : Tree → Bool
 is_root (cap k) = false
 is_root _ = true
 
--- The first of the six misfits that the value has. The whole value is tested for one misfit before the next. Cost is
+-- The first of the six misfits that the value has. All of the value is tested for one misfit before the next. Cost is
 -- counted by the plain tariff, so a value that is cheap enough by the strict tariff is never `Costly`.
 unfoldable pub misfit : Tree → Option Misfit
 misfit t =
@@ -87,7 +88,7 @@ misfit t =
     (cond (nat_lt most_height (height t)) (Some Tall)
     (cond (is_root t) None (Some BadRoot))))))
 
--- the value has the given misfit, and no misfit that is tested before
+-- the value `t` has the given misfit, and none of the misfits that are tested before it
 abbrev pub IsFirst : Misfit → Tree → Type 0
 IsFirst Wide t = anywhere is_wide t ≡ true
 IsFirst Long t = (anywhere is_wide t ≡ false) × (anywhere is_long t ≡ true)
@@ -102,11 +103,11 @@ IsFirst BadRoot t =
     (anywhere is_wide t ≡ false) × (anywhere is_long t ≡ false) × (anywhere is_ragged t ≡ false)
     × (nat_lt most_cost (cost (base Plain) t) ≡ false) × (nat_lt most_height (height t) ≡ false) × (is_root t ≡ false)
 
--- the value has none of the six misfits
+-- the value `t` has none of the six misfits
 unfoldable pub Fits : Tree → Type 0
 Fits t = misfit t ≡ None
 
--- the six facts of a value that fits, in the order of the misfits
+-- six facts, in the order of the misfits: the value `t` has none of the six misfits
 pub record IsFit (t : Tree) : Type 0 where
   pub narrow : anywhere is_wide t ≡ false
   pub short : anywhere is_long t ≡ false

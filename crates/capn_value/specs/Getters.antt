@@ -5,7 +5,8 @@ use Rattle.capn_value.specs.NumberWidth.{NumberWidth}
 use Rattle.capn_value.specs.Tree.{Tree, nil, node, voids, numbers, links, rows, cap, Bodies, no_bodies, body, tree_at}
 use Rattle.capn_value.specs.Fits.{elements}
 
--- the kinds of values that a pointer denotes: null (which `has` tests), a struct, a list by its elements, a capability
+-- the kinds of values that a pointer denotes: null, a struct, a list (of voids, numbers, pointers or structs), and a
+-- capability
 pub data Kind : Type 0 where
   null : Kind
   struct : Kind
@@ -46,7 +47,8 @@ row_at no_bodies i = nil
 row_at (body ws ss bs) zero = node ws ss
 row_at (body ws ss bs) (suc i) = row_at bs i
 
--- element `i` of a list of pointers or of structs; a getter does not give a struct's numbers of words and of pointers
+-- Element `i` of a list of pointers or of structs, null past its end and for other values. No getter returns a struct's
+-- numbers of words and of pointers.
 abbrev pub element : Tree → ℕ → Tree
 element (links ts) i = tree_at ts i
 element (rows bs) i = row_at bs i
@@ -62,12 +64,12 @@ pub data Step : Type 0 where
   to_pointer : ℕ → Step
   to_element : ℕ → Step
 
--- the value that a step leads to
+-- the value that the step leads to from the value `t`
 abbrev pub next : Tree → Step → Tree
 next t (to_pointer j) = pointer t j
 next t (to_element i) = element t i
 
--- the value that a path leads to, step by step
+-- the value that the path leads to from the value `t`, step by step
 abbrev pub at : Tree → List Step → Tree
 at t [] = t
 at t (s ∷ p) = at (next t s) p

@@ -9,7 +9,7 @@ use Rattle.capn_value.specs.Cost.{base, cost, height}
 use Rattle.capn_value.specs.declared.misfit.Misfit.{Misfit}
 use Rattle.capn_value.specs.declared.tariff.Tariff.{Tariff}
 
--- values that fit are the same if and only if they are equal once trimmed
+-- values `t` and `u` that fit are the same if and only if their trimmed values are equal
 abbrev pub SameExactlyTrimmed : Type 0
 SameExactlyTrimmed = (t u : Tree) → Fits t → Fits u → Same t u ↔ (trimmed t ≡ trimmed u)
 
@@ -17,17 +17,17 @@ SameExactlyTrimmed = (t u : Tree) → Fits t → Fits u → Same t u ↔ (trimme
 abbrev pub SameOnceTrimmed : Type 0
 SameOnceTrimmed = (t : Tree) → Same (trimmed t) t
 
--- for a value that fits, trimming raises neither cost, by either tariff, nor height, and the trimmed value fits
+-- if the value `t` fits, trimming raises neither its height nor its cost by either tariff, and the trimmed value fits
 abbrev pub TrimmingIsThrifty : Type 0
 TrimmingIsThrifty = (t : Tree) → Fits t
     → ((tariff : Tariff) → cost (base tariff) (trimmed t) ≤ cost (base tariff) t) × (height (trimmed t) ≤ height t)
     × Fits (trimmed t)
 
--- a value fits if and only if the six facts hold of it
+-- a value fits if and only if the six facts of `IsFit` hold of it
 abbrev pub FittingIsSixFacts : Type 0
 FittingIsSixFacts = (t : Tree) → Fits t ↔ IsFit t
 
--- the misfit of a value is `k` if and only if `k` is the first that the value has
+-- the misfit of a value is `k` if and only if `k` is the first misfit that the value has
 abbrev pub MisfitIsFirst : Type 0
 MisfitIsFirst = (t : Tree) (k : Misfit) → (misfit t ≡ Some k) ↔ IsFirst k t
 

@@ -7,12 +7,12 @@ use Rattle.capn_value.specs.Tree.{no_trees, tree, Bodies, no_bodies, body}
 abbrev pub SameWords : List ℕ → List ℕ → Type 0
 SameWords ws vs = (i : ℕ) → slice_index ws i ≡ slice_index vs i
 
--- every one of the slots is null
+-- each of the slots is null
 abbrev pub AllNull : Trees → Type 0
 AllNull no_trees = ⊤
 AllNull (tree t ts) = (t ≡ nil) × AllNull ts
 
--- the values are of one kind, and equal except for zero words and null slots past the end of a struct
+-- the values are of one kind, and equal up to trailing zero words and trailing null slots of structs, at every level
 abbrev mutual
   pub Same : Tree → Tree → Type 0
   Same nil nil = ⊤
@@ -24,19 +24,19 @@ abbrev mutual
   Same (cap j) (cap k) = j ≡ k
   Same _ _ = ⊥
 
-  -- slot `i` of one is the same as slot `i` of the other, if slots past the end are null
+  -- the slots at each index are the same, if slots past the end of a list are null
   pub SameSlots : Trees → Trees → Type 0
   SameSlots no_trees ts = AllNull ts
   SameSlots (tree s ss) no_trees = (s ≡ nil) × SameSlots ss no_trees
   SameSlots (tree s ss) (tree t ts) = Same s t × SameSlots ss ts
 
-  -- both have the same number of trees, and trees at the same index are the same
+  -- both lists have the same number of trees, and the trees at each index are the same
   pub SameEach : Trees → Trees → Type 0
   SameEach no_trees no_trees = ⊤
   SameEach (tree s ss) (tree t ts) = Same s t × SameEach ss ts
   SameEach _ _ = ⊥
 
-  -- both have the same number of rows, and rows at the same index are the same, whatever their sizes
+  -- both lists have the same number of rows, and the rows at each index are the same, whatever their sizes
   pub SameRows : Bodies → Bodies → Type 0
   SameRows no_bodies no_bodies = ⊤
   SameRows (body ws ss bs) (body vs ts cs) = SameWords ws vs × SameSlots ss ts × SameRows bs cs

@@ -8,7 +8,7 @@ use Rattle.capn_value.specs.NumberWidth.{NumberWidth, bit, byte, pair, quad, oct
 use Rattle.capn_value.specs.Tree.{Tree, nil, node, voids, numbers, links, rows, cap, Trees}
 use Rattle.capn_value.specs.Tree.{no_trees, tree, Bodies, no_bodies, body, count, count_rows}
 
--- one line: its indentation, the text, a newline
+-- the line with `text`: two spaces for each `level`, `text`, and a newline
 unfoldable pub line : ℕ → List ℕ → List ℕ
 line level text = replicate (2 * level) 32 ++ (text ++ 10 ∷ [])
 
@@ -35,12 +35,12 @@ abbrev pub one_line : ℕ → ℕ → List ℕ → List ℕ
 one_line level zero text = []
 one_line level (suc n) text = line level text
 
--- a line for each data word
+-- a line for each data word, indented for `level`
 abbrev pub word_lines : ℕ → List ℕ → List ℕ
 word_lines level [] = []
 word_lines level (w ∷ ws) = line level (codes "word " ++ hex16 w) ++ word_lines level ws
 
--- a line for each number
+-- a line for each number, indented for `level`
 abbrev pub number_lines : ℕ → List ℕ → List ℕ
 number_lines level [] = []
 number_lines level (n ∷ ns) = line level (decimal n) ++ number_lines level ns
@@ -60,11 +60,11 @@ numbers_lines bit level xs = one_line level (length xs) (digits_of (map is_set x
 numbers_lines byte level xs = one_line level (length xs) (encode_lower xs)
 numbers_lines _ level xs = number_lines level xs
 
--- the first line of a struct
+-- the first line of a struct of `w` words and `s` slots, indented for `level`
 abbrev pub body_line : ℕ → ℕ → ℕ → List ℕ
 body_line level w s = line level (codes "struct " ++ (decimal w ++ 32 ∷ decimal s))
 
--- the text of a value: a first line with its kind and size, then the words and values in it, one level deeper
+-- the text of a value: a first line with its kind and size, then its words and the values below it, one level deeper
 abbrev mutual
   pub shown : ℕ → Tree → List ℕ
   shown level nil = line level (codes "null")
@@ -87,6 +87,6 @@ abbrev mutual
       body_line level (length ws) (count ss)
       ++ (word_lines (level + 1) ws ++ (shown_each (level + 1) ss ++ shown_rows level bs))
 
--- the text of a whole value, with the root at level 0
+-- the text of the value `t`, with the root at level 0
 abbrev pub show_text : Tree → List ℕ
 show_text t = shown 0 t

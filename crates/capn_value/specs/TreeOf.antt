@@ -19,7 +19,7 @@ rows_from [] = no_bodies
 rows_from (b ∷ bs) = body b.0 b.1 (rows_from bs)
 
 module _ {A : Type 0} where
-  -- the tree of a value whose parts are already given as trees
+  -- the tree of a value whose slots, rows or elements are already given as trees
   abbrev pub value_step : Value-F A Tree (List ℕ × Trees) → Tree
   value_step Value-F.Nil = nil
   value_step (Value-F.Node b) = node b.0 b.1

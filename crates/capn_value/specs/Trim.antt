@@ -3,34 +3,36 @@ use Rattle.std.specs.Prelude.{ℕ, ◌+◌, max, List, [], ◌∷◌, take, Bool
 use Rattle.capn_value.specs.Tree.{Tree, nil, node, voids, numbers, links, rows, cap, Trees}
 use Rattle.capn_value.specs.Tree.{no_trees, tree, Bodies, no_bodies, body, front, is_null}
 
--- The length that is kept of a list if `n` elements are kept of its rest. It is 0 if `n` is 0 and the first element is
--- empty, otherwise `n` + 1.
+-- The number of elements that trimming keeps of a list, if it keeps `n` of the elements after the first. The result is
+-- 0 if `n` is 0 and the first element is zero or null, which `empty` says. Otherwise the result is `n` + 1.
 abbrev pub kept_behind : Bool → ℕ → ℕ
 kept_behind empty n = cond (empty && (n == 0)) 0 (n + 1)
 
--- the number of words that are kept, which is the least `n` such that all words from index `n` on are 0
+-- the number of words that trimming keeps of a data section: the least `n` such that all words from index `n` on are 0
 abbrev pub kept_words : List ℕ → ℕ
 kept_words [] = 0
 kept_words (w ∷ ws) = kept_behind (w == 0) (kept_words ws)
 
--- the number of slots that are kept, which is the least `n` such that all slots from index `n` on are null
+-- the number of slots that trimming keeps of a pointer section: the least `n` such that all slots from index `n` on are
+-- null
 abbrev pub kept_slots : Trees → ℕ
 kept_slots no_trees = 0
 kept_slots (tree t ts) = kept_behind (is_null t) (kept_slots ts)
 
--- the number of words that are kept of each row of a list: the greatest number that a row would keep by itself
+-- the number of words that trimming keeps of each row of a list: the greatest number that a row would keep by itself
 abbrev pub kept_words_of_rows : Bodies → ℕ
 kept_words_of_rows no_bodies = 0
 kept_words_of_rows (body ws ss bs) = max (kept_words ws) (kept_words_of_rows bs)
 
--- the number of slots that are kept of each row of a list: the greatest number that a row would keep by itself
+-- the number of slots that trimming keeps of each row of a list: the greatest number that a row would keep by itself
 abbrev pub kept_slots_of_rows : Bodies → ℕ
 kept_slots_of_rows no_bodies = 0
 kept_slots_of_rows (body ws ss bs) = max (kept_slots ss) (kept_slots_of_rows bs)
 
 -- ---- read to here for the theorem
 
--- the value with the data section and the pointer section of each struct cut to the kept lengths, at every level
+-- the value with the data section and the pointer section of each struct shortened to the lengths that trimming keeps,
+-- at every level
 abbrev mutual
   pub trimmed : Tree → Tree
   trimmed nil = nil

@@ -10,7 +10,7 @@ use Rattle.capn_value.specs.declared.value.Value.{Value, Nil, Node, Voids, Bits,
 use Rattle.capn_value.specs.declared.value.Value.{Cap, the_lemmas}
 use Rattle.capn_value.specs.declared.value.Body.{Body}
 
--- the trees of values of each kind
+-- this block has an equation for the tree of each kind of value
 pub tree_of-Nil : (A : Type 0) → tree_of {A = A} Nil ≡ nil
 unfolding tree_of
 tree_of-Nil A = search (rules, the_lemmas)
@@ -81,7 +81,7 @@ module _ {A : Type 0} where
   count_rows-rows_of [] = refl
   count_rows-rows_of (b ∷ bs) = ap suc (count_rows-rows_of bs)
 
--- the numbers of a list of bits are as many as the bits
+-- if bits are turned into numbers, there are as many numbers as bits
 pub length-bits : (xs : List Bool) → length (map from_bool xs) ≡ length xs
 length-bits xs = length-map xs from_bool
 

@@ -19,7 +19,7 @@ pub const MOST_COST: u32 = 1 << 28;
 /// The greatest height of a value that fits.
 pub const MOST_HEIGHT: u32 = 256;
 
-/// One more than the greatest cost of a value that fits, by either tariff.
+/// One more than the bound on the cost of a value that fits, by either tariff.
 const DEAR: usize = 2 * MOST_COST as usize + 2;
 
 // Returns `a + b`, but at most `DEAR`.
@@ -29,7 +29,7 @@ fn plus(a: usize, b: usize) -> usize
     a.saturating_add(b).min(DEAR)
 }
 
-// Returns the number of words that the bytes `xs` fill or begin.
+// Returns the number of words that the bytes `xs` need.
 fn byte_words(xs: &[u8]) -> usize
     ensures words { result ≡ div_ceil (length xs.now) 8 }
     ensures in_range { AllBelow (2 ^ 8) xs.now }
@@ -58,8 +58,8 @@ fn oct_words(xs: &[u64]) -> usize
     xs.len()
 }
 
-// Returns the cost of the rows `bodies` of a list, without the list's pointer and tag. All rows together have `words`
-// words.
+// Returns the cost of the rows `bodies` of a list, without the list's pointer and tag, but at most `DEAR`. `words` is
+// the number of words of all rows together, but at most `DEAR`.
 #[tactic(auto, using(std::proofs::lemmas::Grind::common_steps, crate::proofs::shared::Prices::prices))]
 fn capped_rows_price<A: Allocator>(bodies: &[Body<A>], words: usize) -> usize
     requires { words ≡ min (row_words (rows_of bodies.now)) sizes.dear }
@@ -123,7 +123,7 @@ fn capped_costs<A: Allocator>(items: &[Value<A>], base: usize) -> usize
     sum
 }
 
-// The number of words of all rows together, and the cost of the values in their slots.
+// The number of words of all rows together, and the cost of the values in their slots. Each is at most `DEAR`.
 #[derive(Drop)]
 struct RowSums {
     words: usize,

@@ -12,7 +12,7 @@ use crate::tariff::Tariff;
 use crate::value::{Body, Value};
 use std::alloc::Allocator;
 
-/// The flaws found in a value, of the three kinds that a part of a value can have by itself.
+/// The kinds of flaws that were found in a value and in the values below it.
 #[derive(Clone, Copy)]
 struct Flaws {
     wide: bool,
@@ -41,7 +41,8 @@ impl Flaws {
     }
 }
 
-/// Finds the first misfit of `v`. If `v` has none, the numbers in `v` are also in the range of their types.
+/// Returns the first misfit of `v`, or `None`. If the result is `None`, the numbers in `v` are also in the range of
+/// their types.
 #[tactic(auto, unfolding(crate::specs::Fits::misfit))]
 pub fn misfit<A: Allocator>(v: &Value<A>) -> Option<Misfit>
     ensures reason { result ≡ fits.misfit (tree_of v.now) }

@@ -1,4 +1,4 @@
-//! The type `Items`, a list of elements inside a value.
+//! The type `Items`, a list of the elements of a value.
 
 ghost use Rattle.std.specs.Prelude.{◌≡◌, ◌^◌, ◌<◌, [], ◌∷◌, ◌++◌, ◌↔◌, IsTrue, length, IfOk, OnOk, OnErr};
 ghost use Rattle.std.specs.Iterator.Runs.{EveryRun, ItemsMapTo};
@@ -38,8 +38,8 @@ impl<T, A: Allocator> Items<T, A> {
         }
     }
 
-    /// Returns an empty list over `alloc` with room for `capacity` elements, which can then be pushed without an
-    /// allocation. Takes no memory if `capacity` is 0.
+    /// Returns an empty list over `alloc` with capacity for `capacity` elements, which can then be pushed without an
+    /// allocation. Returns `AllocError` if the allocation was refused. Takes no memory if `capacity` is 0.
     pub fn with_capacity(alloc: A, capacity: usize) -> Result<Items<T, A>, AllocError>
         ensures ok { IfOk result (λ it. it ≡ []) }
         ensures memory { OnErr result (0 < capacity) }
@@ -85,7 +85,8 @@ impl<T, A: Allocator> Items<T, A> {
 }
 
 impl<T: Copy, A: Allocator> Items<T, A> {
-    /// Copies the slice `items` into memory of exactly its size.
+    /// Copies the slice `items` into new memory of `alloc`, which has exactly the size of the slice. Returns
+    /// `AllocError` if the allocation was refused.
     pub fn from_slice(alloc: A, items: &[T]) -> Result<Items<T, A>, AllocError>
         ensures { IfOk result (λ it. it ≡ items.now) }
     {
@@ -95,7 +96,7 @@ impl<T: Copy, A: Allocator> Items<T, A> {
 }
 
 impl<T: Drop, A: Allocator> Items<T, A> {
-    /// Appends `item`. If an allocation is refused, the list is as it was.
+    /// Appends `item`. If an allocation is refused, returns `AllocError` and does not change the list.
     pub fn push(&mut self, item: T) -> Result<(), AllocError>
         ensures ok { OnOk result (self.new ≡ self.old ++ item ∷ []) }
         ensures err { OnErr result (self.new ≡ self.old) }

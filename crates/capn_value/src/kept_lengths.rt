@@ -32,8 +32,8 @@ pub fn kept_slots<A: Allocator>(slots: &[Value<A>]) -> usize
     n
 }
 
-/// Returns the number of words that trimming keeps of each of the `rows` of a list, which is the greatest number that a
-/// row would keep by itself.
+/// Returns the number of words that trimming keeps of each of the `rows` of a list. This is the greatest number that
+/// one of the rows would keep by itself.
 #[tactic(auto, using(std::proofs::lemmas::Grind::common_steps, crate::specs::Views::views))]
 pub fn kept_words_of_rows<A: Allocator>(rows: &[Body<A>]) -> usize
     ensures { result ≡ cut.kept_words_of_rows (rows_of rows.now) }
@@ -45,8 +45,8 @@ pub fn kept_words_of_rows<A: Allocator>(rows: &[Body<A>]) -> usize
     most
 }
 
-/// Returns the number of slots that trimming keeps of each of the `rows` of a list, which is the greatest number that a
-/// row would keep by itself.
+/// Returns the number of slots that trimming keeps of each of the `rows` of a list. This is the greatest number that
+/// one of the rows would keep by itself.
 #[tactic(auto, using(std::proofs::lemmas::Grind::common_steps, crate::specs::Views::views))]
 pub fn kept_slots_of_rows<A: Allocator>(rows: &[Body<A>]) -> usize
     ensures { result ≡ cut.kept_slots_of_rows (rows_of rows.now) }

@@ -5,7 +5,7 @@ ghost use Rattle.capn_value.specs.Laws.{MisfitIsFirst, SameExactlyToGetters, Sam
 
 /// States that values that fit are the same if and only if they are equal once trimmed. A value is the same as its
 /// trimmed value. If the value fits, its trimmed value costs no more, is no higher, and fits. A value fits if and only
-/// if it has none of the six misfits, and `misfit` is the first that it has.
+/// if it has none of the six misfits. The misfit that is returned is the first one that the value has.
 pub fn trimming()
     ensures same { SameExactlyTrimmed }
     ensures kept { SameOnceTrimmed }

@@ -1,4 +1,5 @@
-//! Values of messages as trees. The value of a pointer is what it denotes, apart from where that is in a message.
+//! Values of messages as trees. A value is what a pointer denotes: null, a struct, a list or a capability. The place of
+//! the value in a message is no part of the value.
 //!
 //! A [`Value`] may be built from any parts. A [`Tree`] is a value that fits into a message. [`Tree::new`] makes a tree
 //! of a value, or returns the value with the first [`Misfit`]. Contracts see both as one mathematical tree, without

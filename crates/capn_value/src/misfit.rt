@@ -4,7 +4,7 @@ use std::error::Error;
 use std::fmt;
 
 /// The reason why a value fits into no message. (Our own.) The variants are in the order of the tests. Each test looks
-/// at the whole value before the next test begins.
+/// at all of the value before the next test begins.
 #[derive(Clone, Copy, Debug, PartialEq, Eq)]
 pub enum Misfit {
     /// A struct has more than 65,535 data words or slots.

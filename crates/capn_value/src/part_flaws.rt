@@ -1,4 +1,4 @@
-//! The flaws that one part of a value has by itself.
+//! The flaws that a value has by itself, apart from the values below it.
 
 ghost use Rattle.std.specs.Prelude.{◌≡◌, ◌||◌, length, nat_lt};
 ghost use Rattle.capn_value.specs.TreeOf.{tree_of, trees_of, rows_of};
@@ -42,7 +42,7 @@ fn has_wide_row<A: Allocator>(bodies: &[Body<A>]) -> bool
 /// The greatest number of elements that a list pointer can count.
 const MOST_ELEMENTS: usize = 536_870_911;
 
-/// Tests whether `v` is a list of more elements, or of more words in rows, than a pointer can count.
+/// Tests whether `v` is a list with more elements, or with more words in its rows, than a list pointer can count.
 #[tactic(auto, using(std::proofs::lemmas::Grind::common_steps, crate::specs::Views::views))]
 pub fn is_long<A: Allocator>(v: &Value<A>) -> bool
     ensures { result ≡ fits.is_long (tree_of v.now) }

@@ -13,7 +13,7 @@ use std::alloc::Allocator;
 /// (Page: canonicalization.)
 ///
 /// An empty struct is not the same as null. All elements of lists are compared, and lists of different kinds differ.
-/// The values need not fit. Takes no memory.
+/// The values need not fit into a message. Takes no memory.
 #[tactic(auto, using(crate::proofs::Decided::test_decides))]
 pub fn same<A: Allocator, B: Allocator>(v: &Value<A>, w: &Value<B>) -> bool
     ensures { IsTrue result ↔ Same (tree_of v.now) (tree_of w.now) }

@@ -12,8 +12,8 @@ use crate::text_lines::{
 use crate::value::{Body, Value};
 use std::alloc::{AllocError, Allocator};
 
-/// Appends the text of `v` to `out`, the first line at `level`. If an allocation is refused, `out` may have a part of
-/// the text.
+/// Appends the text of `v` to `out`. The first line is indented for `level`. If an allocation is refused, returns
+/// `AllocError`, and `out` may have some of the text.
 #[cycle(show)]
 #[tactic(auto, using(std::proofs::lemmas::Grind::common_steps, crate::specs::Views::views))]
 pub fn show<A: Allocator, B: Allocator>(

@@ -1,4 +1,5 @@
-//! The lines of a tree's text, which are appended to one string.
+//! The lines of a tree's text, which are appended to one string. Each call returns `AllocError` if an allocation is
+//! refused. The string may then have some of the line.
 
 ghost use Rattle.std.specs.Prelude.{◌≡◌, ◌≤◌, [], ◌∷◌, ◌++◌, ◌*◌, length, OnOk, string_bytes, codes, replicate};
 ghost use Rattle.capn_value.specs.Text as text;
@@ -16,7 +17,7 @@ fn indent<A: Allocator>(out: &mut String<A>, level: u32) -> Result<(), AllocErro
     Ok(())
 }
 
-/// Appends to `out` a line of the one word `word`, indented for `level`.
+/// Appends to `out` a line with the text `word`, indented for `level`.
 #[tactic(auto, using(std::proofs::lemmas::Grind::common_steps), unfolding(crate::specs::Text::line))]
 pub fn plain_line<A: Allocator>(
     out: &mut String<A>,
@@ -146,7 +147,7 @@ fn push_byte<A: Allocator>(out: &mut String<A>, byte: u8) -> Result<(), AllocErr
     ensures { OnOk result (string_bytes out.new ≡ string_bytes out.old ++ encode_lower (byte ∷ [])) }
 {
     let mut digits = [0u8; 2];
-    // There is room for both digits, so the call succeeds.
+    // The array `digits` has two bytes, so the call succeeds.
     let _done = hex::encode_to_slice([byte], &mut digits);
     out.push(char::from(digits[0]))?;
     out.push(char::from(digits[1]))

@@ -47,8 +47,8 @@ impl<A: Allocator> Model for Tree<A> {
 }
 
 impl<A: Allocator> Tree<A> {
-    /// Makes a tree of `value` if it fits. Otherwise returns `value` unchanged and its first misfit, which may be of
-    /// any part of `value`. Takes no memory, whatever the height of `value`.
+    /// Makes a tree of `value` if it fits. Otherwise returns `value` unchanged and its first misfit. The misfit may lie
+    /// in a value below `value`. Takes no memory, whatever the height of `value`.
     #[tactic(auto, unfolding(crate::specs::Fits::Fits))]
     pub fn new(value: Value<A>) -> Result<Tree<A>, (Value<A>, Misfit)>
         ensures ok { IfOk result (λ t. t ≡ tree_of value) }
@@ -62,7 +62,7 @@ impl<A: Allocator> Tree<A> {
         }
     }
 
-    /// Makes a tree of `value`, which is known to fit, without a test. Takes no memory.
+    /// Makes a tree of `value` without a test. The caller has to prove that `value` fits. Takes no memory.
     pub fn of_fit(value: Value<A>) -> Tree<A>
         requires fits { Fits (tree_of value) }
         requires in_range { InRange (tree_of value) }
@@ -114,7 +114,7 @@ pub fn cost<A: Allocator>(tree: &Tree<A>, tariff: Tariff) -> u32
 }
 
 /// Copies `tree` without trailing zero words and trailing null slots of structs, at every level (encoding page:
-/// "Canonicalization"). All rows of a list are cut to one size, and elements of a list are never cut.
+/// "Canonicalization"). All rows of a list are shortened to one size. No list loses elements.
 ///
 /// Returns `Memory` only if an allocation was refused. Takes only the memory of the result.
 #[tactic(auto, using(crate::proofs::shared::StaysFit::fits))]

@@ -1,4 +1,4 @@
-//! Copies of values in other memory, trimmed or unchanged.
+//! Copies of values in other memory, trimmed or unchanged. Each call returns `AllocError` if an allocation is refused.
 
 ghost use Rattle.std.specs.Prelude.{◌≡◌, ◌≢◌, [], ◌∷◌, ◌++◌, IfOk, OnOk, OnErr, IsOkAnd, List};
 ghost use Rattle.capn_value.specs.Tree.{nil, front};
@@ -23,7 +23,8 @@ fn copied<T: Copy, A: Allocator, B: Allocator>(
     Items::from_slice(alloc, items.as_slice())
 }
 
-/// Appends the item in `made` to `out`. If `made` is an `Err`, or an allocation is refused, `out` is as it was.
+/// Appends the item in `made` to `out`. If `made` is an `Err`, or an allocation is refused, returns `AllocError` and
+/// does not change `out`.
 #[inline]
 pub fn push_made<T: Drop, A: Allocator>(
     out: &mut Items<T, A>,
@@ -109,8 +110,7 @@ fn kept_of_rows<A: Allocator>(rows: &[Body<A>], cut: bool) -> Option<(usize, usi
     Some((kept_words_of_rows(rows), kept_slots_of_rows(rows)))
 }
 
-/// Copies `v` into memory of `alloc`. If `cut` is true, the copy is trimmed at every level. Null is treated like any
-/// other value.
+/// Copies `v` into memory of `alloc`. If `cut` is true, the copy is trimmed at every level.
 #[cycle(anew)]
 pub fn anew<A: Allocator + Copy, B: Allocator>(
     alloc: A,
@@ -132,7 +132,8 @@ pub fn anew<A: Allocator + Copy, B: Allocator>(
     }
 }
 
-// Copies `body`, with the numbers of words and slots that `kept` gives, or with all if `kept` is `None`.
+// Copies `body`. If `kept` is `Some((w, s))`, the copy has only the first `w` words and the first `s` slots, and each
+// of these slots is trimmed.
 #[cycle(anew)]
 fn anew_body<A: Allocator + Copy, B: Allocator>(
     alloc: A,
@@ -149,7 +150,7 @@ fn anew_body<A: Allocator + Copy, B: Allocator>(
     Ok(Body { words, slots })
 }
 
-// Copies the first `most` of `items` into memory of `alloc`.
+// Copies the first `most` of `items` into memory of `alloc`. If `cut` is true, each copy is trimmed.
 #[cycle(anew)]
 fn anew_front<A: Allocator + Copy, B: Allocator>(
     alloc: A,
@@ -167,7 +168,8 @@ fn anew_front<A: Allocator + Copy, B: Allocator>(
     Ok(out)
 }
 
-// Copies `rows`, each with the numbers of words and slots that `kept` gives, or with all if `kept` is `None`.
+// Copies `rows`. If `kept` is `Some((w, s))`, each copied row has only the first `w` words and the first `s` slots, and
+// each of these slots is trimmed.
 #[cycle(anew)]
 fn anew_rows<A: Allocator + Copy, B: Allocator>(
     alloc: A,

@@ -1,4 +1,5 @@
--- Lemmas for the laws of walks. (For `values` and `verdicts`.)
+-- An accepted message has a value, and that value fits and is cheap. No message is both accepted and refused, and a
+-- walk has at most one stop. (For `values` and `verdicts`.)
 use Rattle.std.proofs.Common.{◌≡◌, inl, inr, ℕ, List, Result, Ok, Err, ap, sym, ◌∙◌, arith}
 use Rattle.capn_words.specs.declared.space.Place.{Place}
 use Rattle.capn_value.specs.Cost.{base}

@@ -1,5 +1,5 @@
--- The depth that a survey has found so far, from the visits that were made and the visits to come. (For
--- `survey_in_room` and `survey_root`.)
+-- The depth that a survey finds, given the levels found so far and the slots still to be visited. (For `survey_in_room`
+-- and `survey_root`.)
 use Rattle.std.proofs.Common.{◌≡◌, ℕ, zero, suc, ◌+◌, ◌-◌, ◌<◌, ◌≤◌, max, List, [], ◌∷◌, ◌++◌, Result, Ok, Err, Option}
 use Rattle.std.proofs.Common.{refl, ap, sym, ◌∙◌, arith}
 use Rattle.capn_words.specs.declared.space.Place.{Place}
@@ -22,7 +22,6 @@ use Rattle.capn_walk.proofs.shared.Walks.{visits-deep, visits-fault}
 -- ---- the depth of one slot
 
 module _ (m : List (List ℕ)) (at : Place) where
-  -- if no object may be visited, the depth is 0
   pub reach-zero : reach m 0 at ≡ 0
   unfolding reach
   reach-zero = refl
@@ -50,7 +49,6 @@ module _ (m : List (List ℕ)) (at : Place) where
       let f : suc d - 1 ≡ d = omega arith in
       ap (reached (reach m d)) e ∙ ap (λ (c : ℕ). 1 + reach_of m c (slots s start shape)) (sym f)
 
-  -- the depth of a slot is the sum of the target's level and the depth of the slots below the target
   pub reach-named : (d : ℕ) (t : Target) (ps : List Place) → 0 < d → target m at ≡ Ok t → below_of (target m at) ≡ ps
       → reach m d at ≡ level t + reach_of m (d - 1) ps
   reach-named d targets.Nil ps z e b = rw (reach-null d e, ← b, e) (omega arith)
@@ -60,7 +58,7 @@ module _ (m : List (List ℕ)) (at : Place) where
 
 -- ---- levels, counted from the first object of a survey
 
--- the level of the lowest of n objects on a path, where the first object is below k levels
+-- the level of the lowest of `n` objects on a path that begins below `k` levels, or 0 if `n` is 0
 abbrev pub raised : ℕ → ℕ → ℕ
 raised k zero = 0
 raised k (suc n) = k + suc n
@@ -76,7 +74,6 @@ raised-none : (k n : ℕ) → k ≡ 0 → raised k n ≡ n
 raised-none k zero e = refl
 raised-none k (suc n) e = omega arith
 
--- the level of the lowest object on a path that begins with one object and has n more
 raised-more : (limit d n : ℕ) → 0 < d → d ≤ limit
     → raised (limit - d) (1 + n) ≡ max (limit + 1 - d) (raised (limit - (d - 1)) n)
 raised-more limit d zero z h = omega arith
@@ -85,7 +82,6 @@ raised-more limit d (suc n) z h = let e : 1 + suc n ≡ suc (suc n) = omega arit
 -- ---- the state of a survey
 
 module _ (m : List (List ℕ)) (base limit : ℕ) where
-  -- the level of a visit, and of the visits below that visit
   module _ (d : ℕ) (at : Place) (p : ℕ) (vs : List Visit) (k : Option ℕ) (ps : List Place) (low : d ≤ limit)
       (here : visits m base d at ≡ pays at p ∷ vs) where
     by-target : (r : Result Target Fault) → target m at ≡ r → IsThere r → cap_of r ≡ k → below_of r ≡ ps
@@ -110,11 +106,11 @@ module _ (m : List (List ℕ)) (base limit : ℕ) where
         ≡ max (levels_at limit d k) (raised (limit - (d - 1)) (reach_of m (d - 1) ps))
     visited t c b = by-target (target m at) refl t c b
 
-  -- the level of the lowest object in the slots that are left of an object
+  -- the level of the lowest object below the remaining slots `f`, if `d` levels remain
   abbrev pub lowest : ℕ → SlotsLeft → ℕ
   lowest d f = raised (limit - d) (reach_of m d (places_of f))
 
-  -- the level of the lowest object in the slots that are left of the objects that wait
+  -- the level of the lowest object below the remaining slots of the objects of a stack
   abbrev pub lowest_waiting : List Waiting → ℕ
   lowest_waiting [] = 0
   lowest_waiting (w ∷ ws) = max (lowest w.depth w.frame) (lowest_waiting ws)
@@ -134,8 +130,8 @@ module _ (m : List (List ℕ)) (base limit : ℕ) where
       ∙ raised-max (limit - d) (reach m d at) (reach_of m d (places_of rest))
 
   module _ (n : ℕ) where
-    -- a survey finds n levels in all: n is the greater of the levels down to the least depth that was left at any
-    -- content, and the levels that are to come
+    -- `n` is the greater of two numbers: the number of levels found so far, and the level of the lowest object below
+    -- the remaining slots
     pub record IsDeep (least d : ℕ) (ws : List Waiting) (f : SlotsLeft) : Type 0 where
       pub is : n ≡ max (limit + 1 - least) (max (lowest d f) (lowest_waiting ws))
 
@@ -160,7 +156,7 @@ module _ (m : List (List ℕ)) (base limit : ℕ) where
         let c : raised (limit - d) (reach m d at) ≡ 0 = ap (raised (limit - d)) (reach-null m at d none) in
         record { is = omega arith }
 
-    -- a survey visits the slot at `at`
+    -- Case: the survey visits the slot at `at`.
     module _ (least less d : ℕ) (ws : List Waiting) (f rest below : SlotsLeft) (at : Place) (p : ℕ) (vs : List Visit)
         (k : Option ℕ) (i : IsDeep least d ws f) (low : d ≤ limit) (next : places_of f ≡ at ∷ places_of rest)
         (here : visits m base d at ≡ pays at p ∷ vs) (there : IsThere (target m at)) (c : cap_of (target m at) ≡ k)
@@ -173,14 +169,14 @@ module _ (m : List (List ℕ)) (base limit : ℕ) where
           let v = visited d at p vs k (places_of below) low here there c b in
           omega arith
 
-      -- if no slot is below the slot, the survey continues with the next slot
+      -- Case: no slot is below the slot at `at`, and the survey goes on with the slots `rest`.
       pub deep-passed : HasRows below → owed below ≡ 0 → IsDeep less d ws rest
       deep-passed h z =
           let a = deep-next in
           let e = lowest-done (d - 1) below h z in
           record { is = omega arith }
 
-      -- if slots are below the slot, the survey continues with the slots below
+      -- Case: slots are below the slot at `at`, and the survey visits them next.
       pub deep-entered : (new : List Waiting) → HasRows rest → IsKept m base d ws rest new
           → IsDeep less (d - 1) new below
       deep-entered new h (dropped z e) =
@@ -193,7 +189,7 @@ module _ (m : List (List ℕ)) (base limit : ℕ) where
           let w = ap lowest_waiting e ∙ waiting-push ws (record { frame = rest; depth = d }) in
           record { is = omega arith }
 
-    -- if nothing is to come, the survey has found all levels
+    -- Case: no slot remains, and `n` levels were found.
     pub deep-end : (least d : ℕ) (ws : List Waiting) (f : SlotsLeft) → ws ≡ [] → HasRows f → owed f ≡ 0
         → IsDeep least d ws f → limit + 1 - least ≡ n
     deep-end least d ws f e h z i =
@@ -202,7 +198,7 @@ module _ (m : List (List ℕ)) (base limit : ℕ) where
         let c = lowest-done d f h z in
         omega arith
 
-  -- at the start of a survey all levels are to come
+  -- Case: the survey has visited no slot.
   pub deep-start : (f : SlotsLeft) → IsDeep (reach_of m limit (places_of f)) (limit + 1) limit [] f
   deep-start f =
       let z : limit - limit ≡ 0 = omega arith in

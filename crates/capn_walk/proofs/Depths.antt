@@ -20,7 +20,6 @@ use Rattle.capn_walk.proofs.shared.Walks.{visits-null, visits-cap, visits-fault,
 module _ (m : List (List ℕ)) (base : ℕ) where
   -- ---- if all visits pay, the number of objects on a path is within the limit
 
-  -- the claim holds of several slots if the claim holds of each slot
   reach-slots : (d n : ℕ) (ps : List Place) → ((at : Place) → AllPay (visits m base n at) → reach m d at ≤ n)
       → AllPay (visits_of m base n ps) → reach_of m d ps ≤ n
   reach-slots d n [] each h = omega arith
@@ -29,7 +28,6 @@ module _ (m : List (List ℕ)) (base : ℕ) where
       let b = reach-slots d n ps each (all-back (visits m base n p) (visits_of m base n ps) h) in
       omega arith
 
-  -- the claim holds of a slot if the claim holds of each slot below that slot
   module _ (d : ℕ) (at : Place)
       (each : (n : ℕ) (to : Place) → AllPay (visits m base n to) → reach m d to ≤ n) where
     reach-next : (r : Result Target Fault) → target m at ≡ r → (n : ℕ) → AllPay (visits m base n at)
@@ -97,7 +95,7 @@ module _ (m : List (List ℕ)) (base : ℕ) where
   same-visits (suc d) n at h low =
       same-next d at h (λ k to g l. same-visits d k to g l) (target m at) refl n low
 
--- ---- the claims for a whole message
+-- ---- the claims for a message
 
 module _ (m : List (List ℕ)) (limits : Bounds) (t : Target) (e : target m root ≡ Ok t)
     (kind : may_be_root t ≡ true) (is : IsAccepted m limits) where

@@ -1,4 +1,5 @@
--- If no visit is a fault, there is a value at the place. (For `Answering` and `RootSurveys`.)
+-- If no visit of a slot and of the slots below it is a fault, the slot has a value. (For `Answering` and
+-- `RootSurveys`.)
 use Rattle.std.proofs.Common.{◌≡◌, ℕ, zero, suc, ◌+◌, ◌-◌, ◌*◌, ◌≤◌, List, length, take}
 use Rattle.std.proofs.Common.{Result, Ok, Err, refl, ap, subst, arith, length-drop}
 use Rattle.std.specs.List.{flat_map}
@@ -26,7 +27,6 @@ use Rattle.capn_walk.proofs.shared.Listed.{listed, length-listed, elements-liste
 use Rattle.capn_walk.proofs.shared.Walks.{slot, visits-fault, visits-deep, visits-object}
 
 module _ (m : List (List ℕ)) where
-  -- the first n words from word w on are n in number, if word w + n - 1 is inside the segment
   length-words : (s w n : ℕ) → w + n ≤ length (segment_at m s) → length (take n (words_from m s w)) ≡ n
   length-words s w n h = let l = length-drop w (segment_at m s) in length-take-le n (words_from m s w) (omega arith)
 
@@ -57,7 +57,6 @@ module _ (m : List (List ℕ)) where
     },
   )
 
-  -- elements of the width have no slots
   abbrev HasNoSlots : Width → Type 0
   HasNoSlots Link = ⊥
   HasNoSlots _ = Unit {0}
@@ -158,7 +157,7 @@ module _ (m : List (List ℕ)) where
       rw (visits-deep m base at s start pads shape e 0 refl) at h in absurd deep
   of-last base at (Err f) e h = let no_fault = rw (visits-fault m base at 0 f e) at h in absurd no_fault
 
-  -- if no visit from a place on is a fault, there is a value at the place
+  -- if no visit of the slot at `at` and of the slots below it is a fault, there is a value at `at`
   pub exists-at : (base d : ℕ) (at : Place) → AllPay (visits m base d at) → (v : Tree) × IsAt m at v
   exists-at base zero at h = of-last base at (target m at) refl h
   exists-at base (suc d) at h = of-target base d (exists-at base d) at (target m at) refl h

@@ -1,4 +1,4 @@
--- The state of an index that is being written. (For the cycle `index_slots`.)
+-- The visits and the entries of slots that are indexed one after another. (For the cycle `index_slots`.)
 use Rattle.std.proofs.Common.{◌≡◌, ◌≢◌, ◌⊎◌, inl, inr, ℕ, zero, suc, ◌+◌, ◌-◌, ◌<◌, ◌≤◌, List, [], ◌∷◌, ◌++◌, length}
 use Rattle.std.proofs.Common.{set, Result, Ok, Err, refl, ap, ap₂, sym, ◌∙◌, arith, length-append}
 use Rattle.std.specs.List.{flat_map}
@@ -21,7 +21,6 @@ use Rattle.capn_walk.proofs.shared.Judge.{judge-more, judge-stops, judge-pays, a
 
 -- ---- a room
 
--- the entries xs and then ys are laid as one list
 pub laid-append : {A : Type 0} (f : Entry → A) (i : ℕ) (xs ys : List Entry) (room : List A)
     → laid f i (xs ++ ys) room ≡ laid f (i + length xs) ys (laid f i xs room)
 laid-append f i [] ys room = let z : i + 0 ≡ i = omega arith in rw z refl
@@ -29,7 +28,6 @@ laid-append f i (x ∷ xs) ys room =
     let e : i + suc (length xs) ≡ suc i + length xs = omega arith in
     rw e (laid-append f (suc i) xs ys (set room i (f x)))
 
--- an item before the entries can be written before or after the entries
 set-laid : {A : Type 0} (f : Entry → A) (es : List Entry) (i k : ℕ) (a : A) (room : List A) → k < i
     → set (laid f i es room) k a ≡ laid f i es (set room k a)
 set-laid f [] i k a room h = refl
@@ -45,8 +43,6 @@ respanned (targets.Content s start (shapes.Node a b) pads) k n = refl
 respanned (targets.Content s start (shapes.Many width c) pads) k n = refl
 respanned (targets.Content s start (shapes.Rows c a b span) pads) k n = refl
 
--- an item at index i is kept when the entries after index i are written, and overwriting the item then has the same
--- effect as before
 module _ {A : Type 0} (f : Entry → A) (es : List Entry) (i : ℕ) (room : List A) (x : A) where
   put-again : (y : A) → set (laid f (i + 1) es (set room i x)) i y ≡ laid f (suc i) es (set room i y)
   put-again y =
@@ -111,13 +107,12 @@ module _ (m : List (List ℕ)) where
     as-many-by f g h at (Ok (targets.Content s start shape pads)) = ap suc (same-lengths f g h (slots s start shape))
     as-many-by f g h at (Err e) = refl
 
-    -- a slot has as many entries as visits
     pub as-many-entries : (d : ℕ) (at : Place) → length (entries m d at) ≡ length (visits m base d at)
     unfolding entries visits
     as-many-entries zero at = one-last at (target m at)
     as-many-entries (suc d) at = as-many-by (entries m d) (visits m base d) (as-many-entries d) at (target m at)
 
--- ---- a list of visits: some are made, and the rest are to come
+-- ---- a list of visits, of which some are made and the others are to come
 
 module _ (left : ℕ) (vs : List Visit) (n : ℕ) where
   pub record IsOnWay (coming : List Visit) (owed paid visits : ℕ) : Type 0 where
@@ -135,7 +130,6 @@ module _ (left : ℕ) (vs : List Visit) (n : ℕ) where
         few = let h = u.few in omega arith;
       }
 
-  -- the next slot is accepted
   way-next : (here rest : List Visit) (o p k q j : ℕ) → IsOnWay (here ++ rest) (o + 1) p k
       → Gives (left - p) here 1 q j → IsOnWay rest o (p + q) (k + j)
   way-next here rest o p k q j u g =
@@ -154,7 +148,6 @@ module _ (left : ℕ) (vs : List Visit) (n : ℕ) where
       let v = rw (e, f) at u in
       way-next here rest o p k q j v g
 
-  -- the next slot is refused
   way-stops : (here rest : List Visit) (o p k : ℕ) (t : Stopped) → IsOnWay (here ++ rest) (o + 1) p k
       → Refuses (left - p) here 1 t
       → Refuses left vs n (record { fault = t.fault; place = t.place; paid = p + t.paid; visits = k + t.visits })
@@ -187,7 +180,6 @@ way-begins left vs n =
 -- ---- an object
 
 module _ (left p : ℕ) (at : Place) (vs : List Visit) (n : ℕ) (fits : p ≤ left) (few : n ≤ p) where
-  -- an object is accepted if the slots below are accepted
   pub object-gives : (q j : ℕ) → Gives (left - p) vs n q j → Gives left (pays at p ∷ vs) 1 (p + q) (1 + j)
   object-gives q j g = record {
     is = judge-pays left p at vs fits ∙ ap (after p 1) g.is;
@@ -195,7 +187,6 @@ module _ (left p : ℕ) (at : Place) (vs : List Visit) (n : ℕ) (fits : p ≤ l
     few = let a = g.few in omega arith;
   }
 
-  -- an object is refused if one of the slots below is refused
   pub object-refuses : (t : Stopped) → Refuses (left - p) vs n t
       → Refuses left (pays at p ∷ vs) 1 (record t { paid = p + t.paid; visits = 1 + t.visits })
   object-refuses t r = record {
@@ -208,7 +199,6 @@ module _ (left p : ℕ) (at : Place) (vs : List Visit) (n : ℕ) (fits : p ≤ l
     few = let a = r.few in omega arith;
   }
 
--- an object without slots is accepted
 pub leaf-gives : (left p : ℕ) (at : Place) → p ≤ left → Gives left (pays at p ∷ []) 1 p 1
 leaf-gives left p at fits =
     let z : p + 0 ≡ p = omega arith in
@@ -218,7 +208,7 @@ leaf-gives left p at fits =
       few = omega arith;
     }
 
--- ---- a list of entries: some are written, and the rest are to come
+-- ---- a list of entries: `here` are written, and `rest` are to come
 
 module _ {A : Type 0} (f : Entry → A) (whole here rest : List Entry) (e : whole ≡ here ++ rest) (i k j : ℕ)
     (old new : List A) (h : IsLaid f here (i + k) old new j) where
@@ -235,7 +225,8 @@ module _ {A : Type 0} (f : Entry → A) (whole here rest : List Entry) (e : whol
       let n = ap length e ∙ length-append here rest in
       omega arith
 
--- an object's entry is written before the entries of the slots below, and the span is set after these entries
+-- if an object's entry is written, then the entries `below`, and then the span of the object's entry is set, the
+-- entries `es` are written
 module _ {A : Type 0} (f : Entry → A) (es : List Entry) (t : Target) (below : List Entry) (e : es ≡ entered t below)
     (i j : ℕ) (old first mid new : List A) (q : first ≡ set old i (f (entry_of t 1)))
     (h : IsLaid f below (i + 1) first mid j)

@@ -34,7 +34,6 @@ greatest_of-append f [] qs = omega arith
 greatest_of-append f (p ∷ ps) qs = let e = greatest_of-append f ps qs in omega arith
 
 module _ (m : List (List ℕ)) (base : ℕ) where
-  -- the visits below an object pay, and the object's depth is one more than the depth of the slots below
   record Object (at : Place) (d s start : ℕ) (shape : Shape) : Type 0 where
     below : AllPay (flat_map (visits m base (d - 1)) (slots s start shape))
     is : reach m d at ≡ 1 + reach_of m (d - 1) (slots s start shape)
@@ -96,9 +95,9 @@ module _ (m : List (List ℕ)) (base : ℕ) where
         let first = rw lb at one in
         g ∙ ap₂ max first two
 
--- ---- the depth of a whole message
+-- ---- the depth of a message
 
--- the target of the root pointer of an accepted message
+-- the root pointer has the target `found`, for which `may_be_root` is true
 record Root (m : List (List ℕ)) : Type 0 where
   found : Target
   is : target m root ≡ Ok found

@@ -1,4 +1,4 @@
--- The index of an accepted message can be read. (For `indexes`.)
+-- `IsReadable` is true of each entry of the index of an accepted message. (For `indexes`.)
 use Rattle.std.proofs.Common.{◌≡◌, ◌⊎◌, inl, inr, ℕ, zero, suc, ◌+◌, ◌-◌, ◌*◌, ◌<◌, ◌≤◌, List, [], ◌∷◌, ◌++◌}
 use Rattle.std.proofs.Common.{length, get_or, map}
 use Rattle.std.proofs.Common.{Result, Ok, Err, refl, ap, ap₂, sym, subst, ◌∙◌, arith, length-append}
@@ -28,9 +28,8 @@ use Rattle.capn_walk.proofs.FilledRoom.{entries-leaf, entries-object}
 use Rattle.capn_walk.proofs.Answering.{all-at_root}
 use Rattle.capn_target.proofs.shared.Inside.{found-inside}
 
--- ---- the part of a target that an entry keeps
+-- ---- the target that an entry describes
 
--- the target that the entry of t gives is the kept part of t
 keeps : (t : Target) (n : ℕ) → entry_target (entry_of t n) ≡ kept t
 keeps targets.Nil n = refl
 keeps (targets.Cap k) n = refl
@@ -56,7 +55,6 @@ no-row-places : (s w c : ℕ) → row_places s w 0 0 c ≡ []
 no-row-places s w zero = refl
 no-row-places s w (suc c) = no-row-places s (w + 0 + 0) c
 
--- the kept part of a target has the same slots
 slots-kept : (t : Target) → slots_below (kept t) ≡ slots_below t
 slots-kept targets.Nil = refl
 slots-kept (targets.Cap k) = refl
@@ -71,7 +69,6 @@ slots-kept (targets.Content s start (shapes.Many Link c) pads) = refl
 slots-kept (targets.Content s start (shapes.Many Rows c) pads) = no-row-places s (start + 1) c
 slots-kept (targets.Content s start (shapes.Rows c a b span) pads) = refl
 
--- the kept part of a target lies inside a segment, too
 inside-kept : (m : List (List ℕ)) (t : Target) → IsInMessage m t → IsInMessage m (kept t)
 inside-kept m targets.Nil h = tt
 inside-kept m (targets.Cap k) h = tt
@@ -142,7 +139,7 @@ module _ (m : List (List ℕ)) where
   -- ---- the consequences of a visit that pays
 
   module _ (base : ℕ) (at : Place) where
-    -- the target and the entries at a visit that pays, and the fact that the slots below pay
+    -- the slot at `at` has a target, entries and a price, and all visits of the slots below it pay
     record Paid (d : ℕ) : Type 0 where
       t : Target
       is : target m at ≡ Ok t
@@ -193,7 +190,7 @@ module _ (m : List (List ℕ)) where
     paid-here : (d : ℕ) → AllPay (visits m base d at) → Paid d
     paid-here d h = paid-by d (target m at) refl h
 
-  -- ---- entries that are in an index from a place on
+  -- ---- entries that stand in the index `all` from index `i` on
 
   module _ (all : List Entry) where
     abbrev Stands : ℕ → List Entry → Type 0
@@ -210,7 +207,8 @@ module _ (m : List (List ℕ)) where
         let e : i + length xs + k ≡ i + (length xs + k) = omega arith in
         ap (entry_at all) e ∙ h (length xs + k) (omega arith) ∙ get_or-append-add xs ys k _
 
-    -- `IsReadable` for an entry at index i with a target and a span, which ends at most at `end`
+    -- `IsReadable` is true of the entry at index `i`, which has the target `t` and the span `n`, if the index ends at
+    -- `end`
     record ReadsBy (t : Target) (n end i : ℕ) : Type 0 where
       inside : IsInMessage m t
       below : (j : ℕ) → j < length (slots_below t) → (beside all (i + 1) j < i + n)
@@ -230,14 +228,14 @@ module _ (m : List (List ℕ)) where
       within = let w = r.within in omega arith;
     }
 
-    -- the entries of a slot, from index i on
+    -- the `n` entries from index `i` on are those of the slot at `at` and of all slots below it
     record Slot (at : Place) (i n : ℕ) : Type 0 where
       is : kept_of (target m at) ≡ Ok (entry_target (entry_at all i))
       span : (entry_at all i).span ≡ n
       some : 0 < n
       each : (k : ℕ) → k < n → Reads (i + n) (i + k)
 
-    -- the entries of slots, from index i on
+    -- the `n` entries from index `i` on are those of the slots at `ps` and of all slots below them
     record Slots (ps : List Place) (i n : ℕ) : Type 0 where
       below : (j : ℕ) → j < length ps → (beside all i j < i + n)
           × (kept_of (target m (get_or ps j root)) ≡ Ok (entry_target (entry_at all (beside all i j))))
@@ -298,7 +296,7 @@ module _ (m : List (List ℕ)) where
               → ((k : ℕ) → k < b → Reads (i + a + b) (i + a + k)) → (k : ℕ) → k < n → Reads (i + n) (i + k)
           each-by i a n b e one more k l = each-or i a n b e one more k l (below-or k a)
 
-    -- an entry is followed by the entries of the slots below
+    -- Case: entry `i` has the target `t`, and then come the entries of the slots below `t`.
     module _ (i n : ℕ) (t : Target) (is : entry_at all i ≡ entry_of t (1 + n)) (inside : IsInMessage m t)
         (s : Slots (slots_below t) (i + 1) n) where
       reads-here : Reads (i + suc n) i
@@ -372,7 +370,6 @@ module _ (m : List (List ℕ)) where
         slot-of i (length (entries_of m d (slots_below p.t))) p.t f.0 inside ss at (length (entries m (suc d) at)) p.is
         (ap length e)
 
--- the whole index, as the entries of the root
 at-root : (m : List (List ℕ)) (limits : Bounds) → IsAccepted m limits
     → Slot m (index_of m limits) root 0 (length (index_of m limits))
 at-root m limits a =

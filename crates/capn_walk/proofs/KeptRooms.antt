@@ -1,4 +1,4 @@
--- The part of a room after the entries that are written. (For the cycle `index_slots`.)
+-- The items of a room after the entries that are written to it. (For the cycle `index_slots`.)
 use Rattle.std.proofs.Common.{◌≡◌, ℕ, suc, ◌+◌, ◌-◌, ◌<◌, ◌≤◌, List, [], ◌∷◌, length, set, drop, refl, ap, sym}
 use Rattle.std.proofs.Common.{◌∙◌, arith}
 use Rattle.std.proofs.lemmas.List.{drop-drop, drop-set-lt}
@@ -6,14 +6,12 @@ use Rattle.capn_walk.specs.declared.entry.Entry.{Entry}
 use Rattle.capn_walk.specs.inner.IndexRoom.{laid, IsLaid, IsKept}
 
 module _ {A : Type 0} where
-  -- entries that are written before index n leave the room unchanged from n on
   behind-laid : (f : Entry → A) (es : List Entry) (i n : ℕ) (room : List A) → i + length es ≤ n
       → drop n (laid f i es room) ≡ drop n room
   behind-laid f [] i n room h = refl
   behind-laid f (e ∷ es) i n room h =
       behind-laid f es (suc i) n (set room i (f e)) (omega arith) ∙ drop-set-lt n room i (f e) (omega arith)
 
-  -- two lists that are the same from an index on are the same from each later index on
   from-later : (k n : ℕ) (xs ys : List A) → drop k xs ≡ drop k ys → k ≤ n → drop n xs ≡ drop n ys
   from-later k n xs ys e h =
       let z : k + (n - k) ≡ n = omega arith in
@@ -21,7 +19,6 @@ module _ {A : Type 0} where
       ∙ drop-drop (n - k) k ys ∙ ap (λ (c : ℕ). drop c ys) z
 
   module _ (first k : ℕ) (all old : List A) (e : drop (first + k) old ≡ drop (first + k) all) where
-    -- entries are written after k other entries
     pub kept-takes : (f : Entry → A) (es : List Entry) (j : ℕ) (new : List A) → IsLaid f es (first + k) old new j
         → drop (first + (k + j)) new ≡ drop (first + (k + j)) all
     kept-takes f es j new h =
@@ -29,7 +26,6 @@ module _ {A : Type 0} where
         ap (drop (first + (k + j))) h.is ∙ behind-laid f es (first + k) (first + (k + j)) old (omega arith)
         ∙ from-later (first + k) (first + (k + j)) old all e (omega arith)
 
-    -- a slot is refused after k visits
     pub kept-stops : (j : ℕ) (new : List A) → IsKept (first + k) old new j → IsKept first all new (k + j)
     kept-stops j new h =
         let some = h.some in
@@ -41,7 +37,6 @@ module _ {A : Type 0} where
               ∙ ap (λ (c : ℕ). drop c all) (sym z);
         }
 
-  -- an object is refused at a slot below the object, after the object's own entry was written
   pub kept-object : (first j : ℕ) (x : A) (old put new : List A) → put ≡ set old first x
       → IsKept (first + 1) put new j → IsKept first old new (1 + j)
   kept-object first j x old put new e h =
@@ -55,7 +50,6 @@ module _ {A : Type 0} where
             ∙ ap (λ (c : ℕ). drop c old) z;
       }
 
-  -- the claim for the front of the room
   pub kept-first : (k : ℕ) (old new : List A) → IsKept 0 old new k → drop (k - 1) new ≡ drop (k - 1) old
   kept-first k old new h =
       let z : 0 + k - 1 ≡ k - 1 = omega arith in

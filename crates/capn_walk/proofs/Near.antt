@@ -1,4 +1,5 @@
--- The target of a slot whose pointer is known. (For the cycle `index_slots`, the cycle `walk` and `survey_in_room`.)
+-- The target of the slot at `at`, given the slot's pointer `p`. (For the cycle `index_slots`, the cycle `walk` and
+-- `survey_in_room`.)
 use Rattle.std.proofs.Common.{◌≡◌, ◌∙◌, ℕ, ℤ, List, ap, sym}
 use Rattle.capn_words.specs.Message.{word_at}
 use Rattle.capn_words.specs.Pointers.{pointer_of}
@@ -13,7 +14,6 @@ pub by-pointer : (m : List (List ℕ)) (at : Place) (p : Pointer) → p ≡ poin
 unfolding target
 by-pointer m at p e = ap (target_of_pointer m at.segment at.word) e
 
--- a slot with a near pointer
 module _ (m : List (List ℕ)) (at : Place) (w : ℕ) (p : Pointer) where
   pub near-struct : (o : ℤ) (a b : ℕ) → w ≡ word_at m at → p ≡ pointer_of w → p ≡ Node o a b
       → target_from m at.segment at.word 0 p ≡ target m at

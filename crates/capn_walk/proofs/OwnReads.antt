@@ -16,7 +16,6 @@ at-least-once n (suc k) h = let e : n * suc k ≡ n + n * k = omega arith in ome
 some : (k : ℕ) → (k == 0) ≡ false → 1 ≤ k
 some k e = grind (arith, nat_tests)
 
--- the data words of rows plus a turn for each row are within twice the price, since each empty row is paid for
 rows-price : (base n a b span : ℕ) → n * (a + b) ≤ span
     → n * (1 + a) ≤ 2 * (base + 1 + span + (if a + b == 0 then n else 0))
 rows-price base n a b span h =

@@ -1,4 +1,4 @@
--- The target of a far pointer to a landing pad of one word, given where the pad is. (For `visit_behind_pad`.)
+-- The target of a far pointer to a landing pad of one word, given the place of the pad. (For `visit_behind_pad`.)
 use Rattle.std.proofs.Common.{◌≡◌, ℕ, ◌+◌, ◌<◌, ◌≤◌, nat_lt, if◌then◌else◌, false, List, length, Result, Err}
 use Rattle.std.proofs.Common.{ap, ◌∙◌, arith}
 use Rattle.capn_words.specs.Message.{segment_at}
@@ -24,17 +24,17 @@ module _ (m : List (List ℕ)) (at : Place) (s w : ℕ) (far : pointer_in m at.s
   present : s < length m → target m at ≡ in-range
   present h = behind ∙ if-yes (nat_lt s (length m)) in-range _ (less-yes s (length m) h)
 
-  -- the segment of the pad doesn't exist
+  -- Case: the segment of the pad doesn't exist. The fault is `NoSegment`.
   pub pad-nowhere : length m ≤ s → target m at ≡ Err faults.NoSegment
   pad-nowhere h = behind ∙ if-no (nat_lt s (length m)) in-range _ (less-no s (length m) h)
 
-  -- the segment of the pad exists, and the pad is past its end
+  -- Case: the segment of the pad exists, and the pad is past the end of that segment. The fault is `PadRange`.
   pub pad-past : s < length m → length (segment_at m s) ≤ w → target m at ≡ Err faults.PadRange
   pad-past h l =
       present h ∙ if-yes (nat_lt (length (segment_at m s)) (w + 1)) _ found
       (less-yes (length (segment_at m s)) (w + 1) (omega arith))
 
-  -- the pad exists
+  -- Case: the pad exists. The target is the one that the pad names.
   pub pad-there : s < length m → w < length (segment_at m s) → target m at ≡ target_from m s w 1 (pointer_in m s w)
   pad-there h l =
       present h ∙ if-no (nat_lt (length (segment_at m s)) (w + 1)) (Err faults.PadRange) found

@@ -1,4 +1,5 @@
--- Lemmas for an index of a whole message. (For `index_into_counted`.)
+-- If indexing the root's slot gives `Ok`, the room has the index of the message. If indexing gives an error, the
+-- message is refused. (For `index_into_counted`.)
 use Rattle.std.proofs.Common.{◌≡◌, ◌⊎◌, inl, inr, true, ℕ, suc, ◌<◌, List, [], ◌∷◌, length, map, set}
 use Rattle.std.proofs.Common.{Ok, Err, refl, ap, sym, ◌∙◌}
 use Rattle.capn_words.specs.Message.{segment_at}

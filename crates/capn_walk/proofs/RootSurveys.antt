@@ -1,4 +1,4 @@
--- Lemmas for a survey of a whole message. (For `survey_counted`, `survey_depth_counted` and `survey_root`.)
+-- The survey of a message, from the root on. (For `survey_counted`, `survey_depth_counted` and `survey_root`.)
 use Rattle.std.proofs.Common.{◌≡◌, true, ℕ, ◌+◌, ◌-◌, ◌<◌, ◌≤◌, List, [], ◌∷◌, length, Option, Ok}
 use Rattle.std.proofs.Common.{ap, ap₂, sym, ◌∙◌, arith}
 use Rattle.std.specs.Option.{option_or}
@@ -27,7 +27,7 @@ use Rattle.capn_walk.proofs.shared.CapsMet.{caps-at}
 use Rattle.capn_walk.proofs.Exists.{exists-at}
 
 module _ (m : List (List ℕ)) (base : ℕ) where
-  -- the survey of a slot that pays, given the survey of the slots below that slot
+  -- Case: the visit of the slot at `at` pays, and then the slots `below` are surveyed.
   module _ (budget depth : ℕ) (at : Place) (p : ℕ) (below : SlotsLeft) (k : Option ℕ)
       (here : visits m base depth at ≡ pays at p ∷ visits_of m base (depth - 1) (places_of below)) (fits : p ≤ budget)
       (few : owed below ≤ p) (c : cap_of (target m at) ≡ k) where
@@ -37,7 +37,6 @@ module _ (m : List (List ℕ)) (base : ℕ) where
     both : judge budget (visits m base depth at) ≡ after p 1 (judge (budget - p) others)
     both = ap (judge budget) here ∙ judge-pays budget p at others fits
 
-    -- if no slot is below the slot, there are no other visits
     none-below : HasRows below → owed below ≡ 0 → others ≡ []
     none-below h z = ap (visits_of m base (depth - 1)) (nothing-left below h z)
 

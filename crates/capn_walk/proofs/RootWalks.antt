@@ -1,4 +1,4 @@
--- A walk from the root: the refusals before the price of the root, and the verdict on the whole message. (For
+-- A walk from the root: the errors before the root's price is paid, and the verdict on the message. (For
 -- `message_index.rt`, `message_survey.rt` and `message_walk.rt`.)
 use Rattle.std.proofs.Common.{◌≡◌, ◌⊎◌, inl, inr, Bool, true, false, if◌then◌else◌, ℕ, ◌^◌, ◌<◌, ◌≤◌, List, [], ◌∷◌}
 use Rattle.std.proofs.Common.{length, Ok, Err, refl, ap, ◌∙◌, arith}
@@ -24,7 +24,7 @@ use Rattle.capn_walk.proofs.shared.Walks.{visits-fault}
 use Rattle.capn_walk.proofs.shared.Unique.{unique}
 use Rattle.capn_walk.proofs.shared.Fitting.{root-costs, fits-root}
 
--- a fault at the first visit is the stop of a walk
+-- a walk whose only visit is a fault stops at that visit
 pub stops-at-once : (b : ℕ) (at : Place) (e : Fault) (vs : List Visit) → vs ≡ fails at e ∷ [] → IsStop b vs e at 0 1
 stops-at-once b at e vs h = record {
   before = [];
@@ -38,7 +38,8 @@ stops-at-once b at e vs h = record {
 }
 
 module _ (m : List (List ℕ)) where
-  -- the visits of the root are the visits of the root's slot, if the target may be that of a root pointer
+  -- if the root's target `t` is one that a root may have, the visits of the walk are those of the root's slot and of
+  -- all slots below the root
   pub from-root : (base d : ℕ) (t : Target) → target m root ≡ Ok t → may_be_root t ≡ true
       → root_visits m base d ≡ visits m base d root
   unfolding root_visits
@@ -57,7 +58,7 @@ module _ (m : List (List ℕ)) where
   unfolding root_visits
   faulty-root base d f e = ap (λ r. visits_at_root m base r (visits m base d root)) e ∙ visits-fault m base root d f e
 
-  -- ---- refusals before the root's price
+  -- ---- the errors before the root's price is paid
 
   at-once : (t : Stopped) (f : Fault) (limits : Bounds) → 0 < length (segment_at m 0)
       → visits_within m limits ≡ fails root f ∷ [] →
@@ -78,11 +79,11 @@ module _ (m : List (List ℕ)) where
       → IsWalkRefused m limits t.fault t.place t.paid t.visits
   refused-fault t f limits some e = at-once t f limits some (faulty-root (base limits.tariff) limits.depth f e)
 
-  -- ---- the whole walk
+  -- ---- the walk after the root's price is paid
 
   module _ (limits : Bounds) (some : 0 < length (segment_at m 0)) (t : Target) (e : target m root ≡ Ok t)
       (kind : may_be_root t ≡ true) where
-    -- a value that was found at the root, with the words paid and the number of visits
+    -- `v` is the value of an accepted message, whose walk pays `p` words and makes `k` visits
     pub record IsAnswer (v : Tree) (p k : ℕ) : Type 0 where
       pub value : IsValueOf m limits v
       pub sum : p ≡ paid m limits
@@ -123,13 +124,12 @@ module _ (m : List (List ℕ)) where
               (ap (judge limits.budget) (from-root (base limits.tariff) limits.depth _ e kind) ∙ x),
         ))
 
-  -- an accepted message isn't refused
+  -- no message is both accepted and refused
   pub not-refused : (limits : Bounds) (f : Fault) (at : Place) (p k : ℕ) → IsAccepted m limits
       → IsWalkRefused m limits f at p k → ⊥
   not-refused limits f at p k a (inl r) = let some = a.some in let none = r.0 in omega arith
   not-refused limits f at p k a (inr r) = never-both limits.budget (visits_within m limits) f at p k a.within r.1
 
-  -- if an accepted message gives a refusal, memory ran out
   pub only-memory : (limits : Bounds) (t : Stopped) (v : Tree) → IsValueOf m limits v →
       (t.fault ≡ faults.Memory) ⊎ IsWalkRefused m limits t.fault t.place t.paid t.visits → t.fault ≡ faults.Memory
   only-memory limits t v is (inl x) = x

@@ -17,14 +17,12 @@ use Rattle.capn_walk.specs.View.{kind_of_list}
 use Rattle.capn_walk.proofs.shared.Walks.{slot}
 
 module _ (m : List (List ℕ)) where
-  -- tree i is the value of slot i
   slot-at : (ts : Trees) (s w i : ℕ) → AreAt m s w ts → i < count ts → IsAt m (slot s (w + i)) (tree_at ts i)
   slot-at no_trees s w i a h = absurd (omega arith)
   slot-at (tree t ts) s w zero a h = let e : w + 0 ≡ w = omega arith in rw e a.0
   slot-at (tree t ts) s w (suc i) a h = let e : w + suc i ≡ suc w + i = omega arith in
       rw e (slot-at ts s (suc w) i a.1 (omega arith))
 
-  -- word i from word w on is word i of the list
   word-at : (s w : ℕ) (ws : List ℕ) (i : ℕ) → AreWordsAt m s w ws → i < length ws
       → slice_index (words_from m s w) i ≡ slice_index ws i
   word-at s w ws i a h = sym (get_or-take (length ws) (words_from m s w) i 0 h)
@@ -59,7 +57,6 @@ module _ (m : List (List ℕ)) where
       let e : w + suc i * (a + b) ≡ w + a + b + i * (a + b) = omega arith in
       rw e (row-shown bs a b s (w + a + b) i r.4 (omega arith))
 
-  -- two targets of one place are the same
   same-found : (at : Place) (found t : Target) → target m at ≡ Ok found → target m at ≡ Ok t → t ≡ found
   same-found at found t e f = cc
 

@@ -31,7 +31,8 @@ use Rattle.capn_walk.proofs.shared.Judge.{judge-over}
 use Rattle.capn_walk.proofs.shared.Walks.{visits-null, visits-cap, visits-fault, visits-deep, visits-object}
 
 module _ (m : List (List ℕ)) (base : ℕ) (at : Place) (depth budget : ℕ) where
-  -- a step that returns the target `t` pays the first visit of the slot, and the rest are the visits of the slots below
+  -- the visit of the slot at `at` pays `toll base t`, which is within `budget`, and then the slots below `t` are
+  -- visited
   pub record IsPaid (t : Target) : Type 0 where
     pub is : visits m base depth at ≡ pays at (toll base t) ∷ visits_of m base (depth - 1) (slots_below t)
     pub within : toll base t ≤ budget
@@ -61,7 +62,7 @@ module _ (m : List (List ℕ)) (base : ℕ) (at : Place) (depth budget : ℕ) wh
       → judge budget (visits m base depth at) ≡ refused e at 0 1
   step-stops e h = let k = rw h at (answered (target m at) refl) in k
 
--- a step is never refused because memory runs out
+-- a step to a target never gives the fault `Memory`
 pub stepped-memory : (base depth budget : ℕ) (t : Target) → stepped base depth budget (Ok t) ≡ Err faults.Memory → ⊥
 stepped-memory base depth budget targets.Nil e = absurd cc
 stepped-memory base depth budget (targets.Cap k) e = absurd cc
@@ -72,7 +73,7 @@ stepped-memory base depth budget (targets.Content s start shape pads) e =
     (λ over f. absurd cc)
     (λ within f. absurd cc)) e
 
--- if a step to content succeeds, the content isn't too deep, and the content's price is at most the budget
+-- if a step to content gives that content, `depth` is above 0, and the price is at most `budget`
 pub content-taken : (base depth budget s start pads : ℕ) (shape : Shape) →
     stepped base depth budget (Ok (targets.Content s start shape pads)) ≡ Ok (targets.Content s start shape pads) →
     (0 < depth) × (price base shape + pads ≤ budget)
@@ -86,7 +87,7 @@ content-taken base depth budget s start pads shape =
     (λ over e. absurd cc)
     (λ within e. (grind (arith, nat_tests), grind (arith, nat_tests))))
 
--- if a step is refused, the visits of the slot are refused in the same way
+-- if a step to the slot's target gives the fault `e`, the visits of the slot are refused with `e`
 pub step-refuses : (m : List (List ℕ)) (base : ℕ) (at : Place) (depth budget : ℕ) (t : Target) (e : Fault) (s : Stopped)
     → target m at ≡ Ok t
     → stepped base depth budget (Ok t) ≡ Err e → s ≡ record { fault = e; place = at; paid = 0; visits = 1 }
@@ -97,7 +98,8 @@ step-refuses m base at depth budget t e s is h k = rw k (record {
   few = omega arith;
 })
 
--- the step to the root is the step to the root's target, if that target may be that of a root pointer
+-- if segment 0 has a word, and the root's target `t` is one that a root may have, a step to `t` gives the same result
+-- as a step to the root
 pub step-to-root : (m : List (List ℕ)) (base depth budget : ℕ) (t : Target) → 0 < length (segment_at m 0)
     → target m root ≡ Ok t → may_be_root t ≡ true
     → stepped base depth budget (Ok t) ≡ stepped_to_root m base depth budget
@@ -107,7 +109,6 @@ step-to-root m base depth budget t some is kind =
     (λ z. absurd (grind (arith, nat_tests)))
     (λ z. ap (stepped base depth budget) (sym r))
 
--- if the step to the target leads to content, the step to the root does
 pub entered-root : (m : List (List ℕ)) (b d l base depth budget : ℕ) (t : Target) → b ≡ base → d ≡ depth → l ≡ budget
     → 0 < length (segment_at m 0) → target m root ≡ Ok t → may_be_root t ≡ true
     → IsEntered (stepped b d l (Ok t)) → IsEntered (stepped_to_root m base depth budget)
@@ -117,9 +118,7 @@ entered-root m b d l base depth budget t e f g some is kind h =
     (subst (λ (x : ℕ). IsEntered (stepped base x l (Ok t))) f
     (subst (λ (x : ℕ). IsEntered (stepped x d l (Ok t))) e h)))
 
--- the targets of near pointers
 module _ (m : List (List ℕ)) where
-  -- the target is no capability
   capless : (r : Result Target Fault) → Told m (λ s start shape pads. ⊤) (λ k. ⊥) r → cap_of r ≡ None
   capless (Ok targets.Nil) h = refl
   capless (Ok (targets.Cap k)) h = absurd h
@@ -131,7 +130,6 @@ module _ (m : List (List ℕ)) where
   capless-near at p h = rw h at
       (capless (target_from m at.segment at.word 0 p) (told-near m _ _ at.segment at.word 0 p (λ start shape l d. tt)))
 
-  -- a list of numbers has no slots
   number-slots : (p : Pointer) (s start : ℕ) (shape : Shape) → AreNumbers p → Describes m p s start shape
       → slots s start shape ≡ []
   number-slots (Many o W0 n) s start shape h d = rw d.0 refl
@@ -162,12 +160,11 @@ module _ (m : List (List ℕ)) where
   none-of at p h (Ok t) e = numbers-below at.segment at.word 0 p t h e
   none-of at p h (Err f) e = refl
 
-  -- no slots are below a list of numbers
   pub numbers-none : (at : Place) (p : Pointer) → AreNumbers p → target_from m at.segment at.word 0 p ≡ target m at
       → below_of (target m at) ≡ []
   numbers-none at p h e = none-of at p h (target m at) e
 
-  -- a visit of a list of numbers, given the list's target
+  -- Case: the near pointer `p` of the slot at `at` names a list of numbers.
   module _ (base : ℕ) (at : Place) (depth left : ℕ) (p : Pointer) where
     pub numbers-paid : (t : Target) → AreNumbers p → target_from m at.segment at.word 0 p ≡ Ok t
         → target_from m at.segment at.word 0 p ≡ target m at →

@@ -59,7 +59,6 @@ module _ (m : List (List ℕ)) where
       let h = r.1 in
       ((a.0, r.0), omega arith)
 
-  -- the slots left of the last object of the stack are visited first
   pub left-push : (base : ℕ) (ws : List Waiting) (w : Waiting) →
       visits_left m base (ws ++ w ∷ []) ≡ visits_of m base w.depth (places_of w.frame) ++ visits_left m base ws
   left-push base [] w = sym (append-nil (visits_of m base w.depth (places_of w.frame)))
@@ -67,7 +66,7 @@ module _ (m : List (List ℕ)) where
       ap (λ (vs : List Visit). vs ++ visits_of m base g.depth (places_of g.frame)) (left-push base ws w)
       ∙ rw append_assoc refl
 
--- ---- the state of a survey: of a list of visits, some are made, and the rest are to come
+-- ---- a survey makes the visits `vs`: some are made, and `coming` are to come
 
 module _ (m : List (List ℕ)) (budget : ℕ) (vs : List Visit) (n : ℕ) where
   pub record IsUnderWay (coming : List Visit) (owed paid visits : ℕ) (cap : Option ℕ) : Type 0 where
@@ -76,7 +75,6 @@ module _ (m : List (List ℕ)) (budget : ℕ) (vs : List Visit) (n : ℕ) where
     pub few : visits + owed ≤ paid + n
     pub first : first_cap_of m vs ≡ option_or cap (first_cap_of m coming)
 
-  -- the next visit pays, and b slots are below the visited slot
   pub goes-on : (at : Place) (p : ℕ) (below rest : List Visit) (o b paid visits : ℕ) (cap k : Option ℕ) →
       IsUnderWay (pays at p ∷ (below ++ rest)) (o + 1) paid visits cap → p ≤ budget - paid → b ≤ p
       → cap_of (target m at) ≡ k →
@@ -94,7 +92,6 @@ module _ (m : List (List ℕ)) (budget : ℕ) (vs : List Visit) (n : ℕ) where
         ∙ option_or-assoc cap k (first_cap_of m (below ++ rest));
   }
 
-  -- the next visit is refused
   pub stops : (here rest : List Visit) (o paid visits : ℕ) (cap : Option ℕ) (e : Fault) (at : Place) →
       IsUnderWay (here ++ rest) o paid visits cap → judge (budget - paid) here ≡ refused e at 0 1 →
       judge budget vs ≡ refused e at paid (visits + 1)
@@ -112,14 +109,13 @@ null_pointer : pointer_of 0 ≡ Nil
 unfolding pointer_of
 null_pointer = refl
 
--- the word 0 is null
 pub null-target : (m : List (List ℕ)) (at : Place) → word_at m at ≡ 0 → target m at ≡ Ok targets.Nil
 unfolding target
 null-target m at h = ap (λ (w : ℕ). target_of_pointer m at.segment at.word (pointer_of w)) h
     ∙ ap (target_of_pointer m at.segment at.word) null_pointer
 
 module _ (m : List (List ℕ)) (base : ℕ) where
-  -- the visits to come: first the visits of the current object, then the visits of the objects that wait
+  -- the visits to come: first those of the current object `f`, then those of the objects `ws` that wait
   abbrev pub coming : ℕ → List Waiting → SlotsLeft → List Visit
   coming d ws f = visits_of m base d (places_of f) ++ visits_left m base ws
 
@@ -133,7 +129,6 @@ module _ (m : List (List ℕ)) (base : ℕ) where
       coming d ws f ≡ pays at p ∷ (visits_of m base (d - 1) (places_of below) ++ coming d ws rest)
   coming-take d ws f rest below at p h e = rw (h, e) (rw append_assoc refl)
 
-  -- the visits to come begin with the visits of the next slot
   pub coming-stop : (d : ℕ) (ws : List Waiting) (f rest : SlotsLeft) (at : Place) → places_of f ≡ at ∷ places_of rest →
       coming d ws f ≡ visits m base d at ++ coming d ws rest
   coming-stop d ws f rest at h = rw h (rw append_assoc refl)
@@ -143,8 +138,8 @@ module _ (m : List (List ℕ)) (base : ℕ) where
   coming-leaf d ws rest below h e =
       ap (λ (ps : List Place). visits_of m base (d - 1) ps ++ coming d ws rest) (nothing-left below h e)
 
-  -- the stack once the survey enters a slot of the current object; nothing is pushed if that object has no other slot
-  -- left
+  -- `new` is the stack `ws` with the remaining slots `rest` of the current object pushed. If `rest` has no slots, `new`
+  -- may also be `ws` itself.
   pub data IsKept (d : ℕ) (ws : List Waiting) (rest : SlotsLeft) (new : List Waiting) : Type 0 where
     dropped : owed rest ≡ 0 → new ≡ ws → IsKept d ws rest new
     kept : new ≡ ws ++ record { frame = rest; depth = d } ∷ [] → IsKept d ws rest new
@@ -196,7 +191,7 @@ module _ (m : List (List ℕ)) (base : ℕ) where
       pub shallow : AreShallow limit ws
       pub depth : d + length ws ≤ limit
 
-    -- the current object is done, and the last object of the stack is popped
+    -- Case: the current object has no slot left, and the last object of the stack is popped.
     pub popped : (d : ℕ) (old ws : List Waiting) (f : SlotsLeft) (w : Waiting) (paid visits : ℕ) (cap : Option ℕ)
         → old ≡ ws ++ w ∷ [] → owed f ≡ 0 →
         Surveys d old f paid visits cap → Surveys w.depth ws w.frame paid visits cap
@@ -218,7 +213,7 @@ module _ (m : List (List ℕ)) (base : ℕ) where
           depth = omega arith;
         }
 
-    -- the next row of the object becomes the current row
+    -- Case: the next row of the object becomes the current row.
     pub next-row : (d : ℕ) (ws : List Waiting) (f row : SlotsLeft) (paid visits : ℕ) (cap : Option ℕ)
         → places_of row ≡ places_of f → owed row ≡ owed f →
         Lies m row → Surveys d ws f paid visits cap → Surveys d ws row paid visits cap
@@ -253,7 +248,7 @@ module _ (m : List (List ℕ)) (base : ℕ) where
               goes-on m budget vs n at p (visits_of m base (d - 1) (places_of below)) (coming d ws rest)
               (owed rest + owed_by ws) (owed below) paid made cap k u fits few c
 
-          -- the slot names an object with slots, which becomes the current object
+          -- Case: the slot names an object with slots, which becomes the current object.
           pub entered : (new : List Waiting) → IsKept d ws rest new → Lies m rest → Lies m below → 0 < d →
               Surveys (d - 1) new below (paid + p) (made + 1) (option_or cap k)
           entered new e lr lb deep =
@@ -269,7 +264,7 @@ module _ (m : List (List ℕ)) (base : ℕ) where
                 depth = omega arith;
               }
 
-          -- the slot names nothing with slots
+          -- Case: the slot names no object with slots, and the survey goes on with the slots `rest`.
           pub passed : Lies m rest → HasRows below → owed below ≡ 0
               → Surveys d ws rest (paid + p) (made + 1) (option_or cap k)
           passed lr hb z =
@@ -282,7 +277,7 @@ module _ (m : List (List ℕ)) (base : ℕ) where
                 depth = s.depth;
               }
 
-        -- the slot is refused
+        -- Case: the slot is refused, and so the survey is refused.
         pub refused-here : (e : Fault) → judge (budget - paid) (visits m base d at) ≡ refused e at 0 1 →
             Refuses budget vs n (record { fault = e; place = at; paid = paid; visits = made + 1 })
         refused-here e h =
@@ -330,7 +325,7 @@ module _ (m : List (List ℕ)) (base : ℕ) where
           let n = ap length (coming-leaf d ws rest below hb z) in
           omega arith
 
-    -- the slot is null
+    -- Case: the slot is null, and the survey goes on with the slots `rest`.
     module _ (d : ℕ) (ws : List Waiting) (f rest : SlotsLeft) (at : Place) (paid made : ℕ) (cap : Option ℕ)
         (s : Surveys d ws f paid made cap) (next : places_of f ≡ at ∷ places_of rest)
         (none : target m at ≡ Ok targets.Nil) where

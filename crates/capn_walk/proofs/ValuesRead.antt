@@ -1,4 +1,4 @@
--- The value of an accepted message is the value that the index gives. (For `indexes`.)
+-- The value of an accepted message is the value that its index describes. (For `indexes`.)
 use Rattle.std.proofs.Common.{◌≡◌, ◌≢◌, ◌⊎◌, inl, inr, ℕ, zero, suc, ◌+◌, ◌*◌, ◌<◌, List, [], ◌∷◌, ◌++◌, length}
 use Rattle.std.proofs.Common.{get_or, Result, Ok, Err, refl, ap, sym, subst, ◌∙◌, arith}
 use Rattle.std.specs.Bool.{⊤}
@@ -25,9 +25,9 @@ use Rattle.capn_walk.specs.IndexValues.{IsReadAt, AreReadAt, RowsReadAt, Indexes
 use Rattle.capn_walk.proofs.IndexLaws.{AllPlaces, in-slots, readable, not-empty}
 use Rattle.capn_target.proofs.shared.Inside.{found-inside}
 
--- ---- a target, given the part of the target that an entry keeps
+-- ---- a target, given the target that its entry describes (`kept`)
 
--- the kept part is content at `start`, with the shape `shape` or as rows
+-- `kept t` is content at word `start` of segment `s`, with the shape `shape` or any shape of rows
 abbrev KeptAs : Target → ℕ → ℕ → Shape → Type 0
 KeptAs t s start shape = (kept t ≡ targets.Content s start shape 0)
     ⊎ ((c a b span : ℕ) × (kept t ≡ targets.Content s start (shapes.Rows c a b span) 0))
@@ -44,7 +44,6 @@ kept-content s start pads (shapes.Many Link c) = inl refl
 kept-content s start pads (shapes.Many Rows c) = inr (c, 0, 0, c * (0 + 0), refl)
 kept-content s start pads (shapes.Rows c a b span) = inr (c, a, b, c * (a + b), refl)
 
--- if the kept part of a target is no content, the kept part is the target itself
 unkept-plain : (t u : Target) → ((s start pads : ℕ) (shape : Shape) → u ≢ targets.Content s start shape pads)
     → kept t ≡ u → t ≡ u
 unkept-plain targets.Nil u n h = h
@@ -55,7 +54,6 @@ unkept-plain (targets.Content s start shape pads) u n h = by-shape (kept-content
     by-shape (inl e) = absurd (n s start 0 shape (sym h ∙ e))
     by-shape (inr (c, a, b, span, e)) = absurd (n s start 0 (shapes.Rows c a b span) (sym h ∙ e))
 
--- if the kept part of a target has a shape other than rows, the target has that shape
 unkept : (t : Target) (s start : ℕ) (shape : Shape) → ((c a b span : ℕ) → shape ≢ shapes.Rows c a b span)
     → kept t ≡ targets.Content s start shape 0 → (pads : ℕ) × (t ≡ targets.Content s start shape pads)
 unkept targets.Nil s start shape n h = absurd cc
@@ -67,7 +65,6 @@ unkept (targets.Content r from x pads) s start shape n h = by-shape (kept-conten
     by-shape (inl e) = (pads, let f = sym e ∙ h in cc)
     by-shape (inr (c, a, b, span, e)) = absurd (n c a b span (let f = sym e ∙ h in cc))
 
--- if the kept part of a target is rows, the target is rows, provided that the target lies inside a message
 unkept-rows : (m : List (List ℕ)) (t : Target) (s start c a b span : ℕ) → IsInMessage m t
     → kept t ≡ targets.Content s start (shapes.Rows c a b span) 0
     → (more pads : ℕ) × (t ≡ targets.Content s start (shapes.Rows c a b more) pads)
@@ -92,7 +89,6 @@ found-kept : (r : Result Target Fault) (t : Target) → kept_of r ≡ Ok t → (
 found-kept (Ok u) t h = (u, refl, cc)
 found-kept (Err e) t h = absurd cc
 
--- an entry of numbers keeps all but the landing pad
 kept-numbers : (a : NumberWidth) (s start n pads : ℕ)
     → kept (targets.Content s start (shapes.Many (list_width a) n) pads)
     ≡ targets.Content s start (shapes.Many (list_width a) n) 0
@@ -105,13 +101,13 @@ kept-numbers oct s start n pads = refl
 module _ (m : List (List ℕ)) (es : List Entry) (readable : (i : ℕ) → i < length es → IsReadable m es i) where
   -- ---- the slots of entries
 
-  -- entry i is the entry of the slot at a place
+  -- entry `i` of `es` describes the target of the slot at `at` (`kept_of`)
   record Of (at : Place) (i : ℕ) : Type 0 where
     place : IsPlace m at
     within : i < length es
     is : kept_of (target m at) ≡ Ok (entry_target (entry_at es i))
 
-  -- the entries from entry i on, each one span after the entry before, are the entries of the slots
+  -- the entries of the slots at the given places stand in `es` from index `i` on, one span apart
   abbrev AllOf : List Place → ℕ → Type 0
   AllOf [] i = ⊤
   AllOf (p ∷ ps) i = Of p i × AllOf ps (i + (entry_at es i).span)
@@ -132,7 +128,6 @@ module _ (m : List (List ℕ)) (es : List Entry) (readable : (i : ℕ) → i < l
     all-each ps (i + (entry_at es i).span) a.1 (λ j l. h (suc j) (omega arith)),
   )
 
-  -- the entries of the slots of the object at an entry
   all-below : (i : ℕ) → i < length es → AllOf (slots_at es i) (i + 1)
   all-below i h =
       let r = readable i h in
@@ -140,11 +135,10 @@ module _ (m : List (List ℕ)) (es : List Entry) (readable : (i : ℕ) → i < l
       all-each (slots_at es i) (i + 1) (in-slots m (entry_target (entry_at es i)) r.inside)
       (λ j l. let b = r.below j l in let x = b.0 in (omega arith, b.1))
 
-  -- the entries of the slots of the object at an entry, given its target
   all-said : (i : ℕ) (t : Target) → i < length es → entry_target (entry_at es i) ≡ t → AllOf (slots_below t) (i + 1)
   all-said i t h e = subst (λ (x : Target). AllOf (slots_below x) (i + 1)) e (all-below i h)
 
-  -- ---- the target that an entry gives is the kept part of the slot's target, and conversely
+  -- ---- the target that an entry describes, given the slot's target, and conversely
 
   said : (at : Place) (i : ℕ) (t : Target) → Of at i → target m at ≡ Ok t → entry_target (entry_at es i) ≡ kept t
   said at i t o e = let f = sym o.is ∙ ap kept_of e in cc

@@ -41,7 +41,7 @@ text_index : index_of text usual ≡ text_entries
 unfolding entries target pointer_of
 text_index = refl
 
--- the value of the list, given by the entries and the words
+-- the three elements of the list are the letters `abc`
 letters : AreElements 8 8 (0xffffffffff636261 ∷ []) (0x61 ∷ 0x62 ∷ 0x63 ∷ [])
 letters zero h = refl
 letters (suc zero) h = refl
@@ -56,7 +56,8 @@ text_value = record {
   inside = (refl, (record { segment = 0; start = 2; is = refl; inside = letters }, tt));
 }
 
--- a list of two rows, each of one word and one slot: null, and a struct without words
+-- a list of two rows, each of one word and one slot. The first slot is null, and the second names a struct without
+-- words.
 two_rows : index_of
     ((0x1000000000000 ∷ 0x2700000001 ∷ 0x1000100000008 ∷ 7 ∷ 0 ∷ 8 ∷ 0xfffffffc ∷ []) ∷ []) usual
     ≡ struct 1 0 1 4
@@ -65,7 +66,7 @@ two_rows : index_of
 unfolding entries target pointer_of
 two_rows = refl
 
--- a struct to which two slots lead is entered twice
+-- a struct that two slots name has two entries
 shared : index_of ((0x2000000000000 ∷ 0x100000004 ∷ 0x100000000 ∷ 9 ∷ []) ∷ []) usual
     ≡ struct 1 0 2 3 ∷ struct 3 1 0 1 ∷ struct 3 1 0 1 ∷ []
 unfolding entries target pointer_of

@@ -10,21 +10,22 @@ use Rattle.capn_walk.specs.ValueAt.{IsAt, AreElements}
 abbrev at : ℕ → ℕ → Place
 at s w = record { segment = s; word = w }
 
--- a null root, and a struct of one word
+-- a null root
 null_root : IsAt ((0 ∷ []) ∷ []) (at 0 0) nil
 unfolding target pointer_of
 null_root = refl
 
+-- a root that names a struct of one word
 one_word : IsAt ((0x100000000 ∷ 5 ∷ []) ∷ []) (at 0 0) (node (5 ∷ []) no_trees)
 unfolding target pointer_of
 one_word = record { segment = 0; start = 1; pads = 0; is = refl; inside = (refl, tt) }
 
--- a struct named through two landing pads
+-- a root that names a struct by a landing pad of two words
 far : IsAt ((0x100000006 ∷ []) ∷ (0x200000002 ∷ 0x100000000 ∷ []) ∷ (5 ∷ []) ∷ []) (at 0 0) (node (5 ∷ []) no_trees)
 unfolding target pointer_of
 far = record { segment = 2; start = 0; pads = 2; is = refl; inside = (refl, tt) }
 
--- two slots that share a struct
+-- two slots that name one struct
 shared : IsAt ((0x2000000000000 ∷ 0x100000004 ∷ 0x100000000 ∷ 9 ∷ []) ∷ []) (at 0 0)
     (node [] (tree (node (9 ∷ []) no_trees) (tree (node (9 ∷ []) no_trees) no_trees)))
 unfolding target pointer_of

@@ -8,10 +8,10 @@ pub record Account : Type 0 where
   pub paid : ℕ
   pub tariff : Tariff
 
--- the number of words that are left to pay
+-- the number of words that the account `a` has left to pay
 abbrev pub left_of : Account → ℕ
 left_of a = a.budget - a.paid
 
--- the account after `n` more words are paid
+-- the account `a` after `n` more words are paid
 abbrev pub with_paid : Account → ℕ → Account
 with_paid a n = record { budget = a.budget; paid = a.paid + n; tariff = a.tariff }

@@ -1,10 +1,10 @@
--- The text of a refusal, as it is displayed. (Our own.)
+-- The text of the stop of a walk, as it is displayed. (Our own.)
 use Rattle.std.specs.Prelude.{ℕ, List, ◌++◌, codes}
 use Rattle.std.specs.Fmt.{decimal}
 use Rattle.capn_target.specs.Display.{fault_name}
 use Rattle.capn_walk.specs.declared.walk_answer.Stopped.{Stopped}
 
--- the reason and the place at which a walk stopped, with the number of words paid and the number of visits
+-- the text of `stopped`: the reason and the place of the stop, the number of words paid, and the number of visits
 abbrev pub stopped_text : Stopped → List ℕ
 stopped_text stopped =
     fault_name stopped.fault

@@ -20,7 +20,7 @@ use Rattle.capn_walk.specs.Limits.{Bounds}
 use Rattle.capn_walk.specs.View.{slots_below, kind_of_list}
 use Rattle.capn_target.specs.Shapes.{IsInMessage}
 
--- the entry of a slot with the given target and the span n
+-- the entry of a slot with the given target and the span `n`
 abbrev pub entry_of : Target → ℕ → Entry
 entry_of targets.Nil n =
     record { start = 0; segment = 0; count = 0; span = n; words = 0; slots = 0; kind = kinds.Nil }
@@ -33,36 +33,36 @@ entry_of (targets.Content s start (shapes.Many width c) pads) n =
 entry_of (targets.Content s start (shapes.Rows c a b span) pads) n =
     record { start = start; segment = s; count = c; span = n; words = a; slots = b; kind = kinds.Rows }
 
--- the entry of a slot, followed by the entries of the slots below it
+-- the entry of a slot with the target `found`, and then `below`, the entries of all slots below that slot
 abbrev pub entered : Target → List Entry → List Entry
 entered found below = entry_of found (1 + length below) ∷ below
 
 module _ (message : List (List ℕ)) where
-  -- the entries of a slot, given the slot's target, and of the slots below (in an accepted message each slot has a
-  -- target)
+  -- the entries of a slot and of all slots below it, given the slot's target. `below` gives the entries for each slot
+  -- of that target. A fault has only the entry of null.
   abbrev pub entries_by : (Place → List Entry) → Result Target Fault → List Entry
   entries_by below (Ok found) = entered found (flat_map below (slots_below found))
   entries_by below (Err e) = entered targets.Nil []
 
-  -- the entries of the slot at a place and of all slots below it, at most d objects deep
+  -- the entries of the slot at `at` and of all slots below it, at most `d` objects deep
   unfoldable pub entries : ℕ → Place → List Entry
   entries zero at = entries_by (λ p. []) (target message at)
   entries (suc d) at = entries_by (entries d) (target message at)
 
-  -- the entries of several slots, one after the other
+  -- the entries of the slots at `ps` and of all slots below them, one slot after another
   abbrev pub entries_of : ℕ → List Place → List Entry
   entries_of d ps = flat_map (entries d) ps
 
--- the index of a message, at most `limits.depth` objects deep
+-- the index of `message`: the entries of the root's slot and of all slots below it, at most `limits.depth` objects deep
 abbrev pub index_of : List (List ℕ) → Bounds → List Entry
 index_of message limits = entries message limits.depth root
 
--- the room after the entries `es` are written: as many of the first entries as fit, and then the room's old items
+-- `room` with its first items replaced by the items of `es`, as many of `es` as fit in `room`
 abbrev pub filled : {A : Type 0} → List A → List A → List A
 filled es room = take (length room) es ++ drop (length es) room
 
--- the message is accepted, and the room `new` is the room `old` after the index is written; `t` has the number of words
--- that the walk pays and the number of visits, and the index has an entry for each visit
+-- `message` is accepted, and `new` is `old` with the message's index written over the first items of `old`. `t` has the
+-- number of words that the walk pays, and the number of visits. The index has an entry for each visit.
 pub record IsIndexed (message : List (List ℕ)) (limits : Bounds) (old new : List Entry) (t : Indexed) : Type 0 where
   pub accepted : IsAccepted message limits
   pub entries : new ≡ filled (index_of message limits) old
@@ -70,8 +70,9 @@ pub record IsIndexed (message : List (List ℕ)) (limits : Bounds) (old new : Li
   pub counts : t.visits ≡ number_of_visits message limits
   pub each : length (index_of message limits) ≡ number_of_visits message limits
 
--- the message is accepted, and the room `new` is the room `old` after the index is written with each entry in the form;
--- `t` has the number of words that the walk pays and the number of visits
+-- `message` is accepted, and `new` is `old` with the message's index, each entry in `form`, written over the first
+-- items of `old`. `t` has the number of words that the walk pays, and the number of visits. The index has an entry for
+-- each visit.
 pub record IsIndexedAs {A : Type 0} (form : Entry → A) (message : List (List ℕ)) (limits : Bounds) (old new : List A)
     (t : Indexed) : Type 0 where
   pub accepted : IsAccepted message limits
@@ -82,11 +83,11 @@ pub record IsIndexedAs {A : Type 0} (form : Entry → A) (message : List (List �
 
 -- ---- the reader of an index
 
--- the list of `width` that the entry describes
+-- the target that is a list of elements of `width`, with the place and the number of elements of entry `e`
 abbrev pub elements : Entry → Width → Target
 elements e width = targets.Content e.segment e.start (shapes.Many width e.count) 0
 
--- the target of a slot, given the slot's entry and the entry's kind
+-- the target that entry `e` describes, given the kind of `e`
 abbrev pub by_kind : Kind → Entry → Target
 by_kind kinds.Nil e = targets.Nil
 by_kind kinds.Cap e = targets.Cap e.count
@@ -104,9 +105,8 @@ by_kind kinds.Links e = elements e Link
 abbrev pub entry_target : Entry → Target
 entry_target e = by_kind e.kind e
 
--- the part of a target that an entry keeps, which is all except the landing pads and the length of a composite list in
--- words. So spare words after the last row of a list can't be found through an index, but no value has spare words. (No
--- target is a list `Many` of width `Rows`.)
+-- the target without its landing pads, and for a composite list without spare words after the last row. This is the
+-- target that an entry describes. (No target is a list `Many` of width `Rows`.)
 abbrev pub kept : Target → Target
 kept (targets.Content s start (shapes.Rows c a b span) pads) =
     targets.Content s start (shapes.Rows c a b (c * (a + b))) 0
@@ -114,27 +114,26 @@ kept (targets.Content s start (shapes.Many Rows c) pads) = targets.Content s sta
 kept (targets.Content s start shape pads) = targets.Content s start shape 0
 kept found = found
 
--- the kept part of the target of a slot; a fault stays as it is
+-- the target of a slot, as an entry describes that target (`kept`), or the slot's fault
 abbrev pub kept_of : Result Target Fault → Result Target Fault
 kept_of (Ok found) = Ok (kept found)
 kept_of (Err e) = Err e
 
--- the entry at an index
+-- the entry at index `i` of `es`, or the entry of null if `i` is past the end of `es`
 abbrev pub entry_at : List Entry → ℕ → Entry
 entry_at es i = get_or es i (entry_of targets.Nil 1)
 
--- the slots of the object at entry i
+-- the places of the slots of the object that entry `i` of `es` describes
 abbrev pub slots_at : List Entry → ℕ → List Place
 slots_at es i = slots_below (entry_target (entry_at es i))
 
--- the index of the entry that is j slots after entry i, where each step adds the span of an entry
+-- the index of the entry `j` slots after entry `i`, where each step from slot to slot adds the span of an entry
 abbrev pub beside : List Entry → ℕ → ℕ → ℕ
 beside es i zero = i
 beside es i (suc j) = beside es (i + (entry_at es i).span) j
 
--- entry i can be read: the content lies inside a segment of the message, the entries of the object's slots follow one
--- after the other with the targets of the slots, and the span of entry i ends with the last of these entries and within
--- the index
+-- the content of entry `i` lies in a segment of `message`. The entries from index `i + 1` on, one span apart, describe
+-- the targets of that content's slots (`kept_of`). The span of entry `i` ends where these entries end, and within `es`.
 pub record IsReadable (message : List (List ℕ)) (es : List Entry) (i : ℕ) : Type 0 where
   pub inside : IsInMessage message (entry_target (entry_at es i))
   pub below : (j : ℕ) → j < length (slots_at es i) → (beside es (i + 1) j < i + (entry_at es i).span)
@@ -143,7 +142,7 @@ pub record IsReadable (message : List (List ℕ)) (es : List Entry) (i : ℕ) : 
   pub span : beside es (i + 1) (length (slots_at es i)) ≡ i + (entry_at es i).span
   pub within : i + (entry_at es i).span ≤ length es
 
--- the index of an accepted message begins with the entry of the root, and each entry can be read
+-- the first entry of the index of an accepted message is the root's entry, and `IsReadable` is true of each entry
 abbrev pub IndexesAreReadable : Type 0
 IndexesAreReadable = (message : List (List ℕ)) (limits : Bounds) → IsAccepted message limits
     → (kept_of (target message root) ≡ Ok (entry_target (entry_at (index_of message limits) 0)))
@@ -154,8 +153,8 @@ abbrev pub place_of : Visit → Place
 place_of (pays at n) = at
 place_of (fails at e) = at
 
--- the index of an accepted message has one entry for each visit, in order, with the kept part of the target at the
--- place of the visit
+-- the index of an accepted message has one entry for each visit, in the order of the visits. Each entry describes the
+-- target of the slot that its visit visits (`kept_of`).
 abbrev pub IndexesFollowVisits : Type 0
 IndexesFollowVisits = (message : List (List ℕ)) (limits : Bounds) → IsAccepted message limits
     → map (λ e. Ok (entry_target e)) (index_of message limits)

@@ -1,4 +1,4 @@
--- The laws of walks, for the crates above.
+-- The laws of walks, for the crates that use this crate.
 use Rattle.std.specs.Prelude.{◌≡◌, ◌≢◌, ◌↔◌, ◌⊎◌, ℕ, ◌≤◌, List, Ok}
 use Rattle.capn_words.specs.Message.{IsMessage, IsPlace}
 use Rattle.capn_words.specs.declared.space.Place.{Place}
@@ -28,7 +28,7 @@ abbrev pub AcceptedAreReadable : Type 0
 AcceptedAreReadable = (message : List (List ℕ)) (limits : Bounds) → IsAccepted message limits → (v : Tree)
     × IsValueOf message limits v
 
--- there is at most one value at a place
+-- there is at most one value at a place of a message
 abbrev pub PlacesHaveOneValue : Type 0
 PlacesHaveOneValue = (message : List (List ℕ)) (at : Place) (v w : Tree) → IsAt message at v → IsAt message at w → v ≡ w
 
@@ -37,7 +37,7 @@ abbrev pub SlotsHaveOneValue : Type 0
 SlotsHaveOneValue = (message : List (List ℕ)) (vs ws : Trees) (segment word : ℕ) → count vs ≡ count ws
     → AreAt message segment word vs → AreAt message segment word ws → vs ≡ ws
 
--- there is at most one list of bodies in the rows from a word on, given the number of rows and the sizes of a row
+-- there is at most one list of bodies in consecutive rows, given the place, the number and the sizes of the rows
 abbrev pub RowsHaveOneValue : Type 0
 RowsHaveOneValue = (message : List (List ℕ)) (bs cs : Bodies) (words slots segment word : ℕ)
     → count_rows bs ≡ count_rows cs
@@ -70,7 +70,7 @@ abbrev pub TargetsLieInside : Type 0
 TargetsLieInside = (message : List (List ℕ)) (at : Place) (found : Target) → IsPlace message at
     → target message at ≡ Ok found → IsInMessage message found
 
--- a value whose content is where the pointer at a place leads is the value at that place
+-- if the pointer at a place names content, the value of that content is the value at the place
 abbrev pub ContentIsValue : Type 0
 ContentIsValue = (message : List (List ℕ)) (at : Place) (segment start pads : ℕ) (shape : Shape) (v : Tree)
     → target message at ≡ Ok (targets.Content segment start shape pads) → IsInside message shape segment start v
@@ -83,12 +83,12 @@ abbrev pub Apart : Type 0
 Apart = (message : List (List ℕ)) (limits : Bounds) (fault : Fault) (at : Place) (paid visits : ℕ)
     → IsAccepted message limits → IsWalkRefused message limits fault at paid visits → ⊥
 
--- either all visits are within a budget, or there is a first visit that is a fault or brings the sum above the budget
+-- either the visits `vs` are within `budget`, or the walk with these visits stops at one of them
 abbrev pub Decided : Type 0
 Decided = (budget : ℕ) (vs : List Visit) → IsWithin budget vs
     ⊎ ((fault : Fault) × (at : Place) × (paid visits : ℕ) × IsStop budget vs fault at paid visits)
 
--- there is at most one first visit that is a fault or brings the sum above the budget
+-- a walk has at most one stop, with one fault, one place, one number of words paid and one number of visits
 abbrev pub StopsAreOne : Type 0
 StopsAreOne = (budget : ℕ) (vs : List Visit) (e f : Fault) (at to : Place) (p q k j : ℕ)
     → IsStop budget vs e at p k → IsStop budget vs f to q j → (e ≡ f) × (at ≡ to) × (p ≡ q) × (k ≡ j)

@@ -14,7 +14,7 @@ pub record Bounds : Type 0 where
 
 -- ---- read to here for the theorem
 
--- each of the limits is in its range
+-- `words`, `budget` and `depth` are in the ranges of the limits
 pub record AreLimits (words budget depth : ℕ) : Type 0 where
   pub some_words : 1 ≤ words
   pub few_words : words ≤ most_message_words

@@ -1,4 +1,4 @@
--- The results of a survey in addition to the verdict, for a list of visits.
+-- The first capability among the visits of a walk, and the result of a survey.
 use Rattle.std.specs.Prelude.{◌≡◌, ℕ, List, [], ◌∷◌, Result, Ok, Option, Some, None}
 use Rattle.std.specs.Option.{option_or}
 use Rattle.capn_value.specs.Tree.{Tree}
@@ -12,19 +12,19 @@ use Rattle.capn_target.specs.declared.target.Fault.{Fault}
 use Rattle.capn_target.specs.Target.{target}
 use Rattle.capn_walk.specs.Visits.{Visit, pays, fails}
 
--- the index of the capability that a slot names, if it names one
+-- the index of the capability if the target of a slot is a capability, else `None`
 abbrev pub cap_of : Result Target Fault → Option ℕ
 cap_of (Ok (targets.Cap k)) = Some k
 cap_of _ = None
 
--- the index of the first capability that the visits meet
+-- the index of the first capability among the targets of the visited slots, or `None` if no target is a capability
 abbrev pub first_cap_of : List (List ℕ) → List Visit → Option ℕ
 first_cap_of message [] = None
 first_cap_of message (pays at n ∷ vs) = option_or (cap_of (target message at)) (first_cap_of message vs)
 first_cap_of message (fails at e ∷ vs) = first_cap_of message vs
 
--- the message is accepted, and `s` has the number of words that the walk pays, the number of visits, and the first
--- capability of the message's value
+-- `message` is accepted, and `s` has the number of words paid, the number of visits, and the first capability of the
+-- message's value
 pub record IsSurvey (message : List (List ℕ)) (limits : Bounds) (s : Surveyed) : Type 0 where
   pub value : Tree
   pub is : IsValueOf message limits value

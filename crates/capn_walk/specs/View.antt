@@ -32,8 +32,8 @@ abbrev pub toll : ℕ → Target → ℕ
 toll base (targets.Content s start shape pads) = price base shape + pads
 toll base _ = 0
 
--- the result of a step to a slot with the given target, where the limits still allow `depth` levels and a price of
--- `budget` words
+-- the result of a step to a slot with the given target, if `depth` levels of objects and a price of `budget` words are
+-- allowed
 abbrev pub stepped : ℕ → ℕ → ℕ → Result Target Fault → Result Target Fault
 stepped base depth budget (Ok (targets.Content s start shape pads)) =
     if depth == 0 then Err faults.TooDeep
@@ -51,7 +51,8 @@ abbrev pub rooted : Result Target Fault → Result Target Fault
 rooted (Ok found) = if may_be_root found then Ok found else Err faults.RootKind
 rooted (Err e) = Err e
 
--- the result of a step to the root
+-- the result of a step to the root of `message`, if the limits allow `depth` levels of objects and a price of `budget`
+-- words
 abbrev pub stepped_to_root : List (List ℕ) → ℕ → ℕ → ℕ → Result Target Fault
 stepped_to_root message base depth budget =
     if length (segment_at message 0) == 0 then Err faults.NoRoot else stepped base depth budget
@@ -78,28 +79,28 @@ kind_of (targets.Content s start (shapes.Node a b) pads) = kinds.Node
 kind_of (targets.Content s start (shapes.Many width n) pads) = kind_of_list width
 kind_of (targets.Content s start (shapes.Rows n a b span) pads) = kinds.Rows
 
--- the number of elements of a list, else 0
+-- the number of elements if the target is a list, else 0
 abbrev pub len_of : Target → ℕ
 len_of (targets.Content s start (shapes.Many width n) pads) = n
 len_of (targets.Content s start (shapes.Rows n a b span) pads) = n
 len_of _ = 0
 
--- the number of data words of a struct, else 0
+-- the number of data words if the target is a struct, else 0
 abbrev pub words_in : Target → ℕ
 words_in (targets.Content s start (shapes.Node a b) pads) = a
 words_in _ = 0
 
--- the number of slots of a struct, else 0
+-- the number of slots if the target is a struct, else 0
 abbrev pub slots_in : Target → ℕ
 slots_in (targets.Content s start (shapes.Node a b) pads) = b
 slots_in _ = 0
 
--- the index of a capability, else `None`
+-- the index of the capability if the target is a capability, else `None`
 abbrev pub cap_in : Target → Option ℕ
 cap_in (targets.Cap k) = Some k
 cap_in _ = None
 
--- the number of elements of a list of pointers, else 0
+-- the number of elements if the target is a list of pointers, else 0
 abbrev pub links_in : Target → ℕ
 links_in (targets.Content s start (shapes.Many Link n) pads) = n
 links_in _ = 0
@@ -108,18 +109,19 @@ links_in _ = 0
 abbrev pub steps_in : Target → ℕ
 steps_in t = slots_in t + links_in t
 
--- the place of slot i of a struct, or of element i of a list of pointers
+-- the place of slot `i` of a struct, or of element `i` of a list of pointers
 abbrev pub step_place : Target → ℕ → Place
 step_place (targets.Content s start (shapes.Node a b) pads) i = record { segment = s; word = start + a + i }
 step_place (targets.Content s start shape pads) i = record { segment = s; word = start + i }
 step_place _ i = root
 
--- the words of the segment from the start of the content on
+-- the words from the start of the target's content up to the end of its segment, or no words if the target has no
+-- content
 abbrev pub content_of : List (List ℕ) → Target → List ℕ
 content_of message (targets.Content s start shape pads) = words_from message s start
 content_of message _ = []
 
--- element i of a list of numbers
+-- element `i` of a list of elements of the given width, whose content begins with the words `ws`
 abbrev pub number_in : Width → List ℕ → ℕ → ℕ
 number_in W1 ws i = element 64 1 ws i
 number_in W8 ws i = element 8 8 ws i
@@ -127,7 +129,7 @@ number_in W16 ws i = element 4 16 ws i
 number_in W32 ws i = element 2 32 ws i
 number_in _ ws i = slice_index ws i
 
--- the number of elements of the width that a word holds
+-- the number of elements of the width in a word: 64, 8, 4 or 2, and 1 for any other width
 abbrev pub per_word : Width → ℕ
 per_word W1 = widths.per_word bit
 per_word W8 = widths.per_word byte
@@ -135,7 +137,8 @@ per_word W16 = widths.per_word pair
 per_word W32 = widths.per_word quad
 per_word _ = 1
 
--- the element at a place of word w, counted from the least significant bits
+-- element `place` of the word `w`, which has elements of the given width. Elements are counted from the least
+-- significant bits.
 abbrev pub digit : Width → ℕ → ℕ → ℕ
 digit W1 w place = w / (2 ^ 1) ^ place % 2 ^ 1
 digit W8 w place = w / (2 ^ 8) ^ place % 2 ^ 8
@@ -143,13 +146,13 @@ digit W16 w place = w / (2 ^ 16) ^ place % 2 ^ 16
 digit W32 w place = w / (2 ^ 32) ^ place % 2 ^ 32
 digit _ w place = w
 
--- number i of a list of numbers
+-- number `i` of a target that is a list of numbers
 abbrev pub number_of : List (List ℕ) → Target → ℕ → ℕ
 number_of message (targets.Content s start (shapes.Many width n) pads) i =
     number_in width (words_from message s start) i
 number_of message _ i = 0
 
--- the number of elements of a list of bits, bytes, pairs, quads or octs, else 0
+-- the number of elements if the target is a list of bits, bytes, pairs, quads or octs, else 0
 abbrev pub numbers_in : Target → ℕ
 numbers_in (targets.Content s start (shapes.Many W0 n) pads) = 0
 numbers_in (targets.Content s start (shapes.Many Link n) pads) = 0
@@ -157,18 +160,18 @@ numbers_in (targets.Content s start (shapes.Many Rows n) pads) = 0
 numbers_in (targets.Content s start (shapes.Many width n) pads) = n
 numbers_in _ = 0
 
--- the number of rows of a composite list, else 0
+-- the number of rows if the target is a composite list, else 0
 abbrev pub rows_in : Target → ℕ
 rows_in (targets.Content s start (shapes.Rows n a b span) pads) = n
 rows_in _ = 0
 
--- row i of a composite list, as a struct
+-- row `i` of a composite list, as the target of a pointer to a struct
 abbrev pub row_of : Target → ℕ → Target
 row_of (targets.Content s start (shapes.Rows n a b span) pads) i =
     targets.Content s (start + 1 + i * (a + b)) (shapes.Node a b) 0
 row_of found i = found
 
--- the places of the slots below a target
+-- the places of the slots of a target's content, or no places if the target has no content
 abbrev pub slots_below : Target → List Place
 slots_below (targets.Content s start shape pads) = slots s start shape
 slots_below _ = []

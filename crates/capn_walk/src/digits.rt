@@ -1,4 +1,4 @@
-//! The elements of lists of numbers, taken from a word.
+//! The elements of lists of numbers, read from a word.
 
 ghost use Rattle.std.specs.Prelude.{◌≡◌, ◌<◌};
 ghost use Rattle.capn_walk.specs.View as seen;

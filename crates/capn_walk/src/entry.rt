@@ -10,7 +10,7 @@ use std::alloc::{Allocator, Global};
 use std::mem::size_of;
 
 /// The entry of a slot in an index: the target of the slot's pointer, and the number of entries for the slot and all
-/// slots below it. An entry takes 24 bytes.
+/// slots below it. An entry has 24 bytes.
 #[derive(Clone, Copy, Debug, PartialEq, Eq)]
 pub struct Entry {
     /// The index, within the segment, of the content's first word, or 0 if the target has no content. The first word of
@@ -18,15 +18,15 @@ pub struct Entry {
     pub start: u32,
     /// The index of the segment that has the content, or 0 if the target has no content.
     pub segment: u32,
-    /// The number of elements of a list, the number of rows of a composite list, or the index of a capability; 0 for
-    /// null and for a struct.
+    /// The number of elements of a list, the number of rows of a composite list, or the index of a capability. For null
+    /// and for a struct, 0.
     pub count: u32,
     /// The number of entries for the slot and all slots below it. The entry of the next slot of the same object is
     /// `span` entries further on.
     pub span: u32,
-    /// The number of data words of a struct, or of each row of a composite list; 0 for any other target.
+    /// The number of data words of a struct, or of each row of a composite list. For any other target, 0.
     pub words: u16,
-    /// The number of pointers of a struct, or of each row of a composite list; 0 for any other target.
+    /// The number of pointers of a struct, or of each row of a composite list. For any other target, 0.
     pub slots: u16,
     /// The kind of the slot's target.
     pub kind: Kind,
@@ -119,7 +119,8 @@ impl Entry {
 pub struct Indexed {
     /// The number of words paid: the sum of the prices of all visits.
     pub paid: u32,
-    /// The number of visits. A full index has an entry for each visit, also if the room was too small for all entries.
+    /// The number of visits, which is the number of entries of the complete index. Fewer entries are written if the
+    /// room is too small.
     pub visits: u32,
 }
 

@@ -1,4 +1,4 @@
-//! The forms in which a room, which is a slice of items, holds the entries of an index.
+//! The forms in which index entries are written to a room. A room is a slice of items.
 
 ghost use Rattle.std.specs.Prelude.{◌≡◌, set};
 ghost use Rattle.capn_walk.specs.declared.entry.Entry.{Entry as Entries};
@@ -7,8 +7,8 @@ use crate::entry::Entry;
 
 /// A form of index entries, which determines the item that a room holds for each entry.
 ///
-/// The entry of a slot is written before the entries of the slots below, and the slot's span is set after them. No item
-/// is read, and nothing is written past the end of the room.
+/// A slot's entry is written first, then the entries of the slots below it, and then the slot's span is set. No item is
+/// read, and nothing is written past the end of the room.
 pub trait EntryForm {
     /// The type of item that a room holds for an entry.
     type Item;

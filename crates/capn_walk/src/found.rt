@@ -29,8 +29,8 @@ impl<A: Allocator> Found<A> {
         }
     }
 
-    /// Returns the result for an object that has no slots and the value `value`. Neither the visit of the object nor
-    /// the object's own price is counted.
+    /// Returns the result for an object without slots, whose value is `value`. Neither the visit of the object nor the
+    /// object's own price is counted.
     #[inline(always)]
     pub fn without_slots(value: Value<A>) -> Found<A>
         ensures value { result.value ≡ value }

@@ -23,7 +23,7 @@ use capn_target::{Fault, Target};
 use capn_words::{Place, Pointer, Space, split};
 use std::sync::ledger::Ledger;
 
-/// Writes the entries of the slot at `at` and of all slots below it to `room`, from index `first` on. `found` is the
+/// Writes to `room`, from index `first` on, the entries of the slot at `at` and of all slots below it. `found` is the
 /// target of the slot, or the slot's fault.
 #[cycle(index_slots)]
 #[inline(always)]
@@ -93,7 +93,7 @@ pub fn index_found<S: Space, L: Ledger, F: EntryForm>(
     }
 }
 
-/// Writes the entries of the slot at `at` and of all slots below it to `room`, from index `first` on. The slot's
+/// Writes to `room`, from index `first` on, the entries of the slot at `at` and of all slots below it. The slot's
 /// `pointer` names a near struct or list.
 #[cycle(index_slots)]
 #[inline(always)]
@@ -129,8 +129,8 @@ fn index_near<S: Space, L: Ledger, F: EntryForm>(
     )
 }
 
-/// Writes the entries of the slot at `at`, which may hold any pointer, and of all slots below it to `room`, from index
-/// `first` on.
+/// Writes to `room`, from index `first` on, the entries of the slot at `at` and of all slots below it. The slot may
+/// hold any pointer.
 #[cycle(index_slots)]
 #[inline(never)]
 fn index_elsewhere<S: Space, L: Ledger, F: EntryForm>(
@@ -162,8 +162,8 @@ fn index_elsewhere<S: Space, L: Ledger, F: EntryForm>(
     )
 }
 
-/// Writes the entries of the slot at `at` and of all slots below it to `room`, from index `first` on. Near structs and
-/// near lists have an arm each, so that each arm is compiled for only one form of pointer.
+/// Writes to `room`, from index `first` on, the entries of the slot at `at` and of all slots below it. For speed, near
+/// structs and near lists have a match arm each.
 #[cycle(index_slots)]
 #[inline(always)]
 fn index_slot<S: Space, L: Ledger, F: EntryForm>(
@@ -217,8 +217,8 @@ fn index_slot<S: Space, L: Ledger, F: EntryForm>(
     }
 }
 
-/// Writes the entries of `slots`, in order, to `room` from index `first` on. The entries of the slots below a slot
-/// follow the slot's own entry.
+/// Writes to `room`, from index `first` on, the entries of `slots`, in order. After each slot's own entry, the entries
+/// of the slots below that slot are written.
 #[cycle(index_slots)]
 #[inline(never)]
 fn index_frame<S: Space, L: Ledger, F: EntryForm>(

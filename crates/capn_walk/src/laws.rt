@@ -1,4 +1,4 @@
-//! Laws of the definitions for the crates above. Each law is the contract of an empty function.
+//! The laws of walks, for the crates that use this crate. Each law is the contract of an empty function.
 
 ghost use Rattle.std.specs.Prelude.{ℕ, List};
 ghost use Rattle.capn_words.specs.declared.space.Place.{Place};
@@ -30,16 +30,16 @@ pub fn values()
 {}
 
 /// States the laws of targets. The target of the pointer at a place of a message lies inside a segment of the message.
-/// A value whose content is at the target is the value at that place. There are exactly three ways in which a pointer
-/// names content: near, by a landing pad of one word, or by a landing pad of two words.
+/// If the target is content, the value of that content is the value at the place. There are exactly three ways in which
+/// a pointer names content: near, by a landing pad of one word, or by a landing pad of two words.
 pub fn targets()
     ensures inside { laws.TargetsLieInside }
     ensures content { laws.ContentIsValue }
     ensures ways { laws.ContentByThreeWays }
 {}
 
-/// States the laws of verdicts. No message is both accepted and refused. For each budget, either all visits stay within
-/// it, or there is exactly one first visit that does not. The fault of a refused message is never `Memory`.
+/// States the laws of verdicts. No message is both accepted and refused. For each budget, either all visits are within
+/// the budget, or exactly one visit is the stop of the walk. The fault of a refused message is never `Memory`.
 pub fn verdicts()
     ensures apart { laws.Apart }
     ensures decided { laws.Decided }
@@ -49,9 +49,9 @@ pub fn verdicts()
 
 /// States the laws of indexes. The index of an accepted message begins with the entry of the root. The content of each
 /// entry lies inside a segment of the message. The entries of an object's slots follow the object's own entry. Each
-/// slot's entry has the target of that slot, and comes one span after the entry of the slot before. There is one entry
-/// for each visit, in order. The entries and the words together give the value of the message, and the value at each
-/// entry.
+/// slot's entry has the target of that slot. The span of a slot's entry leads to the entry of the next slot. There is
+/// one entry for each visit, in order. The entries and the words together give the value of the message, and the value
+/// at each entry.
 pub fn indexes()
     ensures readable { IndexesAreReadable }
     ensures visits { IndexesFollowVisits }

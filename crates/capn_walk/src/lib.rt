@@ -1,20 +1,23 @@
-//! The walk over a message from the root, within limits. A walk returns the message's value, a survey without the
-//! value, or an index of the message's slots.
+//! The walk over a message from the root, within limits. The result is the message's value, an index of the message's
+//! slots, or, for a survey, only totals.
 //!
 //! - [`resolve`] finds the target of the pointer at a place, or the first fault of that pointer. A target is null, a
 //!   capability, or content that lies inside its segment. Landing pads are followed.
-//! - [`walk`] returns the value that a message denotes within [`Limits`], with the number of words paid, or the place
-//!   and the reason at which the walk stopped. The price of a visit is paid before any content is read. So a message
-//!   with cycles or shared objects costs at most the budget.
+//! - [`walk`] returns the value that a message denotes and the number of words paid. If the walk stops at a fault or a
+//!   limit, the place and the reason are returned. The price of a visit is paid before any content is read. So a
+//!   message with cycles or shared objects costs at most the budget.
 //! - [`survey`] pays the same prices and refuses the same messages as [`walk`], and makes no tree. [`survey_depth`]
 //!   also finds the least depth limit that admits the message.
 //! - [`index`] and [`index_into`] make an entry for each visit of a slot. With the entries the message can be read in
 //!   place without further tests. [`index_into_form`] writes the entries in another [`EntryForm`].
-//! - [`survey_of`] and [`survey_depth_of`] survey without an allocator, and read the message only through a counter.
-//!   The budget bounds the number of reads.
+//! - [`survey_of`] and [`survey_depth_of`] survey without an allocator, and read the message only through calls that
+//!   count the reads. The budget bounds the number of reads.
 //! - [`walk_counted`], [`survey_counted`], [`survey_depth_counted`] and [`index_into_counted`] walk, survey and index a
 //!   message whose reads are counted. The budget bounds the number of reads.
-//! - [`View`] steps from one object to those below it, and pays from a [`Meter`] for each step.
+//! - [`View`] steps from one object to the objects below, and pays from a [`Meter`] for each step.
+//!
+//! A walk refuses a message in three places: for the fault of a pointer in `capn_target/src/slot_target.rt`, for a
+//! limit on depth or price in `step.rt`, and for its root in `message_walk.rt`.
 //!
 //! A message can be any `Space`: a bare segment, a framed message, or a message that owns its segments.
 //!
@@ -67,6 +70,6 @@ pub use walk_answer::{Stopped, Walked};
 // The targets of pointers.
 pub use capn_target::{Fault, Shape, Target, resolve};
 
-// For texts and explanations: the numbers in a word, and the price of an object.
+// The elements of a word, for capn_show, and the price of an object, for capn_diagnostics.
 pub use digits::{digit, per_word};
 pub use price::price_of;

@@ -65,7 +65,8 @@ impl Limits {
         }
     }
 
-    /// Returns the usual limits: 8,388,608 words of a message and of a budget, a depth of 64, and the strict prices.
+    /// Returns the usual limits: a message of 8,388,608 words, a budget of 8,388,608 words, a depth of 64, and the
+    /// strict prices.
     pub fn usual() -> Limits
         ensures message_words { result.message_words ≡ 8388608 }
         ensures budget { result.budget ≡ 8388608 }

@@ -18,7 +18,7 @@ use capn_words::{Place, Space, Width};
 use std::alloc::{AllocError, Allocator};
 use std::sync::ledger::Ledger;
 
-/// Copies the list of `count` elements of `width` whose content starts at `at` into memory of `alloc`.
+/// Copies into memory of `alloc` the list of `count` elements of `width` whose content starts at `at`.
 #[tactic(auto, using(capn_value::specs::Views::views))]
 pub fn list_at<S: Space, A: Allocator + Copy, L: Ledger>(
     alloc: A,
@@ -160,8 +160,8 @@ fn bits_at<S: Space, A: Allocator, L: Ledger>(
     Ok(Items::from_vec(bits))
 }
 
-/// Appends the first `count` bits of `byte` to `bits`, the least significant first. The function is inlined, so that
-/// the loop over a whole byte is unrolled.
+/// Appends the `count` least significant bits of `byte` to `bits`, the least significant first. The function is
+/// inlined, so that the loop is unrolled in the call with the constant count 8.
 #[inline(always)]
 fn push_bits<A: Allocator>(bits: &mut Vec<bool, A>, byte: u8, count: usize)
     requires within { count ≤ 8 }

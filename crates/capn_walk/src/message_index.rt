@@ -55,11 +55,11 @@ impl<'f, F: EntryForm> CountedWriter for IndexTask<'f, F> {
 /// visits and the number of words that the walk pays.
 ///
 /// If `room` is too small for all entries, the first entries are written, and the message is still accepted. If `room`
-/// is larger, the items after the entries stay as they were. There is an entry for each visit, so room for `budget + 1`
-/// entries is always enough. If `room` is empty, the entries are only counted.
+/// is larger, the items after the entries stay as they were. There is an entry for each visit, so a `room` of
+/// `budget + 1` items is always enough. If `room` is empty, the entries are only counted.
 ///
-/// The order of the visits and the refusals are those of [`survey`](crate::survey). After a refusal the entries of the
-/// visits before the refused visit may have changed, and no other entries.
+/// The visits are made in the order of [`survey`](crate::survey), with the same errors. If the result is an error, only
+/// the items for the visits before the refused visit may have changed.
 ///
 /// Memory: only the stack, with one frame for each object on the path from the root, so at most as many frames as the
 /// depth limit.
@@ -68,16 +68,16 @@ pub fn index_into<M: Asked>(
     limits: Limits,
     room: &mut [Entry],
 ) -> Result<Indexed, Stopped>
-    // The reads of the message and the turns of the loop are at most 13 * (budget + 1) + 1 in all, and starting the
-    // count takes one further read. The message has to allow that total. A reference to a `Space` allows any number.
+    // The message has to allow 13 * (budget + 1) + 1 reads and turns of the loop, and one more read that starts the
+    // count. No more can occur. A reference to a `Space` allows any number.
     requires work { M.allows space (13 * (limits.budget + 1) + 1 + 1) }
     // If `result` is `Ok`, the message is accepted, and `room` has the message's index, or as much of the index as
     // fits.
     ensures found { IfOk result (λ t. IsIndexed (M.message space) limits room.old room.new t) }
-    // An accepted message gives `Ok`. Any refusal is the first stop of the walk.
+    // An accepted message gives `Ok`. Any error is the stop of the walk.
     ensures only { IsAccepted (M.message space) limits → IsOk result }
     ensures refused { IfErr result (λ s. IsWalkRefused (M.message space) limits s.fault s.place s.paid s.visits) }
-    // After a refusal `room` is unchanged, except for the entries of the visits before the refused visit.
+    // If `result` is an error, `room` is unchanged, except for the entries of the visits before the refused visit.
     ensures kept { IfErr result (λ s. drop (s.visits - 1) room.new ≡ drop (s.visits - 1) room.old) }
     // No more than the budget is paid, and the visits are at most one more than the words paid.
     ensures bounded { MatchResult result (λ t. IsBounded limits.budget t.paid t.visits)
@@ -94,25 +94,24 @@ pub fn index_into<M: Asked>(
 
 /// Writes the index of the message `space` to `room`, each entry in `form`.
 ///
-/// The bound on the reads, the results, the refusals and the prices are those of [`index_into`]. No memory is taken
-/// except the stack.
+/// Results, prices and the bound on the reads are those of [`index_into`]. No memory is allocated.
 pub fn index_into_form<M: Asked, F: EntryForm>(
     space: M,
     limits: Limits,
     form: &F,
     room: &mut [F::Item],
 ) -> Result<Indexed, Stopped>
-    // The reads of the message and the turns of the loop are at most 13 * (budget + 1) + 1 in all, and starting the
-    // count takes one further read. The message has to allow that total. A reference to a `Space` allows any number.
+    // The message has to allow 13 * (budget + 1) + 1 reads and turns of the loop, and one more read that starts the
+    // count. No more can occur. A reference to a `Space` allows any number.
     requires work { M.allows space (13 * (limits.budget + 1) + 1 + 1) }
     // If `result` is `Ok`, the message is accepted, and `room` has the message's index in `form`, or as much of the
     // index as fits.
     ensures found { IfOk result (λ t.
         IsIndexedAs (F.written form.now) (M.message space) limits room.old room.new t) }
-    // An accepted message gives `Ok`. Any refusal is the first stop of the walk.
+    // An accepted message gives `Ok`. Any error is the stop of the walk.
     ensures only { IsAccepted (M.message space) limits → IsOk result }
     ensures refused { IfErr result (λ s. IsWalkRefused (M.message space) limits s.fault s.place s.paid s.visits) }
-    // After a refusal `room` is unchanged, except for the entries of the visits before the refused visit.
+    // If `result` is an error, `room` is unchanged, except for the entries of the visits before the refused visit.
     ensures kept { IfErr result (λ s. drop (s.visits - 1) room.new ≡ drop (s.visits - 1) room.old) }
     // No more than the budget is paid, and the visits are at most one more than the words paid.
     ensures bounded { MatchResult result (λ t. IsBounded limits.budget t.paid t.visits)
@@ -122,10 +121,10 @@ pub fn index_into_form<M: Asked, F: EntryForm>(
 }
 
 /// Writes the index of the message `space` to `room`, each entry in `form`, and counts reads and loop turns in `reads`.
-/// The results and refusals are those of [`index_into_form`].
+/// The results are those of [`index_into_form`].
 ///
 /// The count grows by at most thirteen for each visit, including a refused visit, plus one. So the budget bounds the
-/// work for any message. No memory is taken except the stack.
+/// work for any message. No memory is allocated.
 pub fn index_into_counted<S: Space, L: Ledger, F: EntryForm>(
     space: &CountedSpace<'_, S, L>,
     limits: Limits,
@@ -136,10 +135,10 @@ pub fn index_into_counted<S: Space, L: Ledger, F: EntryForm>(
     // If `result` is `Ok`, the message is accepted, and `room` has the message's index in `form`, or as much of the
     // index as fits.
     ensures found { IfOk result (λ t. IsIndexedAs (F.written form.now) space.now limits room.old room.new t) }
-    // An accepted message gives `Ok`. Any refusal is the first stop of the walk.
+    // An accepted message gives `Ok`. Any error is the stop of the walk.
     ensures only { IsAccepted space.now limits → IsOk result }
     ensures refused { IfErr result (λ s. IsWalkRefused space.now limits s.fault s.place s.paid s.visits) }
-    // After a refusal `room` is unchanged, except for the entries of the visits before the refused visit.
+    // If `result` is an error, `room` is unchanged, except for the entries of the visits before the refused visit.
     ensures kept { IfErr result (λ s. drop (s.visits - 1) room.new ≡ drop (s.visits - 1) room.old) }
     // No more than the budget is paid, and the visits are at most one more than the words paid.
     ensures bounded { MatchResult result (λ t. IsBounded limits.budget t.paid t.visits)
@@ -147,7 +146,7 @@ pub fn index_into_counted<S: Space, L: Ledger, F: EntryForm>(
     // The count of reads and turns grows by at most thirteen for each visit, plus one.
     ensures reads { MatchResult result (λ t. reads.new ≤ reads.old + 13 * t.visits + 1)
         (λ s. reads.new ≤ reads.old + 13 * s.visits + 1) }
-    // So the budget bounds the count, for any message and any result.
+    // The budget bounds the count, for any message and any result.
     ensures work { reads.new ≤ reads.old + 13 * (limits.budget + 1) + 1 }
 {
     space.bounds();
@@ -182,20 +181,20 @@ fn index_counted<S: Space, A: Allocator + Copy, L: Ledger>(
     ensures accepted { OnOk result (IsAccepted space.now limits) }
     ensures entries { IfOk result (λ x. x.entries.items ≡ index_of space.now limits) }
     ensures pays { IfOk result (λ x. x.paid ≡ paid space.now limits) }
-    // An accepted message gives `Ok`, unless an allocation was refused. Any refusal other than `Memory` is the first
-    // stop of the walk.
+    // An accepted message gives `Ok`, unless an allocation was refused. Any error other than `Memory` is the stop of
+    // the walk.
     ensures only { (v : Tree) → IsValueOf space.now limits v → IfErr result (λ s. s.fault ≡ Memory) }
     ensures refused { IfErr result (λ s.
         (s.fault ≡ Memory)
         ⊎ IsWalkRefused space.now limits s.fault s.place s.paid s.visits) }
-    // Only the vector of entries takes memory, and only once the survey has accepted the message. So if `Memory` is
-    // returned, the message is an accepted one.
+    // Only the vector of entries is allocated, and only after the survey has accepted the message. So if the fault is
+    // `Memory`, the message is accepted.
     ensures no_memory { IfErr result (λ s. s.fault ≡ Memory → IsAccepted space.now limits) }
     // No more than the budget is paid, and the visits are at most one more than the words paid.
     ensures bounded { MatchResult result (λ x. IsBounded limits.budget x.paid (length x.entries.items))
         (λ s. IsBounded limits.budget s.paid s.visits) }
     // For each visit the survey adds at most fourteen reads and turns, and writing the entries adds at most thirteen.
-    // Each of the two passes adds one more.
+    // Each of the two passes adds one more in all.
     ensures work { reads.new ≤ reads.old + 27 * (limits.budget + 1) + 2 }
 {
     let told = survey_counted(space, limits, reads)?;
@@ -240,7 +239,8 @@ impl<A: Allocator + Copy> CountedTask for EntriesTask<A> {
 /// Makes the index of the message `space`, with the number of words that the walk pays, if the message is accepted
 /// within `limits`.
 ///
-/// The refusals are those of [`survey`](crate::survey), and `Memory` only if an allocation on `alloc` was refused.
+/// The errors are those of [`survey`](crate::survey), and `Memory`. `Memory` is returned only if an allocation on
+/// `alloc` was refused.
 ///
 /// Memory: the entries, 24 bytes each, which are allocated once the message is accepted.
 pub fn index<M: Asked, A: Allocator + Copy>(
@@ -248,23 +248,22 @@ pub fn index<M: Asked, A: Allocator + Copy>(
     space: M,
     limits: Limits,
 ) -> Result<Index<A>, Stopped>
-    // The reads of the message and the turns of the loops are at most 27 * (budget + 1) + 2 in both passes together,
-    // and starting the count takes one further read. The message has to allow that total. A reference to a `Space`
-    // allows any number.
+    // The message has to allow 27 * (budget + 1) + 2 reads and turns of the loops in both passes together, and one
+    // more read that starts the count. No more can occur. A reference to a `Space` allows any number.
     requires work { M.allows space (27 * (limits.budget + 1) + 2 + 1) }
     // If `result` is `Ok`, the message is accepted, and `result` has the message's entries and the number of words that
     // the walk pays.
     ensures accepted { OnOk result (IsAccepted (M.message space) limits) }
     ensures entries { IfOk result (λ x. x.entries.items ≡ index_of (M.message space) limits) }
     ensures pays { IfOk result (λ x. x.paid ≡ paid (M.message space) limits) }
-    // An accepted message gives `Ok`, unless an allocation was refused. Any refusal other than `Memory` is the first
-    // stop of the walk.
+    // An accepted message gives `Ok`, unless an allocation was refused. Any error other than `Memory` is the stop of
+    // the walk.
     ensures only { (v : Tree) → IsValueOf (M.message space) limits v → IfErr result (λ s. s.fault ≡ Memory) }
     ensures refused { IfErr result (λ s.
         (s.fault ≡ Memory)
         ⊎ IsWalkRefused (M.message space) limits s.fault s.place s.paid s.visits) }
-    // Only the vector of entries takes memory, and only once the survey has accepted the message. So if `Memory` is
-    // returned, the message is an accepted one.
+    // Only the vector of entries is allocated, and only after the survey has accepted the message. So if the fault is
+    // `Memory`, the message is accepted.
     ensures no_memory { IfErr result (λ s. s.fault ≡ Memory → IsAccepted (M.message space) limits) }
     // No more than the budget is paid, and the visits are at most one more than the words paid.
     ensures bounded { MatchResult result (λ x. IsBounded limits.budget x.paid (length x.entries.items))

@@ -1,4 +1,4 @@
-//! The survey of a whole message: the walk without the message's value.
+//! The survey of a message: a walk from the root that does not make the message's value.
 
 ghost use Rattle.std.specs.Prelude.{◌≡◌, ◌≢◌, ◌<◌, ◌≤◌, ◌+◌, ◌*◌, ◌⊎◌, IfOk, IfErr, MatchResult};
 ghost use Rattle.capn_walk.specs.Accepted.{IsValueOf, IsWalkRefused, IsBounded};
@@ -44,17 +44,17 @@ impl CountedTask for SurveyTask {
     }
 }
 
-/// Surveys the message `space` within `limits`, without an allocator, and reads the message only through a counter. The
-/// results are those of [`survey`]. No memory is taken.
+/// Surveys the message `space` within `limits`, without an allocator. The message is read only through calls that count
+/// the reads. The results are those of [`survey`]. No memory is allocated.
 pub fn survey_of<M: Asked>(space: M, limits: Limits) -> Result<Surveyed, Stopped>
-    // The reads of the message and the turns of the loop are at most 14 * (budget + 1) + 1 in all, and starting the
-    // count takes one further read. The message has to allow that total. A reference to a `Space` allows any number.
+    // The message has to allow 14 * (budget + 1) + 1 reads and turns of the loop, and one more read that starts the
+    // count. No more can occur. A reference to a `Space` allows any number.
     requires work { M.allows space (14 * (limits.budget + 1) + 1 + 1) }
-    // If `result` is `Ok`, the message is accepted, and `result` has the number of words that the walk pays, the number
-    // of visits, and the first capability of the value.
+    // If `result` is `Ok`, the message is accepted. Then `result` has the number of words that the walk pays, the
+    // number of visits, and the first capability of the value.
     ensures found { IfOk result (λ s. told.IsSurvey (M.message space) limits s) }
-    // An accepted message gives `Ok`, with the first capability of the value. Any refusal is the first stop of the
-    // walk, and never `Memory` (see `no_memory`).
+    // An accepted message gives `Ok`, with the first capability of the value. Any error is the stop of the walk.
+    // `only` and `refused` also allow the fault `Memory`, which `no_memory` rules out.
     ensures only { (v : Tree) → IsValueOf (M.message space) limits v →
         MatchResult result (λ s. s.capability ≡ first_cap v) (λ s. s.fault ≡ Memory) }
     ensures refused { IfErr result (λ s.
@@ -72,18 +72,18 @@ pub fn survey_of<M: Asked>(space: M, limits: Limits) -> Result<Surveyed, Stopped
 /// Surveys the message `space` within `limits`. Returns the number of words that the walk pays, the number of visits
 /// and the first capability, but not the value.
 ///
-/// The order of the visits and the refusals are those of [`walk`], except that `Memory` is never the refusal. No memory
-/// is taken, and the allocator is not used.
+/// The visits are made in the order of [`walk`], with the same errors, except that `Memory` is never returned. No
+/// memory is allocated, and the allocator is not used.
 pub fn survey<S: Space, A: Allocator + Copy>(
     _alloc: A,
     space: &S,
     limits: Limits,
 ) -> Result<Surveyed, Stopped>
-    // If `result` is `Ok`, the message is accepted, and `result` has the number of words that the walk pays, the number
-    // of visits, and the first capability of the value.
+    // If `result` is `Ok`, the message is accepted. Then `result` has the number of words that the walk pays, the
+    // number of visits, and the first capability of the value.
     ensures found { IfOk result (λ s. told.IsSurvey (S.message space.now) limits s) }
-    // An accepted message gives `Ok`, with the first capability of the value. Any refusal is the first stop of the
-    // walk, and never `Memory` (see `no_memory`).
+    // An accepted message gives `Ok`, with the first capability of the value. Any error is the stop of the walk.
+    // `only` and `refused` also allow the fault `Memory`, which `no_memory` rules out.
     ensures only { (v : Tree) → IsValueOf (S.message space.now) limits v →
         MatchResult result (λ s. s.capability ≡ first_cap v) (λ s. s.fault ≡ Memory) }
     ensures refused { IfErr result (λ s.
@@ -103,17 +103,17 @@ pub fn survey<S: Space, A: Allocator + Copy>(
 /// in no other way.
 ///
 /// The count grows by at most fourteen for each visit, including a refused visit, plus one. So the budget bounds the
-/// work for any message. No memory is taken.
+/// work for any message. No memory is allocated.
 pub fn survey_counted<S: Space, L: Ledger>(
     space: &CountedSpace<'_, S, L>,
     limits: Limits,
     reads: &mut Reads<L>,
 ) -> Result<Surveyed, Stopped>
-    // If `result` is `Ok`, the message is accepted, and `result` has the number of words that the walk pays, the number
-    // of visits, and the first capability of the value.
+    // If `result` is `Ok`, the message is accepted. Then `result` has the number of words that the walk pays, the
+    // number of visits, and the first capability of the value.
     ensures found { IfOk result (λ s. told.IsSurvey space.now limits s) }
-    // An accepted message gives `Ok`, with the first capability of the value. Any refusal is the first stop of the
-    // walk, and never `Memory` (see `no_memory`).
+    // An accepted message gives `Ok`, with the first capability of the value. Any error is the stop of the walk.
+    // `only` and `refused` also allow the fault `Memory`, which `no_memory` rules out.
     ensures only { (v : Tree) → IsValueOf space.now limits v →
         MatchResult result (λ s. s.capability ≡ first_cap v) (λ s. s.fault ≡ Memory) }
     ensures refused { IfErr result (λ s.
@@ -127,7 +127,7 @@ pub fn survey_counted<S: Space, L: Ledger>(
     // The count of reads and turns grows by at most fourteen for each visit, plus one.
     ensures reads { MatchResult result (λ s. reads.new ≤ reads.old + 14 * s.visits + 1)
         (λ s. reads.new ≤ reads.old + 14 * s.visits + 1) }
-    // So the budget bounds the count, for any message and any result.
+    // The budget bounds the count, for any message and any result.
     ensures work { reads.new ≤ reads.old + 14 * (limits.budget + 1) + 1 }
 {
     space.bounds();
@@ -144,7 +144,7 @@ pub fn survey_counted<S: Space, L: Ledger>(
     Ok(told.survey)
 }
 
-/// A task that surveys a message within `limits` and finds its least depth.
+/// A task that surveys a message within `limits` and finds the least depth limit that admits the message.
 #[derive(Drop)]
 struct DepthTask {
     limits: Limits,
@@ -169,21 +169,21 @@ impl CountedTask for DepthTask {
     }
 }
 
-/// Surveys the message `space` within `limits`, also finds the least depth limit that admits the message, and reads the
-/// message only through a counter. The results are those of [`survey_depth`]. No allocator is used and no memory is
-/// taken.
+/// Surveys the message `space` within `limits`, and also finds the least depth limit that admits the message. The
+/// message is read only through calls that count the reads. The results are those of [`survey_depth`]. No allocator is
+/// used.
 pub fn survey_depth_of<M: Asked>(space: M, limits: Limits) -> Result<Measured, Stopped>
-    // The reads of the message and the turns of the loop are at most 14 * (budget + 1) + 1 in all, and starting the
-    // count takes one further read. The message has to allow that total. A reference to a `Space` allows any number.
+    // The message has to allow 14 * (budget + 1) + 1 reads and turns of the loop, and one more read that starts the
+    // count. No more can occur. A reference to a `Space` allows any number.
     requires work { M.allows space (14 * (limits.budget + 1) + 1 + 1) }
-    // If `result` is `Ok`, the message is accepted, and `result` has the number of words that the walk pays, the number
-    // of visits, and the first capability of the value.
+    // If `result` is `Ok`, the message is accepted. Then `result` has the number of words that the walk pays, the
+    // number of visits, and the first capability of the value.
     ensures found { IfOk result (λ m. told.IsSurvey (M.message space) limits m.survey) }
     // If `result` is `Ok(m)`, the message is accepted with the depth limit `m.depth`, and with no lower depth limit.
     ensures depth { IfOk result (λ m. IsDepth (M.message space) limits m.depth) }
     ensures within { IfOk result (λ m. m.depth ≤ limits.depth) }
-    // An accepted message gives `Ok`, with the first capability of the value. Any refusal is the first stop of the
-    // walk, and never `Memory` (see `no_memory`).
+    // An accepted message gives `Ok`, with the first capability of the value. Any error is the stop of the walk.
+    // `only` and `refused` also allow the fault `Memory`, which `no_memory` rules out.
     ensures only { (v : Tree) → IsValueOf (M.message space) limits v →
         MatchResult result (λ m. m.survey.capability ≡ first_cap v) (λ s. s.fault ≡ Memory) }
     ensures refused { IfErr result (λ s.
@@ -199,23 +199,23 @@ pub fn survey_depth_of<M: Asked>(space: M, limits: Limits) -> Result<Measured, S
 }
 
 /// Surveys the message `space` within `limits`, and also finds the least depth limit with which the message is
-/// accepted, if the other limits stay as they are. The least depth limit is 0 if the root is null, else the greatest
+/// accepted, if the other limits are unchanged. The least depth limit is 0 if the root is null, else the greatest
 /// number of objects on a path from the root, including the root object.
 ///
-/// The message is surveyed once, with the refusals of [`survey`]. No memory is taken, and the allocator is not used.
+/// The message is surveyed once, with the errors of [`survey`]. No memory is allocated, and the allocator is not used.
 pub fn survey_depth<S: Space, A: Allocator + Copy>(
     _alloc: A,
     space: &S,
     limits: Limits,
 ) -> Result<Measured, Stopped>
-    // If `result` is `Ok`, the message is accepted, and `result` has the number of words that the walk pays, the number
-    // of visits, and the first capability of the value.
+    // If `result` is `Ok`, the message is accepted. Then `result` has the number of words that the walk pays, the
+    // number of visits, and the first capability of the value.
     ensures found { IfOk result (λ m. told.IsSurvey (S.message space.now) limits m.survey) }
     // If `result` is `Ok(m)`, the message is accepted with the depth limit `m.depth`, and with no lower depth limit.
     ensures depth { IfOk result (λ m. IsDepth (S.message space.now) limits m.depth) }
     ensures within { IfOk result (λ m. m.depth ≤ limits.depth) }
-    // An accepted message gives `Ok`, with the first capability of the value. Any refusal is the first stop of the
-    // walk, and never `Memory` (see `no_memory`).
+    // An accepted message gives `Ok`, with the first capability of the value. Any error is the stop of the walk.
+    // `only` and `refused` also allow the fault `Memory`, which `no_memory` rules out.
     ensures only { (v : Tree) → IsValueOf (S.message space.now) limits v →
         MatchResult result (λ m. m.survey.capability ≡ first_cap v) (λ s. s.fault ≡ Memory) }
     ensures refused { IfErr result (λ s.
@@ -232,20 +232,20 @@ pub fn survey_depth<S: Space, A: Allocator + Copy>(
 
 /// Surveys the message `space` within `limits`, also finds the least depth limit that admits the message, and counts
 /// reads and loop turns in `reads`. The results are those of [`survey_depth`]. The count has the bounds of
-/// [`survey_counted`]. No memory is taken.
+/// [`survey_counted`]. No memory is allocated.
 pub fn survey_depth_counted<S: Space, L: Ledger>(
     space: &CountedSpace<'_, S, L>,
     limits: Limits,
     reads: &mut Reads<L>,
 ) -> Result<Measured, Stopped>
-    // If `result` is `Ok`, the message is accepted, and `result` has the number of words that the walk pays, the number
-    // of visits, and the first capability of the value.
+    // If `result` is `Ok`, the message is accepted. Then `result` has the number of words that the walk pays, the
+    // number of visits, and the first capability of the value.
     ensures found { IfOk result (λ m. told.IsSurvey space.now limits m.survey) }
     // If `result` is `Ok(m)`, the message is accepted with the depth limit `m.depth`, and with no lower depth limit.
     ensures depth { IfOk result (λ m. IsDepth space.now limits m.depth) }
     ensures within { IfOk result (λ m. m.depth ≤ limits.depth) }
-    // An accepted message gives `Ok`, with the first capability of the value. Any refusal is the first stop of the
-    // walk, and never `Memory` (see `no_memory`).
+    // An accepted message gives `Ok`, with the first capability of the value. Any error is the stop of the walk.
+    // `only` and `refused` also allow the fault `Memory`, which `no_memory` rules out.
     ensures only { (v : Tree) → IsValueOf space.now limits v →
         MatchResult result (λ m. m.survey.capability ≡ first_cap v) (λ s. s.fault ≡ Memory) }
     ensures refused { IfErr result (λ s.
@@ -259,7 +259,7 @@ pub fn survey_depth_counted<S: Space, L: Ledger>(
     // The count of reads and turns grows by at most fourteen for each visit, plus one.
     ensures reads { MatchResult result (λ s. reads.new ≤ reads.old + 14 * s.survey.visits + 1)
         (λ s. reads.new ≤ reads.old + 14 * s.visits + 1) }
-    // So the budget bounds the count, for any message and any result.
+    // The budget bounds the count, for any message and any result.
     ensures work { reads.new ≤ reads.old + 14 * (limits.budget + 1) + 1 }
 {
     space.bounds();

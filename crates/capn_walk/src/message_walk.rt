@@ -1,5 +1,4 @@
-//! The walk over a whole message, from its root, and the refusals of the root, `NoRoot` and `RootKind`, for walk,
-//! survey and index.
+//! The walk over a message from the root, and the test of the root pointer for walks, surveys and indexes.
 
 ghost use Rattle.std.specs.Prelude.{◌+◌, ◌*◌, ◌≡◌, ◌≢◌, ◌⊎◌, ◌<◌, ◌≤◌, Ok};
 ghost use Rattle.std.specs.Prelude.{length, true, IfOk, IfErr, OnOk, MatchResult};
@@ -53,35 +52,35 @@ impl<A: Allocator + Copy> CountedTask for WalkTask<A> {
 /// words paid, and the number of visits.
 ///
 /// Slots are visited in preorder. A slot is visited each time that a pointer leads to the object with the slot. The
-/// price of a visit is paid before any content is read and before memory is taken for the content. So a hostile
-/// message, with cycles or shared objects, costs at most the budget.
+/// price of a visit is paid before any content is read or allocated. So even a hostile message, with cycles or shared
+/// objects, costs at most the budget.
 ///
-/// If segment 0 has no word, the refusal is `NoRoot` at 0:0, with `paid` 0 and `visits` 0. Any other refusal except
-/// `Memory` is that of the first visit that is a fault or brings the sum of the prices above the budget. The refusal
-/// has the place of the visited slot, the number of words paid before the visit, and the number of the visit. At one
-/// visit the faults of `resolve` come first, then `RootKind`, `TooDeep` and `OverBudget`. `Memory` is returned only if
-/// an allocation was refused, in place of any later result. In a `Memory` refusal `paid` is at most the budget, and
+/// If segment 0 has no word, the error is `NoRoot` at 0:0, with `paid` 0 and `visits` 0. Any other error except
+/// `Memory` comes from the first visit that is a fault or brings the sum of the prices above the budget. The error has
+/// the place of the visited slot, the number of words paid before the visit, and the number of the visit. At one visit
+/// the faults of `resolve` come first, then `RootKind`, `TooDeep` and `OverBudget`. `Memory` is returned only if an
+/// allocation was refused, in place of any later result. With the fault `Memory`, `paid` is at most the budget, and
 /// `visits` is at most `paid + 1`.
 ///
-/// Memory: that of the tree, on `alloc`. The stack holds at most as many objects as the depth limit. (Page: security
+/// Memory: the tree, on `alloc`. The stack holds at most as many objects as the depth limit. (Page: security
 /// considerations; the tariffs and the order of the faults are our own.)
 pub fn walk<M: Asked, A: Allocator + Copy>(
     alloc: A,
     space: M,
     limits: Limits,
 ) -> Result<Walked<A>, Stopped>
-    // The reads of the message and the turns of the loops are at most 12 * (budget + 1) in all, and starting the count
-    // takes one further read. The message has to allow that total. A reference to a `Space` allows any number.
+    // The message has to allow 12 * (budget + 1) reads and turns of the loops, and one more read that starts the
+    // count. No more can occur. A reference to a `Space` allows any number.
     requires work { M.allows space (12 * (limits.budget + 1) + 1) }
 
-    // If `result` is `Ok`, the message is accepted, and `result` has the value at the root, the sum of the prices, and
+    // If `result` is `Ok`, the message is accepted. Then `result` has the value at the root, the sum of the prices, and
     // the number of visits.
     ensures found { IfOk result (λ w. IsValueOf (M.message space) limits w.tree) }
     ensures pays { IfOk result (λ w. w.paid ≡ paid (M.message space) limits) }
     ensures counts { IfOk result (λ w. w.visits ≡ number_of_visits (M.message space) limits) }
 
-    // If the message has a value within the limits, that value is returned, unless an allocation was refused. Any
-    // refusal other than `Memory` is the first stop of the walk.
+    // If the message has a value within the limits, that value is returned, unless an allocation was refused. Any error
+    // other than `Memory` is the stop of the walk.
     ensures only { (v : trees.Tree) → IsValueOf (M.message space) limits v →
         MatchResult result (λ w. w.tree ≡ v) (λ s. s.fault ≡ Memory) }
     ensures refused { IfErr result (λ s.
@@ -96,7 +95,7 @@ pub fn walk<M: Asked, A: Allocator + Copy>(
     ensures bounded { MatchResult result (λ w. IsBounded limits.budget w.paid w.visits)
         (λ s. IsBounded limits.budget s.paid s.visits) }
 
-    // The tree costs no more than what was paid, and is no higher than the limit on depth.
+    // The tree costs at most the number of words paid, and is at most as high as the depth limit.
     ensures thrifty { IfOk result (λ w. cost (base limits.tariff) w.tree ≤ w.paid) }
     ensures low { IfOk result (λ w. height w.tree ≤ limits.depth) }
 {
@@ -104,25 +103,25 @@ pub fn walk<M: Asked, A: Allocator + Copy>(
 }
 
 /// Reads the value that the message `space` denotes within `limits`, and counts reads and loop turns in `reads`. The
-/// results are those of [`walk`]. A read of bytes counts one for each word that the bytes take. The loops are those
-/// over slots and over rows.
+/// results are those of [`walk`]. A read of bytes counts one for each word of those bytes. The loops are those over
+/// slots and over rows.
 ///
 /// The count grows by at most ten for each visit, including a refused visit, plus two for each word paid, plus one. So
-/// the budget bounds the work for any message. Memory: that of the tree, on `alloc`.
+/// the budget bounds the work for any message. Memory: the tree, on `alloc`.
 pub fn walk_counted<S: Space, A: Allocator + Copy, L: Ledger>(
     alloc: A,
     space: &CountedSpace<'_, S, L>,
     limits: Limits,
     reads: &mut Reads<L>,
 ) -> Result<Walked<A>, Stopped>
-    // If `result` is `Ok`, the message is accepted, and `result` has the value at the root, the sum of the prices, and
+    // If `result` is `Ok`, the message is accepted. Then `result` has the value at the root, the sum of the prices, and
     // the number of visits.
     ensures found { IfOk result (λ w. IsValueOf space.now limits w.tree) }
     ensures pays { IfOk result (λ w. w.paid ≡ paid space.now limits) }
     ensures counts { IfOk result (λ w. w.visits ≡ number_of_visits space.now limits) }
 
-    // If the message has a value within the limits, that value is returned, unless an allocation was refused. Any
-    // refusal other than `Memory` is the first stop of the walk.
+    // If the message has a value within the limits, that value is returned, unless an allocation was refused. Any error
+    // other than `Memory` is the stop of the walk.
     ensures only { (v : trees.Tree) → IsValueOf space.now limits v →
         MatchResult result (λ w. w.tree ≡ v) (λ s. s.fault ≡ Memory) }
     ensures refused { IfErr result (λ s.
@@ -137,14 +136,14 @@ pub fn walk_counted<S: Space, A: Allocator + Copy, L: Ledger>(
     ensures bounded { MatchResult result (λ w. IsBounded limits.budget w.paid w.visits)
         (λ s. IsBounded limits.budget s.paid s.visits) }
 
-    // The tree costs no more than what was paid, and is no higher than the limit on depth.
+    // The tree costs at most the number of words paid, and is at most as high as the depth limit.
     ensures thrifty { IfOk result (λ w. cost (base limits.tariff) w.tree ≤ w.paid) }
     ensures low { IfOk result (λ w. height w.tree ≤ limits.depth) }
 
     // The count of reads and turns grows by at most ten for each visit, plus two for each word paid, plus one.
     ensures reads { MatchResult result (λ w. reads.new ≤ reads.old + 10 * w.visits + 2 * w.paid + 1)
         (λ s. reads.new ≤ reads.old + 10 * s.visits + 2 * s.paid + 1) }
-    // So the budget bounds the count, for any message and any result.
+    // The budget bounds the count, for any message and any result.
     ensures work { reads.new ≤ reads.old + 12 * (limits.budget + 1) }
 {
     space.bounds();

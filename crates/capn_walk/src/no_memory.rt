@@ -4,7 +4,7 @@ ghost use Rattle.std.specs.Borrow.{ffalse};
 
 use std::alloc::{AllocError, Allocator};
 
-/// An allocator that refuses every allocation. So a function that is called with `NoMemory` takes no memory.
+/// An allocator that refuses every allocation. So a function that is called with `NoMemory` allocates nothing.
 #[derive(Clone, Copy)]
 pub(crate) struct NoMemory;
 

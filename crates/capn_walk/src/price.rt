@@ -6,9 +6,9 @@ ghost use Rattle.capn_walk.specs.Visits.{price};
 use capn_target::{Shape, content_words};
 use capn_words::Width;
 
-/// Returns the price, in words, of an object of `shape` behind `pads` words of landing pads. The price is the sum of
-/// `base`, the number of words of the object, `pads`, and 1 for each element of size 0. The words of a composite list
-/// are the tag word and all words that the pointer to the list counts.
+/// Returns the price, in words, of an object of `shape` to which `pads` words of landing pads lead. The price is the
+/// sum of `base`, the number of words of the object, `pads`, and 1 for each element of size 0. The words of a composite
+/// list are the tag word and all words that the pointer to the list counts.
 #[inline(always)]
 pub fn price_of(shape: Shape, pads: u8, base: u32) -> u64
     ensures { result ≡ price base shape + pads }

@@ -8,15 +8,15 @@ ghost use Rattle.capn_walk.specs.inner.SlotsLeft.{places_of, owed, end_of, HasRo
 use capn_target::Shape;
 use capn_words::{Place, Width};
 
-/// The slots of an object that are still to be visited, in order: the slots left of the current row, then the slots of
-/// the later rows. A struct and a list of pointers count as one row.
+/// The slots of an object that are still to be visited, in order: the remaining slots of the current row, then the
+/// slots of the later rows. A struct and a list of pointers count as one row.
 #[derive(Clone, Copy, Default)]
 pub struct SlotsLeft {
     /// The segment of the object.
     pub segment: u32,
     /// The word of the next slot, or of the next row if the current row has no slot left.
     pub next: u32,
-    /// The number of slots left of the current row.
+    /// The number of remaining slots of the current row.
     pub left: u32,
     /// The number of rows after the current row.
     pub rows: u32,

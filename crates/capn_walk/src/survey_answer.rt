@@ -7,7 +7,7 @@ pub struct Surveyed {
     pub paid: u32,
     /// The number of visits.
     pub visits: u32,
-    /// The index of the first capability in preorder, or `None` without a capability.
+    /// The index of the first capability in preorder, or `None` if there is no capability.
     pub capability: Option<u32>,
 }
 

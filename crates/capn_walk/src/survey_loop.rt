@@ -81,8 +81,6 @@ pub fn survey_root<S: Space, A: Allocator + Copy, L: Ledger, const DEEP: bool>(
     }
 }
 
-/// Returns the refusal, for `fault`, of visit number `visits`, which is to the slot at `place`. Before that visit
-/// `paid` words were paid.
 #[inline(always)]
 fn stopped(fault: Fault, place: Place, paid: u32, visits: u32) -> Stopped
     ensures { result ≡ record { fault = fault; place = place; paid = paid; visits = visits } }
@@ -95,11 +93,10 @@ fn stopped(fault: Fault, place: Place, paid: u32, visits: u32) -> Stopped
     }
 }
 
-/// Visits the slots of `first` and all slots below them. If `DEEP` is true, also finds how deep the objects are, from
-/// the least number of levels that was left at any content.
+/// Visits the slots of `first` and all slots below them. If `DEEP` is true, also finds how deep the objects are. The
+/// depth is computed from the least number of levels that remained at any content.
 ///
-/// All places of the stack are filled before the first visit. So a smaller stack is used for low depth limits, which
-/// include the usual limit.
+/// The complete stack is initialised before the first visit. So a smaller stack is used if `limit` is at most 64.
 #[inline(always)]
 fn survey_slots<S: Space, A: Allocator + Copy, L: Ledger, const DEEP: bool>(
     alloc: A,
@@ -140,7 +137,7 @@ fn survey_slots<S: Space, A: Allocator + Copy, L: Ledger, const DEEP: bool>(
 }
 
 /// Visits the slots of `first` and all slots below them, with a stack for `ROOM` objects that wait. If `DEEP` is true,
-/// also finds how deep the objects are, from the least number of levels that was left at any content.
+/// also finds how deep the objects are.
 #[inline(never)]
 fn survey_in_room<S: Space, A: Allocator + Copy, L: Ledger, const DEEP: bool, const ROOM: usize>(
     alloc: A,

@@ -1,5 +1,5 @@
-//! One visit of a slot, without the slot's value: the price and the slots below, or the refusal. A far pointer to a
-//! landing pad of one word is resolved here, and the pad is tested again here, not by `resolve`.
+//! One visit of a slot, without the slot's value. The result is the price of the visit and the slots below the visited
+//! slot, or a fault. A far pointer to a landing pad of one word is resolved here, without `resolve`.
 
 ghost use Rattle.std.specs.Prelude.{◌≡◌, ◌≢◌, ℕ, ◌≤◌, ◌+◌, ◌-◌, ◌∷◌, ◌↔◌, [], length, IsTrue, IfOk, IfErr, false, max};
 ghost use Rattle.capn_words.specs.Message.{segment_at, word_at, IsMessage, IsPlace};
@@ -57,8 +57,8 @@ pub fn visit_struct<S: Space, L: Ledger>(
     visit_found(space, at, found, depth, left, base)
 }
 
-/// Returns the price of a visit of the slot at `at`, whose `pointer` names a near list of numbers. The limits still
-/// allow `depth` levels of objects and a price of `left` words.
+/// Returns the price, or the fault, of a visit of the slot at `at`, whose `pointer` names a near list of numbers. The
+/// limits still allow `depth` levels of objects and a price of `left` words.
 #[inline(always)]
 pub fn visit_numbers<S: Space, L: Ledger>(
     space: &CountedSpace<'_, S, L>,
@@ -117,9 +117,9 @@ pub fn visit_elsewhere<S: Space, L: Ledger>(
     visit_found(&space, at, found, depth, left, base)
 }
 
-/// Visits the slot at `at`, which holds a far pointer to the landing pad of one word at `word` of `segment`. The limits
-/// still allow `depth` levels of objects and a price of `left` words. A pad that names a struct has an arm of its own,
-/// so that the struct's target doesn't pass through memory.
+/// Visits the slot at `at`, whose far pointer names the landing pad of one word at `word` of `segment`. The limits
+/// still allow `depth` levels of objects and a price of `left` words. For speed, a pad that names a struct has its own
+/// match arm.
 #[inline(always)]
 fn visit_behind_pad<S: Space, L: Ledger>(
     space: &CountedSpace<'_, S, L>,

@@ -41,8 +41,8 @@ impl<'s, S: Space> Model for View<'s, S> {
 }
 
 impl<'s, S: Space> View<'s, S> {
-    /// Steps to the root of the message `space`, where `depth` is the limit on depth. The price is paid from `meter`,
-    /// by the meter's tariff.
+    /// Returns the view of the root of the message `space`, or the fault of the step to the root. `depth` is the limit
+    /// on depth. The price of the step is paid from `meter`, by the meter's tariff.
     pub fn root(space: &'s S, meter: &mut Meter, depth: u32) -> Result<View<'s, S>, Fault>
         ensures found { MatchResult result
             (λ v. seen.stepped_to_root (S.message space.now) (base meter.old.tariff) depth (left_of meter.old)
@@ -78,8 +78,8 @@ impl<'s, S: Space> View<'s, S> {
         }
     }
 
-    /// Steps to slot `i` of a struct, or to element `i` of a list of pointers. The price is paid from `meter`, by the
-    /// meter's tariff.
+    /// Returns the view of slot `i` of a struct, or of element `i` of a list of pointers, or the fault of the step. The
+    /// price of the step is paid from `meter`, by the meter's tariff.
     pub fn slot(&self, i: u32, meter: &mut Meter) -> Result<View<'s, S>, Fault>
         requires { i < seen.steps_in self.now.found }
         ensures found { MatchResult result
@@ -111,14 +111,14 @@ impl<'s, S: Space> View<'s, S> {
         }
     }
 
-    /// Returns the kind of the value.
+    /// Returns the kind of the value that `self` shows.
     pub fn kind(&self) -> Kind
         ensures { result ≡ seen.kind_of self.now.found }
     {
         kind_of(self.target)
     }
 
-    /// Returns the number of elements of a list, or 0 for any other value.
+    /// Returns the number of elements if `self` shows a list, else 0.
     pub fn len(&self) -> u32
         ensures value { result ≡ seen.len_of self.now.found }
         ensures links { seen.kind_of self.now.found ≡ kinds.Links → result ≡ seen.links_in self.now.found }
@@ -127,21 +127,21 @@ impl<'s, S: Space> View<'s, S> {
         len_of(self.target)
     }
 
-    /// Returns the number of data words of a struct, or 0 for any other value.
+    /// Returns the number of data words if `self` shows a struct, else 0.
     pub fn words(&self) -> u16
         ensures { result ≡ seen.words_in self.now.found }
     {
         words_in(self.target)
     }
 
-    /// Returns the number of slots of a struct, or 0 for any other value.
+    /// Returns the number of slots if `self` shows a struct, else 0.
     pub fn slots(&self) -> u16
         ensures { result ≡ seen.slots_in self.now.found }
     {
         slots_in(self.target)
     }
 
-    /// Returns the index of a capability, or `None` for any other value.
+    /// Returns the index of the capability if `self` shows one, else `None`.
     pub fn cap(&self) -> Option<u32>
         ensures { result ≡ seen.cap_in self.now.found }
     {
@@ -258,7 +258,7 @@ impl<'s, S: Space> View<'s, S> {
         }
     }
 
-    /// Returns the elements of a list of bytes, or `None` for any other value.
+    /// Returns the elements if `self` shows a list of bytes, else `None`.
     #[inline]
     pub fn bytes(&self) -> Option<&'s [u8]>
         ensures some { IsSome result ↔ (seen.kind_of self.now.found ≡ kinds.Bytes) }

@@ -1,4 +1,4 @@
-//! The results of a walk: the value, or the place and the reason of a refusal.
+//! The results of a walk: the value, or the place and the reason of the stop.
 
 ghost use Rattle.std.specs.Prelude.{◌≡◌, ◌+◌, ◌<◌, ◌^◌};
 ghost use Rattle.capn_target.specs.declared.target.Fault.TheVariants.{Memory};
@@ -26,8 +26,8 @@ pub struct Walked<A: Allocator = Global> {
 pub struct Stopped {
     /// The fault.
     pub fault: Fault,
-    /// The place of the visited slot, even if the fault is in a landing pad. No clause fixes the place for the fault
-    /// `Memory`, but the place is near the object for which an allocation was refused.
+    /// The place of the visited slot, even if the fault is in a landing pad. For the fault `Memory` the place is near
+    /// the object for which an allocation was refused, but no contract states that place.
     pub place: Place,
     /// The number of words paid for the visits before the refused visit.
     pub paid: u32,
@@ -71,7 +71,7 @@ impl fmt::Display for Stopped {
 
 impl Error for Stopped {}
 
-/// Returns the refusal, for `fault`, of a first visit, which is to the slot at `place`.
+/// Returns the stop with `fault` at `place`, with no words paid and one visit.
 pub(crate) fn stop(fault: Fault, place: Place) -> Stopped
     ensures { result ≡ record { fault = fault; place = place; paid = 0; visits = 1 } }
 {
@@ -83,7 +83,7 @@ pub(crate) fn stop(fault: Fault, place: Place) -> Stopped
     }
 }
 
-/// Returns the refusal `Memory` at `place`, with no words paid and no visit counted.
+/// Returns the stop with the fault `Memory` at `place`, with no words paid and no visit counted.
 pub(crate) fn out_of_memory(place: Place) -> Stopped
     ensures { result ≡ record { fault = Memory; place = place; paid = 0; visits = 0 } }
 {

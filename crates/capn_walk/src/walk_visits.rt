@@ -26,8 +26,7 @@ use std::alloc::Allocator;
 use std::sync::ledger::Ledger;
 
 /// Reads the value of the slot at `at`. The limits still allow `depth` levels of objects and a price of `left` words.
-/// Each content costs `base` in addition to its size. Near structs and near lists have an arm each, so that each arm is
-/// compiled for only one form of pointer.
+/// Each content costs `base` in addition to its size. For speed, near structs and near lists have a match arm each.
 #[cycle(walk)]
 #[inline(always)]
 fn walk_slot<S: Space, A: Allocator + Copy, L: Ledger>(
@@ -51,7 +50,7 @@ fn walk_slot<S: Space, A: Allocator + Copy, L: Ledger>(
         Pointer::Nil => Ok(Found::without_content(Value::Nil)),
         Pointer::Node { .. } => walk_near(alloc, space, at, pointer, depth, left, base, reads),
         Pointer::Many { .. } => walk_near(alloc, space, at, pointer, depth, left, base, reads),
-        // The result is unwrapped and wrapped again, so that only this arm's result passes through memory.
+        // The result is unwrapped and wrapped again, so that only the result of this arm is written to memory.
         _ => {
             let found = walk_elsewhere(alloc, space.again(), at, depth, left, base, reads)?;
             Ok(found)
@@ -114,7 +113,7 @@ fn walk_elsewhere<S: Space, A: Allocator + Copy, L: Ledger>(
 }
 
 /// Reads the value of the slot at `at`, whose target is `target`. The limits still allow `depth` levels of objects and
-/// a price of `left` words. The price is paid before any content is read.
+/// a price of `left` words. The price of the visit is paid before any content is read.
 #[cycle(walk)]
 #[inline(always)]
 pub fn walk_target<S: Space, A: Allocator + Copy, L: Ledger>(
@@ -132,7 +131,8 @@ pub fn walk_target<S: Space, A: Allocator + Copy, L: Ledger>(
     requires target { spec.target space.now at ≡ Ok target }
     requires left { left ≤ most_cost }
     ensures answer { Walks space.now base depth left at result }
-    // `Memory` is returned only for content, and only once the content's price is paid.
+    // The fault is `Memory` only if `target` is content that `depth` and `left` allow. Nothing is allocated before the
+    // content's price is paid.
     ensures memory { IfErr result (λ s. s.fault ≡ Memory → IsEntered (stepped base depth left (Ok target))) }
     ensures reads { MatchResult result (λ f. reads.new + 10 ≤ reads.old + 10 * f.visits + 2 * f.paid)
         (λ s. reads.new + 10 ≤ reads.old + 10 * s.visits + 2 * s.paid) }

@@ -1,4 +1,4 @@
--- Worked examples of pointer words, as 8 bytes each. The definitions give the pointers that the page's layouts give.
+-- Worked examples of pointer words, as 8 bytes each: `pointer_of` and `word_of` agree with the layouts of the page.
 use Rattle.std.proofs.Common.{◌≡◌, ℕ, List, [], ◌∷◌, true, false, pos, negsuc, refl}
 use Rattle.capn_words.specs.Message.{word_number}
 use Rattle.capn_words.specs.Pointers.{word_of, pointer_of}

@@ -70,11 +70,11 @@ ReadsBare bs (Err (TooLong n)) = (8 * n ≡ length bs) × (most_words < n)
 
 -- ---- a message is a list of segments, and a segment is a list of words. (Page: messages.)
 
--- the number of words that all segments have together
+-- the number of words in all segments of `message`
 abbrev pub total : List (List ℕ) → ℕ
 total message = sum_by length message
 
--- `message` has a segment, not too many segments or words, and only numbers that are words. (Our own: the limits.)
+-- `message` has 1 to `most_segments` segments and at most `most_words` words, each below 2^64. (Our own: the limits.)
 pub record IsMessage (message : List (List ℕ)) : Type 0 where
   pub some : 0 < length message
   pub few : length message ≤ most_segments

@@ -8,7 +8,7 @@ use Rattle.capn_words.specs.declared.pointer.Width.{Width}
 use Rattle.capn_words.specs.declared.pointer.Width.TheVariants.{W0, W1, W8, W16, W32, W64, Link, Rows}
 use Rattle.std.specs.Int.{from_bool}
 
--- ---- the pointer that a word is, each field by a quotient and a remainder. (Page: structs, lists, inter-segment
+-- ---- reading a pointer from a word: each field is the remainder of a quotient. (Page: structs, lists, inter-segment
 -- pointers, capabilities.)
 
 -- the number in `n` bits of the word `w`, from bit `from` on
@@ -38,7 +38,7 @@ pointer_of w =
     else if w % 4 == 1 then Many (signed (field 2 30 w)) (width_of (field 32 3 w)) (field 35 29 w)
     else other_pointer w
 
--- ---- a pointer word is the sum of its fields, each times the power of two of the bit at which it begins. (Page:
+-- ---- writing a pointer as a word: the word is a sum. A field that begins at bit `b` is multiplied by 2^b. (Page:
 -- structs, lists, inter-segment pointers, capabilities.)
 
 -- the 3 bits that stand for a width
@@ -57,7 +57,7 @@ abbrev pub offset_field : ℤ → ℕ
 offset_field (pos n) = n
 offset_field (negsuc n) = 2 ^ 30 - suc n
 
--- the word of a pointer: the kind in bits 0 to 1, and the fields above
+-- the word of a pointer: the kind in bits 0 to 1, and the fields in the bits above
 abbrev pub word_of : Pointer → ℕ
 word_of Nil = 0
 word_of (Node o w s) = 4 * offset_field o + 2 ^ 32 * w + 2 ^ 48 * s

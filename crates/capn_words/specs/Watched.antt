@@ -11,11 +11,11 @@ inner_of w = w.inner
 abbrev pub has_failed : {T : Type 0} → Watched T → Bool
 has_failed w = w.failed
 
--- true if a write of `piece` fails: it returns an error, or it takes no byte and `piece` is not empty
+-- true if a write of `piece` fails: it returns an error, or it returns 0 and `piece` is not empty
 abbrev pub write_fails : {E : Type 0} → Result ℕ E → List ℕ → Bool
 write_fails (Ok n) piece = n == 0 && not (length piece == 0)
 write_fails (Err e) piece = true
 
--- what was written from `old` to `new` is a prefix of `text`
+-- the contents `new` are the contents `old` with a prefix of `text` appended
 abbrev pub HasBegun : Option (List ℕ) → Option (List ℕ) → List ℕ → Type 0
 HasBegun old new text = (count : ℕ) × Appends old new (take count text)

@@ -75,10 +75,10 @@ impl<'a> Model for Bare<'a> {
 impl<'a> Bare<'a> {
     /// Reads `bytes` as the words of one segment, which may be empty. Nothing is copied.
     ///
-    /// Refusals: `NotWhole` with the number of bytes, if that is no multiple of 8. Otherwise `TooLong` with the number
-    /// of words, if that is above 2^28 + 1. (Our own: the limit.)
+    /// Errors: `NotWhole` with the number of bytes, if that is no multiple of 8. Otherwise `TooLong` with the number of
+    /// words, if that is above 2^28 + 1. (Our own: the limit.)
     pub fn new(bytes: &'a [u8]) -> Result<Bare<'a>, BareFault>
-        // `ReadsBare` says what each `result` means. If the bytes are those of a list of words, that list is returned.
+        // `ReadsBare` states the meaning of `result`. If `bytes` are the bytes of the words `ws`, `result` is `Ok ws`.
         ensures exact { ReadsBare bytes.now result }
         ensures only { (ws : List ℕ) → IsBare bytes.now ws → result ≡ Ok ws }
     {

@@ -6,7 +6,7 @@ use std::alloc::AllocError;
 use std::error::Error;
 use std::fmt;
 
-/// The error of a refused allocation. The call has no result then, and its arguments are as they were.
+/// The error of a call that could not allocate the memory that it needs.
 #[derive(Clone, Copy, Debug, PartialEq, Eq)]
 pub struct Memory;
 

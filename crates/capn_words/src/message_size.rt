@@ -1,4 +1,4 @@
-//! The number of words of a whole message.
+//! The number of words in all segments of a message.
 
 ghost use Rattle.std.specs.Prelude.{◌≡◌};
 ghost use Rattle.capn_words.specs.Message.{total};

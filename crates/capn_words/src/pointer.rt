@@ -63,7 +63,7 @@ pub enum Pointer {
     },
     /// A capability, by its index in the table of capabilities.
     Cap(u32),
-    /// A whole word that is a pointer of no known kind: bits 0 to 1 are 3, and one of bits 2 to 31 is set.
+    /// A word that is a pointer of no known kind: bits 0 to 1 are 3, and at least one of bits 2 to 31 is set.
     Reserved(u64),
 }
 
@@ -201,7 +201,7 @@ fn sum_of(pointer: Pointer) -> u64
     }
 }
 
-/// Returns the word of `pointer`, which is the sum of the pointer's fields, each shifted to its bits.
+/// Returns the word of `pointer`: the sum of the pointer's fields, each shifted to its bits.
 ///
 /// The fields have to fit their bits. A struct pointer may not be all zeros, since the word 0 is null. A reserved word
 /// has to be one that `split` returns as `Reserved`. `split` of the result returns `pointer`. (Page: structs, lists,

@@ -9,9 +9,9 @@ use std::io::{ErrorKind, Read, Result, Write};
 
 /// A reader or a writer, with a flag that says whether a call on it has failed. (Our own.)
 ///
-/// The flag is set by the first call that returns an error, and by the first write that takes no byte of a `buf` that
-/// is not empty. `Interrupted` counts as an error, and so does the error of a flush. Every call is passed on, also
-/// after a failure.
+/// A call that returns an error sets the flag. A write also sets the flag if `buf` is not empty and the writer returns
+/// 0. `Interrupted` counts as an error, and so does the error of a flush. Every call is passed on to the inner reader
+/// or writer, also after a failure.
 #[derive(Debug, Drop)]
 pub struct Watched<T> {
     inner: T,
@@ -30,7 +30,7 @@ impl<T> Watched<T> {
         }
     }
 
-    /// Tests whether a call has returned an error, or a write has taken no byte of a `buf` that is not empty.
+    /// Tests whether a call has returned an error, or a write has returned 0 for a `buf` that is not empty.
     pub fn failed(&self) -> bool
         ensures { result ≡ has_failed self.now }
     {
@@ -47,8 +47,8 @@ impl<T> Watched<T> {
 }
 
 impl<R: Read> Watched<R> {
-    /// Reads into `buf` with the inner reader and returns the inner result: the number of bytes now at the front of
-    /// `buf`. An error sets the flag.
+    /// Reads into `buf` with the inner reader, and returns the reader's result. This is the number of bytes that were
+    /// read to the start of `buf`, or an error. An error sets the flag.
     pub fn read(&mut self, buf: &mut [u8]) -> Result<usize>
         ensures bound { ReadsAtMost result buf.new }
         ensures bytes { ReadConsumes (R.remaining (inner_of self.old)) (R.remaining (inner_of self.new))
@@ -62,8 +62,9 @@ impl<R: Read> Watched<R> {
 }
 
 impl<W: Write> Watched<W> {
-    /// Writes `buf` with the inner writer and returns the inner result: the number of bytes of `buf` that were taken.
-    /// The flag is set by an error, and by 0 for a `buf` that is not empty.
+    /// Writes `buf` with the inner writer, and returns the writer's result. This is the number of bytes that were
+    /// written from the start of `buf`, or an error. An error sets the flag. The number 0 sets the flag too, if `buf`
+    /// is not empty.
     pub fn write(&mut self, buf: &[u8]) -> Result<usize>
         ensures bound { WritesAtMost result buf.now }
         ensures bytes { WriteAppends (W.contents (inner_of self.old)) (W.contents (inner_of self.new))
@@ -80,7 +81,7 @@ impl<W: Write> Watched<W> {
 
     /// Writes all of `text`, by as many calls of `write` as needed.
     ///
-    /// Fails at the first call that returns an error or takes no byte. A prefix of `text` was written then.
+    /// Fails at the first call that returns an error or 0. In that case a prefix of `text` was written.
     pub fn write_all(&mut self, text: &[u8]) -> Result<()>
         ensures ok { OnOk result (Appends (W.contents (inner_of self.old)) (W.contents (inner_of self.new)) text.now) }
         ensures begun { HasBegun (W.contents (inner_of self.old)) (W.contents (inner_of self.new)) text.now }
@@ -97,7 +98,7 @@ impl<W: Write> Watched<W> {
         Ok(())
     }
 
-    /// Flushes the inner writer and returns the inner result. An error sets the flag.
+    /// Flushes the inner writer, and returns the writer's result. An error sets the flag.
     pub fn flush(&mut self) -> Result<()>
         ensures kept { Keeps (W.contents (inner_of self.old)) (W.contents (inner_of self.new)) }
         ensures failed { has_failed self.new ≡ (has_failed self.old || is_err result) }

@@ -1,4 +1,4 @@
--- A list's numbers, by the kind that a view of it shows.
+-- The number of numbers in a list, by the kind of its view. This serves `number_of` of `views`.
 use Rattle.std.proofs.Common.{◌≡◌, ℕ, ◌+◌, refl, arith}
 use Rattle.capn_words.specs.declared.pointer.Width.TheVariants.{W0, W1, W8, W16, W32, W64, Link, Rows}
 use Rattle.capn_target.specs.declared.target.Target.{Target}
@@ -8,7 +8,7 @@ use Rattle.capn_walk.specs.declared.kind.Kind.{Kind}
 use Rattle.capn_walk.specs.declared.kind.Kind.TheVariants as kinds
 use Rattle.capn_walk.specs.View.{kind_of, len_of, numbers_in}
 
--- the elements of a list that are no numbers
+-- The number of those elements of a list that are not numbers.
 abbrev pub others : Kind → ℕ → ℕ
 others kinds.Voids n = n
 others kinds.Links n = n

@@ -1,4 +1,5 @@
-//! `cut_each`: cuts the message of a case at each byte, and compares the result with what the definitions give.
+//! `cut_each`: cuts the message of a case at each byte, and compares the answer for each prefix with the answer that
+//! the definitions give.
 
 use crate::messages::{canonical_text, paid_text, true_limits_at};
 use crate::refusals::told;
@@ -20,7 +21,7 @@ fn start_of(bytes: &[u8], len: usize) -> &[u8] {
     }
 }
 
-/// Returns the answer for `tree` by its layout, with the words that were `paid` for it.
+/// Returns the answer for `tree`: the price `paid` and the layout, or the first capability.
 fn tree_text(alloc: Global, paid: u32, tree: &Tree) -> Result<String> {
     match layout(alloc, tree) {
         Ok(laid) => paid_text(alloc, paid, laid.as_slice()),
@@ -29,7 +30,7 @@ fn tree_text(alloc: Global, paid: u32, tree: &Tree) -> Result<String> {
     }
 }
 
-/// Returns the answer for a bare message by its length and the layout of its tree.
+/// Returns the answer for a bare message: that its length is wrong, or what follows from its walk.
 fn bare_text(alloc: Global, bytes: &[u8], limits: Limits) -> Result<String> {
     let length = bytes.len();
     let Ok(space) = Bare::new(bytes) else {
@@ -71,8 +72,8 @@ fn last_group(text: &[u8]) -> usize {
     at
 }
 
-/// Tests whether an unpacker returns the words of the whole groups of `text`, and reports the place at which it is cut,
-/// if it is. It is fed `text` at once, and compared with `unpack`.
+/// Tests whether an unpacker that is fed `text` at once returns what `unpack` returns for the whole groups of `text`.
+/// If `text` is cut, the unpacker must report the right place.
 fn is_unpacked(alloc: Global, text: &[u8]) -> bool {
     let at = last_group(text);
     let mut unpacker = Unpacker::new();
@@ -101,8 +102,8 @@ fn cut_of<T: Drop>(answer: Result<T, UnpackFault>) -> Option<u64> {
     }
 }
 
-/// Returns the answer for the packed bytes `text` by their groups: that they are cut, or the answer for the stream that
-/// they pack.
+/// Returns the answer for the packed bytes `text`, found by their groups. If the last group is cut, the answer says so.
+/// Otherwise it is the answer for the unpacked stream.
 fn packed_text(alloc: Global, text: &[u8], limits: Limits) -> Result<String> {
     if !is_unpacked(alloc, text) {
         bail!("the groups of a beginning are other ones");
@@ -190,8 +191,8 @@ fn refusal_text(alloc: Global, refusal: FrameRefusal) -> Result<String> {
     }
 }
 
-/// Returns the answer that is right for a prefix of a message. If its frame is refused, or it is bare or packed, the
-/// definitions give the answer without `canonicalise`. Otherwise it is that of `canonicalise`.
+/// Returns the right answer for a prefix of a message. The definitions give it for bare bytes, for a cut group, and for
+/// a refused frame of a stream. Otherwise it is the answer of `canonicalise` for the stream.
 fn due_text(alloc: Global, form: Form, bytes: &[u8], limits: Limits) -> Result<String> {
     match form {
         Form::Bare => bare_text(alloc, bytes, limits),

@@ -1,10 +1,10 @@
-//! Answers to the cases of standard input that are calls of libraries, from packed bytes to canonical ones. A case is a
-//! line with its name and a line with a call, whose words are parted by a space. Bytes are hexadecimal, and `-` stands
-//! for none. A call after the word `plain` pays by the plain tariff, any other by the strict one. The answers must
-//! equal the stored output, which no run of this program wrote. Each call is made once with enough memory, and then
-//! once for each of its allocations, with that allocation refused. A message is also cut at each byte. The line of a
-//! case is printed only if the call reported a refused allocation each time, gave its answer afterwards, and gave for
-//! each prefix what the definitions give.
+//! Answers to the cases of standard input that are calls of libraries, from packed bytes to canonical ones. A case has
+//! two lines: its name, and a call. A space separates the words of a call. Bytes are hexadecimal, and `-` stands for
+//! none. A call after the word `plain` pays by the plain tariff, any other by the strict one. The answers must equal
+//! the stored output, which no run of this program wrote. Each call is made once with enough memory, and then once for
+//! each of its allocations, with that allocation refused. A message is also cut at each byte. The line of a case is
+//! printed only if three things hold. The call reported each refused allocation, it gave its answer afterwards, and its
+//! answer for each prefix is the one that the definitions give.
 #![tactic(auto)]
 
 mod cuts;

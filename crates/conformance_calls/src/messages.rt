@@ -35,8 +35,8 @@ pub(crate) fn limits_answer(alloc: Global, words: &[&str]) -> Result<String> {
     Ok(String::from_str(alloc, text)?)
 }
 
-/// Tests whether `bytes` are the layout of `tree`. Returns `false` if an allocation was refused, and an error if they
-/// are not.
+/// Checks that `bytes` are the layout of `tree`, and otherwise returns an error. Returns `false` if an allocation was
+/// refused.
 fn is_layout(heap: &Heap, tree: &Tree<&Heap>, bytes: &[u8]) -> Result<bool> {
     match layout(heap, tree) {
         Ok(laid) if laid.as_slice() == bytes => Ok(true),
@@ -46,7 +46,7 @@ fn is_layout(heap: &Heap, tree: &Tree<&Heap>, bytes: &[u8]) -> Result<bool> {
     }
 }
 
-/// Tests whether `bytes` are the layout of the tree `made`. Returns `false` if an allocation was refused.
+/// Checks that `bytes` are the layout of the tree `made`. Returns `false` if an allocation was refused.
 fn is_layout_of_made(heap: &Heap, made: Result<Tree<&Heap>, Memory>, bytes: &[u8]) -> Result<bool> {
     match made {
         Ok(tree) => {
@@ -59,8 +59,8 @@ fn is_layout_of_made(heap: &Heap, made: Result<Tree<&Heap>, Memory>, bytes: &[u8
     }
 }
 
-/// Tests whether `bytes` are the layout of `tree`, of its copy, and of its trimmed form. Returns `false` if an
-/// allocation was refused.
+/// Checks that `bytes` are the layout of `tree`, of its copy, and of its trimmed form. Returns `false` if an allocation
+/// was refused.
 fn is_layout_of_each(heap: &Heap, tree: &Tree<&Heap>, bytes: &[u8]) -> Result<bool> {
     Ok(
         is_layout(heap, tree, bytes)?
@@ -69,7 +69,7 @@ fn is_layout_of_each(heap: &Heap, tree: &Tree<&Heap>, bytes: &[u8]) -> Result<bo
     )
 }
 
-/// Tests whether `bytes` are the layout of the tree that a walk of the message makes. Returns `false` if an allocation
+/// Checks that `bytes` are the layout of the tree that a walk of the message makes. Returns `false` if an allocation
 /// was refused.
 fn is_layout_of<S: Space>(heap: &Heap, space: &S, limits: Limits, bytes: &[u8]) -> Result<bool> {
     match walk(heap, space, limits) {
@@ -83,7 +83,7 @@ fn is_layout_of<S: Space>(heap: &Heap, space: &S, limits: Limits, bytes: &[u8]) 
     }
 }
 
-/// Tests whether `bytes` are the layout of the tree of the first message in `stream`. Returns `false` if an allocation
+/// Checks that `bytes` are the layout of the tree of the first message in `stream`. Returns `false` if an allocation
 /// was refused.
 fn is_layout_of_frame(heap: &Heap, stream: &[u8], limits: Limits, bytes: &[u8]) -> Result<bool> {
     match first(heap, stream, MOST_MESSAGE_WORDS) {
@@ -93,7 +93,7 @@ fn is_layout_of_frame(heap: &Heap, stream: &[u8], limits: Limits, bytes: &[u8]) 
     }
 }
 
-/// Tests whether `bytes` are the layout of the tree of the message that `input` holds in `form`. Returns `false` if an
+/// Checks that `bytes` are the layout of the tree of the message that `input` holds in `form`. Returns `false` if an
 /// allocation was refused.
 fn is_layout_in_form(
     heap: &Heap,
@@ -135,8 +135,8 @@ pub(crate) fn canonical_text(
     }
 }
 
-/// Returns the line of canonical bytes, if they are the layout of the tree that a walk of the input makes, of its copy,
-/// and of its trimmed form.
+/// Returns the line of canonical bytes, or `MEMORY` if an allocation was refused. The bytes must be the layout of the
+/// tree of the input, of its copy, and of its trimmed form.
 fn laid_text(
     alloc: Global,
     heap: &Heap,
@@ -180,7 +180,7 @@ fn again_text(heap: &Heap, once: &[u8], limits: Limits) -> &'static str {
 }
 
 /// Answers `again FORM MESSAGE_WORDS BUDGET DEPTH BYTES`: whether the canonical bytes, read as a bare message, are
-/// their own canonical bytes under the same limits. The answer is `refused` if there are none.
+/// their own canonical bytes under the same limits. The answer is `refused` if the message has no canonical bytes.
 pub(crate) fn again_answer(
     alloc: Global,
     heap: &Heap,
@@ -222,7 +222,7 @@ fn equal_at(
     equal_text(first, canonical)
 }
 
-/// Returns the word for the messages after the first: `equal`, or that of the first one that is not.
+/// Returns `equal` if each message after the first equals it, and otherwise the word for the next one that does not.
 fn equal_each(alloc: Global, heap: &Heap, words: &[&str], first: &[u8]) -> Result<&'static str> {
     for pair in 1..words.len() / 2 {
         let text = equal_at(alloc, heap, words, 2 * pair + 1, first)?;

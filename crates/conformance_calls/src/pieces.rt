@@ -142,7 +142,8 @@ fn feed_all(
     Ok(Ok(()))
 }
 
-/// Feeds `bytes`, `size` at a time, and appends the line of each message that becomes whole. Returns how that ends.
+/// Feeds `bytes`, `size` at a time, and appends the line of each message that becomes whole. Returns the fault of the
+/// framer, or the result of its `finish`.
 fn feed_pieces(
     framer: &mut Framer<&Heap>,
     alloc: Global,
@@ -162,7 +163,7 @@ fn feed_pieces(
     Ok(framer.finish())
 }
 
-/// Returns the lines of the messages that a framer makes of `bytes`, and of the ending.
+/// Returns the lines of the messages that a framer makes of `bytes`, and then the line of its ending.
 fn pieces_text(
     framer: &mut Framer<&Heap>,
     alloc: Global,
@@ -188,7 +189,7 @@ pub(crate) fn pieces_answer(alloc: Global, heap: &Heap, words: &[&str]) -> Resul
     pieces_text(&mut framer, alloc, bytes.as_slice(), size)
 }
 
-/// Appends the line of a message that was read. Returns `true`, which says that it was one.
+/// Appends the line of a message that was read, and returns `true`.
 fn push_read(alloc: Global, message: &Stored<&Heap>, text: &mut String) -> Result<bool> {
     push_message(alloc, message, text)?;
     Ok(true)

@@ -65,8 +65,8 @@ fn refuse<C: Answers>(
 pub enum Growths {
     /// Each allocation.
     Each,
-    /// About 64 allocations at equal distances, for a call after the word `few`. It is for large messages, whose
-    /// thousands of allocations would take minutes in runs that check each step.
+    /// About 64 allocations at equal distances, for a call after the word `few`. Such a call has a large message. To
+    /// refuse each of its thousands of allocations would take minutes in runs that check each step.
     Few,
 }
 

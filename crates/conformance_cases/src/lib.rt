@@ -1,6 +1,6 @@
 //! The cases of `conformance_calls` and `conformance_runs`: how they are read, and how each is answered with enough
-//! memory and with refused allocations. A case is a line with its name and a line with a call, whose words are parted
-//! by a space. Bytes are hexadecimal, and `-` stands for none. A program answers a call by one line.
+//! memory and with refused allocations. A case has two lines: its name, and a call. A space separates the words of a
+//! call. Bytes are hexadecimal, and `-` stands for none. A program answers a call by one line.
 #![tactic(auto)]
 
 mod forms;

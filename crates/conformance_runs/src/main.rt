@@ -1,9 +1,8 @@
 //! Answers to the cases of standard input that are runs: the invocation that a command line means, the output of a run,
-//! and its status. A case is a line with its name and a line with a call, whose words are parted by a space. Bytes are
+//! and its status. A case has two lines: its name, and a call. A space separates the words of a call. Bytes are
 //! hexadecimal, and `-` stands for none. The answers must equal the stored output, which no run of this program wrote.
 //! Each call is made once with enough memory, and then once for each of its allocations, with that allocation refused.
-//! The line of a case is printed only if the call reported a refused allocation each time, and gave its answer
-//! afterwards.
+//! The line of a case is printed only if the call reported each refused allocation, and gave its answer afterwards.
 #![tactic(auto)]
 
 mod archives;

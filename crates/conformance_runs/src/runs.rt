@@ -6,7 +6,8 @@ use capn_words::Watched;
 use conformance_cases::{Heap, bytes_at, cut_short, digits_of, number_at, word_at};
 use std::alloc::Global;
 
-/// Returns the command line of a case: the program's name, and the words, whose number is the first word of the case.
+/// Returns the command line of a case: the program's name, and the words after the first two. Word 1 is the number of
+/// these words.
 pub(crate) fn command_line<'a>(alloc: Global, words: &[&'a str]) -> Result<Vec<&'a str>> {
     let count = number_at(words, 1)? as usize;
     let mut line = Vec::new(alloc);

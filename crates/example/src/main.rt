@@ -1,5 +1,5 @@
-//! An example of the libraries. For each message of standard input it prints the digest of its canonical bytes, and
-//! whether its value is that of the message before it.
+//! An example of the libraries. It prints the digest of the canonical bytes of each message of standard input. It also
+//! says whether the message has the same value as the last one that was not refused.
 //!
 //! Canonical bytes are made to sign, hash and compare messages: they are equal if and only if the values are, up to
 //! trailing zero words and trailing null pointers. A program that reads messages from strangers sets limits first. The

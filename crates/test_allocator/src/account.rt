@@ -6,10 +6,10 @@ ghost use Rattle.std.specs.Prelude.{◌≡◌, ◌⊎◌, ◌+◌, ◌-◌, ◌^
 /// The allocations that are refused, and the figures of those requested so far.
 #[derive(Clone, Copy)]
 pub(crate) struct Account {
-    /// The number of the allocation that is refused, counted from 1 for the next one. With 0 none is refused by its
+    /// The number of allocations up to the one that is refused, which is counted too. With 0 none is refused by its
     /// number.
     pub left: u64,
-    /// The greatest size in bytes of an allocation that is let through.
+    /// The greatest size in bytes of an allocation that is not refused for its size.
     pub most: usize,
     /// The greatest size in bytes that was requested.
     pub greatest: usize,

@@ -31,8 +31,8 @@ impl<B: Allocator> Refusing<B> {
         self.refuse_above(0);
     }
 
-    /// Tests whether fewer allocations were requested than the number of the one to refuse, so that it refused none by
-    /// its number.
+    /// Tests whether the allocation to refuse by its number has not been requested yet. Returns `false` if the number
+    /// was 0.
     pub fn has_spared(&self) -> bool {
         self.account.get().left != 0
     }

@@ -1,7 +1,7 @@
 //! Tests of pointer words, packed words, frames, readers and writers.
 //!
-//! They are apart from the crates that they test, because a crate with tests is proved twice. They are apart from the
-//! tests of the crates above these, because they need not wait for them.
+//! They are apart from the crates that they test, because a crate with tests is proved twice. They are also apart from
+//! the tests of the crates that build on these crates, so that they need not wait for those.
 #![tactic(auto)]
 
 #[cfg(test)]

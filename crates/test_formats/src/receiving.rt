@@ -58,8 +58,8 @@ fn a_call_asks_for_no_more_than_16_384_bytes(rt: HostRuntime) -> Result<(), Fail
     Ok(())
 }
 
-/// Streams that are refused, each with the reason and the number of bytes that were read of it. For a wrong table those
-/// are the bytes that decide, and for a cut stream all of its bytes.
+/// Streams that are refused, each with the reason and the number of bytes read. If the table is wrong, nothing is read
+/// after the bytes that show it. A stream that is cut is read to its end.
 const REFUSED: [(&[u8], FrameFault, usize); 8] = [
     (
         &[0, 0x10, 0, 0, 1, 0, 0, 0, 2, 0, 0, 0],

@@ -12,7 +12,8 @@ use std::alloc::Global;
 /// The canonical bytes, or the reason why there are none.
 pub(crate) type Answer = Result<Canonical, Refusal>;
 
-/// Returns the result of all calls on the message of `stream`, or the name of the call that contradicts its walk.
+/// Returns the result of all calls on the message of `stream`. If the message is not read, or a call contradicts its
+/// walk, returns the name of the call.
 pub(crate) fn agreed(alloc: Global, stream: &[u8], limits: Limits) -> Result<Answer, &'static str> {
     let Ok((space, _)) = first(alloc, stream, 268_435_456) else {
         return Err("first");
@@ -37,8 +38,8 @@ pub(crate) fn agreed(alloc: Global, stream: &[u8], limits: Limits) -> Result<Ans
     Ok(answer)
 }
 
-// Tests whether `surveyed` has the price, the visits and the first capability of `walked`, or the place and the reason
-// at which that stopped.
+// Tests whether `surveyed` and `walked` have the same price, visits and first capability, or stopped at the same place
+// for the same reason.
 fn is_surveyed(surveyed: &Result<Surveyed, Stopped>, walked: &Result<Walked, Stopped>) -> bool {
     match (surveyed, walked) {
         (Ok(told), Ok(walked)) => {
@@ -51,7 +52,7 @@ fn is_surveyed(surveyed: &Result<Surveyed, Stopped>, walked: &Result<Walked, Sto
     }
 }
 
-// Returns the result that follows from `walked`: the layout of its value.
+// Returns the answer that follows from `walked`: the layout of its value, or the reason why there is none.
 fn answer_of(alloc: Global, walked: Result<Walked, Stopped>) -> Answer {
     match walked {
         Err(stopped) => Err(Refusal::Walk(stopped)),
@@ -97,7 +98,8 @@ fn segment_of<S: Space>(space: &S) -> &[u8] {
     }
 }
 
-/// Tests whether `is_canonical` says of `bytes` what a comparison with their canonical bytes says.
+/// Tests whether `is_canonical` agrees with a comparison of `bytes` with their canonical bytes. A refusal must be the
+/// same for both calls.
 pub(crate) fn is_told(alloc: Global, bytes: &[u8], limits: Limits) -> bool {
     let told = is_canonical(alloc, bytes, limits);
     match canonicalise(alloc, Form::Bare, bytes, limits) {

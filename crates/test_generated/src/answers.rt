@@ -19,7 +19,8 @@ fn is_walked(alloc: Global, stream: &[u8], limits: Limits) -> bool {
     }
 }
 
-// Tests whether the mismatch of `stream` is returned with its survey, and counts its segments if it has more than one.
+// Tests whether the call for the mismatch of `stream` also returns its survey, or the refusal of the survey. If the
+// stream has several `segments`, the mismatch has to be their number.
 fn is_mismatched(alloc: Global, stream: &[u8], segments: u64, limits: Limits) -> bool {
     match (
         survey_bytes(alloc, Form::Stream, stream, limits),

@@ -31,7 +31,8 @@ const CANONICAL: [&str; 22] = [
     "0100000051000000ff03000000000000",
 ];
 
-// Tests whether `is_canonical` agrees with a comparison for every byte of `bytes`, changed to every other value.
+// Tests whether `is_canonical` agrees with a comparison of canonical bytes, for each byte of `bytes` changed to each
+// value.
 fn are_told(alloc: Global, bytes: &mut [u8], limits: Limits) -> bool {
     for at in 0..bytes.len() {
         for change in 0..=255u8 {

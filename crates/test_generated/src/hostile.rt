@@ -36,7 +36,7 @@ fn any_offset(random: &mut Random, words: u64, pointer: u64) -> u64 {
     }
 }
 
-// Returns a small number, or `greatest`, or the one below it.
+// Returns a small number, or `greatest`, or the number before `greatest`.
 fn any_size(random: &mut Random, greatest: u64) -> u64 {
     match random.below(16) {
         0 => greatest,
@@ -45,8 +45,7 @@ fn any_size(random: &mut Random, greatest: u64) -> u64 {
     }
 }
 
-// Returns the tag word of a composite list. Its count is small, or so great that the rows are too many, or that it
-// reads as a negative offset.
+// Returns the tag word of a composite list. Its count is small, or so great that it reads as a negative offset.
 fn any_tag(random: &mut Random) -> u64 {
     let count = any_size(random, 0x3fff_ffff);
     let words = any_size(random, 0xffff);
@@ -120,7 +119,7 @@ fn message(alloc: Global, random: &mut Random) -> Result<Vec<u8>, AllocError> {
     segments.stream(alloc)
 }
 
-// Returns limits with a small budget, and with a depth that mostly lets few objects through.
+// Returns limits with a small budget, and with a depth that mostly allows few objects.
 fn any_limits(random: &mut Random) -> Limits {
     let budget = match random.below(8) {
         0 => 0,
@@ -135,7 +134,7 @@ fn any_limits(random: &mut Random) -> Limits {
     Limits::new(1_000, budget, depth).unwrap_or(Limits::usual())
 }
 
-// Returns a bit for each ending of a message: the first bit if it has a value, else the bit of its fault.
+// Returns the bit that stands for `answer`: the first bit if the message has a value, otherwise the bit of its fault.
 fn ending_of(answer: &Answer) -> u32 {
     let Err(Refusal::Walk(stopped)) = answer else {
         return 1;
@@ -156,7 +155,7 @@ fn ending_of(answer: &Answer) -> u32 {
     }
 }
 
-// Returns the ending of the message of `seed`, on which all calls agree.
+// Returns the bit of the ending of the message of `seed`, and asserts that all calls agree on the message.
 fn ending(rt: &impl Abort, alloc: Global, seed: u64) -> Result<u32, AllocError> {
     let mut random = Random::new(seed);
     let stream = message(alloc, &mut random)?;

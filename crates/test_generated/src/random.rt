@@ -2,7 +2,7 @@
 
 ghost use Rattle.std.specs.Prelude.{◌≡◌, ◌+◌, ◌*◌, ◌%◌, ◌^◌, ◌<◌, ◌≤◌};
 
-/// A source of numbers that are the same for the same seed.
+/// A source of numbers that depend only on the seed.
 #[derive(Drop)]
 pub(crate) struct Random {
     state: u64,

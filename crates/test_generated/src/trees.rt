@@ -22,8 +22,8 @@ fn without_capability(tree: Tree) -> Option<Tree> {
     Some(tree)
 }
 
-// Tests whether the walk of the canonical `bytes` finds the value of `tree`, and the layout of what it found is `bytes`
-// again.
+// Tests whether the walk of the canonical `bytes` finds the value of `tree`, and whether the layout of that value is
+// `bytes` again.
 fn is_walked(alloc: Global, tree: &Tree, bytes: &[u8]) -> bool {
     let Ok(space) = Bare::new(bytes) else {
         return false;
@@ -57,7 +57,7 @@ fn is_read_back(alloc: Global, tree: &Tree) -> bool {
     }
 }
 
-// None of the calls on a layout runs out of memory if there is enough.
+// Every call reads the layouts of a thousand values back, and none runs out of memory.
 #[test]
 fn layouts_of_a_thousand_values(rt: HostRuntime) -> Result<(), Fail> {
     let mut values = 0u64;

@@ -8,8 +8,8 @@ use std::test::Fail;
 /// The limit on the words of a message, which is the default.
 const MOST: u32 = 8_388_608;
 
-/// Whole messages, messages that are followed by others, and streams that are refused. No stream is a prefix of
-/// another, because each is cut at every byte.
+/// Whole messages, messages that are followed by others, and streams that are refused. None is a prefix of another:
+/// that prefix would be tested twice, because each stream is cut at every byte.
 const STREAMS: [&str; 33] = [
     "00100000",
     "0002000000",
@@ -46,7 +46,7 @@ const STREAMS: [&str; 33] = [
     "0000000002000000000000000100000005000000000000000000000003000000000000000200000005000000000000000000000000000000",
 ];
 
-/// The messages that are read from a stream, framed again, and the way it ends.
+/// The frames of the messages that are read from a stream, and the result at the end of the stream.
 #[derive(Drop)]
 struct Told {
     frames: Vec<u8>,
@@ -147,7 +147,7 @@ fn told_in_pieces(alloc: Global, bytes: &[u8], size: usize) -> Told {
     Told { frames, ending }
 }
 
-/// Tests whether a framer that is fed `size` bytes at a time reads `bytes` as `want` has it.
+/// Tests whether a framer that is fed `size` bytes of `bytes` at a time returns the messages and the ending of `want`.
 fn is_told(alloc: Global, bytes: &[u8], want: &Told, size: usize) -> bool {
     let told = told_in_pieces(alloc, bytes, size);
     told.ending == want.ending && told.frames.as_slice() == want.frames.as_slice()
@@ -158,7 +158,8 @@ fn are_told(alloc: Global, stream: &[u8]) -> bool {
     are_told_from(alloc, stream, 0)
 }
 
-/// Tests whether each prefix of at least `least` bytes is read as `first` reads it.
+/// Tests whether each prefix of `stream` of at least `least` bytes, fed in chunks of each size, is read as `first`
+/// reads it.
 fn are_told_from(alloc: Global, stream: &[u8], least: usize) -> bool {
     for len in least..=stream.len() {
         let bytes = start_of(stream, len);
@@ -181,7 +182,8 @@ fn twice(alloc: Global, digits: &str) -> Result<Vec<u8>, Fail> {
     Ok(bytes)
 }
 
-/// Each stream is written twice and cut at every byte, so that it is cut alone and after itself.
+/// Each stream is written twice in a row, and the result is cut at every byte. So the cut is in the first copy, or in
+/// the second after a whole one.
 #[test]
 fn streams_cut_at_every_byte(rt: HostRuntime) -> Result<(), Fail> {
     for digits in &STREAMS {
@@ -191,7 +193,7 @@ fn streams_cut_at_every_byte(rt: HostRuntime) -> Result<(), Fail> {
     Ok(())
 }
 
-/// Returns a table of `count + 1` segments, of which only the first has a word, and that word, which is null.
+/// Returns a message of `count + 1` segments. The first segment is a null word, and the others are empty.
 pub(crate) fn long_table(alloc: Global, count: u32) -> Result<Vec<u8>, Fail> {
     let mut bytes = Vec::new(alloc);
     bytes.extend_from_slice(&count.to_le_bytes())?;

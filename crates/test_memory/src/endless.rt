@@ -1,4 +1,5 @@
-//! Tests of inputs too long for a command to hold: it holds no more than it may, and its result is still right.
+//! Tests of inputs too long for a command to hold. The command holds no more than its limits allow, and its result is
+//! still right.
 
 use capn_canon::{Form, Refusal};
 use capn_commands::{Command, MessageText, ToolFault, run};
@@ -34,7 +35,7 @@ impl Read for Pieces<'_> {
 /// The number of chunks of 65,536 bytes in a mebibyte.
 const MEBIBYTE: u64 = 16;
 
-/// The number of chunks in one chunk more than a run takes.
+/// One more than the greatest number of chunks that a run reads.
 const ENDLESS: u64 = 65_537;
 
 /// The limit on the words of a message.

@@ -23,7 +23,7 @@ fn is_whole(alloc: Global, stream: &[u8], segments: u32) -> bool {
     }
 }
 
-/// No number of segments is refused as `Memory` if there is memory.
+/// A message of any allowed number of segments is read if there is memory.
 #[test]
 fn each_number_of_segments(rt: HostRuntime) -> Result<(), Fail> {
     for count in 2..=4_096u32 {
@@ -106,7 +106,7 @@ fn a_mebibyte_byte_by_byte(rt: HostRuntime) -> Result<(), Fail> {
     Ok(())
 }
 
-/// Tests whether `bytes` are canonical, which takes no allocation of more than a kibibyte to find out.
+/// Tests whether `bytes` are found canonical without an allocation of more than a kibibyte.
 fn is_small(alloc: Global, bytes: &[u8]) -> bool {
     let heap = Refusing::nth(alloc, 0);
     let is_own = match canonicalise(&heap, Form::Bare, bytes, limits(64)) {
@@ -116,8 +116,8 @@ fn is_small(alloc: Global, bytes: &[u8]) -> bool {
     is_own && is_canonical(&heap, bytes, limits(64)) == Ok(true) && heap.greatest() <= 1_024
 }
 
-/// The price of a message is not taken for the size of its canonical bytes: eight million elements without bits cost as
-/// many words.
+/// A high price does not lead to large allocations. Eight million elements without bits cost eight million words, but
+/// their canonical bytes are few.
 #[test]
 fn voids_by_the_million(rt: HostRuntime) -> Result<(), Fail> {
     let voids = [0x1_0000_0000_0000, 8_000_000 << 35 | 1];
@@ -140,7 +140,7 @@ fn priced_growths(alloc: Global, packed: &[u8]) -> Option<(u64, usize)> {
     }
 }
 
-/// Packed zeros that stand for 64 MiB are unpacked bit by bit: no allocation is above 514 KiB.
+/// Packed zeros that stand for 64 MiB are unpacked in small parts: no allocation is above 514 KiB.
 #[test]
 fn packed_zeros_are_unpacked_bit_by_bit(rt: HostRuntime) -> Result<(), Fail> {
     let mut packed = Vec::new(rt.alloc());

@@ -1,5 +1,5 @@
-//! Tests of archives of very many messages or bytes, and of the allocations of a run that packs. No run over them
-//! reports that an allocation was refused if there is enough memory.
+//! Tests of archives of very many messages or bytes, and of the allocations of a run that packs. With enough memory, no
+//! run reports a refused allocation.
 
 use capn_archive::{ArchiveFault, ArchiveOrder, Task, UniqOrder, run_archive, run_uniq};
 use capn_canon::Form;
@@ -76,7 +76,7 @@ const REFUSED: [u8; 16] = [0, 0, 0, 0, 1, 0, 0, 0, 0, 0, 0, 0, 1, 0, 0, 0];
 const LINE: &[u8] = b"65538 at 4295032832 bytes 16 segments 1 words 1 \
 refused Range at 0:0, paid 0, visits 1\n";
 
-/// A refused message past 4 GiB has its line. The test fails for code that has room only for numbers below 2^32 and
+/// A refused message past 4 GiB is listed. The test fails for code that has room only for numbers below 2^32 and
 /// reports `Memory`.
 #[test]
 fn a_refusal_past_4_gibibytes_is_listed(rt: HostRuntime) {
@@ -99,7 +99,7 @@ fn a_refusal_past_4_gibibytes_is_listed(rt: HostRuntime) {
     assert!(rt; writer.into_inner().bytes.as_slice().ends_with(LINE));
 }
 
-/// Returns a stream of `count` structs of one word, no two of which are the same.
+/// Returns a stream of `count` different structs of one word.
 fn different(alloc: Global, count: u32) -> Result<Vec<u8>, AllocError> {
     let mut stream = Vec::new(alloc);
     for number in 0..count {
@@ -158,8 +158,8 @@ fn row_of(alloc: Global, last: u64) -> Result<Vec<u8>, AllocError> {
     Ok(row)
 }
 
-/// A dense word at the end of a row is held back, which takes one allocation more than a row without one. The test
-/// fails for code that unpacks what it packed to find the last group of each row, which takes two more.
+/// A dense word at the end of a row is held back, which takes one allocation more for each row. Code that unpacks its
+/// output to find the last group of each row takes two more, and the test fails for it.
 #[test]
 fn nothing_that_was_packed_is_unpacked(rt: HostRuntime) -> Result<(), Fail> {
     let sparse = row_of(rt.alloc(), 1)?;

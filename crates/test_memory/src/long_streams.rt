@@ -77,10 +77,10 @@ fn packed_zeros(alloc: Global) -> Result<Vec<u8>, AllocError> {
     Ok(packed)
 }
 
-/// The number of these packed frames in a row of at most 65,536 bytes, and then the number of such rows that unpack to
-/// more than 1 GiB.
+/// The number of frames of `packed_zeros` in a row of at most 65,536 bytes.
 const PACKED_IN_A_ROW: u32 = 978;
 
+/// The number of such rows that unpack to more than 1 GiB.
 const PACKED_ROWS: u64 = 17;
 
 /// The number of bytes that the packed rows unpack to.
@@ -181,8 +181,8 @@ fn taken(alloc: Global, order: Order, form: Form, row: &[u8], left: u64) -> Opti
     }
 }
 
-/// The lines and frames of 200,704 messages are gathered in a text of at most 65,536 bytes and one message, which grows
-/// only a few times.
+/// Lines and frames of 200,704 messages are gathered in one text before they are written. The text grows only a few
+/// times, and to no more than 256 KiB.
 #[test]
 fn two_hundred_thousand_messages(rt: HostRuntime) -> Result<(), Fail> {
     let row = times(rt.alloc(), &EMPTY, IN_A_ROW)?;
@@ -236,7 +236,7 @@ fn the_count_of_two_hundred_thousand_that_are_one(rt: HostRuntime) -> Result<(),
     Ok(())
 }
 
-/// `filter` keeps nothing of a message that is let through.
+/// `filter` keeps nothing of a message once it is written.
 #[test]
 fn the_frames_of_two_hundred_thousand_messages(rt: HostRuntime) -> Result<(), Fail> {
     let is_right = writes(rt.alloc(), Order::Filter(false), 16 * 200_704)?;
@@ -244,7 +244,7 @@ fn the_frames_of_two_hundred_thousand_messages(rt: HostRuntime) -> Result<(), Fa
     Ok(())
 }
 
-/// `filter --canonical` keeps nothing either, and makes no canonical bytes.
+/// `filter --canonical` keeps nothing of a message once it is written, and makes no canonical bytes.
 #[test]
 fn two_hundred_thousand_canonical_messages(rt: HostRuntime) -> Result<(), Fail> {
     let is_right = writes(rt.alloc(), Order::Filter(true), 16 * 200_704)?;
@@ -270,7 +270,7 @@ fn taken_of_packed(alloc: Global, order: Order, rows: u64) -> Result<Option<Dema
     }
 }
 
-/// More than 1 GiB is unpacked, and no more is held at once than one slice unpacks to.
+/// More than 1 GiB is unpacked without an allocation above 1 MiB.
 #[test]
 fn a_gibibyte_is_unpacked(rt: HostRuntime) -> Result<(), Fail> {
     let took = taken_of_packed(rt.alloc(), Order::Unpack, PACKED_ROWS)?;

@@ -8,8 +8,8 @@ use std::test::Fail;
 use test_allocator::Refusing;
 
 /// Reads a message while allocation `number` is refused. Returns whether there was no allocation with that number, and
-/// the number of bytes left to the reader. The latter is `None` unless the message was read in that case and an
-/// allocation was refused in the other.
+/// the number of bytes left to the reader. The number of bytes is `None` if the call ended wrongly. It has to read the
+/// message if no allocation was refused, and otherwise to report `Memory`.
 fn left_by(alloc: Global, stream: &[u8], number: u64) -> (bool, Option<usize>) {
     let short = Refusing::nth(alloc, number);
     let mut reader = Watched::new(stream);

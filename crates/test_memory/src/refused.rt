@@ -15,8 +15,8 @@ use std::process::Abort;
 use std::test::Fail;
 use test_allocator::Refusing;
 
-/// The words of a message: a struct with a data word, a text, two rows, two pointers, and a double-far pointer to a
-/// struct, in segments of 15, 2 and 1 words.
+/// The words of a message in segments of 15, 2 and 1 words. Its root is a struct with a data word, a text, two rows,
+/// two pointers, and a double-far pointer to a struct.
 const CONTENTS: [u64; 18] = [
     0x4_0001_0000_0000,
     5,
@@ -38,8 +38,8 @@ const CONTENTS: [u64; 18] = [
     9,
 ];
 
-/// Returns a stream of a message in 65 segments, of which all but the first three are empty. Its table is so long that
-/// it takes memory.
+/// Returns a stream of a message in 65 segments. The first three have words, and the others are empty. The table is so
+/// long that it takes memory.
 pub(crate) fn stream_of_65(alloc: Global) -> Result<Vec<u8>, Fail> {
     let mut stream = bytes_of(alloc, &[0xf_0000_0040, 0x1_0000_0002])?;
     stream.extend_from_slice(&[0; 248])?;
@@ -189,8 +189,8 @@ fn takes_memory(call: Call) -> bool {
     !matches!(call, Call::Survey | Call::Check | Call::Account(Form::Bare))
 }
 
-/// Refuses each allocation of `call` in turn, until no allocation is left to refuse. The call then returns only
-/// `Memory`, and with enough memory it returns what is right. A call that takes no memory has no allocation to refuse.
+/// Refuses each allocation of `call` in turn, until none is left to refuse. With a refused allocation the call has to
+/// return `Memory`, and with enough memory what is right. A call that takes no memory has no allocation to refuse.
 fn refuse_each(rt: &impl Abort, of: &Subject, name: &str, call: Call) {
     for number in 1..1_000u64 {
         match answers(of, call, number) {
@@ -213,8 +213,8 @@ fn each_call(rt: HostRuntime) -> Result<(), Fail> {
 }
 
 /// Shows two messages, each with the text `text`, while allocation `number` is refused. Returns whether there was no
-/// allocation with that number, and the outcome. It is right if both texts are written, or if an allocation was refused
-/// after the first text and perhaps a prefix of the second.
+/// allocation with that number, and the outcome. It is `Right` if both texts are written. It is `Memory` if an
+/// allocation is refused after the first text and perhaps a prefix of the second.
 fn shows_twice(alloc: Global, twice: &[u8], text: &[u8], number: u64) -> (bool, Answer) {
     let short = Refusing::nth(alloc, number);
     let (outcome, shown) = output(alloc, &short, command_of(Order::Show), twice);
@@ -261,7 +261,7 @@ fn two_messages(alloc: Global) -> Result<Vec<u8>, Fail> {
 }
 
 /// Runs `command` while allocation `number` is refused. Returns whether there was no allocation with that number, and
-/// whether the run ended as it must: with `Ok` in that case, else with `Memory`.
+/// whether the run ended as it must. It must end with `Memory` if an allocation was refused, and otherwise with `Ok`.
 fn ends_by(alloc: Global, command: &Command, input: &[u8], number: u64) -> (bool, bool) {
     let short = Refusing::nth(alloc, number);
     let (outcome, _) = output(alloc, &short, *command, input);
@@ -286,8 +286,8 @@ fn growths_of(alloc: Global, command: &Command, input: &[u8]) -> Option<u64> {
     None
 }
 
-/// A run ends with `Memory` whichever allocation is refused, even for a message that is whole in a chunk after another
-/// one.
+/// A run ends with `Memory` whichever allocation is refused. That is so even for a message that is whole in one chunk
+/// with the message before it.
 #[test]
 fn a_refused_growth_ends_a_run(rt: HostRuntime) -> Result<(), Fail> {
     let stream = two_messages(rt.alloc())?;

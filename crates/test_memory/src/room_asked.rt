@@ -12,7 +12,7 @@ use std::alloc::{AllocError, Global};
 use std::test::Fail;
 use test_allocator::Refusing;
 
-/// Returns a bare message of `len` bytes: the word `root`, and below it bytes that are the letter x.
+/// Returns a bare message of `len` bytes: the word `root`, and then only the letter x.
 fn bare_of(alloc: Global, root: u64, len: usize) -> Result<Vec<u8>, AllocError> {
     let mut bytes = bytes_of(alloc, &[root])?;
     bytes.resize(len, b'x')?;
@@ -39,9 +39,10 @@ fn room_for_a_bare_input(rt: HostRuntime) -> Result<(), Fail> {
     Ok(())
 }
 
-/// The root of a list of 4 MiB of bytes, and the length of its message.
+/// The root pointer to a list of 4 MiB of bytes.
 const LONG: u64 = 0x200_0002_0000_0001;
 
+/// The length in bytes of the bare message of that list.
 const LONG_LEN: usize = 4_194_312;
 
 /// Twice the greatest size of a text that is held: a text that is not yet long enough to be written, and one chunk.
@@ -72,8 +73,8 @@ fn shown_in(alloc: Global, style: Style, bytes: &[u8]) -> Option<u64> {
     }
 }
 
-/// The text of a list of 4 MiB is written a chunk at a time: `bytes 4194304 "x..x"`, its digits below `bytes 4194304`,
-/// and `{"bytes":"78..78"}`.
+/// The text of a list of 4 MiB is written a chunk at a time in each style. The texts are `bytes 4194304 "x..x"`, digits
+/// below `bytes 4194304`, and `{"bytes":"78..78"}`.
 #[test]
 fn room_for_the_text_of_a_long_list(rt: HostRuntime) -> Result<(), Fail> {
     let message = bare_of(rt.alloc(), LONG, LONG_LEN)?;

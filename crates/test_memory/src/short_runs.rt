@@ -31,8 +31,8 @@ pub(crate) fn judged_canonical(
     }
 }
 
-/// Returns the outcome of `is_canonical` for the chain whose last pointer has another offset. It is not canonical, and
-/// a survey follows the pass that finds that.
+/// Returns the outcome of `is_canonical` for the chain whose last pointer has another offset. That chain is not
+/// canonical, so the call has to survey it, too.
 pub(crate) fn check_answer(of: &Subject, short: &Refusing<Global>) -> Answer {
     match is_canonical(short, of.respelt.as_slice(), limits(256)) {
         Ok(is_canonical) => judged(!is_canonical),

@@ -10,7 +10,7 @@ use capn_words::Watched;
 use std::alloc::{Allocator, Global};
 use test_allocator::Refusing;
 
-/// Every kind of mark, for a message behind a table of two words.
+/// Every kind of mark, for a message after a table of two words.
 const MARKS: Marks = Marks {
     offsets: true,
     ways: true,

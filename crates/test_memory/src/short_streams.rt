@@ -67,8 +67,8 @@ pub(crate) fn unpack_answer(of: &Subject, short: &Refusing<Global>) -> Answer {
     }
 }
 
-/// Returns the outcome of a new unpacker that appends to `bytes`. After a refused allocation these must be a prefix of
-/// the stream, and the unpacker must fail at the next call.
+/// Returns the outcome of a new unpacker that appends to `bytes`. After a refused allocation `bytes` must be a prefix
+/// of the stream, and the unpacker must fail at the next call.
 fn unpacked_answer(of: &Subject, bytes: &mut Vec<u8, &Refusing<Global>>) -> Answer {
     let mut unpacker = Unpacker::new();
     match unpacker.feed(of.packed.as_slice(), bytes) {

@@ -33,7 +33,7 @@ fn ended_text(of: &Subject) -> Result<Vec<u8>, AllocError> {
     Ok(bytes)
 }
 
-/// Tests whether the next of `texts` is that of the value.
+/// Tests whether the next of `texts` is read as the value of the message.
 fn is_next(of: &Subject, texts: &mut Texts) -> bool {
     match texts.read_next(of.alloc) {
         Ok(Some(tree)) => {

@@ -80,7 +80,7 @@ pub(crate) fn items(short: &Refusing<Global>) -> Result<Items<u16, &Refusing<Glo
     Ok(items)
 }
 
-/// Returns the number of allocations of a list of four items whose room is allocated at once.
+/// Returns the number of allocations that a list of four items takes, if room for all of them is allocated at once.
 pub(crate) fn growths_of_four(alloc: Global) -> Result<u64, AllocError> {
     let heap = Refusing::nth(alloc, 0);
     let mut items = Items::with_capacity(&heap, 4)?;
@@ -109,7 +109,7 @@ pub(crate) fn layout_answer(of: &Subject, short: &Refusing<Global>) -> Answer {
     }
 }
 
-/// Returns the bytes of a word and of a hole that is filled, with an empty hole after them.
+/// Returns the bytes of a patch buffer: the word 1, a word that is left out and then filled with 2, and an empty gap.
 pub(crate) fn patched(short: &Refusing<Global>) -> Result<Vec<u8, &Refusing<Global>>, Memory> {
     let mut patch = Patch::new(short);
     patch.push(1)?;
@@ -122,7 +122,7 @@ pub(crate) fn patched(short: &Refusing<Global>) -> Result<Vec<u8, &Refusing<Glob
     }
 }
 
-/// Returns the outcome of a patch buffer, which is right if it has the words that were put in.
+/// Returns the outcome of `patched`, which is right if the bytes are those of the words 1 and 2.
 pub(crate) fn patch_answer(short: &Refusing<Global>) -> Answer {
     match patched(short) {
         Ok(bytes) => judged(bytes.as_slice() == b"\x01\0\0\0\0\0\0\0\x02\0\0\0\0\0\0\0".as_slice()),

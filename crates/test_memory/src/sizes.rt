@@ -55,7 +55,8 @@ fn within(rt: &impl Abort, of: &Subject, name: &str, call: Call, most: usize) {
     );
 }
 
-/// Checks the allocations of each call for a message of one segment. Seven of the calls use a small input instead.
+/// Checks the allocations of each call for a message of one segment. Eight of the calls use a small input of their own
+/// instead.
 fn through_each(rt: &impl Abort, alloc: Global, segment: &[u8]) -> Result<(), Fail> {
     let stream = stream_of(alloc, segment)?;
     stream_through_each(rt, alloc, stream.as_slice())
@@ -87,7 +88,7 @@ fn a_wide_struct_through_each_call(rt: HostRuntime) -> Result<(), Fail> {
     through_each(&rt, rt.alloc(), data.as_slice())
 }
 
-/// Each call takes 256 structs below one another, the greatest depth that a limit allows.
+/// Each call is checked with 256 structs, each below the one before. That is the greatest depth that a limit allows.
 #[test]
 fn the_greatest_height_through_each_call(rt: HostRuntime) -> Result<(), Fail> {
     let deep = chain(rt.alloc(), 255)?;
@@ -114,8 +115,8 @@ fn exact_growths(rt: HostRuntime) -> Result<(), Fail> {
     Ok(())
 }
 
-/// Tests whether the walk stops with the fault `want`, and neither it nor canonical bytes take an allocation of more
-/// than a kibibyte.
+/// Tests whether the walk and `canonicalise` both stop with the fault `want`, and make no allocation of more than a
+/// kibibyte.
 fn stops_small(alloc: Global, words: &[u64], want: Fault) -> Result<bool, AllocError> {
     let bytes = bytes_of(alloc, words)?;
     let heap = Refusing::nth(alloc, 0);
@@ -133,8 +134,8 @@ fn stops_small(alloc: Global, words: &[u64], want: Fault) -> Result<bool, AllocE
     Ok(is_stopped && is_refused && heap.greatest() <= 1_024)
 }
 
-/// No memory is taken for lists that exceed the budget or the message: lists without bits, rows without words, lists of
-/// bytes.
+/// At most a kibibyte at a time is allocated for lists that exceed the budget or the message: lists without bits, rows
+/// without words, and lists of bytes.
 #[test]
 fn no_memory_before_it_is_paid(rt: HostRuntime) -> Result<(), Fail> {
     let alloc = rt.alloc();
@@ -165,7 +166,7 @@ fn unpacks_small(alloc: Global, text: &[u8], want: Option<UnpackFault>, most: us
     told == want && heap.greatest() <= most
 }
 
-/// No memory is taken for the sizes that a table or a group announces before the bytes are there.
+/// No large allocation is made for the sizes that a table or a group announces before the bytes are there.
 #[test]
 fn no_memory_for_what_is_announced(rt: HostRuntime) {
     let alloc = rt.alloc();

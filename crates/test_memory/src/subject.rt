@@ -20,7 +20,7 @@ pub(crate) enum Answer {
 }
 
 /// The inputs of the calls: a message, as a stream and packed, its walk, and a chain of 70 structs. `respelt` is the
-/// chain with another offset in its last pointer, so that only a survey can find it accepted.
+/// chain with another offset in its last pointer, so that it is accepted but not canonical.
 #[derive(Drop)]
 pub(crate) struct Subject<'a> {
     pub alloc: Global,
@@ -32,7 +32,7 @@ pub(crate) struct Subject<'a> {
     pub respelt: Vec<u8>,
 }
 
-/// Returns the default limits, but for a depth of `depth` objects.
+/// Returns the default limits with a depth of `depth` objects.
 pub(crate) fn limits(depth: u32) -> Limits {
     Limits::new(8_388_608, 8_388_608, depth).unwrap_or(Limits::usual())
 }

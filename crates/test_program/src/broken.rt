@@ -4,7 +4,8 @@ use capn_tool::{Watched, program};
 use std::alloc::Global;
 use std::io::{self, ErrorKind, Read, Write};
 
-/// A reader of at most `most` bytes a call. After its bytes it ends, or it fails and notes that it did.
+/// A reader of at most `most` bytes a call. After its bytes it ends. If `fails`, it returns an error there and sets
+/// `failed`.
 #[derive(Drop)]
 struct Pieces<'a> {
     bytes: &'a [u8],
@@ -51,7 +52,7 @@ impl Write for Short {
     }
 }
 
-/// The input of a run, and the fate of its reader and of its writer.
+/// The input of a run, and the points at which its reader and its writer fail.
 #[derive(Clone, Copy)]
 pub(crate) struct Input<'a> {
     /// The bytes that the reader gives.
@@ -76,7 +77,7 @@ impl<'a> Input<'a> {
     }
 }
 
-/// The output of a run, the line that it ended with, its status, and whether its reader has reported that it failed.
+/// The output of a run, its last line, its exit status, and whether its reader returned an error.
 #[derive(Drop)]
 pub(crate) struct Ending {
     pub(crate) text: Vec<u8>,
@@ -91,7 +92,7 @@ impl Ending {
         self.status == 3 && self.line.as_slice() == b"capn: input or output failed\n".as_slice()
     }
 
-    /// Tests whether the run ended as `other` did, apart from the fate of the reader.
+    /// Tests whether the run has the output, the last line and the status of `other`.
     pub(crate) fn is_as(&self, other: &Ending) -> bool {
         self.text.as_slice() == other.text.as_slice()
             && self.line.as_slice() == other.line.as_slice()

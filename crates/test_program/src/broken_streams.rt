@@ -21,7 +21,7 @@ const OVER_ARCHIVES: [&[&str]; 4] = [
     &["capn", "canonical", "--framed", "--keep-going"],
 ];
 
-/// Runs that leave messages out.
+/// Runs that can leave messages out.
 const WITH_FEWER: [&[&str]; 5] = [
     &["capn", "uniq", "--keep-going"],
     &["capn", "filter"],
@@ -46,7 +46,7 @@ const OVER_PACKED: [&[&str]; 5] = [
     &["capn", "unpack", "--streaming"],
 ];
 
-/// Runs that write at the end of their input.
+/// Runs that write only at the end of their input.
 const AT_THE_END: [&[&str]; 2] = [
     &["capn", "limits", "--keep-going"],
     &["capn", "uniq", "--count", "--keep-going"],
@@ -82,8 +82,8 @@ fn piece_of(count: usize) -> usize {
     if count % 2 == 0 { 1 } else { usize::MAX }
 }
 
-/// Tests the outcome of a run whose reader fails. If the reader reported its failure, the run must say that the input
-/// failed. Otherwise it must have ended before, like the run whose input ends there.
+/// Tests `cut`, the outcome of a run whose reader fails. If the reader returned an error, the run must say that the
+/// input failed. Otherwise the run must have ended earlier, as in `whole`, the outcome for an input that ends there.
 fn ends_by_its_reader(cut: &Ending, whole: &Ending) -> bool {
     if cut.read_failed {
         cut.is_broken()
@@ -92,8 +92,8 @@ fn ends_by_its_reader(cut: &Ending, whole: &Ending) -> bool {
     }
 }
 
-/// If the reader fails after any number of bytes, all is written that a run writes whose input ends there, and the run
-/// ends by its reader.
+/// Lets the reader fail after each number of bytes. The run must write all that it writes for an input that ends there.
+/// If the reader returned an error, the run must say so.
 fn expect_all_that_came(rt: &impl Abort, alloc: Global, words: &[&str], bytes: &[u8]) {
     for count in 0..=bytes.len() {
         let (came, most) = (&bytes[..count], piece_of(count));
@@ -128,7 +128,7 @@ fn the_reader_of_what_is_shown_fails_after_each_byte(rt: HostRuntime) {
     }
 }
 
-/// The command line of a comparison. Its first message is the null one, and its second differs.
+/// The command line of a comparison. Of the two messages compared, the first is null, and the second differs from it.
 const CMP: [&str; 2] = ["capn", "cmp"];
 
 #[test]
@@ -203,8 +203,8 @@ fn the_reader_of_words_fails_after_each_byte(rt: HostRuntime) {
     }
 }
 
-/// If the writer fails, exactly the part of the text for which it had room is written, and the run says that its output
-/// failed.
+/// Lets the writer fail after each number of bytes. Exactly these bytes of the text must be written, and the run must
+/// say that its output failed.
 fn expect_what_has_room(rt: &impl Abort, alloc: Global, words: &[&str], bytes: &[u8]) {
     let whole = ended(alloc, words, Input::whole(bytes, usize::MAX));
     assert!(rt; !whole.text.is_empty(), "{words:?}");
@@ -261,8 +261,8 @@ fn the_writer_of_words_fails_after_each_byte(rt: HostRuntime) {
     expect_what_has_room(&rt, rt.alloc(), &words, packed.text.as_slice());
 }
 
-/// The distance between the places where a reader or a writer fails: nine bytes, so that each byte of a word has its
-/// turn.
+/// The distance between the places where a reader or a writer fails. It is nine bytes, so that every position in a word
+/// occurs.
 const STEP: usize = 9;
 
 /// Returns the outcome of a command over the last message of the archive.
@@ -271,8 +271,8 @@ fn written(alloc: Global, name: &str) -> Ending {
     ended(alloc, &["capn", name], input)
 }
 
-/// If the reader fails after each ninth byte, no more is written than a run writes whose input ends there, and the run
-/// ends by its reader.
+/// Lets the reader fail after every ninth byte. The run must write no more than it writes for an input that ends there.
+/// If the reader returned an error, the run must say so.
 fn expect_no_more_than_came(rt: &impl Abort, alloc: Global, words: &[&str], bytes: &[u8]) {
     for count in 0..=bytes.len() {
         if count % STEP == 0 {
@@ -288,8 +288,8 @@ fn expect_no_more_than_came(rt: &impl Abort, alloc: Global, words: &[&str], byte
     }
 }
 
-/// If the writer fails at each ninth byte, exactly the part of the text for which it had room is written, and the run
-/// says that its output failed. Returns `true` if there is a text.
+/// Lets the writer fail after every ninth byte. Exactly the bytes up to there must be written, and the run must say
+/// that its output failed. Returns `true` if the run writes anything.
 fn writes_what_has_room(rt: &impl Abort, alloc: Global, words: &[&str], bytes: &[u8]) -> bool {
     let whole = ended(alloc, words, Input::whole(bytes, usize::MAX));
     for room in 0..whole.text.len() {
@@ -304,7 +304,8 @@ fn writes_what_has_room(rt: &impl Abort, alloc: Global, words: &[&str], bytes: &
     !whole.text.is_empty()
 }
 
-/// Each command of the table is run over two messages, over one, over its packed bytes, and over its text.
+/// The reader of each command fails. The command is run over two messages, over the second of them, over its packed
+/// bytes, and over its text.
 #[test]
 fn the_reader_of_each_command_fails(rt: HostRuntime) {
     let tool = program_command(rt.alloc()).expect(&rt, "memory");
@@ -323,7 +324,7 @@ fn the_reader_of_each_command_fails(rt: HostRuntime) {
     }
 }
 
-/// Each command of the table writes something for at least one of the inputs.
+/// The writer of each command fails. Each command writes something for at least one of the inputs.
 #[test]
 fn the_writer_of_each_command_fails(rt: HostRuntime) {
     let tool = program_command(rt.alloc()).expect(&rt, "memory");

@@ -277,7 +277,7 @@ fn a_line_may_be_longer_than_what_is_held_back(rt: HostRuntime) {
     want.push(b'7').expect(&rt, "memory");
     line.send(&mut errors);
     let said = errors.into_inner();
-    // The four calls write the full block, the part of the text for which it had no room, the long part, and the end.
+    // The four calls write the full block, the rest of the text that did not fit into it, the long text, and the end.
     assert!(rt; said.calls == 4);
     assert!(rt; said.bytes.as_slice() == want.as_slice());
 }

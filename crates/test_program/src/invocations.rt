@@ -16,7 +16,7 @@ fn is_command(alloc: Global, words: &[&str], want: Command) -> bool {
     }
 }
 
-/// Tests whether `words` mean a `show` of a packed stream in `style`, at `path` or of all.
+/// Tests whether `words` mean a `show` of a packed stream in `style`, at `path` if there is one.
 fn is_shown(alloc: Global, words: &[&str], style: Style, path: Option<&str>) -> bool {
     let told = invocation_of(alloc, words);
     match &told {
@@ -313,7 +313,7 @@ fn every_refused_message_is_explained(rt: HostRuntime) {
     expect_usage(&rt, rt.alloc(), &words, 2);
 }
 
-/// `--number` takes plain digits.
+/// `--number` takes digits without a sign and without leading zeros.
 #[test]
 fn a_message_is_explained_by_its_number(rt: HostRuntime) {
     for (text, number) in [

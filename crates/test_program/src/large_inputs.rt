@@ -31,7 +31,7 @@ pub(crate) fn over(alloc: Global, words: &[&str], bytes: &[u8]) -> Ending {
     ended(alloc, words, Input::whole(bytes, 65_536))
 }
 
-/// Tests whether a run ended with `status`, wrote `text`, and ended with `line`.
+/// Tests whether a run ended with `status`, with `text` as its output and `line` as its last line.
 pub(crate) fn is_ended(ending: &Ending, status: u8, text: &[u8], line: &[u8]) -> bool {
     ending.status == status && ending.text.as_slice() == text && ending.line.as_slice() == line
 }
@@ -128,7 +128,7 @@ const LONG_WORDS: u32 = 1_048_577;
 /// Eight bytes of the list, each the letter `a`.
 const LETTERS: u64 = 0x6161_6161_6161_6161;
 
-/// A message of 8 MiB is accepted and canonical, and is explained so.
+/// A message of 8 MiB is explained as accepted and canonical.
 #[test]
 fn a_long_message_is_explained(rt: HostRuntime) -> Result<(), Fail> {
     let frame = frame_of(rt.alloc(), LONG_BYTES, LETTERS, LETTERS, LONG_WORDS)?;
@@ -141,7 +141,7 @@ canonical: yes\n";
     Ok(())
 }
 
-/// The last line of a long text has the offset after the message.
+/// The last line of a long text is marked with the offset at which the message ends.
 #[test]
 fn a_long_message_is_shown_with_marks(rt: HostRuntime) -> Result<(), Fail> {
     let frame = frame_of(rt.alloc(), LONG_BYTES, LETTERS, LETTERS, LONG_WORDS)?;
@@ -154,7 +154,7 @@ fn a_long_message_is_shown_with_marks(rt: HostRuntime) -> Result<(), Fail> {
     Ok(())
 }
 
-/// The number of structs in a chain, each in the slot of the one before: the path to the last slot has 203 characters.
+/// The number of structs in a chain, each in the slot of the one before. The path to the last slot has 203 characters.
 const STRUCTS: u32 = 102;
 
 /// Returns the frame of a chain of structs with one slot each.

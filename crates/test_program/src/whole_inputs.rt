@@ -5,7 +5,7 @@ use std::alloc::Global;
 use std::io::{self, Read};
 use std::process::Abort;
 
-/// A reader whose calls fill the buffer and leave its bytes as they are, which are zeros.
+/// A reader whose calls report a full buffer. They leave the bytes of the buffer as they are, which are zeros.
 #[derive(Drop)]
 struct Zeros {
     left: u64,
@@ -21,7 +21,7 @@ impl Read for Zeros {
     }
 }
 
-/// The number of chunks of 65,536 bytes that a run takes.
+/// The greatest number of chunks of 65,536 bytes that a run reads.
 const ALL: u64 = 65_536;
 
 /// Returns the result of `show --one --json` over an input of `pieces` chunks.
@@ -40,7 +40,8 @@ fn outcome_of(alloc: Global, form: Form, pieces: u64) -> Result<(), ToolFault> {
     show_parts(alloc, &show, &mut reader, &mut writer)
 }
 
-/// An input of zeros is a message without words, followed by more bytes.
+/// An input of 2^32 bytes is read whole. Zeros are a message without words, followed by more bytes. A longer input is
+/// refused as too long.
 #[test]
 fn one_message_is_shown_of_2_to_the_32_bytes(rt: HostRuntime) {
     let refused = Err(ToolFault::Refused(Refusal::Trailing(8)));

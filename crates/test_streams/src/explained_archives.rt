@@ -50,8 +50,8 @@ fn pair(between: u64) -> u64 {
     0x2_0000_0000_0000 | between << 2
 }
 
-/// Returns the words of a message with 63 levels of structs of two slots below its root, both of which point to the
-/// next level. Its walk exceeds every budget.
+/// Returns the words of a message with 63 levels of structs below its root. Each struct has two slots, and both point
+/// to the next level. The walk of the message exceeds every budget.
 fn costly(alloc: Global) -> Result<Vec<u64>, AllocError> {
     let mut words = Vec::new(alloc);
     words.push(pair(0))?;
@@ -64,8 +64,8 @@ fn costly(alloc: Global) -> Result<Vec<u64>, AllocError> {
     Ok(words)
 }
 
-/// A message before the one with the number is not walked. Code that walks each of these 5,000 messages makes 2^27
-/// visits for each, which takes an hour. Without them the test takes a second.
+/// No message before the one with the given number is walked. Code that walks these 5,000 messages makes 2^27 visits
+/// for each, which takes an hour. Otherwise the test takes a second.
 #[test]
 fn no_message_before_the_number_is_walked(rt: HostRuntime) -> Result<(), Fail> {
     let words = costly(rt.alloc())?;
@@ -94,8 +94,8 @@ fn growths(alloc: Global, number: Option<u64>, archive: &[u8]) -> Option<u64> {
 /// The words of a struct whose only word is zero, which is not canonical.
 const ZERO: [u64; 2] = [0x1_0000_0000, 0];
 
-/// No account is made of a message after the first. Code that makes one for each message lays out the canonical bytes
-/// of each of these 2,000, which takes at least one allocation each.
+/// No message after the first is laid out. Code that lays out each of the 2,000 messages takes at least one allocation
+/// for each.
 #[test]
 fn no_later_message_is_laid_out(rt: HostRuntime) -> Result<(), Fail> {
     let two = archive_of(rt.alloc(), &ZERO, 2)?;
@@ -138,8 +138,8 @@ fn add_chain(words: &mut Vec<u64>) -> Result<(), AllocError> {
     Ok(())
 }
 
-/// Returns the frame of a struct of two slots, one with the chain and one with the list of `PADDED`. The list
-/// `comes_first`, or last.
+/// Returns the frame of a struct of two slots, one with the chain and one with the list of `PADDED`. The list is in the
+/// first slot if `comes_first`, and otherwise in the last.
 fn chain_and_list(alloc: Global, comes_first: bool) -> Result<Vec<u8>, AllocError> {
     let mut words = Vec::new(alloc);
     words.push(pair(0))?;
@@ -159,8 +159,8 @@ fn chain_and_list(alloc: Global, comes_first: bool) -> Result<Vec<u8>, AllocErro
     Ok(frame)
 }
 
-/// The word that differs is found by a descent to it that skips what lies before. Code that searches all that is before
-/// it walks down the chain, and for its path of 200 numbers memory grows six times more.
+/// The word that differs is found without a walk of the values before it. Code that walks them goes down the chain, and
+/// for its path of 200 numbers memory grows six times more.
 #[test]
 fn the_word_that_differs_is_found_without_a_search(rt: HostRuntime) -> Result<(), Fail> {
     let first = chain_and_list(rt.alloc(), true)?;

@@ -71,8 +71,8 @@ fn out_of_range(index: u64, offset: u64) -> RunFault {
     RunFault::Refused(Position { index, offset }, Refusal::Walk(stopped))
 }
 
-/// Four frames of 16 bytes: a null root; a root that is a struct of one word past the end of its segment; a null root;
-/// and the same struct again.
+/// Four frames of 16 bytes. The roots of the first and the third are null. The roots of the second and the fourth are
+/// structs of one word past the end of their segments.
 pub(crate) const FRAMES: [u8; 64] = [
     0, 0, 0, 0, 1, 0, 0, 0, 0, 0, 0, 0, 0, 0, 0, 0, 0, 0, 0, 0, 1, 0, 0, 0, 0, 0, 0, 0, 1, 0, 0, 0,
     0, 0, 0, 0, 1, 0, 0, 0, 0, 0, 0, 0, 0, 0, 0, 0, 0, 0, 0, 0, 1, 0, 0, 0, 0, 0, 0, 0, 1, 0, 0, 0,
@@ -134,7 +134,8 @@ fn explains_the_message_of_a_number(rt: HostRuntime) -> Result<(), Fail> {
     Ok(())
 }
 
-/// If no message is refused, the only message is explained. If there is not exactly one, they are counted.
+/// If no message is refused, a single message is explained. If there is no message, or more than one, the messages are
+/// counted.
 #[test]
 fn explains_the_only_message(rt: HostRuntime) -> Result<(), Fail> {
     let one = explained(rt.alloc(), Form::Stream, None, &FRAMES[..16]);
@@ -247,7 +248,7 @@ announced: 8388609, at most 8388608
     Ok(())
 }
 
-/// If the reader fails, the lines that are kept are not written.
+/// If the reader fails after an accepted message, the lines that explain the message are not written.
 #[test]
 fn writes_nothing_where_the_reader_fails(rt: HostRuntime) -> Result<(), Fail> {
     let input = Once {
@@ -259,7 +260,8 @@ fn writes_nothing_where_the_reader_fails(rt: HostRuntime) -> Result<(), Fail> {
     Ok(())
 }
 
-/// Messages of one segment that are not canonical, each with the lines that explain it, after its head.
+/// Messages of one segment that are not canonical, each with the lines that explain it. The first two lines are left
+/// out.
 const MISMATCHED: [([u8; 24], &str); 5] = [
     (
         [
@@ -361,7 +363,8 @@ fn tells_that_memory_ran_out_for_the_only_message(rt: HostRuntime) -> Result<(),
     Ok(())
 }
 
-/// A refused allocation for the first message is not reported if there is a second message.
+/// If there is a second message, an allocation refused for the lines of the first is not reported. Any other refused
+/// allocation ends the run with `Memory`.
 #[test]
 fn forgets_that_memory_ran_out_where_another_message_comes(rt: HostRuntime) -> Result<(), Fail> {
     let mut frames = Vec::from_slice(rt.alloc(), &MISMATCHED[0].0)?;

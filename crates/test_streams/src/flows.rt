@@ -7,7 +7,7 @@ use std::test::Fail;
 /// A word and two zero words, packed.
 const PACKED: [u8; 6] = [0x51, 8, 3, 2, 0, 1];
 
-/// The bytes of these words.
+/// The bytes of the words packed in `PACKED`.
 const WORDS: [u8; 24] = [
     8, 0, 0, 0, 3, 0, 2, 0, 0, 0, 0, 0, 0, 0, 0, 0, 0, 0, 0, 0, 0, 0, 0, 0,
 ];

@@ -77,7 +77,7 @@ fn picks_some_messages(rt: HostRuntime) -> Result<(), Fail> {
     Ok(())
 }
 
-/// From a packed stream the unpacked bytes are written, and a cut group after the last message is not looked at.
+/// From a packed stream the unpacked bytes are written. A cut group after the last message is ignored.
 #[test]
 fn picks_packed_messages(rt: HostRuntime) -> Result<(), Fail> {
     let second = picked(rt.alloc(), StreamForm::Packed, 2, 2, &PACKED);
@@ -85,7 +85,7 @@ fn picks_packed_messages(rt: HostRuntime) -> Result<(), Fail> {
     Ok(())
 }
 
-/// The reader is read again if the last message has not been read, which fails here.
+/// If the last message to pick has not been read, the reader is called again. That call fails here.
 #[test]
 fn reads_on_before_the_last_message(rt: HostRuntime) -> Result<(), Fail> {
     let three = picked(rt.alloc(), StreamForm::Stream, 1, 4, &FRAMES[..40]);
@@ -184,7 +184,7 @@ fn picks_ranges(rt: HostRuntime) -> Result<(), Fail> {
     Ok(())
 }
 
-/// Adjacent ranges pick what one range over both does.
+/// Two adjacent ranges pick the messages that one range over both would pick.
 #[test]
 fn picks_adjacent_ranges(rt: HostRuntime) -> Result<(), Fail> {
     let ranges = [Range { from: 1, to: 2 }, Range { from: 3, to: 3 }];
@@ -193,7 +193,7 @@ fn picks_adjacent_ranges(rt: HostRuntime) -> Result<(), Fail> {
     Ok(())
 }
 
-/// Ranges pick from a packed stream, too, and a group after the last message is not looked at.
+/// Ranges pick from a packed stream, too. A cut group after the last message is ignored.
 #[test]
 fn picks_packed_ranges(rt: HostRuntime) -> Result<(), Fail> {
     let second = picked_only(

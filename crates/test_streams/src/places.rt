@@ -1,4 +1,4 @@
-//! Tests of the positions that a service gets, by a service that no command has.
+//! Tests of the positions that a service gets. The service is one that only these tests have.
 
 ghost use Rattle.std.specs.Prelude.{⊤};
 
@@ -162,7 +162,7 @@ fn what_came_of_a_frame(rt: HostRuntime) -> Result<(), Fail> {
     Ok(())
 }
 
-/// The unpacked bytes of a cut frame are kept, and the packed bytes of a cut group.
+/// The unpacked bytes of a cut frame are kept. Of a cut group, the packed bytes are kept.
 #[test]
 fn what_came_of_a_group(rt: HostRuntime) -> Result<(), Fail> {
     let (ending, begun) = stopped(rt.alloc(), Form::Packed, &THREE[..6]);

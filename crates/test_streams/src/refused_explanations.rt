@@ -72,7 +72,8 @@ fn explains_every_refused_message(rt: HostRuntime) -> Result<(), Fail> {
     Ok(())
 }
 
-/// If no message is refused, the only one is explained, or they are counted. No empty line follows.
+/// If no message is refused, a single message is explained. If there is no message, or more than one, the messages are
+/// counted. No empty line follows.
 #[test]
 fn explains_as_without_it_if_none_is_refused(rt: HostRuntime) -> Result<(), Fail> {
     let one = explained(rt.alloc(), Form::Stream, &FRAMES[..16]);
@@ -97,8 +98,8 @@ const NOT_CANONICAL_THEN_REFUSED: [u8; 48] = [
     16, 0, 0, 0, 1, 0, 0, 0, 5, 0, 0, 0, 0, 0, 0, 0,
 ];
 
-/// The account of the first message is dropped once a second one is served, so memory that was refused for it does not
-/// end the run.
+/// The lines about the first message are dropped when the second one is served. So an allocation that is refused for
+/// these lines does not end the run.
 #[test]
 fn explains_behind_a_message_that_is_not_canonical(rt: HostRuntime) -> Result<(), Fail> {
     let lines = "message: 2 at 24
@@ -180,7 +181,8 @@ group: byte 6 of the packed input, tag 10: needs 2 bytes, 1 came
     Ok(())
 }
 
-/// A bare input is one message. If its walk refuses it, it is counted like any other. A wrong length ends the run.
+/// A bare input is one message. If the walk refuses the message, it is counted like any other. A wrong length ends the
+/// run.
 #[test]
 fn explains_a_bare_message(rt: HostRuntime) -> Result<(), Fail> {
     let start = Position {

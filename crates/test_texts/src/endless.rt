@@ -1,11 +1,11 @@
-//! Tests of endless inputs that are refused: little more is read than it takes to find out.
+//! Tests of endless inputs that are refused. Little is read after the bytes that decide.
 
 use capn_make::{Form, MakeFault, Misfit, Watched, make};
 use std::alloc::Global;
 use std::io::{self, Read};
 
 /// A reader that gives `text`, and then `again` over and over, at most `most` bytes a call. It ends after a million
-/// bytes, which no run reads.
+/// bytes, more than a run may read.
 #[derive(Drop)]
 struct Endless<'a> {
     text: &'a [u8],
@@ -52,8 +52,8 @@ fn run(
 
 const CAPABILITY: &[u8] = b"pointers 1\n  capability 7\nend\n";
 
-/// Forms, texts, the bytes repeated after each, the reason why the input is refused, and the number of bytes that
-/// decide it.
+/// Inputs that are refused: the form, the first bytes, the bytes repeated after them, the reason, and the number of
+/// bytes that decide.
 const REFUSED: [(Form, &[u8], &[u8], MakeFault, usize); 9] = [
     (Form::Stream, b"", b"y\n", MakeFault::NotText(1), 2),
     (Form::Packed, b"", b"y\n", MakeFault::NotText(1), 2),
@@ -114,7 +114,8 @@ fn one_byte_a_call(rt: HostRuntime) {
     }
 }
 
-/// Forms, texts, a line without an end after each, and the reason why the input is refused.
+/// Inputs that are refused in a line without an end: the form, the first bytes, the bytes repeated after them, and the
+/// reason.
 const LONG: [(Form, &[u8], &[u8], MakeFault); 9] = [
     (Form::Stream, b"", b"y", MakeFault::NotText(1)),
     (Form::Packed, b"null\nend\n", b"y", MakeFault::NotText(3)),

@@ -171,7 +171,7 @@ fn one_text(rt: HostRuntime) {
     }
 }
 
-/// Tests whether the value of the bytes made from `text` has that same text.
+/// Tests whether the message made from `text` is shown as `text` again, without the line `end`.
 fn is_shown_again(alloc: Global, text: &[u8]) -> bool {
     let (_, bytes) = run(alloc, Form::Bare, text);
     let Ok(space) = Bare::new(bytes.as_slice()) else {
@@ -186,7 +186,7 @@ fn is_shown_again(alloc: Global, text: &[u8]) -> bool {
     }
 }
 
-/// A text of each kind.
+/// Texts of values of each kind.
 const SHOWN: [&[u8]; 14] = [
     b"null\nend\n",
     b"struct 0 0\nend\n",

@@ -36,7 +36,7 @@ fn run_in_pieces(
     (outcome, writer.into_inner())
 }
 
-/// Returns the texts of three values, the second of which is longer than one chunk.
+/// Returns the texts of three values. The second is a list of `bytes` bytes, and can be longer than one chunk.
 fn long_texts(alloc: Global, bytes: usize) -> Result<Vec<u8>, Fail> {
     let mut input = Vec::new(alloc);
     input.extend_from_slice(PADDED)?;

@@ -1,5 +1,5 @@
-//! Tests of messages made from texts between quotes: they equal those of the plain form, and a refusal names the line
-//! of the input.
+//! Tests of messages made from texts between quotes. They equal the messages made from hexadecimal digits, and a
+//! refusal names the line of the input.
 
 use crate::making::run;
 use crate::pieces::Pieces;
@@ -20,8 +20,8 @@ fn run_texts(
     (outcome, writer.into_inner())
 }
 
-/// Tests whether a run over `input`, which has quotes, ends with `ending`, and writes what a run over `plain` writes,
-/// which has none.
+/// Tests whether a run over `input`, with quotes allowed, ends with `ending`. It must write what a run over `plain`
+/// writes, which has no quotes.
 fn is_same(
     alloc: Global,
     form: Form,
@@ -39,7 +39,7 @@ fn is_same(
     true
 }
 
-/// Inputs with quotes, each with its plain form.
+/// Inputs that may have quotes, each with the same texts in hexadecimal digits.
 const QUOTED: [(&[u8], &[u8]); 7] = [
     (b"bytes 3 \"abc\"\nend\n", b"bytes 3\n  616263\nend\n"),
     (b"bytes \"abc\"\nend\n", b"bytes 3\n  616263\nend\n"),
@@ -159,7 +159,8 @@ fn own_lines_after_many_texts(rt: HostRuntime) -> Result<(), std::test::Fail> {
     Ok(())
 }
 
-/// Returns the number of bytes left unread of an input without a newline when its first line was refused.
+/// Returns the number of bytes that a run leaves unread when it refuses the first line. The input is `front`, filled up
+/// to 400,000 bytes with `filler`, without a newline.
 fn left_of(alloc: Global, front: &[u8], filler: u8) -> Result<usize, std::test::Fail> {
     let mut input = Vec::new(alloc);
     input.extend_from_slice(front)?;

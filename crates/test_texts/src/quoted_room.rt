@@ -29,14 +29,14 @@ fn written_within(alloc: Global, again: &[u8], times: u64, most: usize) -> Optio
 const FOUR: &[u8] = b"bytes \"a\"\nend\nbytes \"b\"\nend\nbytes 1 \"c\"\nend\nbytes \"d\"\nend\n";
 
 /// None of 4,000 lines with quotes is remembered once its message is made. Code that keeps eight bytes for each line
-/// until the end has an allocation of 32,000 bytes.
+/// until the end makes an allocation of 32,000 bytes.
 #[test]
 fn four_thousand_quoted_lines_in_a_kibibyte(rt: HostRuntime) {
     assert!(rt; written_within(rt.alloc(), FOUR, 1_000, 1_024) == Some(4_000 * 24));
 }
 
 /// A line with quotes takes the room of its own bytes and of a short text. Code that takes the room of the longest line
-/// has an allocation of mebibytes.
+/// makes an allocation of mebibytes.
 #[test]
 fn a_quoted_line_asks_for_its_own_bytes(rt: HostRuntime) {
     let text = b"bytes \"abc\"\nend\n";

@@ -8,7 +8,7 @@ use std::io::{self, Error, ErrorKind, Read, Write};
 use std::test::Fail;
 use test_allocator::Refusing;
 
-/// A reader that gives `first`, and then `then`, or an error if `fails`.
+/// A reader that gives `first`, and then `then`. If `fails`, it fails after `first` instead.
 #[derive(Drop)]
 struct Parted<'a> {
     first: &'a [u8],
@@ -78,15 +78,17 @@ const TEXTS: &[u8] =
 /// The number of bytes of the first text, and of both.
 const WHOLE: [usize; 2] = [70, 79];
 
-/// The messages of `TEXTS` in the form `stream`, and the length of the first.
+/// The messages of `TEXTS` in the form `stream`.
 const FRAMES: &[u8] = b"\0\0\0\0\x02\0\0\0\0\0\0\0\x01\0\0\0\x05\0\0\0\0\0\0\0\
     \0\0\0\0\x01\0\0\0\0\0\0\0\0\0\0\0";
 
+/// The number of bytes of the first message in `FRAMES`.
 const FIRST_FRAME: usize = 24;
 
 /// The messages of `TEXTS` in the form `packed`.
 const PACKED: &[u8] = b"\x10\x02\x10\x01\x01\x05\x10\x01\0\0";
 
+/// The number of bytes of the first message in `PACKED`.
 const FIRST_PACKED: usize = 6;
 
 #[test]
@@ -106,7 +108,8 @@ fn parted_at_each_byte(rt: HostRuntime) {
     }
 }
 
-/// Returns the output that is due after the first `bytes` bytes of `TEXTS`.
+/// Returns the part of `messages` that a run writes if it reads only the first `bytes` bytes of `TEXTS`. The first
+/// message has `first` bytes.
 fn heard(messages: &'static [u8], first: usize, bytes: usize) -> &'static [u8] {
     if bytes < WHOLE[0] {
         b""
@@ -221,7 +224,7 @@ fn written_within(alloc: Global, repeating: Repeating, most: usize) -> Option<u6
     }
 }
 
-/// 200,000 texts, read 8 at once, are held no longer than the chunk that has them.
+/// Texts are not kept after the chunk that they are in. The input has 200,001 texts, most of them in chunks of eight.
 #[test]
 fn many_texts_in_little_memory(rt: HostRuntime) {
     let repeating = Repeating {
@@ -233,7 +236,7 @@ fn many_texts_in_little_memory(rt: HostRuntime) {
     assert!(rt; written_within(rt.alloc(), repeating, 1_024) == Some(3_200_016));
 }
 
-/// A text of one line of 16 MiB takes no allocation of more than twice its bytes.
+/// A text with a line of 16 MiB takes no allocation of much more than twice its bytes.
 #[test]
 fn a_line_of_16_mebibytes(rt: HostRuntime) -> Result<(), Fail> {
     let mut digits = Vec::new(rt.alloc());

@@ -64,7 +64,7 @@ fn hash() -> Run<'static> {
 }
 
 /// Returns the length of the text that must be written before the call `call` of the reader. For each message, `whole`
-/// has the byte at which it ends and the length of the text up to its line.
+/// has the number of bytes up to its end, and the length of the text up to the end of its line.
 fn due(whole: &[(u64, usize)], call: u64) -> usize {
     let mut due = 0;
     for (bytes, text) in whole {
@@ -75,8 +75,8 @@ fn due(whole: &[(u64, usize)], call: u64) -> usize {
     due
 }
 
-/// Returns the number of calls of the reader by the time that the byte `byte` of the text is written. That is the
-/// number of bytes up to the end of its message, or `all` for the text at the end of the input.
+/// Returns the number of calls of the reader by the time that the byte `byte` of the text is written. It is the number
+/// of bytes up to the end of the message that the text is about, or `all` for text at the end of the input.
 fn reads_before(whole: &[(u64, usize)], byte: usize, all: u64) -> u64 {
     for (bytes, text) in whole {
         if byte <= *text {
@@ -104,8 +104,8 @@ fn reads_so(
     end.asked == 65_536 && is_ended(&end, outcome, text)
 }
 
-/// Lets each call of the reader fail in turn, including the one that finds the end: the output for what was read is
-/// written.
+/// Lets each call of the reader fail in turn, including the one that finds the end. The output for the bytes read
+/// before must be written.
 fn fail_each_read(rt: &impl Abort, alloc: Global, run_of: &Run, whole: &[(u64, usize)]) {
     let calls = run_of.input.len() as u64 + 1;
     for call in 0..=calls + 1 {
@@ -137,8 +137,8 @@ fn writes_so(
     }
 }
 
-/// Lets each call of the writer fail in turn: what it took before is a prefix of the text, and the reader is not called
-/// again.
+/// Lets each call of the writer fail in turn. The bytes written before must be a prefix of the text, and the reader
+/// must not be called again.
 fn fail_each_write(
     rt: &impl Abort,
     alloc: Global,
@@ -160,10 +160,12 @@ fn fail_each_write(
     }
 }
 
-/// The messages of `STREAM` and of `TWICE`: for each, the byte at which it ends, and the length of the text up to its
+/// For each message of `STREAM`, the number of bytes up to its end, and the length of the text up to the end of its
 /// line.
 const CHECKED: [(u64, usize); 2] = [(24, 19), (40, 38)];
 
+/// For each message of `TWICE`, the number of bytes up to its end, and the length of the text up to the end of its
+/// line.
 const HASHED: [(u64, usize); 2] = [(24, 65), (48, 130)];
 
 #[test]
@@ -194,14 +196,16 @@ fn check_packed<'a>(input: &'a [u8], text: &'a [u8]) -> Run<'a> {
 /// The packed frame of a struct of one word.
 const PACKED: [u8; 6] = [0x10, 2, 0x10, 1, 1, 5];
 
-/// `PACKED` twice, and for each the byte at which it ends and the length of the text up to its line.
+/// `PACKED` twice.
 const PACKED_TWICE: [u8; 12] = [0x10, 2, 0x10, 1, 1, 5, 0x10, 2, 0x10, 1, 1, 5];
 
+/// For each message of `PACKED_TWICE`, the number of bytes up to its end, and the length of the text with its line.
 const PACKED_WHOLE: [(u64, usize); 2] = [(6, 19), (12, 38)];
 
-/// The line of the price of `PACKED`, once and twice.
+/// The line of the price of `PACKED`.
 const PRICE: &[u8] = b"ok paid 2 visits 1\n";
 
+/// The lines of the prices of `PACKED_TWICE`.
 const PRICE_TWICE: &[u8] = b"ok paid 2 visits 1\nok paid 2 visits 1\n";
 
 #[test]
@@ -211,12 +215,13 @@ fn a_packed_stream_is_served(rt: HostRuntime) {
     fail_each_write(&rt, rt.alloc(), &both, &PACKED_WHOLE, true);
 }
 
-/// A packed stream that announces 4,097 segments in its second byte. The next one is cut in a group, and the last one
-/// in a frame, each after a whole message.
+/// A packed stream whose table announces 4,097 segments.
 const LONG: [u8; 4] = [2, 0x10, 0xff, 0x8a];
 
+/// A packed message, and then one that is cut within a group.
 const CUT: [u8; 9] = [0x10, 2, 0x10, 1, 1, 5, 0x10, 2, 0x10];
 
+/// A packed message, and then one that is cut within its frame, after a whole group.
 const UNFRAMED: [u8; 8] = [0x10, 2, 0x10, 1, 1, 5, 0x10, 2];
 
 /// Tests whether `check` of the packed `input` ends with `outcome` after writing `text`.

@@ -41,7 +41,7 @@ fn odd(alloc: Global, count: u32) -> Result<String, AllocError> {
 }
 
 /// A list takes 16 bytes for each of its ranges, or at most twice that. Code that takes the room of the longest list
-/// before it reads this one has an allocation of mebibytes.
+/// before it reads this one makes an allocation of mebibytes.
 #[test]
 fn a_list_asks_for_the_room_of_its_ranges(rt: HostRuntime) -> Result<(), Fail> {
     assert!(rt; picked_within(rt.alloc(), "3", 256) == Some(16));

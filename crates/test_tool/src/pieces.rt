@@ -140,8 +140,8 @@ fn ten_thousand_messages_are_written_at_once(rt: HostRuntime) {
     assert!(rt; calls.reads.get() == 6 && calls.writes.get() == 5);
 }
 
-/// The words and null slots of structs. With 1 to pay for each struct, their prices are the numbers before and after
-/// one more digit.
+/// The data words and null slots of structs. A struct costs one word more than both together. So the prices are 9 and
+/// 10, then 99 and 100, and again 9 and 10.
 const SIZES: [(u8, u8); 6] = [(8, 0), (9, 0), (98, 0), (99, 0), (0, 8), (0, 9)];
 
 /// The lines of the prices of `SIZES`.

@@ -6,8 +6,8 @@ use capn_words::Watched;
 use std::alloc::{AllocError, Global};
 use std::test::Fail;
 
-/// Returns the status of the program with `words` over chunks of `piece` bytes, and its output. The calls of its error
-/// writer are counted in `told`.
+/// Returns the status of the program with `words` over chunks of `piece` bytes, and its output. The calls of its reader
+/// and its writer are counted in `calls`, and those of its error writer in `told`.
 fn programmed(
     alloc: Global,
     words: &[&str],
@@ -52,7 +52,7 @@ fn in_pieces(alloc: Global, words: &[&str], input: &[u8], writes: u64) -> Option
     }
 }
 
-/// Returns the stream of `count` structs of two words, of which no two are the same.
+/// Returns a stream of `count` different structs of two words.
 fn different(alloc: Global, count: u32) -> Result<Vec<u8>, AllocError> {
     let mut stream = Vec::new(alloc);
     for number in 0..count {

@@ -118,8 +118,8 @@ fn mistakes_are_told_as_errors(rt: HostRuntime) {
     assert!(rt; is_mistake(rt.alloc(), &words, line));
 }
 
-/// Tests whether `--help` over `output` ends with the status `code`, is written if `is_written`, and leaves `line` on
-/// the errors.
+/// Tests whether `--help` ends with the status `code` and the errors `line`. The help must be written to `output` if
+/// and only if `is_written`.
 fn is_helped(alloc: Global, output: Page, code: u8, is_written: bool, line: &[u8]) -> bool {
     let words = ["capn", "pack", "--help"];
     let (status, written, told) = ended(alloc, &words, &STREAM, output);

@@ -75,7 +75,7 @@ pub(crate) struct Run<'a> {
 }
 
 /// The outcome of a run: its result, its output, the number of calls of its reader, and the greatest number of bytes
-/// that it requested of it.
+/// that a call requested.
 #[derive(Drop)]
 pub(crate) struct Ending {
     pub(crate) outcome: Result<(), ToolFault>,
@@ -84,8 +84,8 @@ pub(crate) struct Ending {
     pub(crate) asked: usize,
 }
 
-/// Returns the outcome of a run whose reader fails at the call `read` and its writer at the call `write`, or never if
-/// these are 0.
+/// Returns the outcome of a run whose reader fails at the call `read`, and its writer at the call `write`. With 0 in
+/// place of a call, the reader or the writer never fails.
 pub(crate) fn ended(
     alloc: Global,
     run_of: &Run,

@@ -7,8 +7,8 @@ use capn_walk::Limits;
 use std::alloc::Global;
 use std::process::Abort;
 
-/// Returns the result of `same_messages` for the frames of `one` and `other`, or `None` if it differs from a comparison
-/// of their canonical bytes, or from the refusal of these.
+/// Returns the result of `same_messages` for the frames of `one` and `other`. Returns `None` if a comparison of their
+/// canonical bytes has another result or another refusal.
 pub(crate) fn compared(
     alloc: Global,
     one: &[u64],
@@ -35,7 +35,7 @@ pub(crate) fn compared(
     if answer == want { Some(answer) } else { None }
 }
 
-/// Returns the result of a comparison of canonical bytes.
+/// Returns the result of a comparison of canonical bytes, or the refusal of the first side that has none.
 fn wanted(
     one: Result<Canonical, Refusal>,
     other: Result<Canonical, Refusal>,

@@ -1,4 +1,4 @@
-//! Tests that count how often a message is read, for the calls that take a plain `Space` and no counter.
+//! Tests that count how often a message is read, for the calls that take a `Space` and no counter.
 
 ghost use Rattle.std.specs.Prelude.{◌≡◌};
 
@@ -62,8 +62,8 @@ fn pointer(between: u64) -> u64 {
     0x2_0000_0000_0000 | between << 2
 }
 
-/// Returns a frame of two segments whose root is behind a landing pad of one word. Below the root there are `levels`
-/// structs of two slots, both of which point to the next struct.
+/// Returns a frame of two segments whose root is a far pointer to a landing pad of one word. Below the root there are
+/// `levels` structs of two slots, both of which point to the next struct.
 fn doubling(alloc: Global, levels: u8) -> Result<Vec<u8>, Fail> {
     let mut words = Vec::new(alloc);
     words.push(0x1_0000_0001)?;
@@ -103,8 +103,8 @@ fn times_asked(alloc: Global, bytes: &[u8], limits: Limits) -> Result<[u64; 5], 
     Ok([surveyed, indexed, length, written, space.taken()])
 }
 
-/// The bounds of the counted calls hold for the calls without a counter, which read once more. The message here has
-/// 8,191 visits if the budget allows them.
+/// Calls without a counter keep to the bounds of the calls with one, plus one read or two. The walk of this message
+/// would make 8,191 visits within a greater budget.
 #[test]
 fn no_call_asks_more_than_its_counted_one(rt: HostRuntime) -> Result<(), Fail> {
     let bytes = doubling(rt.alloc(), 11)?;
@@ -121,7 +121,8 @@ fn no_call_asks_more_than_its_counted_one(rt: HostRuntime) -> Result<(), Fail> {
     Ok(())
 }
 
-/// The bounds of the counted calls hold for an accepted message, too, by the words that it pays.
+/// Calls without a counter keep to the bounds for an accepted message, too. These bounds follow from the words that the
+/// message pays.
 #[test]
 fn nor_where_it_answers(rt: HostRuntime) -> Result<(), Fail> {
     let bytes = doubling(rt.alloc(), 2)?;
@@ -159,9 +160,8 @@ fn times_explained(alloc: Global, bytes: &[u8], limits: Limits) -> Result<(u64, 
     }
 }
 
-/// A refused message is explained by one more walk, up to the same slot, which reads it about three times as often as a
-/// survey. Code that surveys it again reads once more for each survey. Code that looks for the path twice reads six
-/// times as often.
+/// A refused message is explained by one more walk, up to the refused slot. That walk reads about three times as often
+/// as a survey. Code that also surveys the message again, or looks for the path twice, reads more often.
 #[test]
 fn a_refused_message_is_walked_once_more(rt: HostRuntime) -> Result<(), Fail> {
     let bytes = doubling(rt.alloc(), 11)?;

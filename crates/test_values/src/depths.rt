@@ -7,8 +7,8 @@ use capn_words::{Bare, Place, Space};
 use std::alloc::Global;
 use std::test::Fail;
 
-/// Returns the result of a survey of `space` within the default limits, but for `depth`. `None` means that `depth` is
-/// out of range.
+/// Returns the result of a survey of `space` with the default limits and the depth `depth`. Returns `None` if `depth`
+/// is out of range.
 fn surveyed_at(alloc: Global, space: &Bare<'_>, depth: u32) -> Option<Result<Surveyed, Stopped>> {
     let usual = Limits::usual();
     let limits = Limits::new(usual.message_words(), usual.budget(), depth)?;
@@ -80,7 +80,7 @@ fn a_struct_in_its_own_slot(rt: HostRuntime) -> Result<(), Fail> {
     Ok(())
 }
 
-/// Returns the measure that one pass gives of a bare message, within the default limits, but for `depth`.
+/// Returns the measure of a bare message by one pass, with the default limits and the depth `depth`.
 fn measured_at(alloc: Global, words: &[u64], depth: u32) -> Option<MeasuredBare> {
     let bytes = bytes_of(alloc, words).ok()?;
     let bare = Bare::new(bytes.as_slice()).ok()?;
@@ -103,7 +103,7 @@ fn one_pass_learns_the_depth(rt: HostRuntime) {
         7,
         9,
     ];
-    // The depth of 3 below the second of two rows, each with one slot.
+    // Two rows, each with one slot. The depth of 3 is reached below the first row.
     let rows = [
         0x17_0000_0001,
         0x1_0000_0000_0008,

@@ -144,7 +144,7 @@ rows: 1 of 2 words each: 2 of the list's 1\n",
     ),
 ];
 
-/// A struct whose two slots point to the same struct, whose slot points to a struct of one word.
+/// A struct whose two slots point to the same struct. The slot of that struct points to a struct of one word.
 const SHARED: [u64; 5] = [
     0x2_0000_0000_0000,
     0x1_0000_0000_0004,
@@ -197,8 +197,8 @@ pad: byte 40, segment 1 word 1: 1200000001000000: far to segment 1 word 2\n\
 pad: byte 48, segment 1 word 2: 01000000a2000000: list of 20 bytes, offset 0\n\
 content: words 2 to 5 of segment 1, which has 3\n";
 
-/// Tests whether a bare message is explained by `want`. Of `before`, the first number is its index, the second its
-/// offset, and the third the words of its table.
+/// Tests whether a bare message is explained by `want`. The numbers in `before` are the index of the message, its
+/// offset, and the words of its table.
 fn is_told(
     alloc: Global,
     words: &[u64],

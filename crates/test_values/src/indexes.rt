@@ -88,7 +88,7 @@ const ROWS_INDEX: [Entry; 4] = [
     },
 ];
 
-/// A struct whose two slots point to the same struct, which has an entry for each.
+/// A struct whose two slots point to the same struct, which has an entry for each slot.
 const SHARED: [u64; 4] = [0x2_0000_0000_0000, 0x1_0000_0004, 0x1_0000_0000, 9];
 
 const SHARED_INDEX: [Entry; 3] = [
@@ -127,8 +127,8 @@ fn put(bytes: &[u8], limits: Limits, room: &mut [Entry]) -> Option<Result<Indexe
     Some(index_into(&bare, limits, room))
 }
 
-/// Tests whether as many of the entries `want` as have room are written to a room of `most` entries, and nothing after
-/// them.
+/// Tests the index of a message in a room of `most` entries. As many of the entries `want` as there is room for must be
+/// written, and nothing after them.
 fn is_put(bytes: &[u8], want: &[Entry], told: Indexed, most: usize) -> bool {
     let mut room = ROOM;
     let most = most.min(6);
@@ -137,8 +137,8 @@ fn is_put(bytes: &[u8], want: &[Entry], told: Indexed, most: usize) -> bool {
     is_told && room[..filled] == want[..filled] && room[filled..] == ROOM[filled..]
 }
 
-/// Tests whether the index of a message has the entries `want`, by both calls, and in every room that is too short for
-/// it.
+/// Tests whether `index` and `index_into` give the entries `want` for a message. Some of the rooms for `index_into` are
+/// too short.
 fn is_indexed(alloc: Global, words: &[u64], want: &[Entry], paid: u32) -> Result<bool, Fail> {
     let bytes = bytes_of(alloc, words)?;
     let told = Indexed {

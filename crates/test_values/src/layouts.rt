@@ -27,7 +27,7 @@ fn is_laid(alloc: Global, made: Made, want: &[u64]) -> bool {
     }
 }
 
-/// Tests whether a value has no layout because of a capability, the first of which has the index `index`.
+/// Tests whether a value has no layout because of its first capability, which must have the index `index`.
 fn is_refused(alloc: Global, made: Made, index: u32) -> bool {
     matches!(laid(alloc, made), Some(Err(LayoutFault::Capability(first))) if first == index)
 }
@@ -116,7 +116,7 @@ fn each_kind(rt: HostRuntime) {
     assert!(rt; is_refused(alloc, one_of_each(alloc, Value::Cap(2)), 2));
 }
 
-/// The first capability in preorder is reported, even if another is in a nearer slot.
+/// The first capability in preorder is reported, even if a capability in a later slot is less deep.
 #[test]
 fn capabilities(rt: HostRuntime) {
     let alloc = rt.alloc();

@@ -99,7 +99,7 @@ fn octs(alloc: Global, numbers: &[u64]) -> Made {
 /// Ten bits, all 1 except the second.
 const BITS: [bool; 10] = [true, false, true, true, true, true, true, true, true, true];
 
-/// Returns slots that are null or have lists of plain elements.
+/// Returns slots that are null or have lists without pointers.
 fn plain_slots(alloc: Global) -> Result<Vec<Value>, AllocError> {
     let slots = with(Ok(Vec::new(alloc)), Ok(Value::Nil));
     let slots = with(slots, Ok(Value::Voids(3)));

@@ -32,7 +32,8 @@ const LINES: &str = "0\troot\tstruct 1 2
 56\t1.0.0\t      null
 ";
 
-/// The lines of the row of `STRUCT`, each with its offset, in a stream in which the message's words begin at byte 8.
+/// The lines of the row of `STRUCT`, each with its offset in a stream. The words of the message begin at byte 8 of the
+/// stream.
 const ROW: &str = "56\tstruct 1 1
 56\t  word 0000000000000006
 64\t  null

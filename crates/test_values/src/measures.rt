@@ -7,8 +7,8 @@ use capn_walk::{Fault, Limits, Stopped};
 use std::alloc::Global;
 use std::test::Fail;
 
-/// Returns the measure of the frame of `words` within the default limits. If its own bytes are canonical, and are all
-/// that follows the table, also returns the words that they pay.
+/// Returns the measure of the frame of `words` within the default limits. If the message is canonical, also returns the
+/// price of its bytes, which must be all that follows the table.
 fn told(
     alloc: Global,
     words: &[u64],

@@ -26,9 +26,8 @@ fn reads(alloc: Global, words: &[u64], table: u32, lines: &str) -> Result<bool, 
     Ok(text.as_str() == lines)
 }
 
-/// There are lines of each kind. The messages have a zero word at the end of the root, which makes the canonical bytes
-/// shorter, a tag word with sizes and no rows, a byte of padding after three, a word after the value, and a capability.
-/// The last message is canonical.
+/// Each kind of mismatch has its lines. The causes are a zero word at the end of the root, a tag word with sizes and no
+/// rows, a byte of padding, a word after the value, and a capability. The last message is canonical.
 #[test]
 fn lines_of_each_kind(rt: HostRuntime) -> Result<(), Fail> {
     let alloc = rt.alloc();
@@ -71,7 +70,7 @@ fn measured_reads(alloc: Global, words: &[u64], table: u32, lines: &str) -> Resu
     Ok(text.as_str() == lines)
 }
 
-/// A measured message with a word after the value, behind a table of one word, has its lines.
+/// A measured message has the right lines, if a word follows its value and a table of one word stands before it.
 #[test]
 fn lines_of_a_measured_message(rt: HostRuntime) -> Result<(), Fail> {
     let lines = "canonical: no: at byte 40: 0700000000000000, canonical nothing, after the value\n\
@@ -80,8 +79,8 @@ fn lines_of_a_measured_message(rt: HostRuntime) -> Result<(), Fail> {
     Ok(())
 }
 
-/// Tests whether a surveyed bare message has this measure: price and visits, first capability, canonical or not, and
-/// depth.
+/// Tests whether a surveyed bare message has the given measure: price and visits in `costs`, first capability,
+/// canonical or not, and depth.
 fn is_measured(
     alloc: Global,
     words: &[u64],
@@ -110,7 +109,7 @@ fn is_measured(
     Ok(measure_surveyed(&bare, Limits::usual(), surveyed) == want)
 }
 
-/// The messages are a struct of one word, that with another word after it, and a capability.
+/// The messages are a struct of one word, that struct with a word after it, and a struct with a capability.
 #[test]
 fn measures_of_surveyed_messages(rt: HostRuntime) -> Result<(), Fail> {
     let alloc = rt.alloc();

@@ -32,8 +32,8 @@ fn told(alloc: Global, words: &[u64]) -> Result<Mismatch, Fail> {
     }
 }
 
-/// Tests whether a message first differs from its canonical bytes in the word `at`. `both` has its word and the
-/// canonical one, which belongs to `owner` at `path`.
+/// Tests whether a message first differs from its canonical bytes in the word `at`. That word and the canonical one are
+/// in `both`. The word belongs to the `owner` at `path`.
 fn leaves(
     alloc: Global,
     words: &[u64],
@@ -79,8 +79,8 @@ fn a_word_after_the_value(rt: HostRuntime) -> Result<(), Fail> {
     Ok(())
 }
 
-/// Pointers differ because of a zero word at the end of the root, objects in another order than their slots, an empty
-/// struct that is not at its own slot, and rows that share an object.
+/// Pointers differ for four reasons: a zero word at the end of the root, objects in another order than their slots, an
+/// empty struct that is not at its own slot, and rows that share an object.
 #[test]
 fn pointers_that_differ(rt: HostRuntime) -> Result<(), Fail> {
     let zero = [0x2_0000_0000, 5, 0];
@@ -149,7 +149,8 @@ fn last_words_that_differ(rt: HostRuntime) -> Result<(), Fail> {
     Ok(())
 }
 
-/// The first capability is found: in the first slot of a struct, and below the first slot with another in the second.
+/// The first capability is found in the first slot of a struct, and below that slot. Both messages have another
+/// capability in the second slot.
 #[test]
 fn capabilities(rt: HostRuntime) -> Result<(), Fail> {
     let found = told(

@@ -1,4 +1,4 @@
-//! Tests of the paths to slots of messages: the one at which a walk stops, or the one of a visit.
+//! Tests of the paths to slots of messages: to the slot at which a walk stops, or to the slot of a visit.
 
 use crate::words::bytes_of;
 use capn_path::{path_of_refusal, path_of_stop, path_of_visit};
@@ -25,7 +25,7 @@ const LINKS: [u64; 5] = [0x1_0000_0000_0000, 0x1e_0000_0001, 0, 0, 7];
 /// A struct whose only slot points to the struct itself.
 const CIRCLE: [u64; 1] = [0x1_0000_ffff_fffc];
 
-/// A struct whose two slots point to the same struct, whose slot points to a struct of one word.
+/// A struct whose two slots point to the same struct. The slot of that struct points to a struct of one word.
 const SHARED: [u64; 5] = [
     0x2_0000_0000_0000,
     0x1_0000_0000_0004,
@@ -106,7 +106,7 @@ fn leads_to_stop(alloc: Global, words: &[u64], path: &[u32]) -> Result<bool, Fai
     }
 }
 
-/// The path is found to a slot of a row, and is empty for a message without a root.
+/// The path to a slot of a row is found. For a message without a root, the path is empty.
 #[test]
 fn the_path_to_a_stop(rt: HostRuntime) -> Result<(), Fail> {
     let alloc = rt.alloc();

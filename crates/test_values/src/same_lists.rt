@@ -3,7 +3,7 @@
 use crate::comparisons::{expect, list, node};
 use std::test::Fail;
 
-/// Rows are compared whatever their sizes, each up to its end.
+/// Rows of different sizes are the same if the further words of the longer ones are zero and their further slots null.
 #[test]
 fn rows_of_different_sizes(rt: HostRuntime) -> Result<(), Fail> {
     let alloc = rt.alloc();
@@ -116,7 +116,7 @@ fn rows_with_slots(rt: HostRuntime) -> Result<(), Fail> {
     Ok(())
 }
 
-/// Lists of plain elements differ if their kinds, their lengths or any elements differ.
+/// Lists without pointers differ if their kinds, their lengths or any elements differ.
 #[test]
 fn lists_of_numbers(rt: HostRuntime) -> Result<(), Fail> {
     let alloc = rt.alloc();

@@ -160,7 +160,8 @@ fn messages(alloc: Global) -> Result<Vec<[u64; 4]>, AllocError> {
     Ok(messages)
 }
 
-/// Each pair of many messages is the same if and only if their canonical bytes are equal, and refused as these are.
+/// Two of many messages are the same if and only if their canonical bytes are equal. The comparison is refused if and
+/// only if one of the two has no canonical bytes.
 #[test]
 fn each_two_of_many(rt: HostRuntime) -> Result<(), Fail> {
     let alloc = rt.alloc();

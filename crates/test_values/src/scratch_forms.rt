@@ -12,7 +12,7 @@ use std::test::Fail;
 /// The greatest number of words of scratch that a test lends.
 const MOST: usize = 192;
 
-/// Returns a frame of `last + 1` segments. Its root has one word, and is behind a landing pad in the last segment.
+/// Returns a frame of `last + 1` segments. Its root is a struct of one word, by a landing pad in the last segment.
 fn frame(alloc: Global, last: u8) -> Result<Vec<u8>, Fail> {
     let mut bytes = Vec::new(alloc);
     bytes.extend_from_slice(&(last as u32).to_le_bytes())?;
@@ -53,7 +53,8 @@ const WRITTEN: [u8; 24] = [
     0, 0, 0, 0, 1, 0, 0, 0, 7, 0, 0, 0, 0, 0, 0, 0, 0xbb, 0xbb, 0xbb, 0xbb, 0xbb, 0xbb, 0xbb, 0xbb,
 ];
 
-/// The last segments of frames with 2, 64, 65 and 66 segments, each with the words that the table takes.
+/// The indices of the last segments of frames with 2, 64, 65 and 66 segments, each with the words of scratch that its
+/// table takes.
 const FRAMES: [(u8, usize); 4] = [(1, 0), (63, 0), (64, 64), (65, 65)];
 
 #[test]

@@ -82,8 +82,8 @@ fn told(
     Some((surveyed, survey_bare(alloc, &bare, Limits::usual())))
 }
 
-/// Tests whether the survey and the check report this price, these visits and this first capability, and the check
-/// whether the bytes are canonical.
+/// Tests whether the survey and the check both report `paid`, `visits` and `capability`, and the check also reports
+/// `is_canonical`.
 fn are_told(
     alloc: Global,
     words: &[u64],
@@ -100,7 +100,8 @@ fn are_told(
     }
 }
 
-/// The messages are canonical, not canonical, and with a capability, which is never canonical.
+/// The survey and the check report the same. Only the first message is canonical: the others have a trailing zero word,
+/// a shared struct, or a capability.
 #[test]
 fn what_a_message_holds(rt: HostRuntime) {
     assert!(rt; are_told(rt.alloc(), &[0x1_0000_0000, 5], (2, 1, None), true));

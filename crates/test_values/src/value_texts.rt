@@ -63,8 +63,8 @@ fn texts(rt: HostRuntime) {
     expect_texts(&rt, alloc, zero, 6, ZERO_ROWS, EMPTY_ROWS);
     let rows = holder(alloc, two_rows(alloc, &[7], &[0]));
     expect_texts(&rt, alloc, rows, 6, ROWS, ROWS);
-    // The struct costs 1 + 1 + 12. The plain lists cost 4, 2, 1, 2, 1, 2, 2 and 3, the pointers 3, the rows 2, and the
-    // empty struct 1.
+    // The struct costs 1 + 1 + 12. The lists without pointers cost 4, 2, 1, 2, 1, 2, 2 and 3, the pointers 3, the rows
+    // 2, and the empty struct 1.
     let each = one_of_each(alloc, Value::Cap(2));
     expect_texts(&rt, alloc, each, 37, EACH, EACH);
 }

@@ -132,7 +132,7 @@ fn long_costly_and_tall(rt: HostRuntime) {
         expect_plain(&rt, voids(alloc, count), count + 1);
     }
     expect(&rt, nested(alloc, 257), Some(Misfit::Tall));
-    // 256 structs, all but the last with a slot.
+    // A chain of 255 structs with one slot each, and a last one without.
     expect_sizes(&rt, nested(alloc, 256), 256, 511);
 }
 
@@ -200,7 +200,7 @@ fn kept_rows(alloc: Global) -> Result<Items<Body>, AllocError> {
     two_bodies(alloc, first, body(alloc, &[1], slots))
 }
 
-/// Tests whether `rows` keep two words and two slots each.
+/// Tests whether trimming keeps two words and two slots of each of two `rows`.
 fn are_kept(rows: &[Body]) -> bool {
     match rows {
         [_, last] => kept_slots(last.slots.as_slice()) == 2

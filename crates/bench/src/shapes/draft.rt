@@ -128,8 +128,8 @@ impl Draft {
         }
     }
 
-    /// Writes `pointer` to the next object behind a landing pad of two words. If the segment is then nearly full, it is
-    /// ended after the pad.
+    /// Points `slot` to a landing pad of two words, which ends with `pointer`, for the next object. If the segment is
+    /// nearly full after the pad, it ends there.
     fn place_double_far(&mut self, slot: Slot, pointer: u64) -> Result<(), AllocError> {
         let far = self.far();
         self.point(slot, far | 4);
@@ -144,7 +144,7 @@ impl Draft {
         Ok(())
     }
 
-    /// Writes `pointer`, which lacks its offset, as the pointer of `slot` to the next object.
+    /// Points `slot` to the next object by `pointer`, which still lacks its offset.
     fn place(&mut self, slot: Slot, pointer: u64) -> Result<(), AllocError> {
         match self.route(slot)? {
             Route::Near => {
@@ -207,7 +207,7 @@ impl Draft {
         Ok(())
     }
 
-    /// Appends a list of 32-bit numbers, which has `pairs` pairs of them.
+    /// Appends a list of `pairs` pairs of 32-bit numbers.
     pub(crate) fn pairs(
         &mut self,
         slot: Slot,
@@ -229,7 +229,7 @@ impl Draft {
         self.fill(content, count)
     }
 
-    /// Appends a list of `count` pointers, which are null until they are written. Returns the first.
+    /// Appends a list of `count` pointers, which are null until they are written. Returns the place of the first.
     pub(crate) fn pointers(&mut self, slot: Slot, count: u32) -> Result<Slot, AllocError> {
         self.place(slot, 1 | 6 << 32 | u64::from(count) << 35)?;
         let first = self.here();
@@ -260,8 +260,8 @@ impl Draft {
         Ok(first)
     }
 
-    /// Appends a root with a list of pointers, one for every `words` words of `bytes` bytes. Returns the first pointer
-    /// and their number.
+    /// Appends a root struct with a list of pointers, one for every `words` words in `bytes` bytes. Returns the slot of
+    /// the first pointer, and the number of pointers.
     pub(crate) fn groups(&mut self, bytes: u32, words: u32) -> Result<(Slot, u32), AllocError>
         requires { 0 < words }
     {

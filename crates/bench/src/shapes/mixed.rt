@@ -97,7 +97,8 @@ pub(crate) fn mixed(alloc: Global, bytes: u32) -> Result<Vec<u8>, AllocError> {
     draft.into_frame(alloc)
 }
 
-/// Returns a message of groups of all kinds, in about 400 segments, or in segments of 16 words.
+/// Returns a message of groups of all kinds, in about 400 segments. If the message is small, its segments have about 16
+/// words.
 pub(crate) fn segments(alloc: Global, bytes: u32) -> Result<Vec<u8>, AllocError> {
     let most = (bytes / 8 / 400).max(16) as usize;
     let mut draft = Draft::new(alloc, Segments::Scattered(most))?;

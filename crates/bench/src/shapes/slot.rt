@@ -1,11 +1,11 @@
 //! The place of a word in a draft.
 
-/// A word of a draft.
+/// The place of a word in a draft.
 #[derive(Clone, Copy)]
 pub(crate) struct Slot {
-    /// The number of segments before its own.
+    /// The number of segments before the one of the word.
     pub segment: usize,
-    /// The number of words before it, in all segments.
+    /// The number of words before the word, in all segments.
     pub at: usize,
 }
 

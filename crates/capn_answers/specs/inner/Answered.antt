@@ -1,4 +1,4 @@
--- The results of the private calls on one message.
+-- The results of the private functions for one message.
 use Rattle.std.specs.Prelude.{◌≡◌, ℕ, List, Result, IfOk, IfErr}
 use Rattle.std.specs.Prelude.{IsErrOf, MatchResult}
 use Rattle.capn_walk.specs.Accepted.{IsBounded, IsWalkRefused}
@@ -16,13 +16,14 @@ use Rattle.capn_answers.specs.declared.mismatch_input.SurveyedMismatch.{Surveyed
 use Rattle.capn_answers.specs.declared.walked.Walked.{Walked}
 use Rattle.capn_answers.specs.declared.walked.Walked.TheVariants as walks
 
--- `message` is accepted with the survey returned; or the walk of `message` stops at the place and for the reason
--- returned, with the path to the slot of the stop
+-- `Accepted` has the survey of the accepted `message`. `Refused` has the stop of the walk of `message`, and the path to
+-- the slot at which the walk stops.
 abbrev pub IsWalked : {A : Type 0} → List (List ℕ) → Bounds → Walked A → Type 0
 IsWalked message limits (walks.Accepted s) = IsSurvey message limits s
 IsWalked message limits (walks.Refused f) = IsRefusedAt message limits f.stopped f.path.items
 
--- `r` is the outcome of the walk of `message`, or `Memory`; `Memory` is returned only if the walk is refused
+-- If `r` is `Ok`, it has the outcome of the walk of `message`, and the walk pays at most the budget. If `r` is an
+-- `Err`, it is `Memory`, and the walk is refused.
 pub record IsWalkTold {A : Type 0} (message : List (List ℕ)) (limits : Bounds) (r : Result (Walked A) Refusal)
     : Type 0 where
   pub found : IfOk r (λ w. IsWalked message limits w)
@@ -30,8 +31,9 @@ pub record IsWalkTold {A : Type 0} (message : List (List ℕ)) (limits : Bounds)
   pub memory : IfErr r (λ e. (e ≡ refusals.Memory)
       × ((s : Stopped) × IsWalkRefused message limits s.fault s.place s.paid s.visits))
 
--- `r` is the mismatch of `message` with its canonical bytes and the survey, or the reason why `message` isn't accepted;
--- `Memory` is returned only if `message` may need it for the mismatch
+-- If `r` is `Ok`, it has the mismatch and the survey of `message`. If `r` is an `Err`, it is true of `message`
+-- (`IsUnaccepted`), and is `Memory` only if `message` has one segment and isn't canonical. The number of
+-- words paid, in the survey or in a refusal by the walk, is at most the budget.
 pub record IsMismatchSurveyed {A : Type 0} (message : List (List ℕ)) (limits : Bounds)
     (r : Result (SurveyedMismatch A) Refusal) : Type 0 where
   pub found : IfOk r (λ d. IsMismatch message limits d.mismatch)

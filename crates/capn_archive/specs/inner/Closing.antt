@@ -5,8 +5,8 @@ use Rattle.capn_words.specs.Watched.{HasBegun}
 use Rattle.capn_serve.specs.declared.fault.RunFault.{RunFault}
 use Rattle.capn_serve.specs.declared.fault.RunFault.TheVariants as faults
 
--- `text` was written. Or an allocation was refused for a text that is not empty, and nothing was written. Or the writer
--- failed within `text`.
+-- After `Ok`, `text` was written. After `Memory`, nothing was written, and `text` is not empty. After `Io`, a prefix of
+-- `text` was written.
 abbrev pub PutsClosing : List ℕ → Option (List ℕ) → Option (List ℕ) → Bool → Result (Unit {0}) RunFault → Type 0
 PutsClosing text old new failed (Ok u) = Appends old new text × (failed ≡ false)
 PutsClosing text old new failed (Err fault) =

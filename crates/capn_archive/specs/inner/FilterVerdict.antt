@@ -7,8 +7,9 @@ use Rattle.capn_archive.specs.declared.task.Task.TheVariants as tasks
 use Rattle.capn_archive.specs.FilterMessages.{IsUncanonical, Passes}
 use Rattle.capn_archive.specs.Tasks.{IsRefusedBy}
 
--- The verdict is right for `message`: the message is let through, is not canonical, or is refused by its walk.
--- `canonical` is true if only canonical messages are let through.
+-- The verdict on `message` is `Passes` if `message` is let through, and `Refused` if the walk refuses `message`. It is
+-- `NotCanonical` if `message` is accepted but not canonical. `canonical` is true if only canonical messages are let
+-- through.
 abbrev pub IsVerdict : Bool → List (List ℕ) → Bounds → Verdict → Type 0
 IsVerdict canonical message limits verdicts.Passes = Passes canonical message limits
 IsVerdict canonical message limits verdicts.NotCanonical = IsUncanonical canonical message limits

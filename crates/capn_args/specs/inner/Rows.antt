@@ -25,12 +25,12 @@ rule_of_row row = rule_for row.name.now row.taken
 abbrev pub is_taken : Text → OptionRow → Bool
 is_taken name row = list_any (λ command. bytes_eq command.now name) row.commands.now
 
--- The parser `line`, with those options of the rows added that the command `name` takes.
+-- The parser `line` with those options of the rows that the command `name` takes.
 abbrev pub with_rows : Text → App → List OptionRow → App
 with_rows name line [] = line
 with_rows name line (row ∷ rest) =
     with_rows name (cond (is_taken name row) (with_rule line (rule_of_row row)) line) rest
 
--- The text of each name.
+-- The text of each of `names`.
 abbrev pub texts_of : List (Bor Text) → List Text
 texts_of names = map (λ name. name.now) names

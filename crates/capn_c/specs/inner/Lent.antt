@@ -1,4 +1,4 @@
--- The results of the private calls behind `capn_canonical_with_scratch`.
+-- The results of the private functions of `capn_canonical_with_scratch`.
 use Rattle.std.specs.Prelude.{IsTrue, ◌≡◌, ◌≢◌, ◌⊎◌, ℕ, ◌+◌, ◌*◌, ◌≤◌, List, None, take, Result, MatchResult}
 use Rattle.capn_value.specs.FirstCap.{first_cap}
 use Rattle.capn_value.specs.Tree.{Tree}
@@ -21,7 +21,7 @@ use Rattle.capn_abi.specs.StatusCodes.{Reports, answered, at_number}
 use Rattle.capn_abi.specs.declared.report.CapnReport.{CapnReport}
 use Rattle.capn_c.specs.Lent.{LacksScratch, is_lent_status}
 
--- `status` and `report` are those of the given refusal
+-- `status` and `report` are those of the given refusal.
 abbrev pub IsRefusalTold : FormRefusal → ℕ → CapnReport → Type 0
 IsRefusalTold (told.Bare e) status report = Reports status report (refusals.Bare e)
 IsRefusalTold (told.Packed e) status report = Reports status report (refusals.Packed e)
@@ -32,12 +32,12 @@ IsRefusalTold (told.Walk s) status report = Reports status report (refusals.Walk
 IsRefusalTold (told.Capability k) status report = Reports status report (refusals.Capability k)
 IsRefusalTold (told.NoRoom n p) status report = (status ≡ 1) × (report ≡ answered n p 0)
 
--- `status` and `report` are those of the result `r`
+-- `status` and `report` are those of the result `r`.
 abbrev pub IsResultTold : Result CanonicalLength FormRefusal → ℕ → CapnReport → Type 0
 IsResultTold r status report = MatchResult r (λ c. (status ≡ 0) × (report ≡ answered c.length c.paid 0))
     (λ e. IsRefusalTold e status report)
 
--- the clauses of `capn_canonical_with_scratch` hold, for one form and limits that are in range
+-- The contract of `capn_canonical_with_scratch` holds, for one form and for limits that are in range.
 pub record IsLent (form : Form) (bs : List ℕ) (limits : Bounds) (scratch : ℕ) (old new : List ℕ) (status : ℕ)
     (report : CapnReport) : Type 0 where
   pub possible : (status ≤ 1) ⊎ (9 ≤ status)

@@ -1,4 +1,4 @@
--- The results of functions behind the calls for C: a status, a report, and what is written.
+-- The results of the private functions of the calls for C: a status, a report, and what is written.
 use Rattle.std.specs.Prelude.{IsTrue, ◌≡◌, ◌≢◌, ◌⊎◌, ℕ, ◌+◌, ◌*◌, ◌<◌, ◌≤◌, Bool, false, List, None, ◌++◌, length, take}
 use Rattle.std.specs.Prelude.{drop}
 use Rattle.capn_value.specs.FirstCap.{first_cap}
@@ -21,8 +21,8 @@ use Rattle.capn_c.specs.Entries.{IndexedIn, c_index}
 use Rattle.capn_c.specs.Held.{DenotesHeld, IsUnacceptedHeld}
 use Rattle.capn_c.specs.declared.entries.CapnEntry.{CapnEntry}
 
--- the status is in the list, and from 8 on it stands for a refusal for which `reason` holds; 8 is returned only if
--- memory may be needed (`needed`), and the walk pays at most the budget
+-- `is_status` is true of `status`, and the price in `report` is at most `budget`. If `status` is at least 8,
+-- `status` and `report` are those of a refusal for which `reason` holds. `status` is 8 only if `needed` holds.
 pub record IsReported (reason : Refusal → Type 0) (needed : Type 0) (budget status : ℕ) (report : CapnReport)
     : Type 0 where
   pub listed : IsTrue (is_status status)
@@ -32,7 +32,8 @@ pub record IsReported (reason : Refusal → Type 0) (needed : Type 0) (budget st
 
 -- ---- calls with one success, of status 0
 
--- a call returns 0 only if `done` holds; if there is a value, it returns 0 or 8; otherwise it reports a refusal
+-- `status` is 0 only if `done` holds. Any other `status` is that of a refusal, as `IsReported` says. If `value` holds
+-- of some value, `status` is 0 or 8.
 pub record IsDone (done : Type 0) (value : Tree → Type 0) (reason : Refusal → Type 0) (needed : Type 0)
     (budget status : ℕ) (report : CapnReport) : Type 0 where
   pub possible : (status ≡ 0) ⊎ (8 ≤ status)
@@ -40,19 +41,21 @@ pub record IsDone (done : Type 0) (value : Tree → Type 0) (reason : Refusal �
   pub only : (v : Tree) → value v → (status ≡ 0) ⊎ (status ≡ 8)
   pub reported : IsReported reason needed budget status report
 
--- a call on bytes in a form returns 0 only if `done` holds, or reports why the bytes are not accepted
+-- `IsDone` for a call on the bytes `bs` in `form`. A refusal that is reported says why `bs` are not accepted.
 abbrev pub IsDoneIn : Form → List ℕ → Bounds → (done needed : Type 0) → ℕ → CapnReport → Type 0
 IsDoneIn form bs limits done needed status report =
     IsDone done (Denotes form bs limits) (IsUnacceptedIn form bs limits) needed limits.budget status report
 
--- a call on segments returns 0 only if `done` holds, or reports why the segments are not accepted, but never 8
+-- `IsDone` for a call on the segments of `message`. A refusal that is reported says why the segments are not accepted.
+-- `status` is never 8.
 abbrev pub IsDoneHeld : List (List ℕ) → Bounds → (done : Type 0) → ℕ → CapnReport → Type 0
 IsDoneHeld message limits done status report =
     IsDone done (DenotesHeld message limits) (IsUnacceptedHeld message limits) ⊥ limits.budget status report
 
 -- ---- calls for canonical bytes
 
--- a call has written the canonical bytes of a value, or says that the buffer has no room, or reports a refusal
+-- `status` is 0 only if canonical bytes are written to `new`, and 1 only if the buffer is too short for them. If
+-- `status` is at least 8, `status` and `report` are those of a refusal. If `status` is not 0, `new` is `old`.
 pub record IsFilled (value : Tree → Type 0) (answer : List ℕ → ℕ → Type 0) (reason : Refusal → Type 0)
     (needed : Type 0) (limits : Bounds) (old new : List ℕ) (status : ℕ) (report : CapnReport) : Type 0 where
   pub possible : (status ≤ 1) ⊎ (8 ≤ status)
@@ -64,8 +67,8 @@ pub record IsFilled (value : Tree → Type 0) (answer : List ℕ → ℕ → Typ
   pub kept : status ≢ 0 → new ≡ old
   pub canonical : status ≡ 0 → (v : Tree) → value v → IsCanonicalForm (take report.length new) limits v
 
--- a call has written the canonical bytes of a message in a form to the buffer, or says that the buffer has no room, or
--- reports why there are none
+-- `IsFilled` for the message that `bs` encode in `form`. A refusal that is reported says why `bs` have no canonical
+-- bytes.
 abbrev pub IsFilledIn : Form → List ℕ → Bounds → (needed : Type 0) → (old new : List ℕ) → ℕ → CapnReport → Type 0
 IsFilledIn form bs limits needed old new status report =
     IsFilled (Denotes form bs limits) (Answers form bs limits) (IsRefused form bs limits) needed limits old new status
@@ -73,24 +76,25 @@ IsFilledIn form bs limits needed old new status report =
 
 -- ---- calls for an index
 
--- `message` is accepted, and its index has at most `room` entries
+-- `message` is accepted, and its index has at most `room` entries.
 pub record HasRoom (message : List (List ℕ)) (limits : Bounds) (room : ℕ) : Type 0 where
   pub accepted : IsAccepted message limits
   pub fits : length (index_of message limits) ≤ room
 
--- the index of a message that comes after a table of `table` bytes is at the start of the buffer, and the rest of the
--- buffer is as it was
+-- `new` begins with the index of `message`, and is the same as `old` after the index. The message comes after a table
+-- of `table` bytes.
 abbrev pub IsIndex : (table : ℕ) → List (List ℕ) → Bounds → (old new : List CapnEntry) → Type 0
 IsIndex table message limits old new =
     new ≡ c_index table message limits ++ drop (length (index_of message limits)) old
 
--- the index is written, or memory was refused and the buffer is as it was
+-- If `is_written` is true, the index is written, as `IsIndex` says. Otherwise `new` is `old`.
 pub record IsIndexOr (table : ℕ) (message : List (List ℕ)) (limits : Bounds) (old new : List CapnEntry)
     (is_written : Bool) : Type 0 where
   pub written : IsTrue is_written → IsIndex table message limits old new
   pub kept : is_written ≡ false → new ≡ old
 
--- a call has written the index of a surveyed message, or says that the buffer has no room, or reports a refusal
+-- `status` is 0 only if the index of a surveyed message is written, and 1 only if the buffer is too short for it. If
+-- `status` is at least 8, `status` and `report` are those of a refusal.
 pub record IsIndexed (survey : Surveyed → Type 0) (index : Type 0) (value : Tree → Type 0) (reason : Refusal → Type 0)
     (needed : Type 0) (budget : ℕ) (old new : List CapnEntry) (status : ℕ) (report : CapnReport) : Type 0 where
   pub possible : (status ≤ 1) ⊎ (8 ≤ status)
@@ -101,8 +105,7 @@ pub record IsIndexed (survey : Surveyed → Type 0) (index : Type 0) (value : Tr
   pub reported : IsReported reason needed budget status report
   pub kept : status ≢ 0 → new ≡ old
 
--- a call has written the index of a message in a form to the buffer, or says that the buffer has no room, or reports
--- why the message is not accepted
+-- `IsIndexed` for the message that `bs` encode in `form`. A refusal that is reported says why `bs` are not accepted.
 abbrev pub IsIndexedIn : Form → List ℕ → Bounds → (needed : Type 0) → (old new : List CapnEntry) → ℕ → CapnReport
     → Type 0
 IsIndexedIn form bs limits needed old new status report =

@@ -1,5 +1,5 @@
--- The survey of a message is also the survey of the bytes that are read as that message, and is true of any value that
--- the bytes denote. (For `survey_bytes`.)
+-- A survey of a message is also a survey of the bytes that are read as that message. This survey is true of any value
+-- that the bytes denote. (For `survey_bytes`.)
 use Rattle.std.proofs.Common.{◌≡◌, ◌≢◌, ℕ, ◌+◌, ◌*◌, ◌^◌, ◌≤◌, List, length, refl, ap, subst, arith, ◌∙◌, Result, Ok}
 use Rattle.std.proofs.Common.{Err, IfOk, IfErr, MatchResult}
 use Rattle.std.proofs.lemmas.Result.{IfOk-weaker, IfErr-weaker}
@@ -21,8 +21,6 @@ use Rattle.capn_layout.specs.Layout.{canon}
 use Rattle.capn_canon.proofs.calls.Answered.{denoted_here}
 use Rattle.capn_canon.proofs.theorem.Headline.{denoted_length}
 
--- the reason why a message is not accepted is also a reason why the bytes that are read as that message are not
--- accepted
 unaccepted_as : (form : Form) (bs : List ℕ) (limits : Bounds) (m : List (List ℕ)) → Reads form bs limits.message_words m
     → (e : Refusal) → IsUnaccepted m limits e → IsUnacceptedIn form bs limits e
 unaccepted_as form bs limits m is (refusals.Walk s) h = (m, is, h)
@@ -33,7 +31,7 @@ unaccepted_as form bs limits m is (refusals.Trailing at) h = absurd h
 unaccepted_as form bs limits m is (refusals.Bare e) h = absurd h
 unaccepted_as form bs limits m is (refusals.Packed e) h = absurd h
 
--- the result of the survey of a message is also the result of the survey of the bytes that are read as that message
+-- If `bs` are read as `m`, a result `r` of surveying `m` is also a result of surveying `bs`.
 pub surveyed_as : (r : Result Surveyed Refusal) (form : Form) (bs : List ℕ) (limits : Bounds) (m : List (List ℕ))
     → Reads form bs limits.message_words m → IsSurveyed m limits r → AreSurveyed form bs limits r
 surveyed_as r form bs limits m is h = record {
@@ -43,7 +41,6 @@ surveyed_as r form bs limits m is h = record {
   bounded = h.bounded;
 }
 
--- a survey of bytes is true of any value that the bytes denote
 pub surveyed_only : (r : Result Surveyed Refusal) (form : Form) (bs : List ℕ) (limits : Bounds) →
     IfOk r (λ s. Surveys form bs limits s) → IfErr r (λ e. IsUnacceptedIn form bs limits e) →
     (v : Tree) → Denotes form bs limits v → MatchResult r (λ s. s.capability ≡ first_cap v) (λ e. e ≡ refusals.Memory)
@@ -54,7 +51,6 @@ surveyed_only (Ok s) form bs limits h g v d =
     (record { message = h.message; reads = h.reads; value = h.survey.is }) d)
 surveyed_only (Err e) form bs limits h g v d = not_unaccepted form bs limits v e d g
 
--- a survey of bytes bounds the length of the canonical bytes of any value that the bytes denote
 pub surveyed_short : (r : Result Surveyed Refusal) (form : Form) (bs : List ℕ) (limits : Bounds) →
     limits.message_words ≤ 2 ^ 28 → limits.budget ≤ 2 ^ 28 → limits.depth ≤ 256 →
     IfOk r (λ s. Surveys form bs limits s)

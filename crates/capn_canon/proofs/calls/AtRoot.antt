@@ -1,5 +1,5 @@
--- The value at the root of a surveyed message is ready to be laid out. (For `canonical_of_inner`, `length_beyond`,
--- `length_of` and `write_message`.)
+-- The value at the root of an accepted message is ready to be laid out (`IsReady`). (For `canonical_of_inner`,
+-- `length_beyond`, `length_of` and `write_message`.)
 use Rattle.std.proofs.Common.{ℕ, ◌^◌, ◌≤◌, List, arith}
 use Rattle.capn_words.specs.Message.{IsMessage}
 use Rattle.capn_value.specs.Tree.{Tree}

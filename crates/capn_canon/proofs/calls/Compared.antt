@@ -1,4 +1,4 @@
--- Comparisons of two messages, each surveyed. (For `comparison.rt`.)
+-- Lemmas on the comparison of two messages. (For `comparison.rt`.)
 use Rattle.std.proofs.Common.{◌≡◌, ◌↔◌, ◌^◌, ◌≤◌, ℕ, List, Bool, IsTrue, Result, Ok, Err, IfOk, IfErr}
 use Rattle.std.proofs.Common.{IsOk, None, Some}
 use Rattle.std.proofs.Common.{ap, sym, subst, ◌∙◌, refl}
@@ -27,7 +27,6 @@ use Rattle.capn_canon.proofs.shared.NotRefused.{accepted-not_refused}
 use Rattle.capn_canon.proofs.theorem.EqualExactlySame.{equal_exactly_same}
 use Rattle.capn_canon.proofs.theorem.Headline.{denoted_fits, denoted_in_range}
 
--- the refusal of a message's canonical bytes is a refusal of a comparison
 pub unfit : (m : List (List ℕ)) (limits : Bounds) (r : MessageRefusal) (e : Refusal) → HasNoBytes m limits r
     → IsOfMessage r e → IsUnfit m limits e
 unfit m limits (messages.Walk s) e h o =
@@ -40,7 +39,6 @@ pub unfit-paid : (budget : ℕ) (r : MessageRefusal) (e : Refusal) → IsMessage
 unfit-paid budget (messages.Walk s) e h o = subst (λ (x : Refusal). IsPaidWithin budget x) (sym o) h
 unfit-paid budget (messages.Capability k) e h o = subst (λ (x : Refusal). IsPaidWithin budget x) (sym o) tt
 
--- the refusal of one side is the refusal of the comparison
 pub first-refused : (a b : List (List ℕ)) (limits : Bounds) (e : SameRefusal) → e.side ≡ First
     → IsUnfit a limits e.refusal → IsNotCompared a b limits e
 first-refused a b limits e s u = subst (λ (x : Side). IsRefusedOn a b limits x e.refusal) (sym s) u
@@ -49,7 +47,6 @@ pub second-refused : (a b : List (List ℕ)) (limits : Bounds) (e : SameRefusal)
     → e.side ≡ Second → IsUnfit b limits e.refusal → IsNotCompared a b limits e
 second-refused a b limits e h s u = subst (λ (x : Side). IsRefusedOn a b limits x e.refusal) (sym s) (h, u)
 
--- a comparison of the values is a comparison of the messages
 pub says-same : (a b : List (List ℕ)) (limits : Bounds) (same : Bool) → HasBytes a limits → HasBytes b limits
     → ((v w : Tree) → IsAt a root v → IsAt b root w → IsTrue same ↔ Same v w) → SaysSame a b limits same
 says-same a b limits same h g s = record {
@@ -64,7 +61,6 @@ says-same a b limits same h g s = record {
 
 module _ (a b : List (List ℕ)) (limits : Bounds) (ia : IsMessage a) (ib : IsMessage b) (small : limits.budget ≤ 2 ^ 28)
     (shallow : limits.depth ≤ 256) where
-  -- the canonical bytes are equal if and only if the comparison says that the values are the same
   equal-of : (same : Bool) → SaysSame a b limits same → (v w : Tree) → IsValueOf a limits v → IsValueOf b limits w
       → IsTrue same ↔ (canon v ≡ canon w)
   equal-of same s v w h g =
@@ -82,7 +78,6 @@ module _ (a b : List (List ℕ)) (limits : Bounds) (ia : IsMessage a) (ib : IsMe
   equal-bytes (Ok same) s = equal-of same s
   equal-bytes (Err e) s = tt
 
--- a message that has canonical bytes is not refused
 no-unfit : (m : List (List ℕ)) (limits : Bounds) (e : Refusal) → IsUnfit m limits e → HasBytes m limits → ⊥
 no-unfit m limits (refusals.Walk s) u (v, is, free) = accepted-not_refused m limits s is.accepted u.0
 no-unfit m limits (refusals.Capability k) u (v, is, free) =
@@ -100,7 +95,7 @@ neither : (a b : List (List ℕ)) (limits : Bounds) (s : Side) (e : Refusal) →
 neither a b limits First e u h g = no-unfit a limits e u h
 neither a b limits Second e u h g = no-unfit b limits e u.1 g
 
--- two messages are compared if and only if both have canonical bytes
+-- The result `r` of comparing `a` and `b` is `Ok` if and only if both messages have canonical bytes.
 pub compared : (a b : List (List ℕ)) (limits : Bounds) (r : Result Bool SameRefusal)
     → IfOk r (λ same. SaysSame a b limits same) → IfErr r (λ e. IsNotCompared a b limits e)
     → IsOk r ↔ (HasBytes a limits × HasBytes b limits)

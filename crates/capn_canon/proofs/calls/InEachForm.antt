@@ -19,7 +19,6 @@ use Rattle.capn_canon.specs.inner.Outcomes.{AreCanonicalised}
 use Rattle.capn_canon.proofs.calls.Answered.{answers_only, answers_length, answers_form}
 use Rattle.capn_canon.proofs.shared.NotRefused.{not_refused}
 
--- the reason why a message is refused is also a reason why the bytes that are read as that message are refused
 refused_as : (form : Form) (bs : List ℕ) (limits : Bounds) (m : List (List ℕ)) → Reads form bs limits.message_words m
     → (e : Refusal) → IsRefusedMessage m limits e → IsRefused form bs limits e
 refused_as form bs limits m is (refusals.Walk s) h = (m, is, h)
@@ -32,7 +31,7 @@ refused_as form bs limits m is (refusals.Packed e) h = absurd h
 
 -- ---- results of calls
 
--- a result for a message is also one for the bytes that are read as that message
+-- If `bs` are read as `m`, a result `r` for `m` is also a result for `bs`.
 pub canonicalised_as : {T : Type 0} (r : Result T Refusal) (bytes_of : T → List ℕ) (price_of : T → ℕ) (form : Form)
     (bs : List ℕ) (limits : Bounds) (m : List (List ℕ)) → Reads form bs limits.message_words m
     → (MayNeedBytes m limits → MayNeedBytesIn form bs limits)
@@ -47,7 +46,7 @@ canonicalised_as r bytes_of price_of form bs limits m is want f e w b = record {
   bounded = b;
 }
 
--- for any value without capabilities that the bytes denote, the result is the canonical bytes of that value or `Memory`
+-- If `bs` denote a value `v` without capabilities, `r` has the canonical bytes of `v`, or is `Memory`.
 pub found_only : {T : Type 0} (r : Result T Refusal) (bytes_of : T → List ℕ) (price_of : T
     → ℕ) (form : Form) (bs : List ℕ) (limits : Bounds) →
     IfOk r (λ c. Answers form bs limits (bytes_of c) (price_of c)) → IfErr r (λ e. IsRefused form bs limits e) →
@@ -57,7 +56,6 @@ found_only (Ok c) bytes_of price_of form bs limits h g v d n =
     answers_only form bs limits (bytes_of c) (price_of c) h v d
 found_only (Err e) bytes_of price_of form bs limits h g v d n = not_refused form bs limits v e d n g
 
--- the resulting bytes are at most 8 for each word paid, and 8 more
 pub found_short : {T : Type 0} (r : Result T Refusal) (bytes_of : T → List ℕ) (price_of : T
     → ℕ) (form : Form) (bs : List ℕ) (limits : Bounds) →
     limits.message_words ≤ 2 ^ 28 → limits.budget ≤ 2 ^ 28 → limits.depth ≤ 256 →
@@ -66,7 +64,7 @@ pub found_short : {T : Type 0} (r : Result T Refusal) (bytes_of : T → List ℕ
 found_short r bytes_of price_of form bs limits few small shallow =
     IfOk-weaker r _ _ (λ c h. answers_length form bs limits (bytes_of c) (price_of c) h few small shallow)
 
--- the resulting bytes have the four properties of the canonical form
+-- A property `Q` that follows from `IsCanonicalForm` holds of an `Ok` result and any value that `bs` denote.
 pub found_form : {T : Type 0} (r : Result T Refusal) (bytes_of : T → List ℕ) (price_of : T
     → ℕ) (form : Form) (bs : List ℕ) (limits : Bounds) (Q : T → Tree → Type 0) →
     ((c : T) (v : Tree) → IsCanonicalForm (bytes_of c) limits v → Q c v) →

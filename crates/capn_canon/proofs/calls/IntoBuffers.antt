@@ -28,7 +28,7 @@ use Rattle.capn_canon.proofs.theorem.Headline.{denoted_length}
 
 -- ---- what has canonical bytes is not refused
 
--- a message is refused by its walk or by a capability only if it has no canonical bytes
+-- No `MessageRefusal` is true of a message that has canonical bytes.
 pub no_bytes : (m : List (List ℕ)) (limits : Bounds) (e : MessageRefusal) → HasNoBytes m limits e
     → HasBytes m limits → ⊥
 no_bytes m limits (messages.Walk s) h (v, is, free) = accepted-not_refused m limits s is.accepted h
@@ -36,7 +36,7 @@ no_bytes m limits (messages.Capability k) (w, also, e) (v, is, free) =
     let f : Some k ≡ None = sym e ∙ ap first_cap (unique m w v root also.is is.is) ∙ free in
     absurd cc
 
--- a call refuses to write into a buffer only if the message has no canonical bytes, or the buffer has no room for them
+-- No `IntoRefusal` is true of a message that has at most `room` canonical bytes.
 pub no_bytes_into : (m : List (List ℕ)) (limits : Bounds) (room : ℕ) (e : IntoRefusal) → RefusedInto m limits room e
     → (v : Tree) → IsValueOf m limits v → first_cap v ≡ None → length (canon v) ≤ room → ⊥
 no_bytes_into m limits room (intos.Walk s) h v is free fits = no_bytes m limits (messages.Walk s) h (v, is, free)
@@ -58,7 +58,6 @@ into_within : (budget : ℕ) (a : MessageRefusal) (e : IntoRefusal) → IsOfMess
 into_within budget (messages.Walk s) e is h = subst (λ (x : IntoRefusal). IsIntoPaidWithin budget x) (sym is) h
 into_within budget (messages.Capability k) e is h = subst (λ (x : IntoRefusal). IsIntoPaidWithin budget x) (sym is) tt
 
--- a message without canonical bytes is refused, and nothing is written
 pub not_written : (m : List (List ℕ)) (limits : Bounds) (old : List ℕ) (r : Result CanonicalLength IntoRefusal)
     (a : MessageRefusal) → IsErrAnd r (IsOfMessageInto a) → HasNoBytes m limits a
     → IsMessagePaidWithin limits.budget a → IsInto m limits old old r
@@ -72,14 +71,15 @@ not_written m limits old (Err e) a is h b = record {
 
 -- ---- results of calls
 
--- a call for the length succeeds if and only if the message has canonical bytes
+-- The result `r` of measuring the canonical bytes of `m` is `Ok` if and only if `m` has canonical bytes.
 pub length_answered : (m : List (List ℕ)) (limits : Bounds) (r : Result CanonicalLength MessageRefusal)
     → IfOk r (λ c. (v : Tree) × IsCanonicalLength m limits v c) → IfErr r (λ e. HasNoBytes m limits e)
     → IsOk r ↔ HasBytes m limits
 length_answered m limits (Ok c) f e = ((λ k. (f.0, f.1.is, f.1.free)), (λ d. refl))
 length_answered m limits (Err x) f e = ((λ k. absurd cc), (λ d. absurd (no_bytes m limits x e d)))
 
--- a call for a buffer succeeds if and only if the message has canonical bytes and the buffer has room for those bytes
+-- The result `r` of writing the canonical bytes of `m` to a buffer is `Ok` if and only if `m` has canonical bytes and
+-- they fit into the buffer.
 pub into_answered : (m : List (List ℕ)) (limits : Bounds) (old new : List ℕ) (r : Result CanonicalLength IntoRefusal)
     → IfOk r (λ c. WrittenInto m limits old new c) → IfErr r (λ e. RefusedInto m limits (length old) e)
     → AnsweredInto m limits (length old) r
@@ -93,14 +93,13 @@ into_answered m limits old new (Err x) f e = (
 
 module _ (m : List (List ℕ)) (limits : Bounds) (old new : List ℕ) (c : CanonicalLength)
     (h : WrittenInto m limits old new c) where
-  -- the first bytes of the buffer are the canonical bytes of the value
   first_bytes : take c.length new ≡ canon h.value
   first_bytes =
       let bs : List ℕ = canon h.value in
       ap (λ (n : ℕ). take n new) h.is.long ∙ ap (take (length bs)) h.written
       ∙ take-append_seam bs (drop (length bs) old)
 
-  -- the first bytes of the buffer are the canonical bytes that `canonical_of` returns for the message
+  -- The first `c.length` bytes of `new` are the canonical bytes of `m`, and `c.paid` is the price of `m`.
   pub into_answers : AnswersMessage m limits (take c.length new) c.paid
   into_answers = record {
     value = h.value;
@@ -110,14 +109,12 @@ module _ (m : List (List ℕ)) (limits : Bounds) (old new : List ℕ) (c : Canon
     priced = h.is.pays;
   }
 
-  -- the bytes of the buffer after the canonical bytes are as they were
   pub into_past : drop c.length new ≡ drop c.length old
   into_past =
       let bs : List ℕ = canon h.value in
       ap (λ (n : ℕ). drop n new) h.is.long ∙ ap (drop (length bs)) h.written
       ∙ drop-append_seam bs (drop (length bs) old) ∙ ap (λ (n : ℕ). drop n old) (sym h.is.long)
 
-  -- the number of canonical bytes is at most the length of the buffer
   pub into_inside : c.length ≤ length new
   into_inside =
       let bs : List ℕ = canon h.value in
@@ -147,7 +144,6 @@ module _ (m : List (List ℕ)) (limits : Bounds) (old new : List ℕ) (r : Resul
       let p = k.is.pays in
       omega arith) h
 
--- the length that a call finds is at most 8 bytes for each word paid, and 8 more
 pub short_length : (m : List (List ℕ)) (limits : Bounds) (r : Result CanonicalLength MessageRefusal)
     → IfOk r (λ c. (v : Tree) × IsCanonicalLength m limits v c) → IsMessage m → limits.budget ≤ 2 ^ 28
     → limits.depth ≤ 256 → IfOk r (λ c. c.length ≤ 8 * (c.paid + 1))

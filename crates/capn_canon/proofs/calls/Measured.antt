@@ -17,7 +17,7 @@ use Rattle.capn_canon.specs.declared.surveyed_bare.SurveyedBare.{SurveyedBare}
 same_words : (ws vs : List ℕ) → ◌≡◌ {A = List (List ℕ)} (ws ∷ []) (vs ∷ []) → ws ≡ vs
 same_words ws vs same = cc
 
--- the check of the words of the only segment is the check of the message
+-- The survey `c` of `words` is also the survey of the message of the one segment `words`.
 pub bare_checked : (words : List ℕ) (limits : Bounds) (c : SurveyedBare) → IsBareSurvey words limits c
     → IsChecked (words ∷ []) limits c
 bare_checked words limits c told = record {
@@ -32,25 +32,25 @@ bare_checked words limits c told = record {
   );
 }
 
--- a message that has not exactly one segment is not canonical
+-- A message is not canonical if its number of segments is not 1.
 pub not_one : (message : List (List ℕ)) (v : Tree) → (length message ≡ 1 → ⊥) → IsCanonicalOf message v → ⊥
 not_one message v not is = not (ap length is.1)
 
--- the result of the one pass, if the pass doesn't survey the words
+-- The result `None` of the one pass.
 abbrev none : Option MeasuredBare
 none = None
 
 not_none : is_some none ≡ true → ⊥
 not_none is = absurd (cc)
 
--- a message of one segment is not canonical if the one pass doesn't survey it
+-- A message of one segment is not canonical if the one pass returns `None` for it.
 pub not_told : (words : List ℕ) (limits : Bounds)
     → ((v : Tree) → IsValueOf (words ∷ []) limits v → first_cap v ≡ None → canon v ≡ bytes words
     → is_some none ≡ true) → (v : Tree) → IsValueOf (words ∷ []) limits v → IsCanonicalOf (words ∷ []) v → ⊥
 not_told words limits only v told is =
     not_none (only v told is.2 (is.3 ∙ ap bytes (sym (same_words words is.0 is.1))))
 
--- the survey of a message that is not canonical is its check
+-- If `message` is not canonical, its survey `s` and its `depth` make up its measure.
 pub not_checked : (message : List (List ℕ)) (limits : Bounds) (s : Surveyed) (depth : ℕ) → IsSurvey message limits s
     → IsDepth message limits depth → ((v : Tree) → IsValueOf message limits v → IsCanonicalOf message v → ⊥)
     → IsMeasure message limits (record {

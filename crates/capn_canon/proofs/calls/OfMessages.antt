@@ -1,5 +1,4 @@
--- The clauses of calls for the canonical bytes of a message, which follow from the bytes that they return. (For
--- `canonical.rt` and `written_bytes.rt`.)
+-- Lemmas on the bytes that a call returns for a message. (For `canonical.rt` and `written_bytes.rt`.)
 use Rattle.std.proofs.Common.{◌≡◌, ℕ, ◌+◌, ◌*◌, ◌^◌, ◌≤◌, List, length, Result, Ok, Err, IfOk, IsErrAnd}
 use Rattle.std.proofs.Common.{sym, subst, ◌∙◌}
 use Rattle.std.proofs.lemmas.Result.{IfOk-weaker}
@@ -20,7 +19,6 @@ use Rattle.capn_canon.specs.inner.Outcomes.{IsCanonicalised}
 use Rattle.capn_canon.proofs.calls.Answered.{answer_length, answer_form}
 use Rattle.capn_canon.proofs.calls.IntoBuffers.{no_bytes}
 
--- the resulting bytes are at most 8 for each word paid, and 8 more
 pub answered_short : {T E : Type 0} (r : Result T E) (bytes_of : T → List ℕ) (price_of : T
     → ℕ) (m : List (List ℕ)) (limits : Bounds)
     → IsMessage m → limits.budget ≤ 2 ^ 28 → limits.depth ≤ 256
@@ -29,7 +27,7 @@ pub answered_short : {T E : Type 0} (r : Result T E) (bytes_of : T → List ℕ)
 answered_short r bytes_of price_of m limits is small shallow =
     IfOk-weaker r _ _ (λ c h. answer_length m limits (bytes_of c) (price_of c) h is small shallow)
 
--- the resulting bytes have the four properties of the canonical form
+-- A property `Q` that follows from `IsCanonicalForm` holds of an `Ok` result and any value of `m`.
 pub answered_form : {T E : Type 0} (r : Result T E) (bytes_of : T → List ℕ) (price_of : T
     → ℕ) (m : List (List ℕ)) (limits : Bounds)
     (Q : T → Tree → Type 0) → ((c : T) (v : Tree) → IsCanonicalForm (bytes_of c) limits v → Q c v)
@@ -56,7 +54,6 @@ not_memory (messages.Walk s) e is same = let x : refusals.Walk s ≡ refusals.Me
 not_memory (messages.Capability k) e is same =
     let x : refusals.Capability k ≡ refusals.Memory = sym is ∙ same in absurd cc
 
--- a message without canonical bytes is refused, and not for memory
 pub not_canonicalised : {T : Type 0} (r : Result T Refusal) (bytes_of : T → List ℕ) (price_of : T → ℕ)
     (m : List (List ℕ)) (limits : Bounds) (a : MessageRefusal) → IsErrAnd r (IsOfMessage a) → HasNoBytes m limits a
     → IsMessagePaidWithin limits.budget a → IsCanonicalised m limits r bytes_of price_of

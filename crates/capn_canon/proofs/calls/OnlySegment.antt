@@ -14,11 +14,10 @@ use Rattle.capn_canon.specs.Denotes.{AnswersMessage}
 use Rattle.capn_canon.specs.declared.surveyed_bare.SurveyedBare.{SurveyedBare}
 use Rattle.capn_canon.specs.inner.OneSegment.{IsOnlySegment}
 
--- the result of reading bytes as the words `ws`
+-- The result `Ok` of reading bytes as the words `ws`.
 abbrev ok : List ℕ → Result (List ℕ) BareFault
 ok ws = Ok ws
 
--- the bytes that a message has from the root on, as many as its first segment has, are those of the first segment
 all_bytes : (m : List (List ℕ)) (bs : List ℕ) → bs ≡ bytes_at m root (8 * length (segment_at m 0))
     → bs ≡ bytes (segment_at m 0)
 all_bytes m bs is =
@@ -26,7 +25,7 @@ all_bytes m bs is =
     let l = length-bytes seg in
     is ∙ take_all (8 * length seg) (bytes seg) (omega arith)
 
--- the bytes of the only segment are read as the message
+-- If `m` has one segment, the bytes at its root are the bytes of that segment.
 pub one_segment : (m : List (List ℕ)) (bs : List ℕ) → IsMessage m → length m ≡ 1
     → bs ≡ bytes_at m root (8 * length (segment_at m 0)) → IsOnlySegment m bs
 one_segment [] bs is e eb = absurd (omega arith)
@@ -41,7 +40,8 @@ one_segment (ws ∷ []) bs is e eb = (
 )
 one_segment (ws ∷ (vs ∷ m)) bs is e eb = absurd (omega arith)
 
--- bytes are the canonical bytes of their value if a survey of their words says so
+-- If the survey `c` says that the words `ws` of `bs` are canonical, `bs` are the canonical bytes of the message of
+-- these words.
 pub own_answer : (bs ws vs : List ℕ) → IsBare bs ws → ok vs ≡ ok ws → (limits : Bounds) (c : SurveyedBare)
     → IsBareSurvey vs limits c → c.is_canonical ≡ true → AnswersMessage (ws ∷ []) limits bs c.paid
 own_answer bs ws vs bare same limits c told so =
@@ -56,13 +56,11 @@ own_answer bs ws vs bare same limits c told so =
       priced = here.pays;
     }
 
--- the result for the words of the only segment is also the result for the message
 pub own_message : (m : List (List ℕ)) (bs : List ℕ) (price : ℕ) (limits : Bounds) (only : IsOnlySegment m bs)
     (own : List ℕ) → AnswersMessage (only.0 ∷ []) limits own price → AnswersMessage m limits own price
 own_message m bs price limits only own answer =
     subst (λ (n : List (List ℕ)). AnswersMessage n limits own price) (sym only.1) answer
 
--- the number of bytes of a segment is below 2^34
 pub own_short : (bs ws : List ℕ) → IsBare bs ws → length bs < 2 ^ 34
 own_short bs ws bare =
     let l = length-bytes ws in let e = ap length bare.same in let r = bare.room in omega arith

@@ -1,4 +1,4 @@
--- The result for a message is also one for the bytes that are read as that message, and bytes that can't be read are
+-- A result for a message is also a result for the bytes that are read as that message. Bytes that can't be read are
 -- refused. (For `canonical_input.rt`, `input.rt` and `survey_input.rt`.)
 use Rattle.std.proofs.Common.{◌≡◌, ℕ, ◌+◌, ◌≤◌, inl, inr, List, refl, sym, subst, Result, Ok, Err, IfOk, IfErr}
 use Rattle.std.proofs.Common.{IsErrAnd, IsErrOf, MatchResult}
@@ -40,7 +40,6 @@ unread_so bs text limits (refusals.Packed e) u h = absurd h
 unread_so bs text limits (refusals.Walk s) u h = absurd h
 unread_so bs text limits (refusals.Capability k) u h = absurd h
 
--- a refusal of reading the bytes is also a reason why they are not accepted, and reports nothing paid
 no-walk : (form : Form) (bs : List ℕ) (limits : Bounds) (e : Refusal) → IsRefusedReading form bs limits e
     → IsUnacceptedIn form bs limits e × IsPaidWithin limits.budget e
 no-walk form bs limits refusals.Memory h = (tt, tt)
@@ -55,7 +54,6 @@ no-walk forms.Bare bs limits (refusals.Capability k) h = absurd h
 no-walk forms.Stream bs limits (refusals.Capability k) h = absurd h
 no-walk forms.Packed bs limits (refusals.Capability k) h = absurd h.2
 
--- bytes that are not accepted are refused
 refused-in : (form : Form) (bs : List ℕ) (limits : Bounds) (e : Refusal) → IsUnacceptedIn form bs limits e
     → IsRefused form bs limits e
 refused-in form bs limits refusals.Memory h = tt
@@ -66,7 +64,6 @@ refused-in form bs limits (refusals.Packed e) h = h
 refused-in form bs limits (refusals.Walk s) h = h
 refused-in form bs limits (refusals.Capability k) h = absurd h
 
--- if memory was refused, reading the bytes may need memory
 wanted-unread : {T : Type 0} (form : Form) (bs : List ℕ) (limits : Bounds) (e : Refusal)
     → IsRefusedReading form bs limits e → (r : Result T Refusal) → r ≡ Err e → IsErrOf r refusals.Memory
     → MayNeedMemory form bs limits
@@ -82,7 +79,7 @@ wanted-unread form bs limits (refusals.Capability k) h r is w = absurd cc
 
 module _ {T S : Type 0} (answers : S → List (List ℕ) → Bounds → Result T Refusal → S → Type 0) (bs : List ℕ)
     (limits : Bounds) (task : S) where
-  -- a fault of a frame is a refusal of the bytes
+  -- Case: `bs` are refused as a frame, for the fault `f`.
   pub frame_unread : (r : Result T Refusal) (f : FrameFault) → IsErrAnd r (IsOfFrame f)
       → IsFrameRefused bs limits.message_words f → (f ≡ frame_faults.Memory → HasTable bs limits.message_words)
       → IsRun forms.Stream bs limits answers task r task
@@ -92,7 +89,7 @@ module _ {T S : Type 0} (answers : S → List (List ℕ) → Bounds → Result T
   frame_unread (Err e) f (inr (other, is)) h m =
       inr (e, refl, subst (λ (x : Refusal). IsRefusedReading forms.Stream bs limits x) (sym is) (other, h), refl)
 
-  -- a fault of a packed text is a refusal of the bytes
+  -- Case: `bs` are refused as a packed text, for the fault `f`.
   pub packed_unread : (r : Result T Refusal) (f : UnpackFault) → IsErrAnd r (IsOfPacked f)
       → IsUnpackRefused bs (limits.message_words + most_table_words) f
       → (f ≡ unpack_faults.Memory → StartsWithin bs (limits.message_words + most_table_words))
@@ -105,7 +102,7 @@ module _ {T S : Type 0} (answers : S → List (List ℕ) → Bounds → Result T
 
 -- ---- answers
 
--- the result for the unpacked frame is also the result for the packed text
+-- A result of a run on the unpacked frame `text` is also a result of a run on the packed text `bs`.
 pub packed_run : {T S : Type 0} (bs text : List ℕ) (limits : Bounds)
     (answers : S → List (List ℕ) → Bounds → Result T Refusal → S → Type 0) (old : S) (r : Result T Refusal) (new : S)
     → Unpacks bs limits.message_words text → IsRun forms.Stream text limits answers old r new
@@ -114,7 +111,7 @@ packed_run bs text limits answers old r new u (inl (m, is, h)) = inl (m, (text, 
 packed_run bs text limits answers old r new u (inr (e, is, h, same)) =
     inr (e, is, unread_so bs text limits e u h, same)
 
--- the result of canonicalising a message is also that of canonicalising the bytes that are read as that message
+-- `r` is a result of `canonicalise` for `bs` if a run that canonicalises the message of `bs` gives `r`.
 pub canonicalised : {T S : Type 0} (form : Form) (bs : List ℕ) (limits : Bounds) (r : Result T Refusal)
     (bytes : T → List ℕ) (price : T → ℕ) (old new : S)
     → IsRun form bs limits (λ task m l x after. IsCanonicalised m l x bytes price) old r new
@@ -132,7 +129,7 @@ canonicalised form bs limits r bytes price old new (inr (e, is, h, same)) =
           n.1;
     }
 
--- the survey of a message is also that of the bytes that are read as that message
+-- `r` is a result of `survey_bytes` for `bs` if a run that surveys the message of `bs` gives `r`.
 pub surveyed : {S : Type 0} (form : Form) (bs : List ℕ) (limits : Bounds) (r : Result Surveyed Refusal) (old new : S)
     → IsRun form bs limits (λ task m l x after. IsSurveyed m l x) old r new → AreSurveyed form bs limits r
 surveyed form bs limits r old new (inl (m, is, h)) = surveyed_as r form bs limits m is h

@@ -1,5 +1,5 @@
--- Words whose root is in its canonical place are accepted. If the words end after everything below the root, they are
--- canonical, and as deep as the pass found. (For `measure_root`.)
+-- If the one pass finds the value at the root in place, the words are accepted. If the words also end where the pass
+-- ends, they are canonical. (For `measure_root`.)
 use Rattle.std.proofs.Common.{◌≡◌, ℕ, ◌+◌, ◌-◌, ◌^◌, ◌<◌, ◌≤◌, Bool, true, List, [], ◌∷◌, ◌++◌, length, Option, Some}
 use Rattle.std.proofs.Common.{None, IsTrue, refl, ap, sym, subst, ◌∙◌, arith}
 use Rattle.std.specs.Option.{option_or}
@@ -25,7 +25,6 @@ use Rattle.capn_canon.proofs.check.DepthOfCanonical.{depth-of-canonical}
 use Rattle.capn_canon.proofs.theorem.Headline.{denoted_cost}
 use Rattle.capn_canon.proofs.reading.ReadBare.{root-alone}
 
--- a list of one value has a value and no other
 one-of : (ts : Trees) → count ts ≡ 1 → (v : Tree) × (ts ≡ tree v no_trees)
 one-of no_trees e = absurd (omega arith)
 one-of (tree v no_trees) e = (v, refl)
@@ -35,7 +34,6 @@ none-first : (a : Option ℕ) → option_or a None ≡ None → a ≡ None
 none-first None e = refl
 none-first (Some k) e = e
 
--- a value without capabilities may be the root
 pub free-root : (v : Tree) → first_cap v ≡ None → is_root v ≡ true
 free-root nil e = refl
 free-root (node ws ss) e = refl
@@ -48,7 +46,6 @@ free-root (rows bs) e = refl
 pays-nil : (vs : List Visit) (p n : ℕ) → Pays (vs ++ []) p n → Pays vs p n
 pays-nil vs p n h = subst (λ (us : List Visit). Pays us p n) (append-nil vs) h
 
--- what a pass finds under the numbers of the limits it finds under the limits
 pub under-limits : (all : List ℕ) (limits : Bounds) (deep : Bool) (b d l : ℕ) (q : Progress) (low : ℕ)
     → b ≡ base limits.tariff → d ≡ limits.depth → l ≡ limits.budget → FindsSlots all b deep 0 1 1 d l 1 d q low
     → FindsSlots all (base limits.tariff) deep 0 1 1 limits.depth limits.budget 1 limits.depth q low
@@ -98,7 +95,6 @@ module _ (all : List ℕ) (limits : Bounds) (deep : Bool) (some : 0 < length all
         is = in_place.are.0;
       }
 
-  -- the pass finds the numbers of a survey, and the words are canonical if they end where the pass ends
   pub canonical-survey : (c : SurveyedBare) → c.paid ≡ limits.budget - q.left → c.visits ≡ q.visits
       → c.capability ≡ None → (IsTrue c.is_canonical → q.next ≡ length all)
       → ((v : Tree) → IsValueOf (all ∷ []) limits v → first_cap v ≡ None → canon v ≡ bytes all → IsTrue c.is_canonical)
@@ -117,7 +113,7 @@ module _ (all : List ℕ) (limits : Bounds) (deep : Bool) (some : 0 < length all
         answer = ((λ t. (free, ap bytes (words-are (ends t)))), (λ e. says value at-root e.0 e.1));
       }
 
-  -- if the pass finds the depth, it is the depth of the words
+  -- If the words end where the pass ends, and `deep` is set, the depth of the message is `limits.depth - low`.
   pub canonical-depth : q.next ≡ length all → IsMessage (all ∷ []) → limits.budget ≤ 2 ^ 28 → limits.depth ≤ 256
       → IsTrue deep → IsDepth (all ∷ []) limits (limits.depth - low) × (low ≤ limits.depth)
   canonical-depth ends is small shallow on =

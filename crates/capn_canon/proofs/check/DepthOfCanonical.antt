@@ -22,7 +22,7 @@ module _ (all : List ℕ) (limits : Bounds) (v : Tree) (is : IsMessage (all ∷ 
   in_range : InRange v
   in_range = denoted_in_range (all ∷ []) limits v is small shallow h
 
-  -- canonical words are accepted under a limit on depth that is the height of their value
+  -- Canonical words are accepted under a depth limit that equals the height of their value `v`.
   accepted : IsAccepted (all ∷ []) (at_depth limits (height v))
   accepted =
       let c = denoted_cost (all ∷ []) limits v is small shallow h in

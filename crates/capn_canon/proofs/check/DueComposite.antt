@@ -1,6 +1,5 @@
--- Lemmas on what a pass must find at a slot whose word is the pointer to a list of structs. The tag and the rows are at
--- the next free word and within the words, their price can be paid, and a layout follows below the rows. (For
--- `open_composite`.)
+-- Lemmas on what a pass must find at a slot whose word is the pointer to a list of structs. The tag word and the rows
+-- are laid out at the next free word, and their price can be paid. (For `open_composite`.)
 use Rattle.std.proofs.Common.{◌≡◌, ℕ, ◌+◌, ◌-◌, ◌*◌, ◌^◌, ◌<◌, ◌≤◌, List, [], ◌∷◌, length, slice_index, Ok}
 use Rattle.std.proofs.Common.{pos, refl, ap, sym, subst, ◌∙◌, arith}
 use Rattle.capn_words.specs.Message.{segment_at}
@@ -26,7 +25,8 @@ use Rattle.capn_canon.proofs.check.DueWords.{rows-of, same-number}
 use Rattle.capn_canon.proofs.reading.LaidPointers.{rows-names}
 use Rattle.capn_canon.proofs.reading.OneSegment.{here}
 
--- `n` rows of `a` words and `b` slots, laid out after their tag at the next free word
+-- A tag word is laid out at the next free word `to`, and `n` rows of `a` words and `b` slots follow the tag word. Their
+-- price can be paid, and values are due at their slots.
 pub record DueTagged (all : List ℕ) (base from to d left span : ℕ) : Type 0 where
   pub n : ℕ
   pub a : ℕ
@@ -175,7 +175,6 @@ module _ (all : List ℕ) (base from to d left span : ℕ) (h : DueValue all bas
         };
       }
 
--- the fields of the tag word are the sizes of the rows
 pub tag-fields : (x n a b : ℕ) → n < 2 ^ 29 → a < 2 ^ 16 → b < 2 ^ 16 → x ≡ word_of (Node (pos n) a b)
     → (field 2 30 x ≡ n) × (field 32 16 x ≡ a) × (field 48 16 x ≡ b)
 tag-fields x n a b hn ha hb e = (omega arith, omega arith, omega arith)

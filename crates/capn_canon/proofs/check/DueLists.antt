@@ -1,6 +1,5 @@
--- Lemmas on what a pass must find at a slot whose word is the pointer to a list. The list is at the next free word and
--- within the words, its price can be paid, and a layout follows below the list. (For `check_numbers` and
--- `open_pointers`.)
+-- Lemmas on what a pass must find at a slot whose word is the pointer to a list. The list is laid out at the next free
+-- word, and its price can be paid. (For `check_numbers` and `open_pointers`.)
 use Rattle.std.proofs.Common.{◌≡◌, ℕ, ◌+◌, ◌-◌, ◌*◌, ◌^◌, ◌<◌, ◌≤◌, List, [], ◌∷◌, length, drop, slice_index}
 use Rattle.std.proofs.Common.{ap, sym, subst, ◌∙◌, arith}
 use Rattle.capn_words.specs.Message.{IsMessage, segment_at}
@@ -50,7 +49,7 @@ module _ (all : List ℕ) (base from to d left : ℕ) (h : DueValue all base fro
     list-inside = inside-of (all ∷ []) (here from) list-is.0 list-is.1 list-is.2 (shapes.Many width n) list-is.3 h.value
         h.due.is
 
-    -- a list of numbers
+    -- Case: a list of numbers.
     module _ (message : IsMessage (all ∷ [])) (plain : IsPlain width) where
       pub numbers-room : to + words_for (element_bits width * n) ≤ length all
       numbers-room = (list-passes all width n list-is.0 list-is.1 from to list-is.2 list-is.3 plain few small
@@ -69,7 +68,8 @@ module _ (all : List ℕ) (base from to d left : ℕ) (h : DueValue all base fro
           (due-price all base from to d left h to (shapes.Many width n)
           (list-names all small from to n width (plain-too width plain) order (omega arith) few word) deep).0
 
--- a list of `n` pointers, laid out at the next free word
+-- A list of `n` pointers is laid out at the next free word `to`. Its price can be paid, and values are due at its
+-- elements.
 pub record DueLinks (all : List ℕ) (base to n d left : ℕ) : Type 0 where
   pub room : to + n ≤ length all
   pub cheap : base + n ≤ left

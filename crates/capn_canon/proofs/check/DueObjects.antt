@@ -1,6 +1,5 @@
--- Lemmas on what a pass must find at a slot whose word points to an object. The object is at the next free word and
--- within the words, its price can be paid, and a layout follows below the object. (For the cycle `pass` and
--- `open_struct`.)
+-- Lemmas on what a pass must find at a slot whose word points to an object. The object is laid out at the next free
+-- word, and its price can be paid. (For the cycle `pass` and `open_struct`.)
 use Rattle.std.proofs.Common.{◌≡◌, ◌≢◌, inl, inr, ℕ, ◌+◌, ◌-◌, ◌*◌, ◌%◌, ◌^◌, ◌<◌, ◌≤◌, List, []}
 use Rattle.std.proofs.Common.{◌∷◌, length, take, drop, slice_index, Ok, refl, ap, sym, subst, ◌∙◌, arith}
 use Rattle.capn_words.specs.Message.{segment_at}
@@ -33,20 +32,19 @@ module _ (all : List ℕ) (base from to d left : ℕ) (h : DueValue all base fro
   not-nil : slice_index all from ≢ 0 → h.value ≡ nil → ⊥
   not-nil ne e = ne (h.due.laid.pointer ∙ point-nil h.value from to e)
 
-  -- no object is laid out below a slot if no depth is left
   pub due-deep : slice_index all from ≢ 0 → d ≡ 0 → ⊥
   due-deep ne z =
       let c = content-of only (here from) h.value h.due.is h.due.free (not-nil ne) in
       subst (λ (vs : List Visit). AllPay vs) (visits-deep only base (here from) c.0 c.1 c.2 c.3 c.4 d z) h.due.pays.all
 
-  -- the word is one of the three kinds of pointers to the next free word
+  -- If the word of the slot is not null, it points to an empty struct, or to a struct or a list at the next free word.
   pub due-near : from < to → to ≤ 2 ^ 29 → slice_index all from ≢ 0 → IsNear (slice_index all from) (to - from - 1)
   due-near order room ne =
       let e = h.due.laid.pointer in
       subst (λ (x : ℕ). IsNear x (to - from - 1)) (sym e)
       (near-word from to order room h.value h.due.free (λ z. ne (e ∙ z)))
 
-  -- the price of an object can be paid, and then the price of the objects below
+  -- The price of the object is at most `left`. The visits of the object's slots pay at most `left` less that price.
   pub due-price : (start : ℕ) (shape : Shape) → target only (here from) ≡ Ok (targets.Content 0 start shape 0) → 0 < d
       → (price base shape ≤ left)
       × IsWithin (left - price base shape) (visits_of only base (d - 1) (slots 0 start shape))
@@ -58,7 +56,8 @@ module _ (all : List ℕ) (base from to d left : ℕ) (h : DueValue all base fro
 
 -- ---- a struct
 
--- a struct of `a` words and `b` slots, laid out at the next free word
+-- A struct of `a` words and `b` slots is laid out at the next free word `to`. Its price can be paid, and values are due
+-- at its slots.
 pub record DueStruct (all : List ℕ) (base from to d left : ℕ) : Type 0 where
   pub a : ℕ
   pub b : ℕ
@@ -178,7 +177,7 @@ module _ (all : List ℕ) (base from to d left : ℕ) (h : DueValue all base fro
         };
       }
 
--- the fields of the pointer are the sizes of the struct
+-- The fields of the pointer `x` are the sizes of the struct `k`.
 pub struct-tag : (all : List ℕ) (base from to d left x a b : ℕ) (k : DueStruct all base from to d left) → from < to
     → to ≤ 2 ^ 29 → x ≡ slice_index all from → a ≡ field 32 16 x → b ≡ field 48 16 x → (a ≡ k.a) × (b ≡ k.b)
 struct-tag all base from to d left x a b k order room e ea eb =

@@ -50,7 +50,6 @@ module _ (all : List ℕ) (limits : Bounds) (v : Tree) (is : IsMessage (all ∷ 
   visited = subst (λ (vs : List Visit). IsWithin limits.budget vs)
       (root-alone (all ∷ []) (base limits.tariff) limits.depth v (free-root v free) h.is) h.accepted.within
 
-  -- the pass must find the value at the root
   pub due-root : DueSlots all (base limits.tariff) 0 1 1 limits.depth limits.budget
   due-root =
       let vs = visits (all ∷ []) (base limits.tariff) limits.depth root in
@@ -69,7 +68,6 @@ module _ (all : List ℕ) (limits : Bounds) (v : Tree) (is : IsMessage (all ∷ 
         };
       }
 
-  -- the pass must find the value at the root under the numbers of the limits
   pub root-due : (b d l : ℕ) → b ≡ base limits.tariff → d ≡ limits.depth → l ≡ limits.budget
       → DueSlots all b 0 1 1 d l
   root-due b d l eb ed el =
@@ -77,7 +75,7 @@ module _ (all : List ℕ) (limits : Bounds) (v : Tree) (is : IsMessage (all ∷ 
       (subst (λ (x : ℕ). DueSlots all (base limits.tariff) 0 1 1 x l) (sym ed)
       (subst (λ (x : ℕ). DueSlots all (base limits.tariff) 0 1 1 limits.depth x) (sym el) due-root))
 
-  -- the content of the value at the root ends where the words end
+  -- If the pass finds the value at the root, the content of that value ends where the words end.
   pub root-ends : {deep : Bool} {least low : ℕ} (depth left : ℕ) (q : Progress)
       → FindsSlots all (base limits.tariff) deep 0 1 1 depth left 1 least q low
       → q.next ≡ length all

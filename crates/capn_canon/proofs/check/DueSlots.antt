@@ -1,5 +1,5 @@
--- If values are laid out at slots, a value is laid out at the first slot. Once that value is found, the others are laid
--- out after it. (For the cycle `pass`, `open_composite`, `open_pointers` and `open_struct`.)
+-- If values are due at slots, a value is due at the first slot. Once the pass finds that value, the other values are
+-- due after it. (For the cycle `pass`, `open_composite`, `open_pointers` and `open_struct`.)
 use Rattle.std.proofs.Common.{◌≡◌, ℕ, suc, ◌+◌, ◌-◌, ◌<◌, Bool, List, [], ◌∷◌, ◌++◌, length, Option}
 use Rattle.std.proofs.Common.{Some, None, refl, ap, sym, subst, ◌∙◌, arith}
 use Rattle.std.specs.Option.{option_or}
@@ -34,7 +34,7 @@ within-front xs ys left h =
     let e = paid-append xs ys in
     record { all = all-front xs ys h.all; paid = omega arith }
 
--- if `price` words are paid by the first visits, the later visits can be paid from what is left
+-- If the visits `xs` pay `price` words of `left`, the visits `ys` after them pay at most the other words (`rest`).
 within-back : (xs ys : List Visit) (left rest price : ℕ) → paid_of xs ≡ price → rest + price ≡ left
     → IsWithin left (xs ++ ys) → IsWithin rest ys
 within-back xs ys left rest price k l h =
@@ -100,7 +100,7 @@ module _ (all : List ℕ) (base : ℕ) where
       due = first-due p.from p.next p.depth p.left parts.0 parts.1 inside whole;
     }
 
-    -- once a value is found at the first slot, the others are laid out after it
+    -- If the pass finds a value at the first slot of `p`, values are due at the slots after it (`behind`).
     pub due-behind : {deep : Bool} {least low : ℕ} (g : Progress) → FindsFirst all base deep p least g low
         → Due all base (behind p g)
     due-behind g f =
@@ -120,7 +120,6 @@ module _ (all : List ℕ) (base : ℕ) where
         → r ≡ behind p g → Due all base r
     goes-due g f r e = subst (λ (s : Pass). Due all base s) (sym e) (due-behind g f)
 
-  -- values that are laid out by some numbers are also laid out by equal numbers
   pub same-due : (from to n m at end d l r : ℕ) → from ≡ to → n ≡ m → at ≡ end → l ≡ r → DueSlots all base from n at d l
       → DueSlots all base to m end d r
   same-due from to n m at end d l r e f g k h =
@@ -185,7 +184,7 @@ module _ (all : List ℕ) (base : ℕ) where
           };
         }
 
-    -- once values are found at the slots of the first row, those of the other rows are laid out after them
+    -- If the pass finds values at the slots of the first row, the other `n - 1` rows are due after them.
     pub rows-due : {deep : Bool} {least low : ℕ} (met : ℕ) (g : Progress)
         → FindsSlots all base deep (from + a) b to d left met least g low
         → DueRows all base a b (from + a + b) (n - 1) g.next d g.left

@@ -32,12 +32,13 @@ low-struct : (b : Bool) (n x y : ℕ) → n < 2 ^ 29
 low-struct true n x y h = inl (omega arith)
 low-struct false n x y h = inr (omega arith)
 
--- a pointer to a struct, to a struct without words and slots, or to a list (Our own.)
+-- The word `x` is the pointer to an empty struct, or its low half is that of the pointer to a struct or a list with the
+-- offset `n`. (Our own.)
 abbrev pub IsNear : ℕ → ℕ → Type 0
 IsNear x n = (x ≡ 0xffff_fffc) ⊎ ((x % 2 ^ 32 ≡ 4 * n) ⊎ (x % 2 ^ 32 ≡ 4 * n + 1))
 
 module _ (from to : ℕ) (order : from < to) (room : to ≤ 2 ^ 29) where
-  -- a word of a layout that isn't null is one of the three kinds of pointers to the next free word
+  -- If the pointer of `v` is not null, it points to an empty struct, or to a struct or a list at the word `to`.
   pub near-word : (v : Tree) → first_cap v ≡ None → point v from to ≢ 0 → IsNear (point v from to) (to - from - 1)
   unfolding point
   near-word nil e z = absurd (z refl)
@@ -53,7 +54,7 @@ module _ (from to : ℕ) (order : from < to) (room : to ≤ 2 ^ 29) where
   near-word (links ts) e z = inr (inr (omega arith))
   near-word (rows bs) e z = inr (inr (omega arith))
 
-  -- a word whose lowest bits are 0 points to a struct
+  -- If the pointer of `v` is not null and its two lowest bits are 0, `v` is a struct.
   pub struct-of : (v : Tree) → first_cap v ≡ None → point v from to ≢ 0 → point v from to % 4 ≡ 0
       → (ws : List ℕ) × (ss : Trees) × (v ≡ node ws ss)
   unfolding point
@@ -65,7 +66,7 @@ module _ (from to : ℕ) (order : from < to) (room : to ≤ 2 ^ 29) where
   struct-of (links ts) e z l = absurd (omega arith)
   struct-of (rows bs) e z l = absurd (omega arith)
 
-  -- a struct whose pointer leads to the next free word has words or slots
+  -- A struct whose pointer leads to the word `to` has words or slots.
   pub struct-some : (a b : ℕ) → struct_to from to a b % 2 ^ 32 ≡ 4 * (to - from - 1) → 0 < a + b
   struct-some zero zero e = absurd (omega arith)
   struct-some zero (suc b) e = omega arith
@@ -78,7 +79,7 @@ module _ (from to : ℕ) (order : from < to) (room : to ≤ 2 ^ 29) where
       (grind (arith, nat_tests))) in
       (ap (field 32 16) e ∙ omega arith, ap (field 48 16) e ∙ omega arith)
 
-  -- the pointers to two lists are equal only if the lists have the same width and count
+  -- If the pointers to two lists at `to` are equal, the lists have the same width and the same count.
   module _ (k l : Width) (n m : ℕ) (hn : n < 2 ^ 29) (hm : m < 2 ^ 29)
       (e : list_to from to k n ≡ list_to from to l m) where
     same-pointer : Many (pos (to - suc from)) k n ≡ Many (pos (to - suc from)) l m
@@ -94,7 +95,7 @@ module _ (from to : ℕ) (order : from < to) (room : to ≤ 2 ^ 29) where
 
 -- ---- the target of a value that isn't null
 
--- the target of the pointer at a place is content
+-- The target of the pointer at the place `at` is an object (`Content`).
 abbrev pub HasContent : List (List ℕ) → Place → Type 0
 HasContent m at = (s start pads : ℕ) × (shape : Shape) × (target m at ≡ Ok (targets.Content s start shape pads))
 
@@ -114,7 +115,7 @@ point-nil v from to e = ap (λ (x : Tree). point x from to) e
 
 -- ---- the target of a list
 
--- the target of the pointer at a place is a list that isn't composite
+-- The target of the pointer at the place `at` is a list of `n` elements of the width `k` (`Many`).
 abbrev pub NamesList : List (List ℕ) → Place → Width → ℕ → Type 0
 NamesList m at k n = (s start pads : ℕ) × (target m at ≡ Ok (targets.Content s start (shapes.Many k n) pads))
 

@@ -1,5 +1,5 @@
--- Lemmas on what a pass finds at all its slots, from what it finds at the first slot, below that slot and after it.
--- (For `objects.rt` and `one_pass.rt`.)
+-- What a pass finds at all slots follows from what it finds at the first slot and at the slots after the first. (For
+-- `objects.rt` and `one_pass.rt`.)
 use Rattle.std.proofs.Common.{◌≡◌, ℕ, zero, suc, ◌+◌, ◌-◌, ◌*◌, ◌^◌, ◌<◌, ◌≤◌, ◌==◌, List, [], ◌∷◌, length, take, drop}
 use Rattle.std.proofs.Common.{Option, Some, None, IfSome, slice_index, refl, sym, subst, ◌∙◌, arith, pos, negsuc}
 use Rattle.std.proofs.Common.{if◌then◌else◌, Bool}
@@ -20,12 +20,11 @@ use Rattle.capn_canon.proofs.places.InPlace.{empty-in-place}
 use Rattle.capn_canon.proofs.places.InPlace.{links-in-place, no-rows-in-place, rows-in-place, composite-in-place}
 use Rattle.capn_canon.proofs.places.InPlace.{composite-ends}
 
--- if one property implies another, an optional value with the first property has the second
 pub if-some : {A : Type 0} {P Q : A → Type 0} → (r : Option A) → ((x : A) → P x → Q x) → IfSome r P → IfSome r Q
 if-some (Some x) f h = f x h
 if-some None f h = tt
 
--- the pass over the slots after the first
+-- The pass over the slots of `p` after the first, with the progress `g`.
 abbrev pub behind : Pass → Progress → Pass
 behind p g = record {
   from = p.from + 1;
@@ -36,12 +35,12 @@ behind p g = record {
   visits = g.visits;
 }
 
--- the progress of a pass
+-- The progress of the pass `p`.
 abbrev pub come : Pass → Progress
 come p = record { next = p.next; left = p.left; visits = p.visits }
 
 module _ (all : List ℕ) (base : ℕ) (deep : Bool) where
-  -- if no slot is left, the pass finds no values
+  -- Case: the pass `p` has no slot.
   pub finds-none : (p : Pass) (least : ℕ) → p.end ≤ p.from → IsOpen all p → Finds all base deep p least (come p) least
   finds-none p least le o = record {
     values = no_trees;
@@ -59,7 +58,7 @@ module _ (all : List ℕ) (base : ℕ) (deep : Bool) where
     lowered = λ on le. omega arith;
   }
 
-  -- a null slot has the null value, in place
+  -- Case: the first slot of `p` is null.
   pub finds-null : (p : Pass) (least : ℕ) → IsOpen all p → slice_index all p.from ≡ 0
       → FindsFirst all base deep p least (come p) least
   finds-null p least o z = record {
@@ -77,7 +76,6 @@ module _ (all : List ℕ) (base : ℕ) (deep : Bool) where
     lowered = λ on le. omega arith;
   }
 
-  -- the first slot, and the slots after it
   module _ (p : Pass) (least here : ℕ) (some : p.from < p.end) (o : IsOpen all p) (g : Progress)
       (v : FindsFirst all base deep p least g here) where
     pub behind-opened : IsOpen all (behind p g)
@@ -121,7 +119,8 @@ module _ (all : List ℕ) (base : ℕ) (deep : Bool) where
               let first = v.lowered on le in let others = f.lowered on (omega arith) in omega arith;
         }
 
-  -- the pass continues with the slots after the first
+  -- Case: the pass `p` finds a value at its first slot. What it finds at all slots is then decided by the pass `r` over
+  -- the slots after the first (`Leads`).
   pub goes-behind : (p : Pass) (least here : ℕ) → p.from < p.end → IsOpen all p → (g : Progress)
       → FindsFirst all base deep p least g here → (r : Pass) → r ≡ behind p g
       → (p.from < r.from) × IsOpen all r × Leads all base deep p least r here
@@ -129,7 +128,7 @@ module _ (all : List ℕ) (base : ℕ) (deep : Bool) where
       subst (λ (s : Pass). (p.from < s.from) × IsOpen all s × Leads all base deep p least s here) (sym e)
       (omega arith, behind-opened p least here some o g v, behind-leads p least here some o g v)
 
-  -- if the first slot is also the last, the pass finds just what it finds at that slot
+  -- Case: the first slot of `p` is also the last.
   pub last-leads : (p : Pass) (least : ℕ) → p.from + 1 ≡ p.end → IsOpen all p → (q : Progress) (low : ℕ)
       → FindsFirst all base deep p least q low → Finds all base deep p least q low
   last-leads p least e o q low v =
@@ -268,7 +267,7 @@ module _ (all : List ℕ) (base : ℕ) (deep : Bool) where
 
   -- ---- rows
 
-  -- if no row is left, the pass finds no values
+  -- Case: there is no row.
   pub finds-no-rows : (a b from d least : ℕ) (g : Progress) → g.next ≤ length all → g.visits ≤ g.next
       → FindsRows all base deep a b from 0 g.next d g.left g.visits least g least
   finds-no-rows a b from d least g fits few = record {
@@ -287,7 +286,7 @@ module _ (all : List ℕ) (base : ℕ) (deep : Bool) where
     lowered = λ on le. omega arith;
   }
 
-  -- a row, and those after it
+  -- Case: one row, and `n` rows after it.
   pub finds-row : (a b from n d next left visits least : ℕ) (g : Progress) (here : ℕ) (q : Progress) (low : ℕ)
       → from + a ≤ length all → FindsSlots all base deep (from + a) b next d left visits least g here
       → FindsRows all base deep a b (from + a + b) n g.next d g.left g.visits here q low
@@ -322,7 +321,7 @@ module _ (all : List ℕ) (base : ℕ) (deep : Bool) where
             let first = v.lowered on le in let others = f.lowered on (omega arith) in omega arith;
       }
 
-  -- if rows have no slots, the pass finds no values below them
+  -- Case: the rows have no slots.
   pub finds-bare-rows : (a b from n d least : ℕ) (g : Progress) → b ≡ 0 → from + n * a ≤ length all
       → g.next ≤ length all → g.visits ≤ g.next
       → FindsRows all base deep a b from n g.next d g.left g.visits least g least

@@ -1,4 +1,4 @@
--- Words that follow the rules of the page denote a value, which has no capability. (For `page`.)
+-- Words that follow the rules of the page denote a value without capabilities. (For `page`.)
 use Rattle.std.proofs.Common.{◌≡◌, ℕ, zero, suc, ◌+◌, ◌*◌, ◌≤◌, List, [], ◌∷◌, ◌++◌, length, take, drop, Option, None}
 use Rattle.std.proofs.Common.{Option, None, refl, ap, subst, ◌∙◌, sym, arith, length-drop}
 use Rattle.std.specs.Option.{option_or}
@@ -28,13 +28,13 @@ module _ (all : List ℕ) where
   abbrev only : List (List ℕ)
   only = all ∷ []
 
-  -- a value without capabilities is at each of some places
+  -- The given values are at the given places, one at each, and have no capability.
   abbrev AtPlaces : List Place → Trees → Type 0
   AtPlaces [] no_trees = Unit {0}
   AtPlaces (at ∷ ps) (tree t ts) = IsAt only at t × (first_cap t ≡ None) × AtPlaces ps ts
   AtPlaces _ _ = ⊥
 
-  -- values at the first places, and values at the other places
+  -- Values without capabilities, `first` at the places `ps` and `others` at the places `qs`.
   record Parted (ps qs : List Place) : Type 0 where
     pub first : Trees
     pub others : Trees
@@ -48,7 +48,6 @@ module _ (all : List ℕ) where
       let k = parted ps qs ts h.2 in
       record { first = tree t k.first; others = k.others; at_first = (h.0, h.1, k.at_first); at_others = k.at_others }
 
-  -- values at the places of slots that follow one another are values at the slots
   slots-at : (w n : ℕ) (ts : Trees) → AtPlaces (places 0 w n) ts → AreAt only 0 w ts × (count ts ≡ n)
       × (first_in ts ≡ None)
   slots-at w zero no_trees h = (tt, refl, refl)
@@ -62,7 +61,6 @@ module _ (all : List ℕ) where
         none-or (first_cap t) (first_in ts) h.1 k.2,
       )
 
-  -- values at the places of the slots of rows are values at the rows
   rows-at : (a b n w : ℕ) (ts : Trees) → w + n * (a + b) ≤ length all → AtPlaces (row_places 0 w a b n) ts
       → (bs : Bodies) × RowsAt only a b 0 w bs × (count_rows bs ≡ n) × (first_in_rows bs ≡ None)
   rows-at a b zero w ts le h = (no_bodies, tt, refl, refl)
@@ -79,7 +77,7 @@ module _ (all : List ℕ) where
         none-or (first_in p.first) (first_in_rows bs) k.2 free,
       )
 
-  -- a value without capabilities, whose content of the given shape begins at `start`
+  -- Some value without capabilities has its content, of the given shape, at the word `start`.
   abbrev Held : ℕ → Shape → Type 0
   Held start shape = (v : Tree) × IsInside only shape 0 start v × (first_cap v ≡ None)
 
@@ -108,7 +106,7 @@ module _ (all : List ℕ) where
     refl,
   )
 
-  -- an object has a value if all its slots have values
+  -- An object has a value (`Held`) if there are values at all its slots (`AtPlaces`).
   held : (start : ℕ) (shape : Shape) (ts : Trees) → start + extent shape ≤ length all → RowsFit shape
       → AtPlaces (slots 0 start shape) ts → Held start shape
   held start (shapes.Node a b) ts le fit h =
@@ -138,7 +136,7 @@ module _ (all : List ℕ) where
         free,
       )
 
-  -- if pointers are visited in preorder, each pointer has a value
+  -- If the pointers at and below the places `todo` are visited in preorder, there is a value at each place of `todo`.
   valued : (met : List Met) (todo : List Place) → InPreorder all todo met → (ts : Trees) × AtPlaces todo ts
   valued [] [] h = (no_trees, tt)
   valued [] (at ∷ todo) h = absurd h

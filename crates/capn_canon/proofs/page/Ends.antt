@@ -1,5 +1,5 @@
--- Words that trimming keeps in full end in a word that isn't zero. Words without bits past the end of a list are the
--- words of that list's bits. (For `LaidFollows` and `Stands`.)
+-- Trimming keeps all words of a section if and only if the section does not end in a zero word. The words of a list are
+-- in place if and only if no bit is set after its last element. (For `LaidFollows` and `Stands`.)
 use Rattle.std.proofs.Common.{◌≡◌, ◌≢◌, ◌⊎◌, inl, inr, ℕ, zero, suc, ◌+◌, ◌-◌, ◌*◌, ◌/◌, ◌%◌, ◌^◌, ◌<◌, ◌≤◌, List, []}
 use Rattle.std.proofs.Common.{◌∷◌, length, take, drop, slice_index, ap, sym, subst, ◌∙◌, arith}
 use Rattle.std.proofs.Common.{length-drop}

@@ -43,7 +43,6 @@ use Rattle.capn_canon.proofs.page.Stands.{empty-or-not, plain-slots, plain-numbe
 use Rattle.capn_canon.proofs.reading.LaidPointers.{struct-names, list-names, rows-names}
 use Rattle.capn_canon.proofs.reading.OneSegment.{here, names-empty}
 
--- if two options together have no capability, neither has one
 none-both : (a b : Option ℕ) → option_or a b ≡ None → (a ≡ None) × (b ≡ None)
 none-both None b e = (refl, e)
 none-both (Some k) b e = absurd cc
@@ -55,12 +54,12 @@ module _ (all : List ℕ) (message : IsMessage (all ∷ [])) where
   few-words : length all ≤ 2 ^ 29
   few-words = small all message
 
-  -- if the pointers after a slot follow the rules from the end of everything below the slot, so do the pointers from
-  -- the slot on
+  -- The visited pointers at and below the places `todo` follow the rules, if `to` is the next free word.
   abbrev pub Goes : ℕ → ℕ → List Place → Type 0
   Goes to end todo = (met : List Met) × Follows all to todo met
 
-  -- the pointers from a slot that names an object
+  -- Case: an object at the slot `from` follows the rules, and the pointers of its slots and of `others` follow them
+  -- too.
   meets : (from to start : ℕ) (shape : Shape) (others : List Place)
       → target only (here from) ≡ Ok (targets.Content 0 start shape 0) → IsRight all to from start shape
       → (met : List Met) × Follows all (to + extent shape) (slots 0 start shape ++ others) met
@@ -86,7 +85,7 @@ module _ (all : List ℕ) (message : IsMessage (all ∷ [])) where
         × (slice_index all from ≡ struct_to from to a b) × (to + (a + b) ≤ length all)
     passes = struct-passes all a b s w from to pads e few-words lies order (node ws ss) it o fits laid
 
-    -- the struct begins at the next free word, or at its pointer if the struct has no words
+    -- The struct begins at the next free word `to`, or at its pointer if it has no words and no slots.
     struct-named : (start : ℕ) × (target only (here from) ≡ Ok (targets.Content 0 start (shapes.Node a b) 0))
         × (((IsEmpty (shapes.Node a b) → ⊥) × (start ≡ to)) ⊎ ((start ≡ from) × (a ≡ 0) × (b ≡ 0)))
     struct-named =

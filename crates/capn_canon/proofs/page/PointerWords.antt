@@ -1,4 +1,5 @@
--- The word of a pointer to content of the only segment, from the target of that pointer. (For `Stands`.)
+-- If the target of a pointer is content of the only segment, the target determines the word of the pointer. (For
+-- `Stands`.)
 use Rattle.std.proofs.Common.{◌≡◌, ◌⊎◌, inl, inr, ℕ, zero, suc, ◌+◌, ◌-◌, ◌%◌, ◌^◌, ◌<◌, ◌==◌, ◌&&◌}
 use Rattle.std.proofs.Common.{List, [], ◌∷◌, slice_index, Ok, nat_lt, Bool, true, false, ℤ, pos, negsuc}
 use Rattle.std.proofs.Common.{if◌then◌else◌, refl, ap, sym, subst, ◌∙◌, arith}
@@ -21,9 +22,9 @@ use Rattle.capn_target.proofs.shared.Ways.{one-of-three}
 use Rattle.capn_layout.specs.Layout.{struct_to, list_to}
 use Rattle.capn_canon.proofs.reading.OneSegment.{here}
 
--- ---- a word is that of the pointer that it holds
+-- ---- the word of a pointer
 
--- the word is the encoding of a pointer to a struct or a list
+-- If the given pointer is a `Node` or a `Many`, `w` is the word that encodes that pointer.
 abbrev IsWordOf : ℕ → Pointer → Type 0
 IsWordOf w (Node o a b) = w ≡ word_of (Node o a b)
 IsWordOf w (Many o k n) = w ≡ word_of (Many o k n)
@@ -73,7 +74,7 @@ word-of-pointer w h =
 
 -- ---- where an offset leads
 
--- an offset that leads to a later word is the number of words between
+-- An offset that leads from `from` to a later word `to` is the number of words between them.
 ahead : (from to : ℕ) (o : ℤ) → from < to → content_start from o ≡ Ok to → o ≡ pos (to - suc from)
 ahead from to (pos n) lt e = let f : from + 1 + n ≡ to = cc in let g : n ≡ to - suc from = omega arith in ap pos g
 ahead from to (negsuc n) lt e = absurd (back (nat_lt from n) e)
@@ -82,7 +83,6 @@ ahead from to (negsuc n) lt e = absurd (back (nat_lt from n) e)
     back true f = cc
     back false f = let g : from - n ≡ to = cc in omega arith
 
--- an offset that leads to the pointer itself is -1
 itself : (from : ℕ) (o : ℤ) → content_start from o ≡ Ok from → o ≡ negsuc 0
 itself from (pos n) e = absurd (let f : from + 1 + n ≡ from = cc in omega arith)
 itself from (negsuc n) e = back (nat_lt from n) refl e
@@ -94,7 +94,7 @@ itself from (negsuc n) e = back (nat_lt from n) refl e
 
 -- ---- pointers by their own offset
 
--- a pointer leads from a word to a struct, by an offset
+-- The pointer `p` is `made` with an offset that leads from `from` to `start`.
 abbrev Leads : ℕ → ℕ → (ℤ → Pointer) → Pointer → Type 0
 Leads from start made p = (o : ℤ) × (p ≡ made o) × (content_start from o ≡ Ok start)
 
@@ -156,7 +156,7 @@ module _ (all : List ℕ) (from start : ℕ) where
   near-rows n a b span (Cap k) l d = absurd l
   near-rows n a b span (Reserved k) l d = absurd l
 
-  -- a target without a pad is named by the pointer's own offset
+  -- If the target of a pointer has no landing pad, the offset of that pointer leads to the target.
   own-offset : (shape : Shape) → target only (here from) ≡ Ok (targets.Content 0 start shape 0)
       → LeadsTo from (pointer_of (slice_index all from)) start
       × Describes only (pointer_of (slice_index all from)) 0 start shape
@@ -173,7 +173,7 @@ module _ (all : List ℕ) (each : (k : ℕ) → slice_index all k < 2 ^ 64) (fro
   held : (p : Pointer) → pointer_of (slice_index all from) ≡ p → IsWordOf (slice_index all from) p
   held p e = subst (IsWordOf (slice_index all from)) e (word-of-pointer (slice_index all from) (each from))
 
-  -- the word of the pointer to a struct at the next free word, or to a struct of no words at the pointer itself
+  -- If a struct is at `to`, or is empty and at its own pointer, the word of its pointer is `struct_to`.
   pub struct-pointer : (to start a b : ℕ) → from < to
       → target (all ∷ []) (here from) ≡ Ok (targets.Content 0 start (shapes.Node a b) 0)
       → ((start ≡ to) × (0 < a + b)) ⊎ ((start ≡ from) × (a ≡ 0) × (b ≡ 0))
@@ -207,7 +207,7 @@ module _ (all : List ℕ) (each : (k : ℕ) → slice_index all k < 2 ^ 64) (fro
       both zero (suc b) ea eb = absurd (omega arith)
       both (suc a) b ea eb = absurd (omega arith)
 
-  -- the word of the pointer to a list that isn't composite
+  -- If a list at `to` is not a list of structs, the word of its pointer is `list_to`.
   pub list-pointer : (to n : ℕ) (width : Width) → from < to
       → target (all ∷ []) (here from) ≡ Ok (targets.Content 0 to (shapes.Many width n) 0)
       → slice_index all from ≡ list_to from to width n
@@ -216,7 +216,7 @@ module _ (all : List ℕ) (each : (k : ℕ) → slice_index all k < 2 ^ 64) (fro
       let (o, is, leads) = near-list all from to width n (pointer_of (slice_index all from)) k.0 k.1 in
       held (Many (pos (to - suc from)) width n) (is ∙ ap (λ (z : ℤ). Many z width n) (ahead from to o lt leads))
 
-  -- the word of the pointer to a list of structs, with its tag word
+  -- If a list of structs is at `to`, the word of its pointer is `list_to`, and the word at `to` is its tag word.
   pub rows-pointer : (to n a b span : ℕ) → from < to
       → target (all ∷ []) (here from) ≡ Ok (targets.Content 0 to (shapes.Rows n a b span) 0)
       → (slice_index all from ≡ list_to from to Rows span) × (slice_index all to ≡ word_of (Node (pos n) a b))

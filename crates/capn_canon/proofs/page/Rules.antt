@@ -1,4 +1,4 @@
--- The rules of the page, joined at each pointer that is visited. (For `LaidFollows`, `Stands`, `ThePage` and
+-- The rules of the page, tested pointer by pointer instead of rule by rule. (For `LaidFollows`, `Stands`, `ThePage` and
 -- `WorkedPage`.)
 use Rattle.std.proofs.Common.{◌≡◌, ℕ, ◌+◌, List, [], ◌∷◌, ◌++◌, length, Ok}
 use Rattle.std.specs.List.{AllByRecursion}
@@ -13,7 +13,7 @@ use Rattle.capn_canon.specs.PageForm.{Met, null, object, IsEmpty, PointsAtItself
 use Rattle.capn_canon.specs.PageForm.{IsTruncated, IsPadded, IsPageForm}
 
 module _ (all : List ℕ) where
-  -- one object follows all rules, if `next` is the next free word
+  -- The object of `shape` at `start`, with its pointer at `pointer`, follows all rules. `next` is the next free word.
   pub record IsRight (next pointer start : ℕ) (shape : Shape) : Type 0 where
     pub begins : (IsEmpty shape → ⊥) → start ≡ next
     pub truncated : IsTruncated all (object pointer start shape)
@@ -21,7 +21,8 @@ module _ (all : List ℕ) where
     pub padded : IsPadded all (object pointer start shape)
     pub whole : IsWhole (object pointer start shape)
 
-  -- the pointers at some places and below follow all rules, joined at each pointer
+  -- The visited pointers at and below the given places follow the rules, pointer by pointer: all rules at one pointer,
+  -- then all rules at the next.
   abbrev pub Follows : ℕ → List Place → List Met → Type 0
   Follows next [] [] = next ≡ length all
   Follows next (at ∷ others) (null ∷ rest) = (target (all ∷ []) at ≡ Ok targets.Nil) × Follows next others rest
@@ -30,7 +31,8 @@ module _ (all : List ℕ) where
       × IsRight next pointer start shape × Follows (next + extent shape) (slots 0 start shape ++ others) rest
   Follows _ _ _ = ⊥
 
-  -- the pointers at some places and below follow each rule, one rule after the other
+  -- `met` are the visited pointers at and below the places `todo`. They follow the rules, rule by rule: one rule at all
+  -- pointers, then the next rule at all pointers.
   pub record Apart (next : ℕ) (todo : List Place) (met : List Met) : Type 0 where
     pub preorder : InPreorder all todo met
     pub no_gap : WithoutGaps all next met
@@ -100,7 +102,8 @@ module _ (all : List ℕ) where
         whole = (h.2.whole, k.whole);
       }
 
-  -- words have the page's form if and only if the pointers from the root on follow all rules
+  -- If the words `all` follow the rules rule by rule (`IsPageForm`), they follow the rules pointer by pointer
+  -- (`Follows`).
   pub form-follows : IsPageForm all → (met : List Met) × Follows 1 (root ∷ []) met
   form-follows f = (
     f.pointers,

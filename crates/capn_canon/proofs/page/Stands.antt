@@ -46,14 +46,14 @@ use Rattle.capn_canon.proofs.page.Ends.{ends-kept, each-ends-kept, padded-stand}
 use Rattle.capn_canon.proofs.page.PointerWords.{struct-pointer, list-pointer, rows-pointer}
 use Rattle.capn_canon.proofs.reading.OneSegment.{here}
 
--- a struct has words or slots, or it is empty
+-- A struct has words or slots, or it is empty.
 pub empty-or-not : (a b : ℕ) → ((IsEmpty (shapes.Node a b) → ⊥) × (0 < a + b))
     ⊎ (IsEmpty (shapes.Node a b) × (a ≡ 0) × (b ≡ 0))
 empty-or-not zero zero = inr (tt, refl, refl)
 empty-or-not zero (suc b) = inl ((λ e. e), omega arith)
 empty-or-not (suc a) b = inl ((λ e. e), omega arith)
 
--- a list without pointers has no slots
+-- A list without pointers has no slots.
 pub plain-slots : (width : Width) → IsPlain width → (start n : ℕ) → slots 0 start (shapes.Many width n) ≡ []
 plain-slots W0 h start n = refl
 plain-slots W1 h start n = refl
@@ -81,8 +81,8 @@ module _ (all : List ℕ) (message : IsMessage (all ∷ [])) where
   pub small : length all ≤ 2 ^ 29
   small = let r = message.room in omega arith
 
-  -- the value at a slot is where its layout has it and has no capability, and the pointers after those of that value
-  -- follow the rules
+  -- The value `v`, without capabilities, is laid out with its pointer at `from` and its content at `to`. The pointers
+  -- at and below the places `others` follow the rules.
   pub record Stands (v : Tree) (from to : ℕ) (others : List Place) : Type 0 where
     pub laid : IsLaidAt all v from to
     pub free : first_cap v ≡ None
@@ -101,7 +101,8 @@ module _ (all : List ℕ) (message : IsMessage (all ∷ [])) where
     pub rest : List Met
     pub follows : Follows all (to + sizes_in_rows bs) others rest
 
-  -- the pointer at a slot leads to an object, and the pointers from that slot on follow the rules
+  -- The pointer at the slot `from` leads to an object of `shape` at `start`. That object follows the rules, and so do
+  -- the pointers at and below its slots and the places `others`.
   record Here (from to start : ℕ) (shape : Shape) (others : List Place) (rest : List Met) : Type 0 where
     pub named : target only (here from) ≡ Ok (targets.Content 0 start shape 0)
     pub right : IsRight all to from start shape
@@ -336,7 +337,6 @@ module _ (all : List ℕ) (message : IsMessage (all ∷ [])) where
 
   -- ---- every value
 
-  -- the rules at a slot hold for the shape of the value there
   shaped : (from to pointer start : ℕ) (shape x : Shape) (others : List Place) (rest : List Met) → shape ≡ x
       → pointer ≡ from → target only (here from) ≡ Ok (targets.Content 0 start shape 0)
       → IsRight all to pointer start shape → Follows all (to + extent shape) (slots 0 start shape ++ others) rest
@@ -348,7 +348,7 @@ module _ (all : List ℕ) (message : IsMessage (all ∷ [])) where
         follows = f;
       })
 
-  -- the content below slots is within the words if that content starts within them
+  -- If the contents of `ts` start within the words `all`, they end within `all`.
   pub slots-room : (ts : Trees) (from to : ℕ) → Sounds ts → to ≤ length all → AreLaidAt all ts from to
       → to + sizes ts ≤ length all
   slots-room ts from to o le h = from_size (sizes ts) (length-lays ts to o)

@@ -1,4 +1,5 @@
--- Each value has only one form that follows the rules of the page, the canonical bytes. (For `page`.)
+-- Each value without capabilities has only one form that follows the rules of the page: its canonical bytes. (For
+-- `page`.)
 use Rattle.std.proofs.Common.{◌≡◌, ◌↔◌, ℕ, ◌+◌, ◌≤◌, Bool, IsTrue, List, [], ◌∷◌, length, None, refl, ap}
 use Rattle.std.proofs.Common.{sym, subst, ◌∙◌, arith}
 use Rattle.capn_words.specs.Message.{IsBare, IsMessage, bytes}
@@ -35,18 +36,16 @@ use Rattle.capn_canon.proofs.page.Stands.{value-stands}
 use Rattle.capn_canon.proofs.page.LaidFollows.{value-goes}
 
 module _ (all : List ℕ) where
-  -- if no pointer is left, the words end
   ended : (next : ℕ) (met : List Met) → Follows all next [] met → next ≡ length all
   ended next [] f = f
   ended next (m ∷ met) f = absurd f
 
-  -- contents without gaps begin within the words
   begun : (met : List Met) (next : ℕ) → WithoutGaps all next met → next ≤ length all
   begun [] next f = omega arith
   begun (null ∷ met) next f = begun met next f
   begun (object pointer start shape ∷ met) next f = let h = begun met (next + extent shape) f.1 in omega arith
 
--- the words `ws`, whose bytes are `bs`, denote a value `v` that fits
+-- In this block the words `ws`, whose bytes are `bs`, denote a value `v` that fits.
 module _ (bs ws : List ℕ) (v : Tree) (bare : IsBare bs ws) (at : IsAt (ws ∷ []) root v) (fits : Fits v) where
   message : IsMessage (ws ∷ [])
   message = bare_message ws bare.each bare.room
@@ -73,11 +72,11 @@ module _ (bs ws : List ℕ) (v : Tree) (bare : IsBare bs ws) (at : IsAt (ws ∷ 
       let same = words-stand ws v is-sound (omega arith) k.laid (ended ws (1 + size v) k.rest k.follows) in
       (k.free, (bytes-words bs ws v bare fits in_range).0 same)
 
-  -- the bytes are the canonical bytes of the value, which has no capability, if and only if the words follow the rules
+  -- The words `ws` follow the rules if and only if `v` has no capability and `bs` are its canonical bytes.
   pub canonical_exactly_by_page : ((first_cap v ≡ None) × (canon v ≡ bs)) ↔ IsPageForm ws
   canonical_exactly_by_page = ((λ e. canonical-follows e.0 e.1), follows-canonical)
 
--- the canonical bytes of a value are the only form of it that follows the rules
+-- If `v` fits, is in range and has no capability, its canonical bytes are its only page form (`IsPageFormOf`).
 pub canon_is_the_page_form : (v : Tree) (bs : List ℕ) → Fits v → InRange v → first_cap v ≡ None
     → (bs ≡ canon v) ↔ IsPageFormOf bs v
 canon_is_the_page_form v bs f r free = (there, back)
@@ -106,7 +105,7 @@ canon_is_the_page_form v bs f r free = (there, back)
         sym c.1
         ∙ (equal_exactly_same p.denoted v p.fits (in_range-at (p.words ∷ []) m.each p.denoted root p.is) f r).1 p.same
 
--- each result of `canonicalise` follows the rules
+-- An answer `out` is a page form of the value that `bs` denote (`IsPageFormOf`).
 pub answers_follow : (form : Form) (bs : List ℕ) (limits : Bounds) (out : List ℕ) (price : ℕ)
     → AreLimits limits.message_words limits.budget limits.depth → Answers form bs limits out price
     → (v : Tree) × Denotes form bs limits v × IsPageFormOf out v
@@ -116,14 +115,15 @@ answers_follow form bs limits out price are h =
     let k = denoted_has_form form bs limits v are d in
     (v, d, (canon_is_the_page_form v out k.fits k.in_range h.answer.free).0 h.answer.canonical)
 
--- the words `ws`, whose bytes are `bs`, are accepted within limits
+-- In this block the words `ws`, whose bytes are `bs`, are accepted within `limits` with the value `v`.
 module _ (bs ws : List ℕ) (limits : Bounds) (v : Tree) (are : AreLimits limits.message_words limits.budget limits.depth)
     (bare : IsBare bs ws) (h : IsValueOf (ws ∷ []) limits v) where
   accepted-by-page : ((first_cap v ≡ None) × (canon v ≡ bs)) ↔ IsPageForm ws
   accepted-by-page = canonical_exactly_by_page bs ws v bare h.is
       (denoted_fits (ws ∷ []) limits v (bare_message ws bare.each bare.room) are.small_budget are.small_depth h)
 
--- the check says yes if and only if the words follow the rules
+-- If `told` says whether `bs` are canonical (`SaysCanonical`), it is true if and only if `bs` are words that follow the
+-- rules.
 pub check_is_of_the_page : (bs : List ℕ) (limits : Bounds) (told : Bool)
     → AreLimits limits.message_words limits.budget limits.depth → SaysCanonical bs limits told
     → IsTrue told ↔ ((ws : List ℕ) × IsBare bs ws × IsPageForm ws)

@@ -1,5 +1,5 @@
--- Words are canonical if and only if the value at the root is where its layout has it, and no word follows. (For
--- `CanonicalSurvey`, `DueRoot` and `ThePage`.)
+-- Words are canonical if and only if the value at the root is where its layout has it, and no word follows that layout.
+-- (For `CanonicalSurvey`, `DueRoot` and `ThePage`.)
 use Rattle.std.proofs.Common.{◌≡◌, ◌↔◌, ℕ, ◌+◌, ◌<◌, ◌≤◌, List, ◌∷◌, length}
 use Rattle.std.proofs.Common.{ap, sym, subst, ◌∙◌, arith}
 use Rattle.std.proofs.Math.Seq.{take-length}
@@ -41,7 +41,7 @@ module _ (all : List ℕ) (v : Tree) (o : Sound v) (some : 0 < length all) where
         sym (length_words v o) ∙ ap length e,
       )
 
--- bytes are canonical if and only if their words are
+-- `ws` are the canonical words of `v` if and only if their bytes `bs` are the canonical bytes of `v`.
 pub bytes-words : (bs ws : List ℕ) (v : Tree) → IsBare bs ws → Fits v → InRange v → (words v ≡ ws) ↔ (canon v ≡ bs)
 bytes-words bs ws v b f r =
     ((λ e. ap bytes e ∙ sym b.same), (λ e. bytes-injective (words v) ws (words_are_words v f r) b.each (e ∙ b.same)))

@@ -1,5 +1,6 @@
--- An object's own words are those of its layout if and only if its pointer leads to the next free word, and the same
--- holds of each object below it. (For `check_numbers`, `open_composite`, `open_struct` and `survey_bare_counted`.)
+-- An object is where its layout has it if and only if its own words pass the tests that the one pass makes, and each
+-- object below it is where its layout has it. (For `check_numbers`, `open_composite`, `open_struct` and
+-- `survey_bare_counted`.)
 use Rattle.std.proofs.Common.{◌≡◌, ◌⊎◌, inl, inr, ℕ, zero, suc, ◌+◌, ◌^◌, ◌<◌, ◌≤◌, List, [], ◌∷◌, ◌++◌}
 use Rattle.std.proofs.Common.{length, take, slice_index, Ok, refl, ap, ap₂, sym, subst, ◌∙◌, arith}
 use Rattle.std.proofs.Common.{false}
@@ -37,7 +38,7 @@ point-links ts from to = refl
 pub not-true : IsTrue false → ⊥
 not-true e = cc
 
--- a value's content is within the words if that content starts within them
+-- If the content of `v` starts within the words `all`, it ends within `all`.
 pub laid-room : (all : List ℕ) (v : Tree) (from to : ℕ) → Sound v → to ≤ length all → IsLaidAt all v from to
     → to + size v ≤ length all
 laid-room all v from to o le h = from_size (size v) (length-lay v to o)
@@ -104,7 +105,8 @@ module _ (all : List ℕ) (a b s w from to pads : ℕ)
   narrow = let x = struct-sound.0 in let y = struct-sound.1 in let c = struct-is.count in let d = struct-is.number in
       (omega arith, omega arith)
 
-  -- if the words are those of the layout, the test is passed
+  -- If the struct is where its layout has it, trimming keeps all its words and slots, and the word of its pointer is
+  -- `struct_to`.
   pub struct-passes : IsLaidAt all v from to →
       (kept_words (take a (words_from (all ∷ []) s w)) ≡ a)
       × (kept_words (take b (words_from (all ∷ []) s (w + a))) ≡ b) × (slice_index all from ≡ struct_to from to a b)
@@ -140,7 +142,8 @@ module _ (all : List ℕ) (a b s w from to pads : ℕ)
           → b ≡ y
       same-b start x y f = cc
 
-  -- if the test is passed, the object is at the next free word or has no words
+  -- In this block trimming keeps all words and slots of the struct, and the word of its pointer is `struct_to`. So the
+  -- struct is at the next free word, or it has no words and no slots.
   module _ (ka : kept_words (take a (words_from (all ∷ []) s w)) ≡ a)
       (kb : kept_words (take b (words_from (all ∷ []) s (w + a))) ≡ b)
       (p : slice_index all from ≡ struct_to from to a b) (room : to + (a + b) ≤ length all) where
@@ -201,7 +204,7 @@ module _ (all : List ℕ) (a b s w from to pads : ℕ)
     ks : kept_slots struct-is.slots ≡ b
     ks = sym kept-below ∙ kb
 
-    -- the layout of the struct is all its words, all its pointers, and the layout of the objects below
+    -- The layout of the struct is its words, its pointers, and the layouts of the objects below it.
     lay-is : lay (node struct-is.words struct-is.slots) to ≡ struct-is.words
         ++ (points struct-is.slots (to + a) (to + a + b) ++ lays struct-is.slots (to + a + b))
     lay-is =

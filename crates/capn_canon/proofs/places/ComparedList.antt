@@ -1,5 +1,5 @@
--- The words of a list without pointers are its layout if and only if its pointer leads to the next free word and no bit
--- is set past its end. (For `DueLists`, `LaidFollows`, `NumbersInPlace` and `Stands`.)
+-- A list without pointers is where its layout has it if and only if its pointer leads to the next free word, and no bit
+-- is set past the end of the list. (For `DueLists`, `LaidFollows`, `NumbersInPlace` and `Stands`.)
 use Rattle.std.proofs.Common.{◌≡◌, ℕ, zero, suc, ◌+◌, ◌*◌, ◌/◌, ◌%◌, ◌^◌, ◌<◌, ◌≤◌, List, [], ◌∷◌}
 use Rattle.std.proofs.Common.{length, take, drop, slice_index, Ok, ap, ap₂, sym, subst, ◌∙◌, arith}
 use Rattle.std.proofs.Common.{length-append, length-drop}

@@ -1,5 +1,6 @@
--- The words of rows are their layout if and only if all words and slots are kept, the rows are at the next free word,
--- and the same holds of each object below them. (For `DueComposite`, `DueSlots`, `InPlace` and others.)
+-- Rows are where their layout has them if and only if three conditions hold. Trimming keeps all words and slots of the
+-- rows, the rows begin at the next free word, and each object below them is where its layout has it. (For
+-- `DueComposite`, `DueSlots`, `InPlace` and others.)
 use Rattle.std.proofs.Common.{◌≡◌, ℕ, suc, ◌+◌, ◌*◌, ◌^◌, ◌<◌, ◌≤◌, List, [], ◌∷◌, ◌++◌}
 use Rattle.std.proofs.Common.{length, slice_index, Ok, refl, ap, ap₂, sym, subst, ◌∙◌, arith}
 use Rattle.std.specs.Prelude.{pos}

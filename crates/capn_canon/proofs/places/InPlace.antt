@@ -1,5 +1,5 @@
--- An object is where its layout has it if its parts are, and its visits pay the sum of what those of the parts pay.
--- (For `NumbersInPlace` and `PassLeads`.)
+-- An object is in place if its own words and the objects below it are in place. Its visits pay the sum of its own price
+-- and the prices of the objects below it. (For `NumbersInPlace` and `PassLeads`.)
 use Rattle.std.proofs.Common.{◌≡◌, inl, inr, ℕ, suc, ◌+◌, ◌-◌, ◌*◌, ◌^◌, ◌<◌, ◌≤◌, ◌==◌, List, [], ◌∷◌, ◌++◌}
 use Rattle.std.proofs.Common.{length, take, drop, slice_index, Option, None, Ok, refl, ap, ap₂, sym, subst, ◌∙◌}
 use Rattle.std.proofs.Common.{arith, length-append, length-drop, pos, negsuc, if◌then◌else◌}
@@ -183,7 +183,7 @@ module _ (all : List ℕ) (base : ℕ) where
           ∙ struct-size all a b 0 to from to 0 struct-named small room order (node struct-words ss) inside-it sound-it
           fits ka kb word room
 
-  -- a struct of no words and no slots is in place, wherever the pointer is
+  -- A struct of no words and no slots is in place if its pointer has the offset -1.
   pub empty-in-place : (from to d : ℕ) → from ≤ length all → 0 < d
       → slice_index all from ≡ word_of (Node (negsuc 0) 0 0) → IsInPlace all base from to d (node [] no_trees) base 0
   unfolding point

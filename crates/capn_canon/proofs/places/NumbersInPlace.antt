@@ -1,4 +1,5 @@
--- A list of numbers is where its layout has it. (For `check_numbers`.)
+-- A list of numbers is in place if the word of its pointer is `list_to`, and no bit is set past the end of the list.
+-- (For `check_numbers`.)
 use Rattle.std.proofs.Common.{◌≡◌, ℕ, zero, suc, ◌+◌, ◌*◌, ◌^◌, ◌<◌, ◌≤◌, List, [], ◌∷◌, length, take}
 use Rattle.std.proofs.Common.{drop, slice_index, None, Ok, refl, ap, sym, arith, length-drop}
 use Rattle.std.proofs.lemmas.List.{length-take-le}
@@ -31,7 +32,6 @@ use Rattle.capn_canon.proofs.reading.OneSegment.{here}
 
 -- ---- words
 
--- a bound on each word is a bound on each of the first words
 taken-below : (bound n : ℕ) (ws : List ℕ) → ((i : ℕ) → slice_index ws i < bound) → (i : ℕ)
     → slice_index (take n ws) i < bound
 taken-below bound zero ws h i = let some = h 0 in omega arith
@@ -41,7 +41,7 @@ taken-below bound (suc n) (w ∷ ws) h (suc i) = taken-below bound n ws (λ j. h
 
 -- ---- the value
 
--- a list of `n` numbers is in the content at `to`
+-- A list of `n` numbers of the given `width` has its content at the word `to`.
 pub record Numbers (all : List ℕ) (width : Width) (n to : ℕ) : Type 0 where
   pub value : Tree
   pub inside : IsInside (all ∷ []) (shapes.Many width n) 0 to value
@@ -151,7 +151,7 @@ module _ (all : List ℕ) (base from to d : ℕ) (width : Width) (n : ℕ) (mess
   numbers-end = list-size all width n 0 to from to 0 named plain few small (part-below (all ∷ []) 0 to message)
       content-room order listed-numbers.value listed-numbers.inside listed-numbers.sound fits
 
--- the price of a list of numbers: its words, and 1 for each element that has no size
+-- Case: elements of no bits. The price is the base, the words of the list, and 1 for each element.
 pub price-none : (base n : ℕ) (width : Width) → width ≡ W0
     → price base (shapes.Many width n) ≡ base + words_for (element_bits width * n) + n
 price-none base n W0 h = omega arith

@@ -1,5 +1,5 @@
--- Words that are found within other words, when either are cut or joined. (For `CanonicalWords`, `Compared`,
--- `ComparedRows` and others.)
+-- Lemmas on `Stand`: words that are in a longer list of words. (For `CanonicalWords`, `Compared`, `ComparedRows` and
+-- others.)
 use Rattle.std.proofs.Common.{◌≡◌, ℕ, zero, suc, ◌+◌, ◌<◌, ◌≤◌, List, [], ◌∷◌, ◌++◌, length}
 use Rattle.std.proofs.Common.{take, drop, slice_index, refl, ap, ap₂, sym, ◌∙◌, arith, length-append}
 use Rattle.std.proofs.Common.{length-drop}
@@ -22,7 +22,7 @@ module _ (all : List ℕ) (at : ℕ) where
   pub stand-join : (xs ys : List ℕ) → Stand all at xs → Stand all (at + length xs) ys → Stand all at (xs ++ ys)
   stand-join xs ys h k = seam xs ys ∙ ap₂ (λ (a b : List ℕ). a ++ b) h k
 
-  -- words that are found in others end within them
+  -- If `xs` has at least one word and is in `all` from the word `at` on, it ends within `all`.
   pub stand-room : (xs : List ℕ) → 0 < length xs → Stand all at xs → at + length xs ≤ length all
   stand-room xs some h =
       let a = ap length h in
@@ -67,7 +67,6 @@ module _ (all : List ℕ) (at : ℕ) where
   pub stand-back : (xs ys : List ℕ) → Stand all at (xs ++ ys) → Stand all (at + length xs) ys
   stand-back xs ys h = (both xs ys h).1
 
-  -- a word and the words after it are found at a place if each part is found where it has to be
   pub stand-cons : (x : ℕ) (xs : List ℕ) → at < length all → slice_index all at ≡ x → Stand all (suc at) xs
       → Stand all at (x ∷ xs)
   stand-cons x xs lt e h = ap (λ (zs : List ℕ). take (suc (length xs)) zs) (drop-cons all at 0 lt)

@@ -1,5 +1,5 @@
--- The targets of the pointers of a layout, in words that have the content of the layout at the places to which the
--- pointers lead. (For `Compared`, `ComparedList`, `ComparedRows` and others.)
+-- The targets of the pointers of a layout, in words that contain that layout. (For `Compared`, `ComparedList`,
+-- `ComparedRows` and others.)
 use Rattle.std.proofs.Common.{◌≡◌, ◌⊎◌, inl, inr, ℕ, zero, suc, ◌+◌, ◌-◌, ◌*◌, ◌/◌, ◌^◌, ◌<◌, ◌≤◌, ◌==◌, ◌&&◌, List, []}
 use Rattle.std.proofs.Common.{◌∷◌, length, slice_index, Ok, pos, refl, ap, ap₂, sym, subst, ◌∙◌, arith}
 use Rattle.std.proofs.lemmas.Bool.Decides.{nat_tests}
@@ -47,7 +47,6 @@ module _ (all : List ℕ) (small : length all ≤ 2 ^ 29) where
         inl refl,
       )
 
-  -- words that are at one place are also at another, if the places are equal or there are no words
   moved-words : (start at : ℕ) (xs : List ℕ) → (start ≡ at) ⊎ (length xs ≡ 0) → AreWordsAt only 0 at xs
       → AreWordsAt only 0 start xs
   moved-words start at xs (inl e) h = subst (λ (p : ℕ). AreWordsAt only 0 p xs) (sym e) h
@@ -59,7 +58,7 @@ module _ (all : List ℕ) (small : length all ≤ 2 ^ 29) where
   moved-slots v w no_trees (inr e) h = tt
   moved-slots v w (tree t ts) (inr e) h = absurd (omega arith)
 
-  -- a struct with its content at a place is read from the pointer that names that place
+  -- If the content of a struct is at the word `at`, the pointer to `at` has that struct as its value.
   pub struct-at : (from at a b : ℕ) (xs : List ℕ) (ts : Trees) → length xs ≡ a → count ts ≡ b → from < at
       → at + (a + b) ≤ length all → a < 2 ^ 16 → b < 2 ^ 16 →
       slice_index all from ≡ struct_to from at a b → AreWordsAt only 0 at xs → AreTight only 0 (at + a) ts
@@ -78,7 +77,7 @@ module _ (all : List ℕ) (small : length all ≤ 2 ^ 29) where
         inside = (moved-words start at xs one ws, moved-slots (start + length xs) (at + a) ts two ss);
       }
 
-  -- a list that is not composite is the target of the pointer that names its place
+  -- The target of the pointer to a list at the word `at` is that list, if it is not a list of structs.
   pub list-names : (from at c : ℕ) (k : Width) → IsPlain k → from < at → at + content_words k c ≤ length all
       → c < 2 ^ 29 →
       slice_index all from ≡ list_to from at k c
@@ -88,7 +87,7 @@ module _ (all : List ℕ) (small : length all ≤ 2 ^ 29) where
       names-list all from (at - suc from) c k p e (omega arith) hc (omega arith)
       ∙ ap (λ (q : ℕ). Ok (targets.Content 0 q (shapes.Many k c) 0)) s
 
-  -- a list whose elements are packed into words is read from the pointer that names its place
+  -- If the elements `xs` are packed into the words from `at` on, the pointer to `at` leads to a list of these elements.
   pub elements-at : (from at : ℕ) (k : Width) (each width c n : ℕ) (xs : List ℕ) → IsPlain k → content_words k c ≡ n →
       0 < each → 0 < 2 ^ width → AreBelow (2 ^ width) xs → ((i : ℕ) → i < length xs → i / each < n) → from < at
       → c < 2 ^ 29 →
@@ -106,7 +105,7 @@ module _ (all : List ℕ) (small : length all ≤ 2 ^ 29) where
             (packed-elements each width n xs has.behind some base below room);
       }
 
-  -- a composite list with its tag is the target of the pointer that names its place
+  -- The target of the pointer to a list of structs at the word `at` is that list, if its tag word is at `at`.
   pub rows-names : (from at c a b : ℕ) → from < at → at + (1 + c * (a + b)) ≤ length all → c < 2 ^ 29 → a < 2 ^ 16
       → b < 2 ^ 16 → c * (a + b) < 2 ^ 29 →
       slice_index all from ≡ list_to from at Rows (c * (a + b)) → slice_index all at ≡ word_of (Node (pos c) a b) →

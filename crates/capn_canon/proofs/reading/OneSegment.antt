@@ -17,17 +17,17 @@ use Rattle.capn_target.specs.Target.{content_words, content_start, tagged, if_in
 use Rattle.capn_target.specs.Target.{target}
 use Rattle.std.proofs.lemmas.Bool.{le-ltb}
 
--- the place of a word of the one segment
+-- The place of the word `w` in the only segment.
 abbrev pub here : ℕ → Place
 here w = record { segment = 0; word = w }
 
--- a list that is not composite
+-- The width is not that of a list of structs (`Rows`).
 abbrev pub IsPlain : Width → Type 0
 IsPlain Rows = ⊥
 IsPlain k = Unit {0}
 
 module _ (ws : List ℕ) where
-  -- the target of the pointer at a word, if the word reads as the pointer `p`
+  -- If the word at `from` is the pointer `p`, the target of that word is the target of `p`.
   pub names : (from : ℕ) (p : Pointer) → pointer_of (slice_index ws from) ≡ p
       → target (ws ∷ []) (here from) ≡ target_of_pointer (ws ∷ []) 0 from p
   unfolding target
@@ -36,17 +36,17 @@ module _ (ws : List ℕ) where
   in-reach : (start n : ℕ) (r : Result Target Fault) → start + n ≤ length ws → if_inside (ws ∷ []) 0 start n r ≡ r
   in-reach start n r h = if-no (nat_lt (length ws) (start + n)) _ _ (le-ltb (length ws) (start + n) h)
 
-  -- the target of a zero word is null
+  -- The target of a zero word is null.
   pub names-null : (from : ℕ) → slice_index ws from ≡ 0 → target (ws ∷ []) (here from) ≡ Ok targets.Nil
   unfolding pointer_of
   names-null from e = names from Nil (ap pointer_of e)
 
-  -- the target of a capability's word is the capability
+  -- The target of the word of a capability is that capability.
   pub names-cap : (from k : ℕ) → slice_index ws from ≡ word_of (Cap k) → k < 2 ^ 32
       → target (ws ∷ []) (here from) ≡ Ok (targets.Cap k)
   names-cap from k e h = names from (Cap k) (ap pointer_of e ∙ pointer_of-word_of (Cap k) h)
 
-  -- the target of the word of an empty struct at offset -1 is an empty struct at the word itself
+  -- The target of the pointer to an empty struct, with the offset -1, is an empty struct at the pointer itself.
   pub names-empty : (from : ℕ) → slice_index ws from ≡ word_of (Node (negsuc 0) 0 0) → from ≤ length ws →
       target (ws ∷ []) (here from) ≡ Ok (targets.Content 0 from (shapes.Node 0 0) 0)
   unfolding pointer_of
@@ -57,7 +57,7 @@ module _ (ws : List ℕ) where
       (if-no (nat_lt from 0) _ _ (le-ltb from 0 (omega arith)) ∙ ap Ok z)
       ∙ in-reach from 0 _ (omega arith)
 
-  -- the target of a struct's word is a struct, `n` words after the next word
+  -- The target of a struct pointer with the offset `n` is a struct at the word `from + 1 + n`.
   pub names-struct : (from n a b : ℕ) → slice_index ws from ≡ word_of (Node (pos n) a b) → n < 2 ^ 29 → a < 2 ^ 16
       → b < 2 ^ 16 → 0 < a + b →
       from + 1 + n + (a + b) ≤ length ws
@@ -77,7 +77,7 @@ module _ (ws : List ℕ) where
   list-plain start n Link p h = in-reach start _ _ h
   list-plain start n Rows p h = absurd p
 
-  -- the target of a list's word is a list, `n` words after the next word
+  -- The target of a list pointer with the offset `n` is a list at the word `from + 1 + n`.
   pub names-list : (from n c : ℕ) (k : Width) → IsPlain k → slice_index ws from ≡ word_of (Many (pos n) k c)
       → n < 2 ^ 29 → c < 2 ^ 29 →
       from + 1 + n + content_words k c ≤ length ws
@@ -86,7 +86,8 @@ module _ (ws : List ℕ) where
       names from (Many (pos n) k c) (ap pointer_of e ∙ pointer_of-word_of (Many (pos n) k c) (hn, hc))
       ∙ list-plain (from + 1 + n) c k p h
 
-  -- the target of a composite list's word is the list, whose tag is the word of a struct with the count for an offset
+  -- The target of the pointer to a list of structs is that list. Its tag word is a struct pointer with the number of
+  -- structs as its offset.
   pub names-rows : (from n c a b d : ℕ) → slice_index ws from ≡ word_of (Many (pos n) Rows d) → n < 2 ^ 29 → d < 2 ^ 29
       →
       slice_index ws (from + 1 + n) ≡ word_of (Node (pos c) a b) → c < 2 ^ 30 → a < 2 ^ 16 → b < 2 ^ 16

@@ -1,5 +1,5 @@
--- Canonical words have the trimmed value at the root when read, and their walk pays exactly the cost of that value.
--- (For `EqualExactlySame`, `ReadBare` and `ThePage`.)
+-- Canonical words have the trimmed value at the root when they are read. The walk of canonical words pays exactly the
+-- cost of that value. (For `EqualExactlySame`, `ReadBare` and `ThePage`.)
 use Rattle.std.proofs.Common.{◌≡◌, ℕ, zero, suc, ◌+◌, ◌*◌, ◌^◌, ◌<◌, ◌≤◌, List, [], ◌∷◌, ◌++◌}
 use Rattle.std.proofs.Common.{length, take, slice_index, Ok, pos, refl, ap, sym, subst, ◌∙◌, arith}
 use Rattle.std.proofs.lemmas.List.{length-take-le, append-nil}
@@ -182,8 +182,8 @@ module _ (all : List ℕ) (small : length all ≤ 2 ^ 29) where
         (reads-slots ss b (from + a) to h.0 (omega arith) h3 k1)
         (reads-rows bs a b (from + a + b) (to + sizes ss) h.1 wide.2 (omega arith) h4 k2)
 
--- the canonical words of a value, read as a message of one segment, have the trimmed value at the root, with no pads
--- and no slack
+-- The canonical words of `v`, read as a message of one segment, have the trimmed value at the root. There are no
+-- landing pads and no unused words in lists (`TightAt`).
 pub reads_tight : (v : Tree) → Sound v → length (words v) ≤ 2 ^ 29 → TightAt (words v ∷ []) (here 0) (trimmed v)
 unfolding words
 reads_tight v h small =
@@ -196,11 +196,12 @@ reads_tight v h small =
       where_at = refl;
     })
 
--- the canonical words of a value, read as a message of one segment, have the trimmed value at the root
+-- The canonical words of `v`, read as a message of one segment, have the trimmed value at the root.
 pub read_back : (v : Tree) → Sound v → length (words v) ≤ 2 ^ 29 → IsAt (words v ∷ []) (here 0) (trimmed v)
 read_back v h small = loosen (words v ∷ []) (trimmed v) (here 0) (reads_tight v h small)
 
--- the visits of the canonical words have no fault and pay exactly the cost of the trimmed value
+-- If `d` allows the height of the trimmed value, the visits of the canonical words have no fault. They pay exactly the
+-- cost of the trimmed value.
 pub pays_cost : (v : Tree) (base d : ℕ) → Sound v → length (words v) ≤ 2 ^ 29 → height (trimmed v) ≤ d →
     Pays (words v ∷ []) base (visits (words v ∷ []) base d (here 0)) (cost base (trimmed v))
 pays_cost v base d h small tall = exact (words v ∷ []) base (trimmed v) (here 0) d tall (reads_tight v h small)

@@ -1,4 +1,4 @@
--- Canonical bytes, read bare, denote the trimmed value, and their walk pays exactly the cost of that value. (For
+-- Canonical bytes, read bare, denote the trimmed value. Their walk pays exactly the cost of that value. (For
 -- `CanonicalSurvey`, `DepthOfCanonical`, `DueRoot` and `Headline`.)
 use Rattle.std.proofs.Common.{◌≡◌, ℕ, ◌^◌, ◌≤◌, List, [], ◌∷◌, length, true, refl, ap, sym, ◌∙◌, arith}
 use Rattle.capn_words.proofs.shared.OneSegment.{bare_only}
@@ -24,7 +24,7 @@ use Rattle.capn_canon.proofs.reading.Tight.{Pays}
 use Rattle.capn_canon.proofs.reading.ReadBack.{read_back, pays_cost}
 use Rattle.capn_canon.proofs.shared.BareCanon.{canon_is_bare, words_in_canon}
 
--- the visits of the root are those of its slot, if the value there is allowed at the root
+-- If the value at the root may be a root (`is_root`), the visits of the root are the visits of its slot.
 pub root-alone : (m : List (List ℕ)) (base depth : ℕ) (v : Tree) → is_root v ≡ true → IsAt m root v
     → root_visits m base depth ≡ visits m base depth root
 unfolding root_visits
@@ -52,13 +52,13 @@ module _ (v : Tree) (limits : Bounds) (f : Fits v) (r : InRange v) (low : height
       (cost (base limits.tariff) (trimmed v))
   visited = rw alone (pays_cost v (base limits.tariff) limits.depth (sound v f r) few (omega (arith, height-trimmed v)))
 
-  -- the walk of canonical bytes, read bare, pays exactly the cost of the trimmed value
+  -- The walk of canonical bytes, read bare, pays exactly the cost of the trimmed value.
   pub pays_its_cost : PaysItsCost (canon v) limits v
   pays_its_cost m (ws, b, e) =
       let same : ws ≡ words v = sym (bare_only (canon v) ws b) ∙ words_in_canon v f r in
       ap (λ (n : List (List ℕ)). paid n limits) e ∙ ap (λ (us : List ℕ). paid (us ∷ []) limits) same ∙ visited.sum
 
-  -- under limits that allow the value's cost and height, canonical bytes denote the trimmed value
+  -- If the limits allow the cost and the height of `v`, its canonical bytes denote the trimmed value.
   pub read_bare : cost (base limits.tariff) v ≤ limits.budget → Denotes forms.Bare (canon v) limits (trimmed v)
   read_bare cheap =
       let c = cost-trimmed (base limits.tariff) v (fit_parts v f).even in

@@ -1,10 +1,10 @@
--- Words that are inside a longer list of words. (For `LaidPointers` and `ReadBack`.)
+-- Lemmas on `Has`: words that are in a longer list of words. (For `LaidPointers` and `ReadBack`.)
 use Rattle.std.proofs.Common.{◌≡◌, ℕ, ◌+◌, ◌≤◌, List, ◌∷◌, ◌++◌, length, take, drop, slice_index, ap, sym, ◌∙◌, arith}
 use Rattle.std.proofs.Common.{length-append, append_assoc}
 use Rattle.std.proofs.lemmas.List.{drop_at, get_or-drop}
 use Rattle.std.proofs.Math.Seq.{take-append_seam}
 
--- the words `xs` are in `ws` from the word `at` on
+-- The words `xs` are in `ws`, from the word `at` on.
 pub record Has (ws : List ℕ) (at : ℕ) (xs : List ℕ) : Type 0 where
   pub before : List ℕ
   pub behind : List ℕ
@@ -12,7 +12,6 @@ pub record Has (ws : List ℕ) (at : ℕ) (xs : List ℕ) : Type 0 where
   pub where_at : length before ≡ at
 
 module _ (ws : List ℕ) (at : ℕ) where
-  -- if two parts are in `ws`, the first is at the same word
   pub has-front : (xs ys : List ℕ) → Has ws at (xs ++ ys) → Has ws at xs
   has-front xs ys h = record {
     before = h.before;
@@ -21,7 +20,6 @@ module _ (ws : List ℕ) (at : ℕ) where
     where_at = h.where_at;
   }
 
-  -- if two parts are in `ws`, the second comes after the first
   pub has-back : (xs ys : List ℕ) → Has ws at (xs ++ ys) → Has ws (at + length xs) ys
   has-back xs ys h = record {
     before = h.before ++ xs;
@@ -31,7 +29,6 @@ module _ (ws : List ℕ) (at : ℕ) where
     where_at = let e = length-append h.before xs in let f = h.where_at in omega arith;
   }
 
-  -- what is in the words ends within them
   pub has-room : (xs : List ℕ) → Has ws at xs → at + length xs ≤ length ws
   has-room xs h =
       let a = ap length h.is in
@@ -40,15 +37,13 @@ module _ (ws : List ℕ) (at : ℕ) where
       let d = h.where_at in
       omega arith
 
-  -- the words of `ws` from `at` on begin with `xs`
+  -- The words of `ws` from `at` on begin with `xs`.
   pub has-from : (xs : List ℕ) → (h : Has ws at xs) → drop at ws ≡ xs ++ h.behind
   has-from xs h = ap (drop at) h.is ∙ drop_at h.before (xs ++ h.behind) at h.where_at
 
-  -- the words read at `at` are `xs`
   pub has-words : (xs : List ℕ) → Has ws at xs → take (length xs) (drop at ws) ≡ xs
   has-words xs h = ap (take (length xs)) (has-from xs h) ∙ take-append_seam xs h.behind
 
-  -- the word read at `at` is the first of `xs`
   pub has-word : (x : ℕ) (xs : List ℕ) → Has ws at (x ∷ xs) → slice_index ws at ≡ x
   has-word x xs h =
       let e : at + 0 ≡ at = omega arith in

@@ -24,15 +24,16 @@ use Rattle.capn_walk.proofs.shared.Costs.{paid-append}
 use Rattle.capn_walk.proofs.shared.Numbers.{no-slots, numbers-price}
 
 module _ (m : List (List ℕ)) where
-  -- a target that a near pointer leads to, without a landing pad
+  -- The target of the pointer at `at` is an object of `shape`, without a landing pad, and `Inside` holds of its
+  -- content.
   pub record Close (at : Place) (shape : Shape) (Inside : ℕ → ℕ → Type 0) : Type 0 where
     pub segment : ℕ
     pub start : ℕ
     pub is : target m at ≡ Ok (targets.Content segment start shape 0)
     pub inside : Inside segment start
 
-  -- the value is at the place, a near pointer leads to each of its parts, and the words of each composite list are
-  -- exactly those of the rows
+  -- The given value is at the given place. No pointer in it has a landing pad, and each list of structs has exactly the
+  -- words of its structs.
   abbrev mutual
     pub TightAt : Place → Tree → Type 0
     TightAt at nil = target m at ≡ Ok targets.Nil
@@ -55,7 +56,7 @@ module _ (m : List (List ℕ)) where
     TightRows a b s w (body ws ss bs) =
         (length ws ≡ a) × (count ss ≡ b) × AreWordsAt m s w ws × AreTight s (w + a) ss × TightRows a b s (w + a + b) bs
 
-  -- a value without landing pads and slack at a place is a value at the place
+  -- A value without landing pads and unused words (`TightAt`) at a place is a value at that place (`IsAt`).
   mutual
     pub loosen : (v : Tree) (at : Place) → TightAt at v → IsAt m at v
     loosen nil at h = h
@@ -126,7 +127,7 @@ rows-price bs a b e =
         omega arith in grind (arith, nat_tests)
 
 module _ (m : List (List ℕ)) (base : ℕ) where
-  -- the visits have no fault, and together pay `n` words
+  -- The visits `vs` have no fault, and together they pay `n` words.
   pub record Pays (vs : List Visit) (n : ℕ) : Type 0 where
     pub all : AllPay vs
     pub sum : paid_of vs ≡ n
@@ -148,7 +149,8 @@ module _ (m : List (List ℕ)) (base : ℕ) where
   alone p c e = omega arith
 
   mutual
-    -- the visits of a value without landing pads and slack have no fault and pay exactly its cost
+    -- If `d` allows the height of a value without landing pads and unused words (`TightAt`), the visits of the value
+    -- pay exactly its cost.
     pub exact : (v : Tree) (at : Place) (d : ℕ) → height v ≤ d → TightAt m at v
         → Pays (visits m base d at) (cost base v)
     exact nil at d l h = let e = visits-null m base at d h in record { all = rw e tt; sum = ap paid_of e ∙ omega arith }

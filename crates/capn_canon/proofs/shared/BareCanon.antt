@@ -1,4 +1,4 @@
--- The canonical bytes of a value are a bare message: each word is below 2^64, and there are not too many. (For
+-- The canonical bytes of a value are a bare message: each word is below 2^64, and there are not too many words. (For
 -- `CanonicalWords`, `DepthOfCanonical`, `EqualExactlySame` and capn_mismatch.)
 use Rattle.std.proofs.Common.{◌≡◌, ℕ, zero, suc, ◌+◌, ◌-◌, ◌*◌, ◌/◌, ◌^◌, ◌<◌, ◌≤◌, ◌==◌, ◌&&◌, List}
 use Rattle.std.proofs.Common.{[], ◌∷◌, ◌++◌, length, take, drop, pos, refl, arith}
@@ -30,12 +30,12 @@ use Rattle.capn_target.specs.Target.{list_width}
 
 -- ---- lists of numbers below a bound
 
--- if the numbers in two lists are below a bound, so are those in the joined list
+-- If all numbers of `xs` and all numbers of `ys` are below `most`, all numbers of `xs ++ ys` are below `most`.
 pub below-append : (most : ℕ) (xs ys : List ℕ) → AllBelow most xs → AllBelow most ys → AllBelow most (xs ++ ys)
 below-append most [] ys h k = k
 below-append most (x ∷ xs) ys h k = (h.0, below-append most xs ys h.1 k)
 
--- if the numbers in a list are below a bound, so are those after the first `n`
+-- If all numbers of `xs` are below `most`, the numbers of `xs` after the first `n` are below `most`.
 pub below-drop : (most n : ℕ) (xs : List ℕ) → AllBelow most xs → AllBelow most (drop n xs)
 below-drop most zero xs h = h
 below-drop most (suc n) [] h = tt
@@ -43,7 +43,7 @@ below-drop most (suc n) (x ∷ xs) h = below-drop most n xs h.1
 
 -- ---- elements packed into words
 
--- at most `n` digits make a number below the `n`-th power of their base
+-- If all digits in `xs` are below `base`, the first `n` of them make a number below `base ^ n`.
 digits-below : (base n : ℕ) (xs : List ℕ) → 0 < base → AllBelow base xs → number base (take n xs) < base ^ n
 digits-below base zero xs p h = omega (arith, pow-zero base)
 digits-below base (suc n) [] p h = omega (arith, one-le-pow (suc n) base p)
@@ -71,7 +71,7 @@ struct-below : (from to a b : ℕ) → to ≤ 2 ^ 29 → a < 2 ^ 16 → b < 2 ^ 
 struct-below from to a b ht ha hb =
     pick (λ (p : Pointer). word_of p < 2 ^ 64) ((a == 0) && (b == 0)) _ _ (λ e. omega arith) (λ e. omega arith)
 
--- the word of a pointer to content that starts at word 2^29 at the latest is below 2^64
+-- If `v` is sound and its content starts at word 2^29 at the latest, the pointer of `v` is below 2^64.
 point-below : (v : Tree) (from to : ℕ) → Sound v → to ≤ 2 ^ 29 → point v from to < 2 ^ 64
 unfolding point
 point-below nil from to h l = omega arith
@@ -102,7 +102,7 @@ row_contents-below a b (body ws ss bs) from to h r l =
 
 -- ---- layouts
 
--- the words of a layout that ends at word 2^29 at the latest are below 2^64
+-- If `v` is in range and its layout ends at word 2^29 at the latest, the words of the layout are below 2^64.
 mutual
   pub lay-below : (v : Tree) (at : ℕ) → Sound v → InRange v → at + size v ≤ 2 ^ 29 → AllBelow (2 ^ 64) (lay v at)
   lay-below nil at h r l = tt
@@ -151,7 +151,7 @@ mutual
 
 -- ---- the laws
 
--- each canonical word of a value that fits and is in range is below 2^64
+-- If `v` fits and is in range, each of its canonical words is below 2^64.
 pub words_are_words : (v : Tree) → Fits v → InRange v → AreWords (words v)
 unfolding words
 words_are_words v f r =
@@ -164,16 +164,16 @@ words_are_words v f r =
       lay-below v 1 s r (omega arith),
     )
 
--- the canonical bytes of a value that fits and is in range are those of a bare message, whose words are its canonical
--- words
+-- If `v` fits and is in range, its canonical bytes are a bare message of its canonical words.
 pub canon_is_bare : (v : Tree) → Fits v → InRange v → IsBare (canon v) (words v)
 canon_is_bare v f r = record { same = refl; each = words_are_words v f r; room = (room v f r).2 }
 
--- the words that the canonical bytes of a value encode are its canonical words
+-- If `v` fits and is in range, the words that its canonical bytes encode are its canonical words.
 pub words_in_canon : (v : Tree) → Fits v → InRange v → words_in (length (canon v) / 8) (canon v) ≡ words v
 words_in_canon v f r = bare_only (canon v) (words v) (canon_is_bare v f r)
 
--- the canonical bytes are at most 8 for the root's pointer and 8 for each word of the cost, under either tariff
+-- If `v` fits and is in range, `canon v` has 8 bytes for the pointer of the root and 8 for each word of `size v`. These
+-- are at most `8 * (cost base v + 1)` bytes.
 pub canon_length : (v : Tree) (base : ℕ) → Fits v → InRange v → (length (canon v) ≡ 8 * (1 + size v))
     × (length (canon v) ≤ 8 * (cost base v + 1))
 canon_length v base f r =

@@ -1,4 +1,4 @@
--- Lemmas: memory is refused only if memory may be needed. (For `ReadInput` and capn_c.)
+-- Conditions under which a call may need memory. (For `ReadInput` and capn_c.)
 use Rattle.std.proofs.Common.{◌≡◌, ℕ, ◌+◌, ◌*◌, ◌<◌, ◌≤◌, inr, List, [], ◌∷◌, length, arith, ap}
 use Rattle.std.specs.List.{AllByRecursion}
 use Rattle.std.proofs.lemmas.List.{length-append}
@@ -24,12 +24,13 @@ starts (g ∷ gs) b text max each is same some fits = record {
       omega (arith, length_content g each.0, ap length same, length-append (group_bytes g) (contents gs));
 }
 
--- a packed text that unpacks to any bytes begins with a whole group
+-- A packed text that unpacks to at least one byte and at most `max` words begins with a complete group of at most `max`
+-- words.
 pub starts_within : (b text : List ℕ) (max : ℕ) → Packs b text → 0 < length text → length text ≤ 8 * max
     → StartsWithin b max
 starts_within b text max p some fits = starts p.groups b text max p.each p.is_text p.are_bytes some fits
 
--- a packed text may need memory if the stream that it unpacks to does
+-- If reading the stream `text` may need memory, reading the packed text `bs` that unpacks to `text` may need memory.
 pub packed_wanted : (bs text : List ℕ) (limits : Bounds) → Unpacks bs limits.message_words text
     → MayNeedMemory forms.Stream text limits → MayNeedMemory forms.Packed bs limits
 packed_wanted bs text limits u h =
@@ -37,7 +38,7 @@ packed_wanted bs text limits u h =
 
 -- ---- canonical bytes
 
--- if laying out a message may need memory, so may canonicalising the bytes that are read as that message
+-- If laying out the message `m` may need memory, canonicalising the bytes `bs` that are read as `m` may need memory.
 pub bytes_wanted : (form : Form) (bs : List ℕ) (limits : Bounds) (m : List (List ℕ))
     → Reads form bs limits.message_words m → MayNeedBytes m limits → MayNeedBytesIn form bs limits
 bytes_wanted form bs limits m r (v, is, free) = inr (v, record { message = m; reads = r; value = is }, free)

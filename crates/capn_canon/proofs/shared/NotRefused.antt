@@ -41,7 +41,7 @@ unpacked-read bs most m r (t, h, k) (u, i, j) =
     let same = one_reading bs u t i.packs h.packs in
     framed-read t most m r k (subst (λ (x : List ℕ). IsMisframed x most r) same j)
 
--- bytes that are read as a message have no refusal of reading
+-- If `bs` are read as a message, no refusal says why they are not read (`IsMisread`).
 pub read-not_misread : (form : Form) (bs : List ℕ) (most : ℕ) (m : List (List ℕ)) (r : Refusal) → Reads form bs most m
     → IsMisread form bs most r → ⊥
 read-not_misread forms.Bare bs most m (refusals.Bare e) (ws, h, i) r = bare_not_refused bs ws e h r
@@ -62,7 +62,7 @@ read-not_misread forms.Packed bs most m (refusals.Capability k) h r =
     unpacked-read bs most m (refusals.Capability k) h r
 read-not_misread forms.Packed bs most m refusals.Memory h r = unpacked-read bs most m refusals.Memory h r
 
--- a message that is accepted isn't refused
+-- The walk of an accepted message is not refused (`IsWalkRefused`).
 pub accepted-not_refused : (m : List (List ℕ)) (limits : Bounds) (s : Stopped) → IsAccepted m limits →
     walks.IsWalkRefused m limits s.fault s.place s.paid s.visits → ⊥
 accepted-not_refused m limits s h (inl r) = let a = h.some in let b = r.0 in absurd (omega arith)
@@ -73,7 +73,7 @@ accepted-not_refused m limits s h (inr r) =
     sym a ∙ b in
     absurd cc
 
--- bytes that denote a value without capabilities are refused only by `Memory`
+-- If `bs` denote a value without capabilities, a refusal of `bs` is `Memory`.
 pub not_refused : (form : Form) (bs : List ℕ) (limits : Bounds) (v : Tree) (r : Refusal) → Denotes form bs limits v
     → first_cap v ≡ None → IsRefused form bs limits r → r ≡ refusals.Memory
 not_refused form bs limits v refusals.Memory h n r = refl
@@ -94,7 +94,7 @@ not_refused form bs limits v (refusals.Frame e) h n r =
 not_refused form bs limits v (refusals.Trailing at) h n r =
     absurd (read-not_misread form bs limits.message_words h.message (refusals.Trailing at) h.reads r)
 
--- the refusal of a message is also a refusal of the bytes that are read as that message
+-- If `bs` are read as `m`, a refusal of `m` is also a refusal of `bs`.
 pub refused_message : (form : Form) (bs : List ℕ) (limits : Bounds) (m : List (List ℕ)) (r : Refusal)
     → Reads form bs limits.message_words m → IsRefusedMessage m limits r → IsRefused form bs limits r
 refused_message form bs limits m (refusals.Walk s) h r = (m, h, r)

@@ -12,7 +12,7 @@ use Rattle.capn_canon.specs.Refusal.{IsUnaccepted, IsUnacceptedIn}
 use Rattle.capn_canon.proofs.shared.OneReading.{one_message}
 use Rattle.capn_canon.proofs.shared.NotRefused.{read-not_misread, accepted-not_refused}
 
--- bytes that denote a value are not accepted only for the reason `Memory`
+-- If `bs` denote a value, a refusal to accept `bs` is `Memory` (`IsUnacceptedIn`).
 pub not_unaccepted : (form : Form) (bs : List ℕ) (limits : Bounds) (v : Tree) (r : Refusal) → Denotes form bs limits v
     → IsUnacceptedIn form bs limits r → r ≡ refusals.Memory
 not_unaccepted form bs limits v refusals.Memory h r = refl
@@ -30,8 +30,7 @@ not_unaccepted form bs limits v (refusals.Frame e) h r =
 not_unaccepted form bs limits v (refusals.Trailing at) h r =
     absurd (read-not_misread form bs limits.message_words h.message (refusals.Trailing at) h.reads r)
 
--- the reason why a message is not accepted is also a reason why the bytes that are read as that message are not
--- accepted
+-- If `bs` are read as `m`, a refusal to accept `m` is also a refusal to accept `bs`.
 pub unaccepted_message : (form : Form) (bs : List ℕ) (limits : Bounds) (m : List (List ℕ)) (r : Refusal)
     → Reads form bs limits.message_words m → IsUnaccepted m limits r → IsUnacceptedIn form bs limits r
 unaccepted_message form bs limits m (refusals.Walk s) h r = (m, h, r)

@@ -1,4 +1,4 @@
--- Bytes in a form are read as one message at most, which is within the bounds of messages. (For `denotation`,
+-- Bytes in a form are read as at most one message. That message is within the bounds of messages. (For `denotation`,
 -- capn_answers, capn_c and capn_commands.)
 use Rattle.std.proofs.Common.{◌≡◌, ℕ, ◌≤◌, List, [], ◌∷◌, length, ap, sym, subst, ◌∙◌, arith}
 use Rattle.capn_words.specs.Message.{most_message_words, IsMessage}
@@ -21,7 +21,7 @@ one-framed bs most m n h k =
     (one_frame bs most most m n (length bs) (length bs) (stands_alone bs most m h.frame h.room)
     (stands_alone bs most n k.frame k.room)).0
 
--- bytes in a form are read as one message at most
+-- In one form, `bs` are read as at most one message.
 pub one_message : (form : Form) (bs : List ℕ) (most : ℕ) (m n : List (List ℕ)) → Reads form bs most m
     → Reads form bs most n → m ≡ n
 one_message forms.Bare bs most m n (ws, h, e) (vs, k, f) =
@@ -39,21 +39,21 @@ framed-message bs most m l h =
     let r = h.room in
     record { some = f.some; few = f.few; room = omega arith; each = f.each }
 
--- the message that bytes are read as is within the bounds of messages
+-- A message that `bs` are read as is within the bounds of messages (`IsMessage`), if `most` is a valid limit.
 pub is_message : (form : Form) (bs : List ℕ) (most : ℕ) (m : List (List ℕ)) → most ≤ most_message_words
     → Reads form bs most m → IsMessage m
 is_message forms.Bare bs most m l (ws, h, e) = subst IsMessage (sym e) (bare_message ws h.each h.room)
 is_message forms.Stream bs most m l h = framed-message bs most m l h
 is_message forms.Packed bs most m l (t, h, k) = framed-message t most m l k
 
--- bytes denote one value at most
+-- In one form and within the same limits, `bs` denote at most one value.
 pub one_value : (form : Form) (bs : List ℕ) (limits : Bounds) (v w : Tree) → Denotes form bs limits v
     → Denotes form bs limits w → v ≡ w
 one_value form bs limits v w h k =
     let e = one_message form bs limits.message_words k.message h.message k.reads h.reads in
     unique h.message v w root h.value.is (subst (λ (m : List (List ℕ)). IsAt m root w) e k.value.is)
 
--- the canonical bytes returned for an input are those of any value that the input denotes
+-- If `out` is an answer for `bs` and `bs` denote `v`, `out` are the canonical bytes of `v`.
 pub answers_only : (form : Form) (bs : List ℕ) (limits : Bounds) (out : List ℕ) (n : ℕ) → Answers form bs limits out n
     → (v : Tree) → Denotes form bs limits v → out ≡ canon v
 answers_only form bs limits out n h v k =

@@ -1,5 +1,5 @@
--- Bytes are refused for one reason at most, and have no refusal of reading if they are read. (For `denotation`,
--- capn_archive and capn_commands.)
+-- Two refusals of the same bytes, neither of them `Memory`, are equal. (For `denotation`, capn_archive and
+-- capn_commands.)
 use Rattle.std.proofs.Common.{◌≡◌, ◌⊎◌, inl, inr, ℕ, ◌+◌, List, length, Some, Err, refl, ap, sym, subst, ◌∙◌, arith}
 use Rattle.capn_words.specs.Message.{ReadsBare}
 use Rattle.capn_words.specs.declared.bare.BareFault.{BareFault}
@@ -35,25 +35,25 @@ use Rattle.capn_canon.proofs.shared.NotRefused.{accepted-not_refused}
 
 -- ---- the parts of a refusal
 
--- the refusal is for bytes that are no bare segment
+-- `r` is `Bare`, and says why `bs` are not bare words.
 abbrev BarePart : List ℕ → Refusal → Type 0
 BarePart bs r = (e : BareFault) × (r ≡ refusals.Bare e) × ReadsBare bs (Err e)
 
--- the refusal is for bytes that begin with no frame
+-- `r` is `Frame`, and says why `bs` begin with no frame.
 abbrev FramePart : List ℕ → ℕ → Refusal → Type 0
 FramePart bs most r = (e : FrameFault) × (r ≡ refusals.Frame e) × (e ≡ frame_faults.Memory → ⊥)
     × frames.IsFrameRefused bs most e
 
--- the refusal is for bytes after a frame
+-- `r` is `Trailing`, and more bytes follow the frame.
 abbrev TrailPart : List ℕ → ℕ → Refusal → Type 0
 TrailPart bs most r = (at : ℕ) × (r ≡ refusals.Trailing at) × Trails bs most at
 
--- the refusal is for bytes that are no packed text
+-- `r` is `Packed`, and says why `bs` are not unpacked.
 abbrev PackedPart : List ℕ → ℕ → Refusal → Type 0
 PackedPart bs most r = (e : UnpackFault) × (r ≡ refusals.Packed e) × (e ≡ unpack_faults.Memory → ⊥)
     × packs.IsUnpackRefused bs (most + most_table_words) e
 
--- the refusal is for the bytes that a packed text unpacks to
+-- `bs` unpack to a text, and `r` says why that text is not exactly one frame.
 abbrev UnpackedPart : List ℕ → ℕ → Refusal → Type 0
 UnpackedPart bs most r = (text : List ℕ) × Unpacks bs most text × IsMisframed text most r
 
@@ -153,7 +153,7 @@ same_stopped : (s t : Stopped) → s.fault ≡ t.fault → s.place ≡ t.place �
 same_stopped s t a b c d = λ i. record { fault = a i; place = b i; paid = c i; visits = d i }
 
 module _ (m : List (List ℕ)) (limits : Bounds) where
-  -- a walk stops at one place, for one reason
+  -- If `s` and `t` both say where and why the walk of `m` stops (`IsWalkRefused`), they are equal.
   pub one_stop : (s t : Stopped) → walks.IsWalkRefused m limits s.fault s.place s.paid s.visits
       → walks.IsWalkRefused m limits t.fault t.place t.paid t.visits → s ≡ t
   one_stop s t (inl h) (inl k) = same_stopped s t (h.1 ∙ sym k.1) (h.2 ∙ sym k.2) (h.3 ∙ sym k.3) (h.4 ∙ sym k.4)
@@ -166,17 +166,17 @@ module _ (m : List (List ℕ)) (limits : Bounds) where
       ∙ stop-refused limits.budget visits t.fault t.place t.paid t.visits k.1 in
       same_stopped s t (cc) (cc) (cc) (cc)
 
--- the refusal has the place and the reason at which the walk of a message stops
+-- `r` is `Walk`, and says where and why the walk of `m` stops.
 abbrev WalkPart : List (List ℕ) → Bounds → Refusal → Type 0
 WalkPart m limits r = (s : Stopped) × (r ≡ refusals.Walk s)
     × walks.IsWalkRefused m limits s.fault s.place s.paid s.visits
 
--- the refusal has the index of the first capability of the message's value
+-- `r` is `Capability`, with the index of the first capability of the value of `m`.
 abbrev CapPart : List (List ℕ) → Bounds → Refusal → Type 0
 CapPart m limits r = (k : ℕ) × (r ≡ refusals.Capability k)
     × ((v : Tree) × walks.IsValueOf m limits v × (first_cap v ≡ Some k))
 
--- a message is refused by its walk, for a capability, or by `Memory`
+-- A refusal of `m` that is not `Memory` is `Walk` or `Capability`.
 pub message_part : (m : List (List ℕ)) (limits : Bounds) (r : Refusal) → (r ≡ refusals.Memory → ⊥)
     → IsRefusedMessage m limits r → WalkPart m limits r ⊎ CapPart m limits r
 message_part m limits (refusals.Walk s) n h = inl (s, refl, h)
@@ -200,7 +200,7 @@ messages_same m limits r s (inr (j, a, (v, is, c))) (inr (k, b, (w, also, d))) =
     let same : j ≡ k = cc in
     a ∙ ap (λ (x : ℕ). refusals.Capability x) same ∙ sym b
 
--- two refusals of a message, neither of them `Memory`, are equal
+-- Two refusals of `m`, neither of them `Memory`, are equal.
 pub one_message_refusal : (m : List (List ℕ)) (limits : Bounds) (r s : Refusal) → (r ≡ refusals.Memory → ⊥)
     → (s ≡ refusals.Memory → ⊥)
     → IsRefusedMessage m limits r → IsRefusedMessage m limits s → r ≡ s
@@ -209,7 +209,7 @@ one_message_refusal m limits r s nr ns h k =
 
 -- ---- bytes in a form
 
--- the refusal is for the message that the bytes are read as
+-- `bs` are read as a message that is refused with `r` (`IsRefusedMessage`).
 abbrev MessagePart : Form → List ℕ → Bounds → Refusal → Type 0
 MessagePart form bs limits r = (m : List (List ℕ)) × Reads form bs limits.message_words m × IsRefusedMessage m limits r
 
@@ -236,7 +236,7 @@ refusals_same form bs limits r s nr ns (inr h) (inl (m, k, j)) =
     absurd (not_misread form bs limits.message_words m r k h)
 refusals_same form bs limits r s nr ns (inr h) (inr k) = one_misread form bs limits.message_words r s h k
 
--- two refusals of the same bytes, neither of them `Memory`, are equal
+-- Two refusals of the same bytes, neither of them `Memory`, are equal.
 pub one_refusal : (form : Form) (bs : List ℕ) (limits : Bounds) (r s : Refusal) → (r ≡ refusals.Memory → ⊥)
     → (s ≡ refusals.Memory → ⊥)
     → IsRefused form bs limits r → IsRefused form bs limits s → r ≡ s

@@ -1,11 +1,11 @@
--- The result of the run of a task, if the result doesn't depend on the task. (For capn_answers and capn_c.)
+-- The result of the run of a task, if the result does not depend on the task. (For capn_answers and capn_c.)
 use Rattle.std.proofs.Common.{ℕ, inl, inr, List, Result}
 use Rattle.capn_walk.specs.Limits.{Bounds}
 use Rattle.capn_canon.specs.declared.form.Form.{Form}
 use Rattle.capn_canon.specs.declared.refusal.Refusal.{Refusal}
 use Rattle.capn_canon.specs.Answered.{IsAnswered, IsRun}
 
--- the result of a run is a result for the bytes
+-- If `answers` does not depend on the task, the result `r` of a run is an answer for `bs` (`IsAnswered`).
 pub run_answered : {T S : Type 0} (answers : List (List ℕ) → Bounds → Result T Refusal → Type 0) (form : Form)
     (bs : List ℕ) (limits : Bounds) (old : S) (r : Result T Refusal) (new : S)
     → IsRun form bs limits (λ task m l x after. answers m l x) old r new → IsAnswered form bs limits answers r

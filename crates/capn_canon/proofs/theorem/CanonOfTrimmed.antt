@@ -26,7 +26,7 @@ behind-zero : (e : Bool) (k : ℕ) → kept_behind e k ≡ 0 → (e ≡ true) ×
 behind-zero true k h = (refl, grind (arith, nat_tests))
 behind-zero false k h = absurd (grind (arith, nat_tests))
 
--- a list cut after the words that trimming keeps has the same number of words to keep
+-- If trimming keeps at most `a` of the words `ws`, it keeps the same number of the first `a` words.
 kept-take : (a : ℕ) (ws : List ℕ) → kept_words ws ≤ a → kept_words (take a ws) ≡ kept_words ws
 kept-take zero ws h = let e : kept_words ws ≡ 0 = omega arith in sym e
 kept-take (suc a) [] h = refl
@@ -57,7 +57,6 @@ kept-rows_slots : (a b : ℕ) (bs : Bodies) → kept_slots_of_rows bs ≤ b
 kept-rows_slots a b no_bodies h = refl
 kept-rows_slots a b (body ws ss bs) h = ap₂ max (kept-front b ss (omega arith)) (kept-rows_slots a b bs (omega arith))
 
--- a value for which the test of null is true is null
 null-is : (t : Tree) → is_null t ≡ true → t ≡ nil
 null-is nil h = refl
 null-is (node ws ss) h = absurd cc
@@ -153,7 +152,7 @@ points-cut (suc b) (tree t ts) from to =
     (ap (λ (n : ℕ). points (front b (trimmed_each ts)) (suc from) (to + n)) (size-trimmed t)
     ∙ points-cut b ts (suc from) (to + size t))
 
--- the pointers in the slots that trimming keeps are the same after trimming
+-- Trimming the first `b` values of `ss` does not change their pointers.
 points-again : (b : ℕ) (ss : Trees) (from to : ℕ)
     → take b (points (front b (trimmed_each ss)) from to) ≡ take b (points ss from to)
 points-again b ss from to = ap (take b) (points-cut b ss from to) ∙ take-again b (points ss from to)
@@ -167,7 +166,7 @@ rows-cut a b (body ws ss bs) from to h =
     (ap (λ (n : ℕ). row_contents a b (trimmed_rows a b bs) (from + a + b) (to + n)) (sizes-cut b ss (omega arith))
     ∙ rows-cut a b bs (from + a + b) (to + sizes ss) (omega arith)))
 
--- the layout of a struct's content, by the numbers of words and slots that are kept
+-- The layout at the word `at` of a struct that keeps `a` of the words `ws` and `b` of the slots `ss`.
 struct-lay : ℕ → ℕ → List ℕ → Trees → ℕ → List ℕ
 struct-lay a b ws ss at = take a ws ++ (take b (points ss (at + a) (at + (a + b))) ++ lays ss (at + (a + b)))
 
@@ -179,7 +178,6 @@ rows-lay n a b bs at =
 mutual
   unfolding struct-lay rows-lay
 
-  -- the layout of a trimmed value is that of the untrimmed value
   pub lay-trimmed : (v : Tree) (at : ℕ) → lay (trimmed v) at ≡ lay v at
   lay-trimmed nil at = refl
   lay-trimmed (node ws ss) at =
@@ -232,7 +230,7 @@ mutual
       (ap (λ (n : ℕ). lays_in_rows (trimmed_rows a b bs) (at + n)) (sizes-cut b ss (omega arith))
       ∙ lays-rows a b bs (at + sizes ss) (omega arith))
 
--- the canonical words of a trimmed value are those of the untrimmed value
+-- The canonical words of a trimmed value are those of the untrimmed value.
 pub words-trimmed : (v : Tree) → words (trimmed v) ≡ words v
 unfolding words
 words-trimmed v = ap₂ (λ (x : ℕ) (r : List ℕ). x ∷ r) (point-trimmed v 0 1) (lay-trimmed v 1)

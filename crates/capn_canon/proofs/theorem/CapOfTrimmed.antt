@@ -1,4 +1,4 @@
--- The first capability of a trimmed value is that of the untrimmed value, since trimming cuts only null slots. (For
+-- The first capability of a trimmed value is that of the untrimmed value, since trimming removes only null slots. (For
 -- `ThePage` and `TheTheorem`.)
 use Rattle.std.proofs.Common.{◌≡◌, ℕ, zero, suc, ◌≤◌, None, refl, ap, ap₂, sym, ◌∙◌, arith}
 use Rattle.std.specs.Option.{option_or}
@@ -9,7 +9,6 @@ use Rattle.capn_value.specs.Trim.{kept_slots, kept_words_of_rows, kept_slots_of_
 use Rattle.capn_value.specs.Trim.{trimmed_rows}
 use Rattle.capn_value.proofs.shared.Cuts.{behind_le, behind_none, null_at}
 
--- slots that trimming cuts have no capability
 none-kept : (ss : Trees) → kept_slots ss ≤ 0 → first_in ss ≡ None
 none-kept no_trees h = refl
 none-kept (tree t ts) h =

@@ -21,7 +21,8 @@ use Rattle.capn_canon.proofs.reading.ReadBack.{read_back}
 use Rattle.capn_canon.proofs.shared.BareCanon.{words_in_canon}
 use Rattle.capn_canon.proofs.theorem.CanonOfTrimmed.{words-trimmed}
 
--- canonical words are equal if and only if the trimmed values are, since reading the words gives the trimmed value
+-- Canonical words are equal if and only if the trimmed values are equal, since reading the words gives the trimmed
+-- value.
 pub same_words : (v w : Tree) → Sound v → Sound w → length (words v) ≤ 2 ^ 29 → length (words w) ≤ 2 ^ 29
     → words v ≡ words w ↔ trimmed v ≡ trimmed w
 same_words v w hv hw sv sw = (
@@ -30,7 +31,6 @@ same_words v w hv hw sv sw = (
   (λ e. sym (words-trimmed v) ∙ ap words e ∙ words-trimmed w),
 )
 
--- the canonical bytes of a trimmed value are those of the untrimmed value
 pub canon-trimmed : (v : Tree) → canon (trimmed v) ≡ canon v
 canon-trimmed v = ap bytes (words-trimmed v)
 
@@ -45,13 +45,12 @@ module _ (v w : Tree) (fv : Fits v) (rv : InRange v) (fw : Fits w) (rw : InRange
       let b = (room w fw rw).2 in
       (same_words v w (sound v fv rv) (sound w fw rw) (omega arith) (omega arith)).0 (equal-words e)
 
-  -- values that fit and are in range have equal canonical bytes if and only if they are the same
+  -- The canonical bytes of `v` and `w` are equal if and only if `v` and `w` are the same (`Same`).
   pub equal_exactly_same : (canon v ≡ canon w) ↔ Same v w
   equal_exactly_same =
       let s = same_exactly_trimmed v w (fit_parts v fv).even (fit_parts w fw).even in
       ((λ e. s.1 (equal-trimmed e)), (λ h. sym (canon-trimmed v) ∙ ap canon (s.0 h) ∙ canon-trimmed w))
 
--- a trimmed value is the same value
 pub trimmed_is_same : (v : Tree) → Fits v → InRange v → Same (trimmed v) v
 trimmed_is_same v f r =
     (equal_exactly_same (trimmed v) v (fits-trimmed v f) (in_range-trimmed v r) f r).0 (canon-trimmed v)

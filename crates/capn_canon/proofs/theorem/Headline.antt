@@ -21,14 +21,14 @@ use Rattle.capn_canon.proofs.shared.BareCanon.{canon_length}
 use Rattle.capn_canon.proofs.theorem.EqualExactlySame.{canon-trimmed, equal_exactly_same, trimmed_is_same}
 use Rattle.capn_canon.proofs.reading.ReadBare.{pays_its_cost, read_bare}
 
--- among the values that fit and are in range, exactly those that are the same as `v` have the canonical bytes of `v`
+-- If two values fit and are in range, their canonical bytes are equal if and only if the values are the same (`Same`).
 pub form_exactly_of : (v : Tree) → Fits v → InRange v → IsFormExactlyOf (canon v) v
 form_exactly_of v f r w g s =
     let e = equal_exactly_same v w f r g s in
     ((λ p. e.0 (sym p)), (λ p. sym (e.1 p)))
 
--- the canonical bytes of a value that fits and is in range are the canonical form of that value, under limits that
--- allow the cost and the height
+-- Suppose that `v` fits and is in range, and that `limits` allow its cost and its height. Then `canon v` is the
+-- canonical form of `v`.
 pub canonical_form : (v : Tree) (limits : Bounds) → Fits v → InRange v → cost (base limits.tariff) v ≤ limits.budget
     → height v ≤ limits.depth → IsCanonicalForm (canon v) limits v
 canonical_form v limits f r c l = record {
@@ -38,25 +38,22 @@ canonical_form v limits f r c l = record {
   exactly = form_exactly_of v f r;
 }
 
--- the value at the root of a message that is accepted within limits
+-- In this block `v` is the value at the root of the message `m`, which is accepted within `limits`.
 module _ (m : List (List ℕ)) (limits : Bounds) (v : Tree) (is : IsMessage m) (small : limits.budget ≤ 2 ^ 28)
     (shallow : limits.depth ≤ 256) (h : IsValueOf m limits v) where
-  -- the value at the root of an accepted message fits
   pub denoted_fits : Fits v
   denoted_fits = fits-root m (base limits.tariff) limits.budget limits.depth v small shallow h.accepted.within h.is
 
-  -- the value at the root of an accepted message is in range
   pub denoted_in_range : InRange v
   denoted_in_range = in_range-at m is.each v root h.is
 
-  -- the value at the root costs at most the number of words paid, which is at most the budget, and is no higher than
-  -- the depth limit
+  -- The cost of `v` is at most the number of words paid, which is at most the budget. The height of `v` is at most the
+  -- depth limit.
   pub denoted_cost : (cost (base limits.tariff) v ≤ paid m limits) × (paid m limits ≤ limits.budget)
       × (height v ≤ limits.depth)
   denoted_cost = let c = root-costs m (base limits.tariff) limits.depth v h.is h.accepted.within.all in
       (c.0, h.accepted.within.paid, c.1)
 
-  -- the canonical bytes of the value at the root are its canonical form under the same limits
   pub denoted_form : IsCanonicalForm (canon v) limits v
   denoted_form =
       let c = denoted_cost in
@@ -64,21 +61,21 @@ module _ (m : List (List ℕ)) (limits : Bounds) (v : Tree) (is : IsMessage m) (
       let y = c.1 in
       canonical_form v limits denoted_fits denoted_in_range (omega arith) c.2
 
-  -- the canonical bytes of the value at the root are at most 8 for each word paid, and 8 more
+  -- `v` has at most 8 canonical bytes for each word paid, and 8 more.
   pub denoted_length : length (canon v) ≤ 8 * (paid m limits + 1)
   denoted_length =
       let c = denoted_cost.0 in
       let l = (canon_length v (base limits.tariff) denoted_fits denoted_in_range).1 in
       omega arith
 
-  -- bytes that are the canonical bytes of one value at the root are the canonical form of any value there
+  -- If `bs` are the canonical bytes of `v`, they are the canonical form of any value `w` of `m`.
   pub form_of_any : (bs : List ℕ) (w : Tree) → bs ≡ canon v → IsValueOf m limits w → IsCanonicalForm bs limits w
   form_of_any bs w e k =
       let s = unique m v w root h.is k.is in
       subst (λ (b : List ℕ). IsCanonicalForm b limits w) (sym e)
       (subst (λ (u : Tree). IsCanonicalForm (canon v) limits u) s denoted_form)
 
--- the value that bytes denote within limits has a canonical form
+-- The value that bytes denote within valid limits has a canonical form (`HasCanonicalForm`).
 pub denoted_has_form : (form : Form) (bs : List ℕ) (limits : Bounds) (v : Tree)
     → AreLimits limits.message_words limits.budget limits.depth →
     (h : Denotes form bs limits v) → HasCanonicalForm form bs limits v h

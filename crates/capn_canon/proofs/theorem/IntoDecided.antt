@@ -30,7 +30,7 @@ module _ (m : List (List ℕ)) (limits : Bounds) where
   no_cap k v w is also e f =
       let same : Some k ≡ None = sym e ∙ ap first_cap (unique m v w root is.is also.is) ∙ f in absurd cc
 
-  -- two refusals that are true of a message are equal
+  -- Two refusals that are true of the same message and the same `room` are equal.
   one_into : (room : ℕ) (e f : IntoRefusal) → RefusedInto m limits room e → RefusedInto m limits room f → e ≡ f
   one_into room (intos.Walk s) (intos.Walk t) h k = ap (λ (x : Stopped). intos.Walk x) (one_stop m limits s t h k)
   one_into room (intos.Walk s) (intos.Capability k) h (w, also, f) =
@@ -52,7 +52,8 @@ module _ (m : List (List ℕ)) (limits : Bounds) where
       let paid_so = c ∙ sym d in
       λ i. intos.NoRoom (same i) (paid_so i)
 
-  -- two results that are written are equal, and so are the contents of the buffers
+  -- Two `Ok` results of writing the same message to the same buffer `old` are equal, and so are the buffers `p` and
+  -- `q`.
   one_written : (old p q : List ℕ) (c d : CanonicalLength) → WrittenInto m limits old p c
       → WrittenInto m limits old q d → (c ≡ d) × (p ≡ q)
   one_written old p q c d h k =

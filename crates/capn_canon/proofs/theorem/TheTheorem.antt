@@ -24,14 +24,14 @@ use Rattle.capn_canon.proofs.theorem.EqualExactlySame.{equal_exactly_same}
 use Rattle.capn_canon.proofs.calls.Answered.{answers_only, answers_form}
 use Rattle.capn_canon.proofs.theorem.CapOfTrimmed.{cap-trimmed}
 
--- if there is a result, the input denotes a value, which has no capability
+-- If there is an answer for `bs`, then `bs` denote a value without capabilities.
 pub answer_denotes : (form : Form) (bs : List ℕ) (limits : Bounds) (out : List ℕ) (n : ℕ)
     → Answers form bs limits out n → (v : Tree) × Denotes form bs limits v × (first_cap v ≡ None)
 answer_denotes form bs limits out n h =
     (h.answer.value, record { message = h.message; reads = h.reads; value = h.answer.is }, h.answer.free)
 
 module _ {A : Type 0} (form : Form) (bs : List ℕ) (limits : Bounds) where
-  -- a result that is not `Memory` is `Ok` if and only if the bytes denote a value without capabilities
+  -- A result that is not `Memory` is `Ok` if and only if `bs` denote a value without capabilities.
   pub answered : (r : Result (Canonical A) Refusal) → IfOk r (λ c. Answers form bs limits c.bytes.items c.paid)
       → IfErr r (λ e. IsRefused form bs limits e) → Answered form bs limits r
   answered (Ok c) f e n = ((λ k. answer_denotes form bs limits c.bytes.items c.paid f), (λ d. refl))
@@ -40,7 +40,6 @@ module _ {A : Type 0} (form : Form) (bs : List ℕ) (limits : Bounds) where
     (λ d. absurd (n (ap Err (not_refused form bs limits d.0 x d.1 d.2 e)))),
   )
 
--- if bytes denote a value without capabilities, a refusal of them is `Memory`
 memory_only : (A : Type 0) (form : Form) (bs : List ℕ) (limits : Bounds) (v : Tree) (e : Refusal)
     → Denotes form bs limits v → first_cap v ≡ None → Answered {A = A} form bs limits (Err e) → e ≡ refusals.Memory
 memory_only A form bs limits v refusals.Memory d n a = refl
@@ -51,7 +50,7 @@ memory_only A form bs limits v (refusals.Trailing x) d n a = absurd (let k = (a 
 memory_only A form bs limits v (refusals.Walk x) d n a = absurd (let k = (a (λ p. absurd cc)).1 (v, d, n) in cc)
 memory_only A form bs limits v (refusals.Capability x) d n a = absurd (let k = (a (λ p. absurd cc)).1 (v, d, n) in cc)
 
--- if bytes denote a value without capabilities, a call returns the canonical bytes of that value or `Memory`
+-- If `bs` denote a value without capabilities, and `out` is the only answer for `bs`, a call returns `out` or `Memory`.
 call_gives : (A : Type 0) (form : Form) (bs out : List ℕ) (limits : Bounds) (v : Tree) → Denotes form bs limits v
     → first_cap v ≡ None → ((b : List ℕ) (n : ℕ) → Answers form bs limits b n → b ≡ out)
     → (r : Result (Canonical A) Refusal) → IfOk r (λ d. Answers form bs limits d.bytes.items d.paid)
@@ -61,7 +60,7 @@ call_gives A form bs out limits v d n only (Err e) found answered = memory_only 
 
 module _ (form : Form) (bs : List ℕ) (limits : Bounds) (few : limits.message_words ≤ 2 ^ 28)
     (small : limits.budget ≤ 2 ^ 28) (shallow : limits.depth ≤ 256) where
-  -- the value that bytes denote fits and is in range
+  -- The value that `bs` denote fits and is in range.
   parts : (v : Tree) → Denotes form bs limits v → Fits v × InRange v
   parts v h =
       let m = is_message form bs limits.message_words h.message few h.reads in (
@@ -71,7 +70,7 @@ module _ (form : Form) (bs : List ℕ) (limits : Bounds) (few : limits.message_w
 
 module _ (form : Form) (bs : List ℕ) (limits : Bounds) (few : limits.message_words ≤ 2 ^ 28)
     (small : limits.budget ≤ 2 ^ 28) (shallow : limits.depth ≤ 256) where
-  -- two results are equal if and only if the values denoted are the same
+  -- Two answers are equal if and only if the values that their inputs denote are the same (`Same`).
   pub equal_exactly : (out : List ℕ) (n : ℕ) → Answers form bs limits out n → EqualExactly form bs limits out
   equal_exactly out n h g ds m other q v w are k d e =
       let a = parts form bs limits few small shallow v d in
@@ -81,7 +80,8 @@ module _ (form : Form) (bs : List ℕ) (limits : Bounds) (few : limits.message_w
       let y = answers_only g ds m other q k w e in
       ((λ p. s.0 (sym x ∙ p ∙ y)), (λ p. x ∙ s.1 p ∙ sym y))
 
-  -- each result denotes the same value as its input, and canonicalising the result gives it again, or `Memory`
+  -- An answer denotes a value that is the same as the value of its input (`Same`). Canonicalising the answer gives the
+  -- same bytes, or `Memory`.
   pub own_form : {A : Type 0} (c : Canonical A) → Answers form bs limits c.bytes.items c.paid
       → OwnForm form bs limits c
   own_form {A} c h =
@@ -99,7 +99,7 @@ module _ (form : Form) (bs : List ℕ) (limits : Bounds) (few : limits.message_w
             (λ b n k. answers_only forms.Bare c.bytes.items limits b n k (trimmed a.0) f.reads_back.denotes ∙ f.own);
       }
 
--- the walk of a message that is refused paid at most the budget
+-- A walk that is refused pays at most the budget.
 refused_within : (m : List (List ℕ)) (limits : Bounds) (s : Stopped)
     → walks.IsWalkRefused m limits s.fault s.place s.paid s.visits → s.paid ≤ limits.budget
 refused_within m limits s (inl (a, b, c, p, q)) = omega arith
@@ -112,7 +112,6 @@ walked_within : (form : Form) (bs : List ℕ) (limits : Bounds) (s : Stopped)
     → IsRefused form bs limits (refusals.Walk s) → s.paid ≤ limits.budget
 walked_within form bs limits s (m, h, k) = refused_within m limits s k
 
--- the number of words paid is at most the budget
 pub within_budget : {A : Type 0} (form : Form) (bs : List ℕ) (limits : Bounds) (r : Result (Canonical A) Refusal)
     → IfOk r (λ c. Answers form bs limits c.bytes.items c.paid) → IfErr r (λ e. IsRefused form bs limits e)
     → WithinBudget limits r

@@ -1,5 +1,5 @@
 -- Canonical bytes are equal if and only if the getters return the same from both values. The getters return the same
--- from the canonical bytes as from the message. (For `readers`.)
+-- from the value of an answer as from the value of its input. (For `readers`.)
 use Rattle.std.proofs.Common.{◌≡◌, ◌↔◌, ℕ, List, [], ◌∷◌, ap, sym, ◌∙◌}
 use Rattle.capn_words.specs.Message.{IsBare}
 use Rattle.capn_words.proofs.shared.OneSegment.{bare_message}
@@ -48,7 +48,7 @@ tells_the_same form bs limits c h v d = (
       ∙ ap (λ (t : Tree). get t p) (one_value form bs limits h.denoted v h.is d)),
 )
 
--- two lists of words follow the rules of the page, and denote values that fit
+-- In this block the words `ws` and `us`, whose bytes are `bs` and `ds`, denote the values `v` and `w`, which fit.
 module _ (bs ds ws us : List ℕ) (v w : Tree) (bare : IsBare bs ws) (bare-other : IsBare ds us)
     (at : IsAt (ws ∷ []) root v) (at-other : IsAt (us ∷ []) root w) (fv : Fits v) (fw : Fits w) where
   pub forms_are_what_is_told : IsPageForm ws → IsPageForm us → (bs ≡ ds) ↔ ((p : List Step) → get v p ≡ get w p)

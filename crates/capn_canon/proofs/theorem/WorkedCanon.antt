@@ -23,7 +23,7 @@ use Rattle.capn_layout.specs.Layout.{words, canon, point}
 use Rattle.capn_canon.specs.Reads.{IsFramed}
 use Rattle.capn_canon.specs.Refusal.{IsRefused}
 
--- the usual limits
+-- The usual limits.
 abbrev usual : Bounds
 usual = record { message_words = 8388608; budget = 8388608; depth = 64; tariff = Strict }
 
@@ -40,7 +40,7 @@ tour_words = 0x200000000 ∷ 5 ∷ 0 ∷ []
 abbrev tour_value : Tree
 tour_value = node (5 ∷ 0 ∷ []) no_trees
 
--- the canonical bytes of the message: the pointer has one word fewer, and the last word is cut
+-- The canonical bytes of the message: the last word is left out, so the pointer counts one word fewer.
 abbrev tour_form : List ℕ
 tour_form = 0 ∷ 0 ∷ 0 ∷ 0 ∷ 1 ∷ 0 ∷ 0 ∷ 0 ∷ 5 ∷ 0 ∷ 0 ∷ 0 ∷ 0 ∷ 0 ∷ 0 ∷ 0 ∷ []
 
@@ -87,7 +87,7 @@ tour_canon : canon tour_value ≡ tour_form
 unfolding words point word_bytes
 tour_canon = refl
 
--- the result for the message: its canonical bytes, and the price 3
+-- The answer for the message: its canonical bytes `tour_form`, and the price 3.
 tour_answers : Answers forms.Stream tour usual tour_form 3
 unfolding words point word_bytes root_visits visits target pointer_of
 tour_answers = record {
@@ -102,7 +102,7 @@ tour_answers = record {
   };
 }
 
--- the value without its last word, which is zero, is the same value
+-- The value without its last word is the same value, since that word is zero.
 tour_same : Same tour_value (node (5 ∷ []) no_trees)
 tour_same = (five, tt)
   where
@@ -111,7 +111,7 @@ tour_same = (five, tt)
     five (suc zero) = refl
     five (suc (suc i)) = refl
 
--- the value without its last word has the same canonical bytes, which denote it if read bare
+-- The value without its last word has the same canonical bytes `tour_form`.
 short_canon : canon (node (5 ∷ []) no_trees) ≡ tour_form
 unfolding words point word_bytes
 short_canon = refl
@@ -182,7 +182,8 @@ far_framed = record {
   room = omega arith;
 }
 
--- the result for the message with a far pointer: the same bytes, and the price 3, with one word for the pad
+-- The answer for the message with a far pointer: the canonical bytes `tour_form`, and the price 3, which includes a
+-- word for the pad.
 far_answers : Answers forms.Stream far usual tour_form 3
 unfolding words point word_bytes root_visits visits target pointer_of
 far_answers = record {
@@ -200,7 +201,7 @@ far_answers = record {
   };
 }
 
--- ---- rows are cut jointly: of 7 0 and 0 0 each keeps one word, since the first needs it
+-- ---- rows are cut jointly: each of the rows 7 0 and 0 0 keeps one word, since the first row needs it
 
 abbrev rows_value : Tree
 rows_value = node [] (tree (rows (body (7 ∷ 0 ∷ []) no_trees (body (0 ∷ 0 ∷ []) no_trees no_bodies))) no_trees)
@@ -238,11 +239,11 @@ rows_words = refl
 
 -- ---- the refusals of a form
 
--- one byte, which is no whole word
+-- A single byte is refused, since it is not a complete word.
 not_whole : IsRefused forms.Bare (0 ∷ []) usual (refusals.Bare (NotWhole 1))
 not_whole = (refl, (λ e. absurd (omega (arith, e))))
 
--- the tag 0 with no count after it
+-- The tag 0 without a count after it is refused as an incomplete group (`Cut`).
 cut_group : IsRefused forms.Packed (0 ∷ []) usual (refusals.Packed (unpack_faults.Cut 0))
 cut_group = (
   (λ e. absurd cc),
@@ -258,11 +259,11 @@ cut_group = (
   },
 )
 
--- an input of no bytes
+-- An input of no bytes is refused.
 empty : IsRefused forms.Stream [] usual (refusals.Frame frame_faults.Empty)
 empty = ((λ e. absurd cc), refl)
 
--- a byte after the message
+-- A byte after the message is refused.
 trailing : IsRefused forms.Stream (tour ++ 0 ∷ []) usual (refusals.Trailing 32)
 trailing = (
   tour_words ∷ [],
@@ -281,7 +282,7 @@ short_struct_bare : IsBare short_struct (0x100000000 ∷ [])
 unfolding word_bytes
 short_struct_bare = record { same = refl; each = short_struct_each; room = omega arith }
 
--- a struct of one word, which is missing: the first visit fails, and nothing was paid
+-- A struct whose only word is missing is refused. The first visit fails, and nothing is paid.
 outside : IsRefused forms.Bare short_struct usual
     (refusals.Walk (record { fault = faults.Range; place = root; paid = 0; visits = 1 }))
 unfolding root_visits visits target pointer_of
@@ -325,7 +326,7 @@ capability_value = record {
   is = record { segment = 0; start = 1; pads = 0; is = refl; inside = (refl, (refl, tt)) };
 }
 
--- a struct whose slot holds the capability 2
+-- A struct whose slot has the capability 2 is refused.
 has_capability : IsRefused forms.Bare capability usual (refusals.Capability 2)
 has_capability = (
   capability_words ∷ [],

@@ -1,4 +1,5 @@
--- Worked examples: small messages with several objects, to their canonical words, and values that are not the same.
+-- Worked examples: small messages with several objects, the canonical words of these messages, and values that are not
+-- the same.
 use Rattle.std.proofs.Common.{◌≡◌, ℕ, zero, suc, ◌^◌, ◌<◌, List, [], ◌∷◌, ◌++◌, length, refl, sym, arith}
 use Rattle.std.specs.Prelude.{slice_index, replicate}
 use Rattle.capn_words.specs.Message.{IsBare, word_bytes, bytes, segment_at}
@@ -20,7 +21,7 @@ use Rattle.capn_canon.specs.Theorem.{WrittenInto, RefusedInto}
 use Rattle.capn_canon.specs.declared.message_refusal.IntoRefusal.TheVariants as intos
 use Rattle.capn_layout.specs.Layout.{words, canon, point}
 
--- the usual limits
+-- The usual limits.
 abbrev usual : Bounds
 usual = record { message_words = 8388608; budget = 8388608; depth = 64; tariff = Strict }
 
@@ -30,12 +31,12 @@ abbrev family : Tree
 family =
     node [] (tree (node (1 ∷ []) (tree (node (2 ∷ []) no_trees) no_trees)) (tree (node (3 ∷ []) no_trees) no_trees))
 
--- the words of the message have the structs level by level: both children, 1 and 3, and then the grandchild, 2
+-- The words of the message have the structs level by level: both children, 1 and 3, and then the grandchild, 2.
 abbrev family_words : List ℕ
 family_words = 0x2000000000000 ∷ 0x1000100000004 ∷ 0x100000008 ∷ 1 ∷ 0x100000004 ∷ 3 ∷ 2 ∷ []
 
--- the canonical words have the structs in preorder: the first child with everything below it, 1 and 2, and then the
--- second, 3
+-- The canonical words have the structs in preorder: the first child with everything below it, 1 and 2, and then the
+-- second child, 3.
 abbrev family_form : List ℕ
 family_form = 0x2000000000000 ∷ 0x1000100000004 ∷ 0x10000000c ∷ 1 ∷ 0x100000000 ∷ 2 ∷ 3 ∷ []
 
@@ -81,7 +82,8 @@ family_value = record {
   is = family_at;
 }
 
--- the price is 3 for the root, 3 and 2 for its children, and 2 for the grandchild
+-- The answer has the canonical words `family_form` and the price 10: 3 for the root, 3 and 2 for its children, and 2
+-- for the grandchild.
 family_answers : Answers forms.Bare (bytes family_words) usual (bytes family_form) 10
 unfolding words point root_visits visits target pointer_of
 family_answers = record {
@@ -90,7 +92,8 @@ family_answers = record {
   answer = record { value = family; is = family_value; free = refl; canonical = refl; priced = refl };
 }
 
--- a buffer of 57 bytes gets the 56 canonical bytes, and keeps its last byte; one of 55 bytes has no room for them
+-- The next three items: `family` has 56 canonical bytes. They are written to a buffer of 57 bytes, whose last byte is
+-- unchanged. A buffer of 55 bytes is refused.
 family_length : length (canon family) ≡ 56
 unfolding words point word_bytes
 family_length = refl
@@ -115,12 +118,13 @@ abbrev mixed : Tree
 mixed = node [] (tree (node [] no_trees) (tree (numbers bit (1 ∷ 0 ∷ 1 ∷ []))
     (tree (links (tree (node [] no_trees) (tree nil no_trees))) no_trees)))
 
--- in the words of the message the first empty struct is at the offset 2, and bits are set past the third: the word 29,
--- in place of 5
+-- In the words of the message, the pointer to the first empty struct has the offset 2. Bits are set after the third bit
+-- of the list: the word is 29 instead of 5.
 abbrev mixed_words : List ℕ
 mixed_words = 0x3000000000000 ∷ 8 ∷ 0x1900000005 ∷ 0x1600000005 ∷ 29 ∷ 0xfffffffc ∷ 0 ∷ []
 
--- in the canonical words an empty struct has the offset -1, bits past the last are 0, and a null element stays
+-- In the canonical words, the pointers to the empty structs have the offset -1, and the bits after the third are 0. The
+-- null element stays.
 abbrev mixed_form : List ℕ
 mixed_form = 0x3000000000000 ∷ 0xfffffffc ∷ 0x1900000005 ∷ 0x1600000005 ∷ 5 ∷ 0xfffffffc ∷ 0 ∷ []
 
@@ -174,7 +178,8 @@ mixed_each (suc (suc (suc (suc (suc (suc (suc k))))))) = omega arith
 mixed_bare : IsBare (bytes mixed_words) mixed_words
 mixed_bare = record { same = refl; each = mixed_each; room = omega arith }
 
--- the price is 4 for the root, 1 for an empty struct, 2 for the bits, 3 for the pointers, and 1 for the other empty one
+-- The answer has the price 11: 4 for the root, 1 for an empty struct, 2 for the bits, 3 for the pointers, and 1 for the
+-- other empty struct.
 mixed_answers : Answers forms.Bare (bytes mixed_words) usual (bytes mixed_form) 11
 unfolding words point root_visits visits target pointer_of
 mixed_answers = record {
@@ -231,7 +236,7 @@ double_framed = record {
   room = omega arith;
 }
 
--- the price is 4: one for the struct, one for its word, and two for the words of the pad
+-- The answer has the price 4: 1 for the struct, 1 for its word, and 2 for the words of the pad.
 double_answers : Answers forms.Stream double usual (bytes (0x100000000 ∷ 5 ∷ [])) 4
 unfolding words point root_visits visits target pointer_of
 double_answers = record {
@@ -251,14 +256,14 @@ double_answers = record {
 
 -- ---- values that are not the same
 
--- null is not the same as an empty struct, not even in the last slot of a struct
+-- Null is not the same as an empty struct.
 null_is_not_empty : Same nil (node [] no_trees) → ⊥
 null_is_not_empty same = same
 
 last_slot_is_not_null : Same (node [] (tree (node [] no_trees) no_trees)) (node [] no_trees) → ⊥
 last_slot_is_not_null same = let is = same.1.0 in absurd cc
 
--- the canonical words of a struct with an empty struct in its slot, and of one with a null slot, differ
+-- The canonical words of a struct with an empty struct in its slot.
 with_a_slot : words (node [] (tree (node [] no_trees) no_trees)) ≡ 0x1000000000000 ∷ 0xfffffffc ∷ []
 unfolding words point
 with_a_slot = refl
@@ -267,7 +272,7 @@ without_a_slot : words (node [] no_trees) ≡ 0xfffffffc ∷ []
 unfolding words point
 without_a_slot = refl
 
--- a zero word that is not the last word of a struct is kept, and makes values differ
+-- A zero word that is not the last word of a struct makes values differ.
 zero_word_before_five : Same (node (0 ∷ 5 ∷ []) no_trees) (node (5 ∷ []) no_trees) → ⊥
 zero_word_before_five same = differ (same.0 0)
   where

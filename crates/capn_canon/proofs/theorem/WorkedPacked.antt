@@ -16,11 +16,11 @@ use Rattle.capn_canon.specs.Denotes.{Answers}
 use Rattle.capn_canon.specs.Reads.{IsFramed, Reads}
 use Rattle.capn_layout.specs.Layout.{words, point}
 
--- the usual limits
+-- The usual limits.
 abbrev usual : Bounds
 usual = record { message_words = 8388608; budget = 8388608; depth = 64; tariff = Strict }
 
--- sixteen bytes: two words of tagged bytes, one word whole with none behind it, and a word of zeros
+-- Sixteen packed bytes: two groups of one word each, a group of one raw word, and a group of one zero word.
 abbrev packed_bytes : List ℕ
 packed_bytes = 16 ∷ 3 ∷ 16 ∷ 2 ∷ 255 ∷ 1 ∷ 2 ∷ 3 ∷ 4 ∷ 5 ∷ 6 ∷ 7 ∷ 8 ∷ 0 ∷ 0 ∷ 0 ∷ []
 
@@ -31,13 +31,13 @@ groups =
     ∷ Raw (1 ∷ 2 ∷ 3 ∷ 4 ∷ 5 ∷ 6 ∷ 7 ∷ 8 ∷ []) 0 []
     ∷ Zeros 0 ∷ []
 
--- the unpacked bytes: the table of one segment of three words, then a struct of two words
+-- The unpacked bytes: the table of one segment of three words, then a struct of two words.
 abbrev framed : List ℕ
 framed =
     0 ∷ 0 ∷ 0 ∷ 0 ∷ 3 ∷ 0 ∷ 0 ∷ 0 ∷ 0 ∷ 0 ∷ 0 ∷ 0 ∷ 2 ∷ 0 ∷ 0 ∷ 0 ∷ 1 ∷ 2 ∷ 3 ∷ 4 ∷ 5 ∷ 6 ∷ 7 ∷ 8
     ∷ 0 ∷ 0 ∷ 0 ∷ 0 ∷ 0 ∷ 0 ∷ 0 ∷ 0 ∷ []
 
--- the tag 16 names the fifth of eight bytes, and the others are zero
+-- The tag 16 names the fifth of eight bytes, and the other bytes are zero.
 named_fifth : (x : ℕ) → IsNamedBy 16 (0 ∷ 0 ∷ 0 ∷ 0 ∷ x ∷ 0 ∷ 0 ∷ 0 ∷ [])
 named_fifth x = (kept, (kept, (kept, (kept, ((λ e. absurd (omega (arith, e))), (kept, (kept, (kept, tt))))))))
   where
@@ -82,15 +82,15 @@ is_framed = record {
   room = omega arith;
 }
 
--- the packed bytes are read as the message of one segment of three words
+-- The packed bytes are read as the message of one segment of three words.
 reads_packed : Reads forms.Packed packed_bytes 8388608 (framed_words ∷ [])
 reads_packed = (framed, record { packs = packs; room = omega arith }, is_framed)
 
--- the canonical bytes of the message: the pointer has one word fewer, and the last word is cut
+-- The canonical bytes of the message: the last word is left out, so the pointer counts one word fewer.
 abbrev form : List ℕ
 form = 0 ∷ 0 ∷ 0 ∷ 0 ∷ 1 ∷ 0 ∷ 0 ∷ 0 ∷ 1 ∷ 2 ∷ 3 ∷ 4 ∷ 5 ∷ 6 ∷ 7 ∷ 8 ∷ []
 
--- the result for the packed bytes: the canonical bytes, and the price 3
+-- The answer for the packed bytes: the canonical bytes `form`, and the price 3.
 answers_packed : Answers forms.Packed packed_bytes usual form 3
 unfolding words point word_bytes root_visits visits target pointer_of
 answers_packed = record {

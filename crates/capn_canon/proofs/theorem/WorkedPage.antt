@@ -14,9 +14,9 @@ use Rattle.capn_walk.specs.Visits.{slots}
 use Rattle.capn_canon.specs.PageForm.{Met, null, object, InPreorder, IsPageForm}
 use Rattle.capn_canon.proofs.page.Rules.{IsRight, Follows, form-follows}
 
--- ---- words that follow them
+-- ---- words that follow the rules
 
--- a null root
+-- A null root follows the rules.
 pub nothing : IsPageForm (0 ∷ [])
 unfolding target pointer_of
 nothing = record {
@@ -29,7 +29,7 @@ nothing = record {
   whole = (tt, tt);
 }
 
--- a struct of one word
+-- A struct of one word follows the rules.
 pub one_word : IsPageForm (0x100000000 ∷ 5 ∷ [])
 unfolding target pointer_of
 one_word = record {
@@ -42,7 +42,7 @@ one_word = record {
   whole = (tt, tt);
 }
 
--- a struct with an empty struct, whose pointer has the offset -1
+-- A struct with an empty struct follows the rules. The pointer to the empty struct has the offset -1.
 pub empty_struct : IsPageForm (0x1000000000000 ∷ 0xfffffffc ∷ [])
 unfolding target pointer_of
 empty_struct = record {
@@ -58,7 +58,7 @@ empty_struct = record {
   whole = (tt, (tt, tt));
 }
 
--- preorder: the list of one byte below the first of two structs comes before the second struct
+-- Two structs follow the rules in preorder: the list of one byte below the first struct comes before the second struct.
 pub two_structs : IsPageForm
     (0x2000000000000 ∷ 0x1000000000004 ∷ 0x100000008 ∷ 0xa00000001 ∷ 7 ∷ 3 ∷ [])
 unfolding target pointer_of
@@ -79,7 +79,8 @@ two_structs = record {
   whole = (tt, (tt, (tt, (tt, tt))));
 }
 
--- two rows of one word: the zero word of the second row is kept, since the word of the first row isn't zero
+-- Two rows of one word follow the rules. The zero word of the second row is kept, since the word of the first row is
+-- not zero.
 pub two_rows : IsPageForm (0x1700000001 ∷ 0x100000008 ∷ 7 ∷ 0 ∷ [])
 unfolding target pointer_of
 two_rows = record {
@@ -92,9 +93,9 @@ two_rows = record {
   whole = (refl, tt);
 }
 
--- ---- words that break one of them
+-- ---- words that break a rule
 
--- the rules at a slot: those for its object, and those for the pointers after it
+-- The object at the slot `at` follows the rules, and the pointers after that slot follow the rules.
 record AtSlot (ws : List ℕ) (next : ℕ) (at : Place) (others : List Place) (start : ℕ) (shape : Shape) : Type 0 where
   pub right : IsRight ws next at.word start shape
   pub rest : List Met
@@ -116,7 +117,7 @@ at-slot ws next at others start shape e (object pointer begin x ∷ met) f =
       follows = f.3;
     }))
 
--- words that follow the rules follow them at the root's slot
+-- If the words `ws` follow the rules, they follow the rules at the root (`AtSlot`).
 at-root : (ws : List ℕ) (start : ℕ) (shape : Shape) → target (ws ∷ []) root ≡ Ok (targets.Content 0 start shape 0)
     → IsPageForm ws → AtSlot ws 1 root [] start shape
 at-root ws start shape e p = let (met, f) = form-follows ws p in at-slot ws 1 root [] start shape e met f
@@ -128,20 +129,20 @@ ends : (ws : List ℕ) (next : ℕ) (met : List Met) → Follows ws next [] met 
 ends ws next [] f = f
 ends ws next (m ∷ met) f = absurd f
 
--- a zero word at the end of a struct
+-- A zero word at the end of a struct breaks a rule.
 pub trailing_zero : IsPageForm (0x200000000 ∷ 5 ∷ 0 ∷ []) → ⊥
 unfolding target pointer_of
 trailing_zero p =
     let r = at-root (0x200000000 ∷ 5 ∷ 0 ∷ []) 1 (shapes.Node 2 0) refl p in
     r.right.truncated.0 (omega arith) refl
 
--- a null pointer at the end of a struct
+-- A null pointer at the end of a struct breaks a rule.
 pub trailing_null : IsPageForm (0x1000000000000 ∷ 0 ∷ []) → ⊥
 unfolding target pointer_of
 trailing_null p =
     let r = at-root (0x1000000000000 ∷ 0 ∷ []) 1 (shapes.Node 0 1) refl p in r.right.truncated.1 (omega arith) refl
 
--- a word before an object, to which no pointer leads
+-- A word before an object breaks a rule if no pointer leads to that word.
 pub gap : IsPageForm (0x100000004 ∷ 9 ∷ 5 ∷ []) → ⊥
 unfolding target pointer_of
 gap p =
@@ -149,7 +150,7 @@ gap p =
     let e = r.right.begins (λ x. x) in
     omega arith
 
--- a word after the last object, to which no pointer leads
+-- A word after the last object breaks a rule if no pointer leads to that word.
 pub word_left : IsPageForm (0x100000000 ∷ 5 ∷ 9 ∷ []) → ⊥
 unfolding target pointer_of
 word_left p =
@@ -157,7 +158,7 @@ word_left p =
     let e = ends (0x100000000 ∷ 5 ∷ 9 ∷ []) 2 r.rest r.follows in
     omega arith
 
--- an empty struct at an offset other than -1: here -2, which leads to word 0
+-- An empty struct at an offset other than -1 breaks a rule. Here the offset is -2, which leads to word 0.
 pub empty_elsewhere : IsPageForm (0x1000000000000 ∷ 0xfffffff8 ∷ []) → ⊥
 unfolding target pointer_of
 empty_elsewhere p =
@@ -167,7 +168,7 @@ empty_elsewhere p =
     let e = s.right.empty tt in
     omega arith
 
--- the second struct of `two_structs` before the objects below the first
+-- The structs of `two_structs` break a rule if the second struct comes before the first.
 pub not_in_preorder : IsPageForm
     (0x2000000000000 ∷ 0x1000000000008 ∷ 0x100000000 ∷ 3 ∷ 0xa00000001 ∷ 7 ∷ []) → ⊥
 unfolding target pointer_of
@@ -178,7 +179,7 @@ not_in_preorder p =
     let e = s.right.begins (λ x. x) in
     omega arith
 
--- a bit past the one byte of a list
+-- A bit after the one byte of a list breaks a rule.
 pub bit_past_the_end : IsPageForm (0xa00000001 ∷ 0x107 ∷ []) → ⊥
 unfolding target pointer_of
 bit_past_the_end p =
@@ -186,7 +187,7 @@ bit_past_the_end p =
     let e = r.right.padded (omega arith) in
     omega arith
 
--- a word past the one row of a list of structs
+-- A word after the one row of a list of structs breaks a rule.
 pub word_past_the_rows : IsPageForm (0x1700000001 ∷ 0x100000004 ∷ 7 ∷ 0 ∷ []) → ⊥
 unfolding target pointer_of
 word_past_the_rows p =
@@ -194,7 +195,7 @@ word_past_the_rows p =
     let e = r.right.whole in
     omega arith
 
--- a last word that is zero in all rows
+-- A last word that is zero in all rows breaks a rule.
 pub zero_in_all_rows : IsPageForm (0x1700000001 ∷ 0x100000008 ∷ 0 ∷ 0 ∷ []) → ⊥
 unfolding target pointer_of
 zero_in_all_rows p =
@@ -208,7 +209,7 @@ zero_in_all_rows p =
     one_of (suc zero) lt ne = ne refl
     one_of (suc (suc i)) lt ne = omega arith
 
--- a far pointer
+-- A far pointer breaks a rule.
 pub far_pointer : IsPageForm (10 ∷ 0x100000000 ∷ 5 ∷ []) → ⊥
 unfolding target pointer_of
 far_pointer p = from p.pointers p.preorder
@@ -218,7 +219,7 @@ far_pointer p = from p.pointers p.preorder
     from (null ∷ met) f = let g = f.0 in cc
     from (object pointer at x ∷ met) f = let g = f.1 in cc
 
--- a capability
+-- A capability breaks a rule.
 pub capability : IsPageForm (0x1000000000000 ∷ 3 ∷ []) → ⊥
 unfolding target pointer_of
 capability p = let r = at-root (0x1000000000000 ∷ 3 ∷ []) 1 (shapes.Node 0 1) refl p in from r.rest r.follows

@@ -10,8 +10,8 @@ use Rattle.capn_walk.specs.Limits.{Bounds}
 use Rattle.capn_canon.specs.declared.surveyed_bare.SurveyedBare.{SurveyedBare}
 use Rattle.capn_canon.specs.BareVerdict.{IsBareSurvey}
 
--- `r` is the survey of the only segment of `message`, which is accepted; or it is the first stop of the walk, never for
--- memory
+-- If `r` is `Ok`, it is the survey of the first segment of `message`. If `r` is an `Err`, it is the first stop of the
+-- walk of `message`, and its fault is not `Memory`. In both cases `paid` is at most `limits.budget`.
 pub record IsBareTold (message : List (List ℕ)) (limits : Bounds) (r : Result SurveyedBare Stopped) : Type 0 where
   pub found : IfOk r (λ c. IsBareSurvey (segment_at message 0) limits c)
   pub only : (v : Tree) → IsValueOf message limits v

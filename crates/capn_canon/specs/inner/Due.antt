@@ -1,5 +1,5 @@
--- The values that one pass over the words `all` must find, since they are laid out canonically from some slots on,
--- within the depth and the number of words that may still be paid.
+-- Values that one pass over the words `all` must find. They are laid out canonically, and their walks stay within the
+-- limits that are left.
 use Rattle.std.specs.Prelude.{◌≡◌, ℕ, ◌+◌, ◌-◌, ◌≤◌, List, [], ◌∷◌, length, Option, Some, None}
 use Rattle.capn_value.specs.Tree.{Tree, Trees, Bodies, count, count_rows}
 use Rattle.capn_value.specs.FirstCap.{first_cap, first_in, first_in_rows}
@@ -13,8 +13,8 @@ use Rattle.capn_layout.specs.Sound.{Sound, Sounds, SoundRows}
 use Rattle.capn_canon.specs.inner.WordsOfLayout.{IsLaidAt, AreLaidAt, RowsLaidAt}
 
 module _ (all : List ℕ) (base : ℕ) where
-  -- the value `v`, without capabilities, has its pointer at the slot `from` and its content at `to`, as in its layout;
-  -- the walk of `v`, at most `depth` objects deep, pays at most `left` words (Our own.)
+  -- The value `v`, without capabilities, is laid out with its pointer at the slot `from` and its content at `to`. Its
+  -- walk, at most `depth` objects deep, pays at most `left` words. (Our own.)
   pub record IsDue (from to depth left : ℕ) (v : Tree) : Type 0 where
     pub is : IsAt (all ∷ []) (record { segment = 0; word = from }) v
     pub laid : IsLaidAt all v from to
@@ -23,8 +23,8 @@ module _ (all : List ℕ) (base : ℕ) where
     pub fits : to + size v ≤ length all
     pub pays : IsWithin left (visits (all ∷ []) base depth (record { segment = 0; word = from }))
 
-  -- the values `ts` have their pointers at consecutive slots from `from` on and their contents from `to` on, as in
-  -- their layout; the walk of `ts`, at most `depth` objects deep, pays at most `left` words (Our own.)
+  -- The values `ts`, without capabilities, are laid out with their pointers at the slots from `from` on and their
+  -- contents from `to` on. Their walks, at most `depth` objects deep, pay at most `left` words together. (Our own.)
   pub record AreDue (from to depth left : ℕ) (ts : Trees) : Type 0 where
     pub are : AreAt (all ∷ []) 0 from ts
     pub laid : AreLaidAt all ts from to
@@ -33,8 +33,8 @@ module _ (all : List ℕ) (base : ℕ) where
     pub fits : to + sizes ts ≤ length all
     pub pays : IsWithin left (visits_of (all ∷ []) base depth (places 0 from (count ts)))
 
-  -- the rows `bs`, of `a` words and `b` slots each, begin at `from`, and the contents below their slots begin at `to`,
-  -- as in their layout; the walk of `bs`, at most `depth` objects deep, pays at most `left` words (Our own.)
+  -- The rows `bs`, of `a` words and `b` slots each, are laid out from `from` on, and the objects below their slots from
+  -- `to` on. The walks of these objects, at most `depth` objects deep, pay at most `left` words together. (Our own.)
   pub record RowsAreDue (a b from to depth left : ℕ) (bs : Bodies) : Type 0 where
     pub are : RowsAt (all ∷ []) a b 0 from bs
     pub laid : RowsLaidAt all a b bs from to
@@ -43,37 +43,37 @@ module _ (all : List ℕ) (base : ℕ) where
     pub fits : to + sizes_in_rows bs ≤ length all
     pub pays : IsWithin left (visits_of (all ∷ []) base depth (row_places 0 from a b (count_rows bs)))
 
-  -- a value is laid out with its pointer at the slot `from` (Our own.)
+  -- A value is due at the slot `from` (`IsDue`). (Our own.)
   pub record DueValue (from to depth left : ℕ) : Type 0 where
     pub value : Tree
     pub due : IsDue from to depth left value
 
-  -- values are laid out with their pointers at `number` slots from `from` on (Our own.)
+  -- Values are due at the `number` slots from `from` on (`AreDue`). (Our own.)
   pub record DueSlots (from number to depth left : ℕ) : Type 0 where
     pub values : Trees
     pub count : count values ≡ number
     pub due : AreDue from to depth left values
 
-  -- `number` rows, with everything below their slots, are laid out from `from` on (Our own.)
+  -- The `number` rows from `from` on are due (`RowsAreDue`). (Our own.)
   pub record DueRows (a b from number to depth left : ℕ) : Type 0 where
     pub values : Bodies
     pub count : count_rows values ≡ number
     pub due : RowsAreDue a b from to depth left values
 
-  -- a value is laid out with its pointer at the first slot of the pass `p` (Our own.)
+  -- A value is due at the first slot of the pass `p` (`DueValue`). (Our own.)
   abbrev pub DueFirst : Pass → Type 0
   DueFirst p = DueValue p.from p.next p.depth p.left
 
-  -- values are laid out with their pointers at all slots of the pass `p` (Our own.)
+  -- Values are due at all slots of the pass `p` (`DueSlots`). (Our own.)
   abbrev pub Due : Pass → Type 0
   Due p = DueSlots p.from (p.end - p.from) p.next p.depth p.left
 
-  -- a pass is given, and values are laid out with their pointers at all slots of that pass (Our own.)
+  -- The option is `Some`, and values are due at all slots of the pass in it (`Due`). (Our own.)
   abbrev pub DueIn : Option Pass → Type 0
   DueIn (Some r) = Due r
   DueIn None = ⊥
 
-  -- rows are given, and values are laid out with their pointers at all slots of those rows (Our own.)
+  -- The option is `Some`, and the rows in it are due (`DueRows`). (Our own.)
   abbrev pub DueRowsIn : Option RowPass → Type 0
   DueRowsIn (Some r) =
       DueRows r.tag.words r.tag.slots r.pass.from r.tag.count r.pass.next r.pass.depth r.pass.left

@@ -22,8 +22,9 @@ use Rattle.capn_canon.specs.MessageRefusal.{HasNoBytes, IsMessagePaidWithin, IsI
 use Rattle.capn_canon.specs.Theorem.{WrittenInto, RefusedInto}
 use Rattle.capn_canon.specs.MemoryNeed.{MayNeedMemory, MayNeedBytes, MayNeedBytesIn}
 
--- `r` is the canonical bytes of `message` and its price, or the reason why it has none; `Memory` is returned only if
--- `message` has canonical bytes, and the walk pays at most the budget
+-- If `r` is `Ok`, it has the canonical bytes of `message` and the price. If `r` is an `Err`, its refusal is true of
+-- `message` (`IsRefusedMessage`), and is `Memory` only if `message` has canonical bytes. The number of words paid, in
+-- an `Ok` or in a `Walk`, is at most the budget.
 pub record IsCanonicalised {T : Type 0} (message : List (List ℕ)) (limits : Bounds) (r : Result T Refusal)
     (bytes : T → List ℕ) (price : T → ℕ) : Type 0 where
   pub found : IfOk r (λ c. AnswersMessage message limits (bytes c) (price c))
@@ -33,8 +34,9 @@ pub record IsCanonicalised {T : Type 0} (message : List (List ℕ)) (limits : Bo
   pub wanted : IsErrOf r refusals.Memory → MayNeedBytes message limits
   pub bounded : MatchResult r (λ c. price c ≤ limits.budget) (λ e. IsPaidWithin limits.budget e)
 
--- `r` is the canonical bytes of `bs` and their price, or the reason why `bs` have none; `Memory` is returned only if
--- memory may be needed, and the walk pays at most the budget
+-- If `r` is `Ok`, it has the canonical bytes of `bs` and the price. If `r` is an `Err`, its refusal is true of `bs`
+-- (`IsRefused`), and is `Memory` only if memory may be needed (`MayNeedBytesIn`). The number of words paid, in an `Ok`
+-- or in a `Walk`, is at most the budget.
 pub record AreCanonicalised {T : Type 0} (form : Form) (bs : List ℕ) (limits : Bounds) (r : Result T Refusal)
     (bytes : T → List ℕ) (price : T → ℕ) : Type 0 where
   pub found : IfOk r (λ c. Answers form bs limits (bytes c) (price c))
@@ -42,43 +44,45 @@ pub record AreCanonicalised {T : Type 0} (form : Form) (bs : List ℕ) (limits :
   pub wanted : IsErrOf r refusals.Memory → MayNeedBytesIn form bs limits
   pub bounded : MatchResult r (λ c. price c ≤ limits.budget) (λ e. IsPaidWithin limits.budget e)
 
--- `r` is the survey of `bs`, or a refusal that is true of `bs`; `Memory` is returned only if reading `bs` may need
--- memory, and the walk pays at most the budget
+-- If `r` is `Ok`, it is the survey of `bs`. If `r` is an `Err`, its refusal is true of `bs` (`IsUnacceptedIn`), and is
+-- `Memory` only if reading `bs` may need memory. The number of words paid, in an `Ok` or in a `Walk`, is at most the
+-- budget.
 pub record AreSurveyed (form : Form) (bs : List ℕ) (limits : Bounds) (r : Result Surveyed Refusal) : Type 0 where
   pub found : IfOk r (λ s. Surveys form bs limits s)
   pub refused : IfErr r (λ e. IsUnacceptedIn form bs limits e)
   pub wanted : IsErrOf r refusals.Memory → MayNeedMemory form bs limits
   pub bounded : MatchResult r (λ s. IsBounded limits.budget s.paid s.visits) (λ e. IsPaidWithin limits.budget e)
 
--- `r` is the survey of `message`, or the reason why it isn't accepted, but never `Memory`; the walk pays at most the
--- budget
+-- If `r` is `Ok`, it is the survey of `message`. If `r` is an `Err`, it says why `message` is not accepted, and is not
+-- `Memory`. The number of words paid, in an `Ok` or in a `Walk`, is at most the budget.
 pub record IsSurveyed (message : List (List ℕ)) (limits : Bounds) (r : Result Surveyed Refusal) : Type 0 where
   pub found : IfOk r (λ s. IsSurvey message limits s)
   pub refused : IfErr r (λ e. IsUnaccepted message limits e)
   pub no_memory : IfErr r (λ e. e ≢ refusals.Memory)
   pub bounded : MatchResult r (λ s. IsBounded limits.budget s.paid s.visits) (λ e. IsPaidWithin limits.budget e)
 
--- a call with the result `r` counts from `old` to `new`, at most `n` for each word of its price, and `n` more; also a
--- refusal costs at most `n` for each word of the budget, and `n` more
+-- A count of reads grows from `old` to `new`, by at most `n * (limits.budget + 1)`. If `r` is `Ok`, the count grows by
+-- at most `n * (price c + 1)`.
 abbrev pub ReadsWithin : {T E : Type 0} → ℕ → Bounds → Result T E → (T → ℕ) → ℕ → ℕ → Type 0
 ReadsWithin n limits r price old new =
     IfOk r (λ c. new ≤ old + n * (price c + 1)) × (new ≤ old + n * (limits.budget + 1))
 
--- the option is the number `n` if `n` is above `room`, and otherwise `None`
+-- The option is `Some n` if `n` is above `room`, and otherwise `None`.
 abbrev pub IsBeyond : ℕ → ℕ → Option ℕ → Type 0
 IsBeyond n room (Some k) = (k ≡ n) × (room < n)
 IsBeyond n room None = n ≤ room
 
--- `r` is the length of the canonical bytes of `message`, or the reason why it has none; the walk pays at most the
--- budget
+-- If `r` is `Ok`, it has the length of the canonical bytes of `message`. If `r` is an `Err`, it says why `message` has
+-- no canonical bytes. The number of words paid, in an `Ok` or in a `Walk`, is at most the budget.
 pub record IsLengthTold (message : List (List ℕ)) (limits : Bounds) (r : Result CanonicalLength MessageRefusal)
     : Type 0 where
   pub found : IfOk r (λ c. (v : Tree) × IsCanonicalLength message limits v c)
   pub refused : IfErr r (λ e. HasNoBytes message limits e)
   pub bounded : MatchResult r (λ c. IsBounded limits.budget c.paid c.visits) (λ e. IsMessagePaidWithin limits.budget e)
 
--- `r` is the report of the canonical bytes of `message`, which are written to the buffer; or it is the reason why they
--- are not, and the buffer is as before; the walk pays at most the budget
+-- If `r` is `Ok`, the canonical bytes of `message` are written to the buffer (`WrittenInto`). If `r` is an `Err`, its
+-- refusal is true of `message` (`RefusedInto`), and the buffer is as before. The number of words paid, in an `Ok`, a
+-- `Walk` or a `NoRoom`, is at most the budget.
 pub record IsInto (message : List (List ℕ)) (limits : Bounds) (old new : List ℕ)
     (r : Result CanonicalLength IntoRefusal) : Type 0 where
   pub written : IfOk r (λ c. WrittenInto message limits old new c)

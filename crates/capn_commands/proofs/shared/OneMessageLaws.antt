@@ -1,4 +1,4 @@
--- Lemmas that the text and the ending of an input that is one message are unique, if the service does one thing with a
+-- Lemmas that a run over exactly one message has one text and one result, if its service does one thing with each
 -- message. (For capn_tool.)
 use Rattle.std.proofs.Common.{◌≡◌, inl, inr, ℕ, List, Bool, true, false, Result, Ok, Err, refl, ap, sym, subst, ◌∙◌}
 use Rattle.capn_pack.proofs.shared.GroupLaws.{one_reading}
@@ -31,7 +31,6 @@ pub record DoesOneThing {S : Type 0} (serves : S → Position → List ℕ → L
   pub never_both : (frame : List ℕ) (m : List (List ℕ)) (t : List ℕ) (x : S) (r : Refusal)
       → serves s start frame m t x → refuses s start frame m r → ⊥
 
--- An input has at most one frame.
 one_frame_of : (form : StreamForm) (most : ℕ) (bytes f g : List ℕ) → IsFrameOf form most bytes f
     → IsFrameOf form most bytes g → f ≡ g
 one_frame_of streams.Stream most bytes f g a b = sym a ∙ b

@@ -72,7 +72,7 @@ pub record IsLike (p q : PartTexts) : Type 0 where
   pub offsets : p.offsets ≡ q.offsets
   pub ways : p.ways ≡ q.ways
 
--- The service `p` with the given options, and with its path at the same place in memory.
+-- The service `p` with `form`, `limits`, `style`, `offsets` and `ways` as its options.
 abbrev alike : PartTexts → Form → Bounds → Style → Bool → Bool → PartTexts
 alike p form limits style offsets ways = record p {
   form = form;
@@ -82,11 +82,11 @@ alike p form limits style offsets ways = record p {
   ways = ways;
 }
 
--- The text of a value, followed by the end of that text.
+-- The text of the value at the path of `s` from the root `v`, and then the end of that text.
 abbrev text_of : PartTexts → Position → List (List ℕ) → Tree → List ℕ
 text_of s at m v = part_of s at m v ++ part_end s at m
 
--- The text of the value at the path `numbers`, followed by the end of that text.
+-- The text of the value at the path `numbers` from the root `v`, and then the end of that text.
 abbrev text_at : List ℕ → PartTexts → Position → List (List ℕ) → Tree → List ℕ
 text_at numbers s at m v =
     (if s.offsets || s.ways then marked_at m (marks_of s at m) numbers v else styled s.style numbers v)

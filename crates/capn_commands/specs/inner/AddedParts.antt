@@ -1,4 +1,4 @@
--- The effect of adding the text of a message's part to the output of a run.
+-- The effect of adding to the output of a run the text of a value, and the bytes `end` that follow it.
 use Rattle.std.specs.Prelude.{◌≡◌, ◌≢◌, ◌⊎◌, ℕ, ◌<◌, ◌++◌, List, [], length, Result, Ok, Err}
 use Rattle.capn_value.specs.Tree.{Tree}
 use Rattle.capn_walk.specs.Accepted.{IsValueOf, IsWalkRefused}
@@ -13,15 +13,17 @@ use Rattle.capn_show.specs.declared.fault.ShowFault.TheVariants as ends
 use Rattle.capn_serve.specs.declared.fault.ServeFault.{ServeFault}
 use Rattle.capn_serve.specs.declared.fault.ServeFault.TheVariants as serve_faults
 
--- `end` was added, and less than 65,536 bytes are kept. Or memory was refused or the writer failed within `end`.
+-- After `Ok`, `end` was added to the output, and `new.kept` has fewer than 65,536 bytes. After `Memory` or `Io`, the
+-- output breaks off in `end` (`BreaksOff`).
 abbrev pub AddsEnd : List ℕ → Outgoing → Outgoing → Result (Unit {0}) ServeFault → Type 0
 AddsEnd end old new (Ok u) = Adds old new end × (length new.kept < 65536)
 AddsEnd end old new (Err serve_faults.Memory) = BreaksOff old new broken.Memory end
 AddsEnd end old new (Err serve_faults.Io) = BreaksOff old new broken.Io end
 AddsEnd end old new (Err (serve_faults.Refused r)) = ⊥
 
--- The text `of` of a message's value and `end` were added, and less than 65,536 bytes are kept. Or memory was refused
--- or the writer failed within the text and `end`. Or the message or memory was refused, and nothing was added.
+-- After `Ok`, `of v ++ end` was added for the value `v` of `message`. After `Memory` or `Io`, the output breaks off in
+-- these bytes, or for `Memory` nothing was added. After `Refused`, the walk of `message` is refused, and nothing was
+-- added.
 abbrev pub AddsPart : List (List ℕ) → Bounds → (Tree → List ℕ) → List ℕ → Outgoing → Outgoing
     → Result (Unit {0}) ServeFault → Type 0
 AddsPart message limits of end old new (Ok u) =
@@ -35,7 +37,8 @@ AddsPart message limits of end old new (Err (serve_faults.Refused r)) =
     ((s : Stopped) × (r ≡ refusals.Walk s) × IsWalkRefused message limits s.fault s.place s.paid s.visits)
     × Adds old new []
 
--- `fault` is the result of serving a message that is refused, or whose text is not complete.
+-- `fault` is the `ServeFault` for the given `ShowFault`. A walk that stopped gives `Memory` or its refusal. `Io` stays
+-- `Io`, and `Memory` stays `Memory`.
 abbrev pub IsFaultOf : ShowFault → ServeFault → Type 0
 IsFaultOf (ends.Stopped s) fault =
     ((s.fault ≡ walk_faults.Memory) × (fault ≡ serve_faults.Memory))

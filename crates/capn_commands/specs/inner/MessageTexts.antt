@@ -13,20 +13,20 @@ use Rattle.capn_commands.specs.declared.plan.MessageText.{MessageText}
 use Rattle.capn_commands.specs.declared.fault.ToolFault.{ToolFault}
 use Rattle.capn_commands.specs.declared.fault.ToolFault.TheVariants as faults
 
--- The service that writes `piece` of each message, within `limits`.
+-- The service that writes the text of the kind `piece` for each message, within `limits`.
 abbrev pub message_texts : MessageText → Bounds → MessageTexts
 message_texts piece limits = record { piece = piece; limits = limits }
 
--- A message writes its text, and the service stays the same.
+-- `text` is the text of the kind `s.piece` for `message`, and the state `t` is `s`.
 abbrev pub serves : MessageTexts → Position → List ℕ → List (List ℕ) → List ℕ → MessageTexts → Type 0
 serves s at frame message text t = IsMessageText s.piece message s.limits text × (t ≡ s)
 
--- The message has no text, and `r` is the reason.
+-- `message` has no text of the kind `s.piece`, and `r` is the reason.
 abbrev pub refuses : MessageTexts → Position → List ℕ → List (List ℕ) → Refusal → Type 0
 refuses s at frame message r = IsNoMessageText s.piece message s.limits (faults.Refused r)
 
--- The fault of a service for a message whose text was not appended. A refusal stays the same, and any other fault
--- becomes `Memory`.
+-- The fault of a service for the fault of appending a message's text. `Refused r` stays `Refused r`, and any other
+-- fault becomes `Memory`.
 abbrev pub served_fault : ToolFault → ServeFault
 served_fault (faults.Refused r) = serve_faults.Refused r
 served_fault faults.Memory = serve_faults.Memory
@@ -34,6 +34,6 @@ served_fault faults.Io = serve_faults.Memory
 served_fault faults.InputTooLong = serve_faults.Memory
 served_fault (faults.NotWhole n) = serve_faults.Memory
 
--- The state of a run before its first message.
+-- The state of a run before its first message. The run writes the text of the kind `piece` for each message.
 abbrev pub first_run : MessageText → Bounds → Run MessageTexts
 first_run piece limits = record { service = message_texts piece limits; at = start }

@@ -12,16 +12,15 @@ use Rattle.capn_commands.specs.declared.plan.Whole.TheVariants as wholes
 use Rattle.capn_commands.specs.declared.fault.ToolFault.{ToolFault}
 use Rattle.capn_commands.specs.declared.fault.ToolFault.TheVariants as faults
 
--- The result is the bytes of an input that are held. For a stream they are the first bytes, at most one byte more than
--- the longest frame. For a packed input they are the words that the input unpacks to. A refusal of the packed input is
--- returned.
+-- After `Ok`, `held` is the first bytes of a stream, or the words that a packed input unpacks to. The first bytes of a
+-- stream are at most one byte more than the longest frame. Only a packed input can give a fault.
 abbrev pub HoldsFrame : {A : Type 0} → StreamForm → ℕ → List ℕ → Result (Vec ℕ A) ToolFault → Type 0
 HoldsFrame forms.Stream most bytes (Ok held) = take (8 * (most + most_table_words) + 1) bytes ≡ held.items
 HoldsFrame forms.Stream most bytes (Err fault) = ⊥
 HoldsFrame forms.Packed most bytes held = Gives (wholes.Unpacked (most + most_table_words)) bytes held
 
--- A text that `writes` allows was written, or the message is refused and nothing was written. Or memory was refused
--- before or within such a text, or the writer failed within such a text.
+-- After `Ok`, some `text` was written, and `writes text` holds. After `Refused r`, `refuses r` holds, and nothing was
+-- written. After `Memory` or `Io`, nothing or a prefix of such a `text` was written.
 abbrev pub ServesWhole : (List ℕ → Type 0) → (Refusal → Type 0) → Option (List ℕ) → Option (List ℕ) → Bool
     → Result (Unit {0}) ToolFault → Type 0
 ServesWhole writes refuses old new failed (Ok u) =
@@ -36,12 +35,13 @@ ServesWhole writes refuses old new failed (Err (faults.Refused r)) =
 ServesWhole writes refuses old new failed (Err faults.InputTooLong) = ⊥
 ServesWhole writes refuses old new failed (Err (faults.NotWhole n)) = ⊥
 
--- `frame` is one frame, of a message that writes `text`.
+-- `frame` is the frame of one `message` of at most `most` words, and `writes` holds for `frame`, `message` and `text`.
 abbrev pub WritesFrame : (List ℕ → List (List ℕ) → List ℕ → Type 0) → ℕ → List ℕ → List ℕ → Type 0
 WritesFrame writes most frame text =
     (message : List (List ℕ)) × IsFramed frame most message × writes frame message text
 
--- `frame` is not exactly one frame, or the message of `frame` is refused. `r` is the refusal.
+-- `r` is the reason why `frame` is not exactly one frame of at most `most` words, or `refuses` holds for `frame`, its
+-- `message` and `r`.
 abbrev pub RefusesFrame : (List ℕ → List (List ℕ) → Refusal → Type 0) → ℕ → List ℕ → Refusal → Type 0
 RefusesFrame refuses most frame r = IsMisframed frame most r
     ⊎ ((message : List (List ℕ)) × IsFramed frame most message × refuses frame message r)

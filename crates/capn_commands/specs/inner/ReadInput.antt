@@ -8,12 +8,12 @@ use Rattle.capn_commands.specs.Text.{taken_of, has_more}
 use Rattle.capn_commands.specs.declared.fault.ToolFault.{ToolFault}
 use Rattle.capn_commands.specs.declared.fault.ToolFault.TheVariants as faults
 
--- A reader returned some bytes, and `P` holds for the number of these bytes.
+-- A reader returned `bytes`, which took it from `old` to `new`. `P` holds for the number of these bytes.
 abbrev pub HasRead : Option (List ℕ) → Option (List ℕ) → (ℕ → Type 0) → Type 0
 HasRead old new P = (bytes : List ℕ) × Consumes old new bytes × P (length bytes)
 
--- A reader returned `bytes`, which are all that it had, or one byte more than 2^32. `kept` are the bytes that a run
--- takes, and `is_longer` says whether there are more.
+-- A reader returned `bytes`, at most 2^32 + 1 of them. `kept` are the bytes that a run takes, and `is_longer` says
+-- whether `bytes` has more than `kept`. If not, the reader is at its end.
 pub record Kept (old new : Option (List ℕ)) (kept : List ℕ) (is_longer : Bool) (bytes : List ℕ) : Type 0 where
   pub read : Consumes old new bytes
   pub bounded : length bytes ≤ most_input + 1
@@ -21,15 +21,16 @@ pub record Kept (old new : Option (List ℕ)) (kept : List ℕ) (is_longer : Boo
   pub more : has_more bytes ≡ is_longer
   pub ended : is_longer ≡ false → IsAtEnd new
 
--- An input was not read to its end: memory was refused for bytes that were read, or the reader failed, or there are
--- more bytes than a run takes.
+-- An input was not read to its end, and `fault` is the reason. Memory was refused for `bytes`, or the reader failed, or
+-- there are more `bytes` than a run takes.
 abbrev pub IsUntaken : Option (List ℕ) → Option (List ℕ) → Bool → ToolFault → Type 0
 IsUntaken old new failed fault = (bytes : List ℕ)
     × ((HasGiven old new failed bytes × (((fault ≡ faults.Memory) × (0 < length bytes))
     ⊎ ((fault ≡ faults.InputTooLong) × (most_input < length bytes))))
     ⊎ (Consumes old new bytes × (length bytes ≤ most_input + 1) × (failed ≡ true) × (fault ≡ faults.Io)))
 
--- An input was read to its end, and `P` holds for its bytes and the result, or the input was not read to its end.
+-- An input was read to its end, and `P` holds for its `bytes` and the result. Or the result is a fault because of which
+-- the input was not read to its end (`IsUntaken`).
 abbrev pub TakesAll : {T : Type 0} → (List ℕ → Result T ToolFault → Type 0) → Option (List ℕ) → Option (List ℕ) → Bool
     → Result T ToolFault → Type 0
 TakesAll P old new failed (Ok x) = (bytes : List ℕ) × HasGivenAll old new failed bytes × P bytes (Ok x)

@@ -12,26 +12,26 @@ use Rattle.capn_serve.specs.declared.position.Position.{Position}
 use Rattle.capn_explain.specs.ExplainRun.{told_at}
 use Rattle.capn_explain.specs.declared.explain.Explain.{Explain}
 
--- If the fault is a refusal, whose lines are to be written, `failed` is false: the writer has not failed.
+-- If the fault is `Refused`, `failed` is false, so that the writer can write the lines of the refused message.
 abbrev pub IsFineIfTold : RunFault → Bool → Type 0
 IsFineIfTold (faults.Refused at r) failed = failed ≡ false
 IsFineIfTold _ failed = ⊤
 
--- The text of a message that is refused before its walk. An empty line follows if the first argument is `true`.
+-- The lines of the message at `at`, which is refused with `refusal` before its walk. If the first argument is `true`,
+-- an empty line follows them.
 abbrev pub told_by : Bool → Explain → Position → Refusal → Came → List ℕ
 told_by false order at refusal came = told_at order at refusal came
 told_by true order at refusal came = told_at order at refusal came ++ codes "\n"
 
--- `lines` is `text`, which is not empty. Or there are no lines, and `text` is empty. Or an allocation was refused for a
--- text that is not empty.
+-- If the result is `lines`, they are `text`, which is not empty. If it is `None`, `text` is empty. If it is a fault,
+-- the fault is `Memory`, and `text` is not empty.
 abbrev pub AreLines : {A : Type 0} → List ℕ → Result (Option (String A)) RunFault → Type 0
 AreLines text (Ok (Some lines)) = (string_bytes lines ≡ text) × (text ≢ [])
 AreLines text (Ok None) = text ≡ []
 AreLines text (Err fault) = (fault ≡ faults.Memory) × (text ≢ [])
 
--- `text` was written. Or an allocation was refused for a text that is not empty, and nothing was written. Or the writer
--- failed within a text that is not empty. `before` and `after` say whether the writer had failed before the call and
--- after it.
+-- If the result is `Ok`, `text` was written, which took the output from `old` to `new`. If it is a fault, `text` is not
+-- empty: for `Memory` nothing was written, and for `Io` the writer failed after a prefix of `text`.
 abbrev pub PutsClosing : List ℕ → Option (List ℕ) → Option (List ℕ) → Bool → Bool → Result (Unit {0}) RunFault → Type 0
 PutsClosing text old new before after (Ok u) = Appends old new text × (after ≡ before)
 PutsClosing text old new before after (Err fault) =
@@ -39,8 +39,8 @@ PutsClosing text old new before after (Err fault) =
     × (((fault ≡ faults.Memory) × (new ≡ old) × (after ≡ before))
     ⊎ ((fault ≡ faults.Io) × HasBegun old new text × (after ≡ true)))
 
--- If the fault is a refusal, its text `told` was written with the result that `PutsClosing` allows. For any other fault
--- nothing was written, and the result is `Ok`.
+-- If the fault is `Refused`, `PutsClosing` holds for the text `told at r`. For any other fault nothing was written, and
+-- `result` is `Ok`.
 abbrev pub PutsFault : (Position → Refusal → List ℕ) → RunFault → Option (List ℕ) → Option (List ℕ) → Bool → Bool
     → Result (Unit {0}) RunFault → Type 0
 PutsFault told (faults.Refused at r) old new before after result = PutsClosing (told at r) old new before after result

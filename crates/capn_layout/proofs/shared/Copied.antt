@@ -23,7 +23,7 @@ pub below-drop : (n : ℕ) (xs : List ℕ) → ((i : ℕ) → slice_index xs i <
     → slice_index (drop n xs) i < 2 ^ 64
 below-drop n xs h i = let e = get_or-drop n xs i 0 in let k = h (n + i) in omega arith
 
--- the bytes of n words from a place on are the words
+-- The bytes of the `n` words from word `w` of segment `s` on, read as words, are these `n` words.
 pub copied-words : (m : List (List ℕ)) (s w n : ℕ) → IsMessage m → w + n ≤ length (segment_at m s)
     → words_in (length (bytes_at m (record { segment = s; word = w }) (8 * n)) / 8)
     (bytes_at m (record { segment = s; word = w }) (8 * n)) ≡ take n (words_from m s w)
@@ -36,7 +36,7 @@ copied-words m s w n is h =
     let k : length (bytes_at m (record { segment = s; word = w }) (8 * n)) / 8 ≡ length ws = omega arith in
     ap₂ words_in k e ∙ words_of_bytes ws (below-take n (drop w seg) (below-drop w seg (is.each s)))
 
--- appending the bytes of n words appends the n words
+-- Let `bs` be the bytes of `n` words of `m`. Appending the words of `bs` to `p` appends these `n` words.
 pub copy-of : (m : List (List ℕ)) (s w n : ℕ) (p q : List ℕ) (bs : List ℕ) → IsMessage m
     → w + n ≤ length (segment_at m s) → bs ≡ bytes_at m (record { segment = s; word = w }) (8 * n) →
     q ≡ p ++ words_in (length bs / 8) bs → q ≡ p ++ take n (words_from m s w)
@@ -44,18 +44,18 @@ copy-of m s w n p q bs is h eb eq =
     eq ∙ ap (λ (xs : List ℕ). p ++ words_in (length xs / 8) xs) eb
     ∙ ap (λ (xs : List ℕ). p ++ xs) (copied-words m s w n is h)
 
--- each word of a message is below 2^64
+-- Each word of segment `s` from word `w` on is below 2^64.
 pub part-below : (m : List (List ℕ)) (s w : ℕ) → IsMessage m → (i : ℕ) → slice_index (words_from m s w) i < 2 ^ 64
 part-below m s w is = below-drop w (segment_at m s) (is.each s)
 
--- the bytes of n words are whole words
+-- If `bs` are the bytes of `n` words of a segment, the length of `bs` is a multiple of 8.
 pub whole-bytes : (m : List (List ℕ)) (s w n : ℕ) (bs : List ℕ) → w + n ≤ length (segment_at m s)
     → bs ≡ bytes_at m (record { segment = s; word = w }) (8 * n) → length bs % 8 ≡ 0
 whole-bytes m s w n bs h e =
     let l = ap length e ∙ length-bytes_at m (record { segment = s; word = w }) (8 * n) (omega arith) in
     omega arith
 
--- n words have 8 * n bytes
+-- If `bs` are the bytes of `n` words of a segment, the length of `bs` is `8 * n`.
 pub length-copied : (m : List (List ℕ)) (s w n : ℕ) (bs : List ℕ) → w + n ≤ length (segment_at m s)
     → bs ≡ bytes_at m (record { segment = s; word = w }) (8 * n) → length bs ≡ 8 * n
 length-copied m s w n bs h e = ap length e ∙ length-bytes_at m (record { segment = s; word = w }) (8 * n) (omega arith)
@@ -65,7 +65,7 @@ pub length-part : (m : List (List ℕ)) (s w n : ℕ) → w + n ≤ length (segm
 length-part m s w n h =
     let d = length-drop w (segment_at m s) in length-take-le n (words_from m s w) (omega arith)
 
--- the n words from word w on are appended
+-- Let `bs` be the bytes of `n` words of `m`. If the words of `bs` are appended, these `n` words are appended.
 module _ (m : List (List ℕ)) (s w n len end : ℕ) (p q bs : List ℕ) (is : IsMessage m)
     (h : w + n ≤ length (segment_at m s)) (e : bs ≡ bytes_at m (record { segment = s; word = w }) (8 * n))
     (a : Appends len end (words_in (length bs / 8) bs) p q) where
@@ -78,7 +78,7 @@ module _ (m : List (List ℕ)) (s w n len end : ℕ) (p q bs : List ℕ) (is : I
       appends-length len end (take n (words_from m s w)) p q copied
       ∙ ap (λ (j : ℕ). len + j) (length-part m s w n h)
 
--- the number of words in two parts
+-- The `a` words from word `w` on and the `b` words from word `x` on are `a + b` words, if the segment has them.
 pub length-parts : (m : List (List ℕ)) (s w x a b : ℕ) → w + a ≤ length (segment_at m s)
     → x + b ≤ length (segment_at m s)
     → length (take a (words_from m s w) ++ take b (words_from m s x)) ≡ a + b
@@ -88,7 +88,7 @@ length-parts m s w x a b h k =
     let v = length-part m s x b k in
     omega arith
 
--- row i lies inside the n rows
+-- If `i < n`, row `i` of `n` rows of `k` words each ends at or before word `n * k`.
 pub row-room : (n i k : ℕ) → i < n → i * k + k ≤ n * k
 row-room n i k lt =
     let z : n ≡ suc i + (n - suc i) = omega arith in
@@ -100,7 +100,7 @@ length-last : (r : ℕ) (ws : List ℕ) → r < 64 → length (last_bits r ws) �
 length-last zero ws h = omega arith
 length-last (suc r) ws h = omega arith
 
--- the number of words that the first bits take
+-- The first `n` bits from word `w` on take `words_for n` words, if the segment has these words.
 pub length-first-bits : (m : List (List ℕ)) (s w n : ℕ) → w + words_for n ≤ length (segment_at m s)
     → length (first_bits n (words_from m s w)) ≡ words_for n
 length-first-bits m s w n h =

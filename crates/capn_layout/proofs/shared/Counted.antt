@@ -17,7 +17,6 @@ use Rattle.capn_layout.specs.Weight.{weight, weights, weights_in_rows}
 use Rattle.capn_layout.proofs.shared.KeptLengths.{kept_words-le, kept_slots-le}
 use Rattle.capn_layout.proofs.shared.Sound.{wide-words}
 
--- i times k is at most n times k if i is at most n
 pub times-le : (i n k : ℕ) → i ≤ n → i * k ≤ n * k
 times-le i n k le =
     let z : n ≡ i + (n - i) = omega arith in
@@ -25,7 +24,7 @@ times-le i n k le =
     let d : (i + (n - i)) * k ≡ i * k + (n - i) * k = omega arith in
     omega arith
 
--- the number of words of rows of equal sizes is the number of rows times the words of a row
+-- Rows of `a` words and `b` slots each have `count_rows bs * (a + b)` words in all.
 pub rows-words : (m : List (List ℕ)) (bs : Bodies) (a b s w : ℕ) → RowsAt m a b s w bs
     → row_words bs ≡ count_rows bs * (a + b)
 rows-words m no_bodies a b s w i = omega arith
@@ -36,7 +35,6 @@ rows-words m (body ws ss bs) a b s w i =
     let k : suc (count_rows bs) * (a + b) ≡ a + b + count_rows bs * (a + b) = omega arith in
     omega arith
 
--- the words of rows, and the rows, are no more than the rows cost
 most-priced : (bs : Bodies) (k : ℕ) → row_words bs ≡ count_rows bs * k
     → max (count_rows bs) (row_words bs) ≤ rows_price bs
 unfolding rows_price
@@ -50,7 +48,7 @@ most-priced bs k e = priced (row_words bs) (count_rows bs) k e
         let q : suc n ≤ r = omega arith in
         grind (arith, nat_tests)
 
--- the words of a layout are no more than the weight of the value
+-- The size of a `Sound` value is at most the value's weight.
 mutual
   pub size-weight : (v : Tree) → Sound v → size v ≤ weight v
   size-weight nil h = omega arith
@@ -104,7 +102,7 @@ module _ (m : List (List ℕ)) (base : ℕ) where
         let y = weights-rows bs a b s (w + a + b) i.4 in
         omega arith
 
--- a value at a word of a message is the value of the slot at that word
+-- A value `v` at an existing word `w` of segment `s` is the value of the slot at that word.
 pub at-slot : (m : List (List ℕ)) (s w : ℕ) (v : Tree) → IsMessage m → s < length m → w < length (segment_at m s)
     → IsAt m (record { segment = s; word = w }) v → HasSlot m s w v
 at-slot m s w v message exists place at = record { message = message; exists = exists; place = place; at = at }

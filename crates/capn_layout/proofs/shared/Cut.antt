@@ -1,5 +1,5 @@
--- The length up to the last number that is not zero. (For `kept_above`, `kept_below`, `kept_each_counted` and
--- capn_canon.)
+-- `kept_words`, the length of a list up to its last number that is not zero. (For `kept_above`, `kept_below`,
+-- `kept_each_counted` and capn_canon.)
 use Rattle.std.proofs.Common.{◌≡◌, ◌≢◌, ◌⊎◌, inl, inr, ℕ, zero, suc, ◌+◌, ◌-◌, ◌<◌, ◌≤◌, ◌==◌, max, Bool, List, [], ◌∷◌}
 use Rattle.std.proofs.Common.{length, take, drop, slice_index, refl, ap, sym, ◌∙◌, arith}
 use Rattle.std.proofs.lemmas.Bool.Decides.{nat_tests}
@@ -19,14 +19,14 @@ behind-here x n e = grind (arith, nat_tests)
 behind-above : (b : Bool) (n k : ℕ) → k < n → suc k < kept_behind b n
 behind-above b n k h = grind (arith, nat_tests)
 
--- if all numbers from index n on are zero, at most n are kept
+-- If all numbers of `xs` from index `n` on are zero, `kept_words xs` is at most `n`.
 pub zeros-cut : (xs : List ℕ) (n : ℕ) → ((k : ℕ) → n ≤ k → slice_index xs k ≡ 0) → kept_words xs ≤ n
 zeros-cut [] n h = omega arith
 zeros-cut (x ∷ xs) zero h =
     behind-zero x (kept_words xs) 0 (h 0 (omega arith)) (zeros-cut xs 0 (λ k l. h (suc k) (omega arith)))
 zeros-cut (x ∷ xs) (suc n) h = behind-more (x == 0) (kept_words xs) n (zeros-cut xs n (λ k l. h (suc k) (omega arith)))
 
--- a number that isn't zero is kept
+-- If number `k` of `xs` isn't zero, `k` is below `kept_words xs`.
 pub others-kept : (xs : List ℕ) (k : ℕ) → slice_index xs k ≢ 0 → k < kept_words xs
 others-kept [] k h = absurd (omega arith)
 others-kept (x ∷ xs) zero h = behind-here x (kept_words xs) h
@@ -46,7 +46,7 @@ module _ (seg : List ℕ) (w count : ℕ) where
   past-part (x ∷ xs) (suc n) zero h = absurd (omega arith)
   past-part (x ∷ xs) (suc n) (suc k) h = past-part xs n k (omega arith)
 
-  -- all words of a part past the first n are zero
+  -- All words of `part` from index `n` on are zero.
   abbrev pub AreZeros : ℕ → Type 0
   AreZeros n = (k : ℕ) → n ≤ k → k < count → slice_index seg (w + k) ≡ 0
 
@@ -63,7 +63,8 @@ module _ (seg : List ℕ) (w count : ℕ) where
           from (inl a) = at-part k a ∙ h k l a
           from (inr b) = past-part (drop w seg) count k b
 
-  -- if the words of a part from word n on are zero and word n - 1 isn't zero, n words are kept
+  -- If the words of `part` from index `n` on are zero and word `n - 1` isn't zero, `n` is the greater of `least` and
+  -- `kept_words part`.
   pub kept-found : (least n : ℕ) → least < n → n ≤ count → AreZeros n → slice_index seg (w + (n - 1)) ≢ 0
       → n ≡ max least (kept_words part)
   kept-found least n l le h ne =
@@ -72,13 +73,13 @@ module _ (seg : List ℕ) (w count : ℕ) where
       let b = others-kept part (n - 1) (λ z. ne (sym e ∙ z)) in
       omega arith
 
-  -- if the words of a part from the least length on are zero, the least length is kept
+  -- If `n` is `least` and the words of `part` from index `n` on are zero, `n` is the greater of `least` and
+  -- `kept_words part`.
   pub kept-least : (least n : ℕ) → n ≤ least → least ≤ n → AreZeros n → n ≡ max least (kept_words part)
   kept-least least n l le h =
       let a = cut n h in
       omega arith
 
--- zeros at the end of a part do not change the number of words that are kept
 zeros-after : (k n : ℕ) (xs : List ℕ) → k ≤ n → ((j : ℕ) → k ≤ j → j < n → slice_index xs j ≡ 0)
     → kept_words (take k xs) ≡ kept_words (take n xs)
 zeros-after zero n xs l h =
@@ -88,7 +89,7 @@ zeros-after (suc k) (suc n) [] l h = refl
 zeros-after (suc k) (suc n) (x ∷ xs) l h =
     ap (kept_behind (x == 0)) (zeros-after k n xs (omega arith) (λ j a b. h (suc j) (omega arith) (omega arith)))
 
--- if the last word of a part is zero, the last word does not change the number of words that are kept
+-- If the last of the `count` words from word `w` on is zero, leaving it out does not change `kept_words`.
 pub last-cut : (seg : List ℕ) (w count : ℕ) → 0 < count → slice_index seg (w + (count - 1)) ≡ 0
     → kept_words (take (count - 1) (drop w seg)) ≡ kept_words (take count (drop w seg))
 last-cut seg w count some z =
@@ -109,7 +110,8 @@ take-less (suc k) zero xs h = absurd (omega arith)
 take-less (suc k) (suc n) [] h = refl
 take-less (suc k) (suc n) (x ∷ xs) h = ap (λ (ys : List ℕ). x ∷ ys) (take-less k n xs (omega arith))
 
--- all words of a part are kept if and only if the last word isn't zero
+-- The two lemmas of this block: `kept_words` of the `count` words from word `w` on is `count` if and only if the last
+-- of these words isn't zero.
 module _ (seg : List ℕ) (w count : ℕ) (some : 0 < count) where
   pub all-kept : slice_index seg (w + (count - 1)) ≢ 0 → kept_words (take count (drop w seg)) ≡ count
   all-kept h =

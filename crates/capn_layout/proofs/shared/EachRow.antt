@@ -1,4 +1,5 @@
--- Rows of equal sizes, one after the other. (For `kept.rt`, `message_slots.rt`, `struct_list_words.rt` and capn_canon.)
+-- Lemmas on `kept_each` and `row_cells`, for consecutive rows of equal sizes. (For `kept.rt`, `message_slots.rt`,
+-- `struct_list_words.rt` and capn_canon.)
 use Rattle.std.proofs.Common.{◌≡◌, ℕ, zero, suc, ◌+◌, ◌-◌, ◌*◌, ◌<◌, ◌≤◌, max, List, ◌++◌, length, take, refl}
 use Rattle.std.proofs.Common.{ap, ap₂, sym, subst, ◌∙◌, arith, append_assoc, append-nil, length-drop}
 use Rattle.capn_words.specs.Message.{segment_at}
@@ -53,7 +54,7 @@ module _ (m : List (List ℕ)) where
       let e = ap (kept_each m s w size step) z in
       omega arith
 
-  -- before the first row all n rows are left
+  -- The cells of `n - 0` rows are the cells of `n` rows. (A loop over rows starts at row 0.)
   pub cells-begin : (s w step inset a b n : ℕ) (p : List ℕ)
       → p ++ row_cells m s w step inset a b (n - 0) ≡ p ++ row_cells m s w step inset a b n
   cells-begin s w step inset a b n p = let z : n - 0 ≡ n = omega arith in
@@ -78,7 +79,7 @@ module _ (m : List (List ℕ)) where
       let z : n - i ≡ 0 = omega arith in
       sym (append-nil p) ∙ ap (λ (x : ℕ). p ++ row_cells m s w step inset a b x) (sym z) ∙ h
 
-  -- the number of words kept of each body is the greatest kept length of the rows' words in the message
+  -- `kept_words_of_rows bs` is `kept_each` of the rows' words in the message.
   pub kept-rows-words : (bs : Bodies) (a b s w n : ℕ) → RowsAt m a b s w bs → count_rows bs ≡ n
       → kept_words_of_rows bs ≡ kept_each m s w a (a + b) n
   kept-rows-words no_bodies a b s w zero h e = refl
@@ -104,7 +105,8 @@ module _ (m : List (List ℕ)) where
       (kept-rows-slots bs a b s (w + a + b) n h.4 (omega arith) (omega arith)
       ∙ ap (λ (x : ℕ). kept_each m s x b (a + b) n) z)
 
-  -- the cells of rows are the first x words of each row, followed by y words in place of slots
+  -- If each row of `bs` has at least `x` words and `y` slots, `row_cells` has, for each row, the row's first `x` words
+  -- and then some `y` words (`AreRowsOver`).
   pub cells-over : (bs : Bodies) (a b s w n x y : ℕ) → RowsAt m a b s w bs → count_rows bs ≡ n → AreWide x y bs
       → w + n * (a + b) ≤ length (segment_at m s) → AreRowsOver x y bs (row_cells m s w (a + b) a x y n)
   cells-over no_bodies a b s w zero x y h e wide i = refl
@@ -132,7 +134,6 @@ module _ (m : List (List ℕ)) where
         cells-over bs a b s (w + (a + b)) n x y after (omega arith) wide.2 (omega arith),
       )
 
-  -- parts that each row has are parts of a row
   pub wide-part : (bs : Bodies) (a b s w x y : ℕ) → RowsAt m a b s w bs → 0 < count_rows bs → AreWide x y bs
       → (x ≤ a) × (y ≤ b)
   wide-part no_bodies a b s w x y h lt wide = absurd (omega arith)
@@ -143,7 +144,7 @@ module _ (m : List (List ℕ)) where
       let lb = h.1 in
       (omega arith, omega arith)
 
--- rows that are kept whole are consecutive words
+-- If `row_cells` has all `a` words and `b` slots of `n` rows, the cells are consecutive words of the message.
 pub cells-whole : (m : List (List ℕ)) (s w a b n : ℕ)
     → row_cells m s w (a + b) a a b n ≡ take (n * (a + b)) (words_from m s w)
 cells-whole m s w a b zero = let z : 0 * (a + b) ≡ 0 = omega arith in
@@ -176,7 +177,8 @@ cells-piece m s w step inset a b (suc n) p q h e =
     ∙ ap (λ (x : List ℕ). p ++ x) (sym (cells-whole m s w a b (suc n)))
     ∙ ap₂ (λ (x y : ℕ). p ++ row_cells m s w x y a b (suc n)) k.1 k.0
 
--- two parts of a row are consecutive words, if the first part is kept whole
+-- If a row has exactly `a` words before its slots, its first `a + b` words are these `a` words and its first `b` slots.
+-- Appending them at once gives the same list as appending the words and then the slots.
 pub copy-parts : (m : List (List ℕ)) (s w a b size : ℕ) (p q : List ℕ) → a ≡ size
     → q ≡ p ++ take (a + b) (words_from m s w)
     → q ≡ (p ++ take a (words_from m s w)) ++ take b (words_from m s (w + size))

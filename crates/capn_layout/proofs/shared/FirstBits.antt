@@ -1,5 +1,5 @@
--- Elements that are packed into words are the first bits of the words from which the elements are read. (For
--- `append_bits`, capn_canon and capn_mismatch.)
+-- Packing elements that were read from words gives the first bits of these words. (For `append_bits`, capn_canon and
+-- capn_mismatch.)
 use Rattle.std.proofs.Common.{◌≡◌, ◌≢◌, ℕ, zero, suc, ◌+◌, ◌*◌, ◌/◌, ◌%◌, ◌^◌, ◌<◌, ◌≤◌, List, []}
 use Rattle.std.proofs.Common.{◌∷◌, ◌++◌, length, take, drop, slice_index, refl, ap, ap₂, sym, subst, ◌∙◌}
 use Rattle.std.proofs.Common.{arith, append-nil, append_assoc, length-drop}
@@ -29,7 +29,7 @@ pow-positive base (suc n) h = let e = pow-succ' base n in let k = pow-positive b
     positive zero b h k = absurd (omega arith)
     positive (suc a) b h k = let e : suc a * b ≡ b + a * b = omega arith in omega arith
 
--- the number of the first digits of a word
+-- If `xs` are the lowest digits of `w` in base `base`, `number base xs` is the remainder of `w` by `base ^ length xs`.
 pub digits : (base : ℕ) → 0 < base → (xs : List ℕ) (w : ℕ)
     → ((i : ℕ) → i < length xs → slice_index xs i ≡ w / base ^ i % base) → number base xs ≡ w % base ^ length xs
 digits base p [] w h = let e = pow-zero base in rw e (omega arith)
@@ -60,7 +60,6 @@ module _ (each width : ℕ) (some : 0 < each) (room : width * each ≡ 64) where
   base-some : 0 < 2 ^ width
   base-some = pow-positive 2 width (omega arith)
 
-  -- the elements of the first word, as a number
   first-word : (ws xs : List ℕ) → length xs ≤ each → AreElements each width ws xs
       → number (2 ^ width) xs ≡ slice_index ws 0 % 2 ^ (width * length xs)
   first-word ws xs le h =
@@ -182,8 +181,8 @@ whole-words ws n k e =
     let b : 0 ≡ k % 64 = omega arith in
     sym (append-nil (take n ws)) ∙ ap₂ (λ (q r : ℕ). take q ws ++ last_bits r (drop q ws)) a b
 
--- the content of a list of numbers is the first bits of the list's words, and the pointer to the value is a list
--- pointer
+-- The lemma of this block: if a list `v` without pointers has its content at word `w`, the layout of `v` is the first
+-- bits of the words from `w` on. The pointer to `v` is then `list_to`.
 module _ (m : List (List ℕ)) (width : Width) (n s w : ℕ) (plain : IsPlain width) (below : (i : ℕ)
     → slice_index (words_from m s w) i < 2 ^ 64)
     (inside : words_for (element_bits width * n) ≤ length (words_from m s w)) where
@@ -231,7 +230,7 @@ pub some-last : (n : ℕ) (ws : List ℕ) → 0 < n → last_bits n ws ≡ slice
 some-last zero ws h = absurd (omega arith)
 some-last (suc n) ws h = refl
 
--- whole words are appended, and then the first bits of the next word
+-- Appending the complete words of `n` bits, and then the lowest bits of the next word, appends the first `n` bits.
 pub bits-appended : (seg : List ℕ) (w n word mask : ℕ) (p q r : List ℕ) → n % 64 ≢ 0
     → q ≡ p ++ take (n / 64) (drop w seg) → word ≡ slice_index seg (w + n / 64) → mask ≡ 2 ^ (n % 64) →
     r ≡ q ++ word % mask ∷ [] → r ≡ p ++ first_bits n (drop w seg)

@@ -1,4 +1,5 @@
--- The front of a list, in two parts. (For `EachRow` and capn_canon.)
+-- The first `m + n` elements of a list are the first `m` elements and then the next `n`. (For `EachRow` and
+-- capn_canon.)
 use Rattle.std.proofs.Common.{◌≡◌, ℕ, zero, suc, ◌+◌, List, [], ◌∷◌, ◌++◌, take, drop, refl, ap, ◌∙◌, arith}
 
 pub take-plus : (m n : ℕ) (xs : List ℕ) → take (m + n) xs ≡ take m xs ++ take n (drop m xs)

@@ -1,4 +1,5 @@
--- A kept length is at most the length itself. (For `Blocks`, `Counted`, `Cut`, capn_canon and capn_mismatch.)
+-- `kept_words` and `kept_slots` are at most the length of their list. (For `Blocks`, `Counted`, `Cut`, capn_canon and
+-- capn_mismatch.)
 use Rattle.std.proofs.Common.{ℕ, suc, ◌≤◌, ◌==◌, Bool, List, [], ◌∷◌, length, arith}
 use Rattle.std.proofs.lemmas.Bool.Decides.{nat_tests}
 use Rattle.capn_value.specs.Tree.{Trees, no_trees, tree, count, is_null}

@@ -1,5 +1,5 @@
--- The number of words of a layout. (For the cycle `objects`, the cycle `sizes`, `append_numbers`, `count_words`,
--- capn_canon and capn_mismatch.)
+-- Lemmas on lengths: the layout of a `Sound` value has as many words as the value's size. (For the cycle `objects`, the
+-- cycle `sizes`, `append_numbers`, `count_words`, capn_canon and capn_mismatch.)
 use Rattle.std.proofs.Common.{◌≡◌, ℕ, zero, suc, ◌+◌, ◌*◌, ◌≤◌, List, ◌++◌, length, take, drop, refl, ap, ◌∙◌}
 use Rattle.std.proofs.Common.{arith, length-append}
 use Rattle.std.proofs.lemmas.List.{length-take-le}

@@ -37,12 +37,12 @@ module _ (m : List (List ℕ)) where
   other-target at n =
       there-named m at.segment at.word (pointer_in m at.segment at.word) (pointer-other (word_at m at) n)
 
-  -- a word of zeros has the target null
+  -- If the word at `at` is 0, the target of `at` is `Nil`.
   pub zero-target : (at : Place) → word_at m at ≡ 0 → target m at ≡ Ok targets.Nil
   unfolding target
   zero-target at e = ap (target_of_pointer m at.segment at.word) (pointer-zero (word_at m at) e)
 
-  -- a word with the target null is zero
+  -- If the target of `at` is `Nil`, the word at `at` is 0.
   pub other-than-nil : (at : Place) → target m at ≡ Ok targets.Nil → word_at m at ≡ 0
   other-than-nil at e = from (decided (word_at m at))
     where
@@ -68,7 +68,7 @@ module _ (m : List (List ℕ)) where
   null-word at (links ts) h = is-other (word_at m at) (λ z. let e = zero-target at z in let f = h.is in cc)
   null-word at (rows bs) h = is-other (word_at m at) (λ z. let e = zero-target at z in let f = h.3.is in cc)
 
-  -- the number of slots that are kept is the number that is kept of the slots' words
+  -- If the values `ss` are in the slots from word `w` on, `kept_slots ss` is `kept_words` of the words of these slots.
   pub kept-slots : (ss : Trees) (s w : ℕ) → AreAt m s w ss → w + count ss ≤ length (segment_at m s)
       → kept_slots ss ≡ kept_words (take (count ss) (words_from m s w))
   kept-slots no_trees s w h le = refl

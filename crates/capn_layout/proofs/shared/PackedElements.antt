@@ -1,4 +1,4 @@
--- Elements that were packed into words, and are read from these words again. (For capn_canon.)
+-- The elements that are read from packed words are the elements that were packed. (For capn_canon.)
 use Rattle.std.proofs.Common.{◌≡◌, ℕ, zero, suc, ◌+◌, ◌*◌, ◌/◌, ◌%◌, ◌^◌, ◌<◌, List, [], ◌∷◌, ◌++◌, length, take, drop}
 use Rattle.std.proofs.Common.{slice_index, ap, sym, subst, ◌∙◌, arith}
 use Rattle.std.proofs.Math.Nat.{div-div-eq-div-mul, pow-succ', pow-zero, zero-div, zero-mod, div-add-mod, mod-lt}
@@ -10,7 +10,7 @@ use Rattle.capn_layout.specs.Layout.{number, packed}
 use Rattle.capn_layout.specs.Sound.{AreBelow}
 use Rattle.capn_layout.proofs.shared.LayLengths.{length-packed}
 
--- digit k of the number of a list is element k of the list
+-- Digit `k` of `number base ys` is element `k` of `ys`, if all elements are below `base`.
 digit : (base : ℕ) → 0 < base → (ys : List ℕ) (k : ℕ) → AreBelow base ys
     → number base ys / base ^ k % base ≡ slice_index ys k
 digit base p [] k h = ap (λ (x : ℕ). x % base) (zero-div (base ^ k)) ∙ zero-mod base
@@ -64,7 +64,7 @@ module _ (each width n : ℕ) (xs rest : List ℕ) (some : 0 < each) (base : 0 <
       ∙ get_or-drop (each * j) xs k 0
       ∙ ap (slice_index xs) (div-add-mod i each)
 
-  -- the elements of packed words are the elements that were packed
+  -- The elements that are read from packed words are the elements `xs` that were packed.
   pub packed-elements : ((i : ℕ) → i < length xs → i / each < n)
       → AreElements each width (packed each width n xs ++ rest) xs
   packed-elements room i h = sym (one-element i (room i h))

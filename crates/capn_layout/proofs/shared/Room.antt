@@ -1,4 +1,4 @@
--- The number of words that the canonical layout of a value takes. (For `message_layout.rt`, `object_layout.rt`,
+-- The number of words in the canonical layout of a value. (For `message_layout.rt`, `object_layout.rt`,
 -- `tree_layout.rt`, capn_c, capn_canon and capn_mismatch.)
 use Rattle.std.proofs.Common.{◌≡◌, ℕ, suc, ◌+◌, ◌*◌, ◌^◌, ◌≤◌, ◌∷◌, length, refl, arith}
 use Rattle.std.proofs.lemmas.Bool.Decides.{nat_tests}
@@ -22,7 +22,7 @@ unfolding rows_price
 priced bs = grind (arith, nat_tests)
 
 mutual
-  -- the words of a layout are at most the cost of the value, under either tariff
+  -- The size of a `Sound` value is at most the value's cost, for any `base`.
   pub size-cost : (base : ℕ) (v : Tree) → Sound v → size v ≤ cost base v
   size-cost base nil h = omega arith
   size-cost base (cap k) h = omega arith
@@ -46,14 +46,14 @@ mutual
   sizes-rows-cost base (body ws ss bs) h = let x = sizes-cost base ss h.0 in let y = sizes-rows-cost base bs h.1 in
       omega arith
 
--- the canonical words are the pointer to the root and the layout
+-- The number of canonical words of a `Sound` value `v` is `1 + size v`: one word for the pointer to `v`.
 pub length_words : (v : Tree) → Sound v → length (words v) ≡ 1 + size v
 unfolding words
 length_words v h = let a = length-lay v 1 h in let c : length (point v 0 1 ∷ lay v 1) ≡ suc (length (lay v 1)) = refl in
     omega arith
 
--- The number of canonical words of a value that fits is at most one more than the value's cost, under either tariff,
--- and so at most 2^28 + 1.
+-- The number of canonical words of a value that fits is `1 + size v`, and at most 2^28 + 1. The size is at most the
+-- value's cost, for any `base`.
 pub room : (v : Tree) → Fits v → InRange v → (length (words v) ≡ 1 + size v) × ((base : ℕ) → size v ≤ cost base v)
     × (length (words v) ≤ 2 ^ 28 + 1)
 room v f r =
@@ -63,6 +63,6 @@ room v f r =
     let d = (fit_parts v f).cheap in
     (a, (λ base. size-cost base v s), omega arith)
 
--- the number of canonical bytes
+-- The number of canonical bytes of a `Sound` value `v` is `8 * (1 + size v)`.
 pub length-canon : (v : Tree) → Sound v → length (canon v) ≡ 8 * (1 + size v)
 length-canon v h = let a = length-bytes (words v) in let b = length_words v h in omega arith

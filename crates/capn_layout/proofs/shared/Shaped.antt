@@ -1,4 +1,4 @@
--- The value inside content of a shape. (For `item`, capn_canon and capn_mismatch.)
+-- The shape of a value's content decides the kind of the value. (For `item`, capn_canon and capn_mismatch.)
 use Rattle.std.proofs.Common.{◌≡◌, ℕ, suc, ◌+◌, List, length, take, Ok, refl, subst, arith}
 use Rattle.capn_words.specs.declared.space.Place.{Place}
 use Rattle.capn_words.specs.declared.pointer.Width.{Width}
@@ -18,7 +18,7 @@ both : (P : ℕ → ℕ → Type 0) (a b c d : ℕ) → a ≡ b → c ≡ d → 
 both P a b c d e f h = subst (λ (x : ℕ). P x d) e (subst (P a) f h)
 
 module _ (m : List (List ℕ)) where
-  -- a place that has a value has a target
+  -- If `v` is the value at `at`, `at` has a target.
   pub found : (at : Place) (v : Tree) → IsAt m at v → (t : Target) × (target m at ≡ Ok t)
   found at nil h = (targets.Nil, h)
   found at (cap k) h = (targets.Cap k, h)
@@ -28,7 +28,7 @@ module _ (m : List (List ℕ)) where
   found at (links ts) h = (_, h.is)
   found at (rows bs) h = (_, h.3.is)
 
-  -- if the target is null, the value is null
+  -- If the target of `at` is `Nil`, the value at `at` is `nil`.
   pub null-of : (at : Place) (v : Tree) → target m at ≡ Ok targets.Nil → IsAt m at v → v ≡ nil
   null-of at nil e h = refl
   null-of at (cap k) e h = cc
@@ -38,7 +38,7 @@ module _ (m : List (List ℕ)) where
   null-of at (links ts) e h = let f = h.is in cc
   null-of at (rows bs) e h = let f = h.3.is in cc
 
-  -- if the target is a capability, the value is that capability
+  -- If the target of `at` is the capability `k`, the value at `at` is `cap k`.
   pub cap-at : (at : Place) (v : Tree) (k : ℕ) → target m at ≡ Ok (targets.Cap k) → IsAt m at v → v ≡ cap k
   cap-at at nil k e h = cc
   cap-at at (cap j) k e h = cc
@@ -59,7 +59,8 @@ module _ (m : List (List ℕ)) where
       same-start : (t u p : ℕ) (x : Shape) → target m at ≡ Ok (targets.Content t u x p) → u ≡ start
       same-start t u p x f = cc
 
-      -- if the target is content, the value is inside that content
+      -- If the target of `at` is content of `shape` at `start`, the value `v` at `at` is inside that content
+      -- (`IsInside`).
       pub inside-of : (v : Tree) → IsAt m at v → IsInside m shape s start v
       inside-of nil h = cc
       inside-of (cap k) h = cc
@@ -90,7 +91,8 @@ module _ (m : List (List ℕ)) where
             (same-segment n.segment n.start n.pads _ n.is) (same-start n.segment n.start n.pads _ n.is) n.inside,
       )
 
--- a value inside the content of a struct is a struct with a words and b slots
+-- `v` is a struct with `a` words and `b` slots, and its words begin at word `w` of segment `s`. Its slots follow its
+-- words.
 pub record IsNode (m : List (List ℕ)) (a b s w : ℕ) (v : Tree) : Type 0 where
   pub words : List ℕ
   pub slots : Trees
@@ -123,7 +125,7 @@ as-node m a b s w (numbers k xs) h = no-node a b (list_width k) (length xs) h.0
 as-node m a b s w (links ts) h = no-node a b Link (count ts) h.0
 as-node m a b s w (rows bs) h = let f = h.3 in absurd (cc)
 
--- a value inside the content of a list of pointers is that list
+-- `v` is a list of `n` pointers, and its slots begin at word `w` of segment `s`.
 pub record IsLinks (m : List (List ℕ)) (n s w : ℕ) (v : Tree) : Type 0 where
   pub slots : Trees
   pub is : v ≡ links slots
@@ -139,7 +141,7 @@ as-links m n s w (voids k) h = absurd (cc)
 as-links m n s w (numbers a xs) h = absurd (no-number_width a Link refl (let f = h.0 in cc))
 as-links m n s w (rows bs) h = let f = h.3 in absurd (cc)
 
--- a value inside the content of a composite list is that list
+-- `v` is a list of `n` structs. Its tag is word `w` of segment `s`, and its rows have `a` words and `b` slots each.
 pub record IsRows (m : List (List ℕ)) (n a b s w : ℕ) (v : Tree) : Type 0 where
   pub bodies : Bodies
   pub is : v ≡ rows bodies

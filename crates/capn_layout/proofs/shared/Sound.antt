@@ -36,7 +36,6 @@ narrow-rows (body ws ss bs) h =
     let rest = narrow-rows bs p.1 in
     (omega (arith, kept_words-le ws, one.0, rest.0), omega (arith, kept_slots-le ss, one.1, rest.1))
 
--- even rows keep no more than each row has
 even-kept : (w s : ℕ) (bs : Bodies) → are_even w s bs ≡ true → (kept_words_of_rows bs ≤ w) × (kept_slots_of_rows bs ≤ s)
 even-kept w s no_bodies h = (omega arith, omega arith)
 even-kept w s (body ws ss bs) h =
@@ -57,7 +56,8 @@ even-wide a b w s (body ws ss bs) ha hb h =
       even-wide a b w s bs ha hb p.1,
     )
 
--- if a list of structs isn't ragged, each row has at least the words and slots that are kept of every row
+-- If `rows bs` isn't ragged (`is_ragged`), each row has at least `kept_words_of_rows bs` words and
+-- `kept_slots_of_rows bs` slots.
 pub wide-rows : (bs : Bodies) → is_ragged (rows bs) ≡ false → AreWide (kept_words_of_rows bs) (kept_slots_of_rows bs) bs
 wide-rows no_bodies h = tt
 wide-rows (body ws ss bs) h =
@@ -71,7 +71,7 @@ wide-rows (body ws ss bs) h =
           a b e,
     )
 
--- rows cut to a words and b slots take no more words than the rows have
+-- If each row of `bs` has at least `a` words and `b` slots, `bs` has at least `count_rows bs * (a + b)` words in all.
 pub wide-words : (a b : ℕ) (bs : Bodies) → AreWide a b bs → count_rows bs * (a + b) ≤ row_words bs
 wide-words a b no_bodies h = omega arith
 wide-words a b (body ws ss bs) h =
@@ -148,6 +148,6 @@ mutual
       let z = or_parts (anywhere_in is_ragged ss) (anywhere_in_rows is_ragged bs) c in
       (sounds-parts ss x.0 y.0 z.0 r.1, sound-rows-parts bs x.1 y.1 z.1 r.2)
 
--- a value that fits and is in range is sound
+-- A value that fits and is in range is `Sound`.
 pub sound : (t : Tree) → Fits t → InRange t → Sound t
 sound t f r = let p = fit_parts t f in sound-parts t p.narrow p.short p.even r

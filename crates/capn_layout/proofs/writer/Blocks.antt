@@ -1,4 +1,5 @@
--- Objects whose content is rows of words and slots. (For the cycle `objects` and the cycle `sizes`.)
+-- Structs, lists of pointers and lists of structs are blocks (`IsBlock`): a tag or none, rows of words and slots, and
+-- the contents below the rows. (For the cycle `objects` and the cycle `sizes`.)
 use Rattle.std.proofs.Common.{◌≡◌, ℕ, suc, ◌+◌, ◌-◌, ◌*◌, ◌<◌, ◌≤◌, List, [], ◌∷◌, ◌++◌, length, take, set}
 use Rattle.std.proofs.Common.{ap, ap₂, sym, subst, ◌∙◌, arith, append_assoc, append-nil, length-append}
 use Rattle.std.proofs.lemmas.List.{length-set}
@@ -158,7 +159,6 @@ module _ (v : Tree) (bs : Bodies) (from : ℕ) (p q : List ℕ) (first a b depth
       let k = length-set p from (point v from (length p)) in
       length-append pointed o.tag ∙ omega arith
 
-  -- the rows reach to the end of the appended words
   pub opened-length : length q ≡ first + count_rows bs * (a + b)
   opened-length =
       let l = length-tagged in
@@ -189,7 +189,7 @@ module _ (v : Tree) (bs : Bodies) (from : ℕ) (p q : List ℕ) (first a b depth
       let m : count_rows bs * (a + b) ≡ a + b = ap (λ (k : ℕ). k * (a + b)) one ∙ omega arith in
       omega arith
 
-  -- the slots of the only row have values
+  -- Case: `bs` is one row, and its slots are slots of `source`.
   module _ {S : Type 0} (has : S → ℕ → Tree → Type 0) (source : S) (one : count_rows bs ≡ 1)
       (are : (k : ℕ) → k < count (slots_at bs 0) → has source k (tree_at (slots_at bs 0) k)) where
     long : b ≤ count (slots_at bs 0)
@@ -223,7 +223,7 @@ module _ (v : Tree) (bs : Bodies) (from : ℕ) (p q : List ℕ) (first a b depth
         let l = length-slots b (slots_at bs 0) (first + a) q s in
         omega (arith, ap length (h (slots_at bs 0) long (λ k lt. are k (let l = long in omega arith))), l.0)
 
-  -- the slots of all rows have values
+  -- Case: `bs` are the `n` rows of `source`.
   module _ {R : Type 0} (are : R → Bodies → Type 0) (source : R) (n : ℕ) (en : count_rows bs ≡ n)
       (is : are source bs) where
     pub all-ready : RowsReady are source 0 n a b (depth - 1) (length q) most

@@ -1,4 +1,5 @@
--- Parts of words are bytes. (For `Cells`, `Drafted` and `PackedBytes`.)
+-- The first bytes of a list of bytes, and the bytes of a word, are below 256. (For `Cells`, `Drafted` and
+-- `PackedBytes`.)
 use Rattle.std.proofs.Common.{◌≡◌, ℕ, zero, suc, ◌^◌, ◌<◌, List, [], ◌∷◌, take, ap, sym, ◌∙◌, arith, append-nil}
 use Rattle.std.specs.Int.{byte_at, bytes_low_first}
 use Rattle.capn_words.specs.Message.{word_number, word_bytes, AreBytes}

@@ -1,4 +1,4 @@
--- A buffer of words and holes, as the list for which the bytes and marks stand. (For `Patched`.)
+-- The list of words and holes that the bytes and marks of a buffer represent. (For `Patched`.)
 use Rattle.std.proofs.Common.{◌≡◌, ℕ, zero, suc, ◌+◌, ◌*◌, ◌^◌, ◌<◌, ◌≤◌, List, [], ◌∷◌, ◌++◌, length, take, drop, set}
 use Rattle.std.proofs.Common.{refl, ap, sym, ◌∙◌, arith, append_assoc, append-nil, length-append, length-drop, Bool}
 use Rattle.std.proofs.Common.{true, false, Option, Some, None}
@@ -14,7 +14,6 @@ unfolding cells
 length-cells [] bs = refl
 length-cells (h ∷ hs) bs = ap suc (length-cells hs (drop 8 bs))
 
--- a word in front of the cells
 cells-cons : (h : Bool) (hs : List Bool) (xs ys : List ℕ) → length xs ≡ 8
     → cells (h ∷ hs) (xs ++ ys) ≡ cell h (word_number xs) ∷ cells hs ys
 unfolding cells
@@ -55,7 +54,6 @@ cells-one h w lt =
     ∙ cells-cons h [] (word_bytes w) [] (length-word_bytes w)
     ∙ rw (number-word w lt, cells-none []) refl
 
--- the bytes of a word are written over 8 bytes
 pub written-bytes : (start w : ℕ) (bs : List ℕ) → AreBytes bs
     → AreBytes (take start bs ++ (word_bytes w ++ drop (start + 8) bs))
 written-bytes start w bs h =
@@ -86,7 +84,6 @@ written-later k w bs =
     ∙ append_assoc (take 8 bs) (take k (drop 8 bs)) (word_bytes w ++ drop (8 + k + 8) bs)
     ∙ ap (λ (xs : List ℕ). take 8 bs ++ (take k (drop 8 bs) ++ (word_bytes w ++ xs))) (sym d)
 
--- a hole is filled
 pub cells-fill : (at : ℕ) (hs : List Bool) (bs : List ℕ) (w : ℕ) → length bs ≡ 8 * length hs → at < length hs
     → w < 2 ^ 64
     → cells (set hs at false) (take (8 * at) bs ++ (word_bytes w ++ drop (8 * at + 8) bs))
@@ -106,7 +103,6 @@ cells-fill (suc at) (h ∷ hs) bs w l lt k =
     ∙ ap (λ (xs : List (Option ℕ)). cell h (word_number (take 8 bs)) ∷ xs) ih
     ∙ ap (λ (xs : List (Option ℕ)). set xs (suc at) (Some w)) (sym (cells-step h hs bs))
 
--- if there are no holes, the bytes are the bytes of the words
 pub cells-whole : (hs : List Bool) (bs : List ℕ) → AreBytes bs → length bs ≡ 8 * length hs → IsWhole (cells hs bs)
     → bs ≡ bytes (filled (cells hs bs))
 unfolding cells
@@ -121,7 +117,6 @@ cells-whole (false ∷ hs) bs are l h =
     ∙ ap (λ (xs : List ℕ). take 8 bs ++ xs) ih
     ∙ ap (λ (xs : List ℕ). xs ++ bytes (filled (cells hs (drop 8 bs)))) (sym first)
 
--- a word is made a hole
 pub cells-open : (at : ℕ) (hs : List Bool) (bs : List ℕ) → cells (set hs at true) bs ≡ set (cells hs bs) at None
 unfolding cells
 cells-open at [] bs = refl

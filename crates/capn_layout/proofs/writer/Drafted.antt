@@ -1,4 +1,4 @@
--- The words at the beginning of bytes, after bytes are written over some of them. (For `bits.rt`, `draft.rt`,
+-- The first words of a slice of bytes, after some of its bytes are written. (For `bits.rt`, `draft.rt`,
 -- `number_list_words.rt` and others.)
 use Rattle.std.proofs.Common.{◌≡◌, ℕ, zero, suc, ◌+◌, ◌-◌, ◌*◌, ◌^◌, ◌<◌, ◌≤◌, List, [], ◌∷◌, ◌++◌, length, take}
 use Rattle.std.proofs.Common.{drop, set, replicate}
@@ -14,13 +14,11 @@ use Rattle.capn_layout.specs.inner.Draft.{Writes, IsKept, Appends, Puts}
 use Rattle.capn_layout.proofs.writer.Bytes.{AreBytes-take}
 use Rattle.capn_layout.proofs.writer.PackedBytes.{little_from-number, number-zeros, words-packed, packed-padded}
 
--- the number of a word depends only on the word's 8 bytes
 word-front : (xs ys : List ℕ) → 8 ≤ length xs → word_number (xs ++ ys) ≡ word_number xs
 unfolding word_number
 word-front xs ys h =
     little_from-number 8 (xs ++ ys) ∙ ap (number 256) (take-append-le 8 xs ys h) ∙ sym (little_from-number 8 xs)
 
--- the first n words depend only on the first 8 * n bytes
 words-front : (n : ℕ) (xs ys : List ℕ) → 8 * n ≤ length xs → words_in n (xs ++ ys) ≡ words_in n xs
 unfolding words_in
 words-front zero xs ys h = refl
@@ -62,7 +60,6 @@ words-begin n bs h =
     sym (words-front n (take (8 * n) bs) (drop (8 * n) bs) (omega arith))
     ∙ ap (words_in n) (take-append-drop (8 * n) bs)
 
--- the bytes xs are written over bytes of p
 module _ (at : ℕ) (xs p q : List ℕ) (room : at + length xs ≤ length p) (h : Writes at xs p q) where
   written-same : length q ≡ length p
   written-same =
@@ -84,7 +81,7 @@ module _ (at : ℕ) (xs p q : List ℕ) (room : at + length xs ≤ length p) (h 
       ∙ drop_at (take at p ++ xs) (drop end p) end (omega arith))
       ∙ drop-drop (m - end) end p ∙ ap (λ (j : ℕ). drop j p) z
 
--- bytes are appended as words
+-- Writing `xs`, the bytes of `k` words, after the first `n` words of `p` appends these `k` words.
 pub appended : (n k m : ℕ) (xs p q : List ℕ) → 8 * n + length xs ≤ length p → length xs ≡ 8 * k → m ≡ n + k
     → Writes (8 * n) xs p q → Appends n m (words_in k xs) p q
 appended n k m xs p q room l em h =
@@ -106,7 +103,6 @@ set-middle [] vs (suc i) x w e = absurd (omega arith)
 set-middle (u ∷ us) vs zero x w e = absurd (omega arith)
 set-middle (u ∷ us) vs (suc i) x w e = ap (λ (xs : List ℕ). u ∷ xs) (set-middle us vs i x w (omega arith))
 
--- a word is written over another
 pub put-is : (n at w : ℕ) (p q : List ℕ) → at < n → 8 * n ≤ length p → w < 2 ^ 64 → Writes (8 * at) (word_bytes w) p q
     → Puts n at w p q
 put-is n at w p q lt room fits h =
@@ -154,7 +150,6 @@ pushed n m w xs p q room fits em ex h =
     subst (λ (x : List ℕ). Appends n m x p q) one
     (appended n 1 m (word_bytes w) p q (omega arith) (omega arith) em g)
 
--- the bytes of the first n words
 pub first-bytes : (n : ℕ) (bs : List ℕ) → AreBytes bs → 8 * n ≤ length bs
     → bs ≡ bytes (words_in n bs) ++ drop (8 * n) bs
 first-bytes n bs h l =
@@ -163,7 +158,6 @@ first-bytes n bs h l =
     ∙ ap (λ (x : List ℕ). x ++ drop (8 * n) bs)
     (sym (bytes_of_words n (take (8 * n) bs) (AreBytes-take (8 * n) bs h) t) ∙ ap bytes (words-begin n bs l))
 
--- words that are kept by two steps are kept by the two steps together
 pub kept-then : (n m : ℕ) (p q r : List ℕ) → n ≤ m → IsKept n p q → IsKept m q r → IsKept m p r
 kept-then n m p q r le a b = record {
   same = b.same ∙ a.same;
@@ -197,7 +191,6 @@ appends-none n p = record {
 
 -- ---- bytes are written over zeros
 
--- bytes are written over the beginning of bytes that were written before
 pub written-over : (at : ℕ) (zs xs p q r : List ℕ) → at + length zs ≤ length p → length xs ≤ length zs
     → Writes at zs p q → Writes at xs q r → Writes at (xs ++ drop (length xs) zs) p r
 written-over at zs xs p q r room le h k =
@@ -216,7 +209,6 @@ written-over at zs xs p q r room le h k =
     (sym (append_assoc xs (drop (length xs) zs) after)
     ∙ ap (λ (j : ℕ). (xs ++ drop (length xs) zs) ++ drop j p) z)
 
--- a number whose bytes are zeros is zero
 little-zeros : (n : ℕ) → word_number (replicate n 0) ≡ 0
 unfolding word_number
 little-zeros n = little_from-number 8 (replicate n 0) ∙ number-zeros 256 8 n
@@ -239,7 +231,7 @@ zeros-appended n k m p q room em h =
     subst (λ (x : List ℕ). Appends n m x p q) (words-zeros k)
     (appended n k m (replicate (8 * k) 0) p q (omega arith) l em h)
 
--- bytes that are padded with zeros to whole words are appended
+-- Writing `k` words of zeros, and then the bytes `xs` over these zeros, appends `xs` packed into `k` words.
 pub padded-appended : (n k m : ℕ) (xs p q r : List ℕ) → 8 * (n + k) ≤ length p → length xs ≤ 8 * k → m ≡ n + k
     → Writes (8 * n) (replicate (8 * k) 0) p q → Writes (8 * n) xs q r → Appends n m (packed 8 8 k xs) p r
 padded-appended n k m xs p q r room le em h g =

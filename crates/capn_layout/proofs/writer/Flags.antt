@@ -1,4 +1,4 @@
--- The marks of words, one bit each. (For `mark` and `unmark`.)
+-- Lemmas on `flags`, the marks of words, with one bit for each word. (For `mark` and `unmark`.)
 use Rattle.std.proofs.Common.{◌≡◌, ◌≢◌, ℕ, zero, suc, ◌+◌, ◌*◌, ◌/◌, ◌%◌, ◌<◌, ◌≤◌, List, ◌∷◌, ◌++◌, length, set}
 use Rattle.std.proofs.Common.{replicate, refl, ap, ap₂, sym, ◌∙◌, arith, Bool, false, ⊎_elim}
 use Rattle.std.proofs.lemmas.List.{get_or-set_same, get_or-set_other}
@@ -45,7 +45,6 @@ flags-apart i zero at ms ns lt h = refl
 flags-apart i (suc n) at ms ns lt h =
     ap₂ (λ (b : Bool) (bs : List Bool). b ∷ bs) (h i (omega arith)) (flags-apart (suc i) n at ms ns (omega arith) h)
 
--- one mark changes
 pub flags-set : (i n j : ℕ) (b : Bool) (ms ns : List ℕ) → is_marked ns (i + j) ≡ b
     → ((k : ℕ) → k ≢ i + j → is_marked ns k ≡ is_marked ms k)
     → flags i n ns ≡ set (flags i n ms) j b
@@ -60,7 +59,6 @@ flags-set i (suc n) (suc j) b ms ns e h =
     ap₂ (λ (c : Bool) (bs : List Bool). c ∷ bs) (h i (omega arith))
     (flags-set (suc i) n j b ms ns (ap (λ (k : ℕ). is_marked ns k) z ∙ e) (λ k ne. h k (λ q. ne (q ∙ sym z))))
 
--- the mark of a word, after the number with that mark is written
 module _ (ms : List ℕ) (at new : ℕ) (lt : at < 64 * length ms) where
   pub marked-here : is_marked (set ms (at / 64) new) at ≡ (bit_at new (at % 64) == 1)
   marked-here = ap (λ (m : ℕ). bit_at m (at % 64) == 1) (get_or-set_same ms (at / 64) new 0 (omega arith))

@@ -1,4 +1,4 @@
--- The target of a pointer that is known to have a target, near or behind a landing pad of one word. (For
+-- The target of a pointer that is known to have one, if the pointer is near or its landing pad has one word. (For
 -- `known_target`.)
 use Rattle.std.proofs.Common.{◌≡◌, ℕ, ◌+◌, ◌<◌, ◌≤◌, nat_lt, ℤ, Bool, true, false, List, [], length}
 use Rattle.std.proofs.Common.{slice_index, Result, Ok, Err, refl, ap, sym, ◌∙◌, arith, if◌then◌else◌}
@@ -67,7 +67,6 @@ module _ (m : List (List ℕ)) where
   list-found (Ok start) s pads Link n t p e = plain-found s start pads n (content_words Link n) Link t e
   list-found (Ok start) s pads Rows n t p e = absurd (p tt)
 
-  -- the segment that has a word exists
   pub has-segment : (s w : ℕ) → w < length (segment_at m s) → s < length m
   has-segment s w h = below (nat_lt s (length m)) refl
     where
@@ -78,18 +77,15 @@ module _ (m : List (List ℕ)) where
           let none : length (segment_at m s) ≡ 0 = ap length (get_or-eq_default m [] past) in
           absurd (omega arith)
 
-  -- the struct that the pointer of a slot or of a pad is known to name
   pub struct-near : (s w pads : ℕ) (o : ℤ) (a b : ℕ) (t : Target) → target_from m s w pads (Node o a b) ≡ Ok t
       → Found s pads (shapes.Node a b) (content_start w o) (target_from m s w pads (Node o a b))
   struct-near s w pads o a b t e = struct-found (content_start w o) s pads a b t e
 
-  -- the list, not of rows, that the pointer of a slot or of a pad is known to name
   pub plain-near : (s w pads : ℕ) (o : ℤ) (width : Width) (n : ℕ) (t : Target) → (IsComposite width → ⊥)
       → target_from m s w pads (Many o width n) ≡ Ok t
       → Found s pads (shapes.Many width n) (content_start w o) (target_from m s w pads (Many o width n))
   plain-near s w pads o width n t p e = list-found (content_start w o) s pads width n t p e
 
-  -- the tag of a composite list that is known to exist lies inside the list's segment
   tag-inside : (s start pads n : ℕ) (t : Target) → list m s start pads Rows n ≡ Ok t → start < length (segment_at m s)
   tag-inside s start pads n t e = by_test (nat_lt (length (segment_at m s)) (start + (1 + n))) refl e
     where
@@ -106,12 +102,10 @@ module _ (m : List (List ℕ)) where
   rows-from (Ok start) s pads n t e = (start, refl, tag-inside s start pads n t e)
   rows-from (Err f) s pads n t e = absurd (cc)
 
-  -- if the pointer of a slot or of a pad is known to name a composite list, the tag of that list is in range
   pub rows-near : (s w pads : ℕ) (o : ℤ) (n : ℕ) (t : Target) → target_from m s w pads (Many o Rows n) ≡ Ok t
       → (start : ℕ) × (content_start w o ≡ Ok start) × (start < length (segment_at m s))
   rows-near s w pads o n t e = rows-from (content_start w o) s pads n t e
 
-  -- a pad that is known to lead to a target lies inside the pad's segment
   pub landing-found : (s w n : ℕ) (found : Result Target Fault) (t : Target) → landing m s w n found ≡ Ok t
       → (w + n ≤ length (segment_at m s)) × (landing m s w n found ≡ found)
   landing-found s w n found t e = by_segment (nat_lt s (length m)) refl e

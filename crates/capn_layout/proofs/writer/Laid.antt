@@ -42,7 +42,6 @@ pub rows-next : (a b : ℕ) (ws : List ℕ) (ss : Trees) (bs : Bodies) (at : ℕ
 unfolding laid_rows
 rows-next a b ws ss bs at p = refl
 
--- the values from slot i on begin with the value of slot i
 pub past-next : (i : ℕ) (ts : Trees) → i < count ts → past i ts ≡ tree (tree_at ts i) (past (suc i) ts)
 past-next i no_trees h = absurd (omega arith)
 past-next zero (tree t ts) h = refl
@@ -58,7 +57,7 @@ height-at i no_trees = omega arith
 height-at zero (tree t ts) = omega arith
 height-at (suc i) (tree t ts) = let e = height-at i ts in omega arith
 
--- row i, and the rows past row i
+-- Row `i` of `bs` has `words` and at least `b` slots with `Sound` values, and is followed by the rows past row `i`.
 pub record IsRowAt (a b i : ℕ) (bs : Bodies) : Type 0 where
   pub words : List ℕ
   pub next : rows_past i bs ≡ body words (slots_at bs i) (rows_past (suc i) bs)
@@ -74,7 +73,7 @@ row-at a b (suc i) (body ws ss bs) h w s =
     let r = row-at a b i bs (omega arith) w.2 s.1 in
     record { words = r.words; next = r.next; long = r.long; sound = r.sound; low = let l = r.low in omega arith }
 
--- the buffer doesn't shrink, and grows by at most the words below the slots
+-- Laying out the first `n` slots of `ts` never shortens the buffer, and lengthens it by at most `sizes ts`.
 pub length-slots : (n : ℕ) (ts : Trees) (first : ℕ) (p : List ℕ) → Sounds ts
     → (length p ≤ length (laid_slots n ts first p)) × (length (laid_slots n ts first p) ≤ length p + sizes ts)
 unfolding laid_slots
@@ -114,7 +113,6 @@ none-kept false n h = absurd (grind (arith, nat_tests))
 pub one-fewer : (b : Bool) (n k : ℕ) → kept_behind b n ≤ suc k → n ≤ k
 one-fewer b n k h = grind (arith, nat_tests)
 
--- if no slot is kept, nothing is below the slots
 pub nothing-below : (ts : Trees) (at : ℕ) → kept_slots ts ≤ 0 → (lays ts at ≡ []) × (sizes ts ≡ 0)
 nothing-below no_trees at h = (refl, refl)
 nothing-below (tree t ts) at h =
@@ -129,7 +127,7 @@ set-front : (q r : List ℕ) (x y : ℕ) → set (q ++ (x ∷ r)) (length q) y �
 set-front [] r x y = refl
 set-front (z ∷ q) r x y = ap (λ (xs : List ℕ). z ∷ xs) (set-front q r x y)
 
--- if all kept slots are among the first n, laying out the first n slots appends the contents of all slots
+-- If `kept_slots ts` is at most `n`, laying out the first `n` slots appends the contents of all slots.
 pub laid-slots-is : (n : ℕ) (ts : Trees) (q hs r : List ℕ) (m to : ℕ) → Sounds ts → kept_slots ts ≤ n → length hs ≡ n
     → n ≤ count ts → length q ≡ m → length q + n + length r ≡ to
     → laid_slots n ts m (q ++ (hs ++ r)) ≡ q ++ (take n (points ts m to) ++ (r ++ lays ts to))
@@ -171,7 +169,6 @@ laid-slots-is (suc n) (tree t ts) q (x ∷ hs) r m to h k eh le em et =
 
 -- ---- all rows
 
--- a row in front of the other rows
 row-front : (q w h rh r : List ℕ) → q ++ ((w ++ (h ++ rh)) ++ r) ≡ (q ++ w) ++ (h ++ (rh ++ r))
 row-front q w h rh r =
     ap (λ (x : List ℕ). q ++ x) (append_assoc w (h ++ rh) r ∙ ap (λ (x : List ℕ). w ++ x) (append_assoc h rh r))
@@ -189,7 +186,8 @@ length-over a b (body ws ss bs) cs h o =
     let m : suc (count_rows bs) * (a + b) ≡ a + b + count_rows bs * (a + b) = omega arith in
     ap length o.2 ∙ u ∙ omega arith
 
--- if all kept slots have words in the rows, laying out the slots of the rows appends the contents below all rows
+-- If `kept_slots_of_rows bs` is at most `b`, laying out the first `b` slots of each row appends all contents below the
+-- rows.
 pub laid-rows-is : (a b : ℕ) (bs : Bodies) (q cs r : List ℕ) (m to : ℕ) → SoundRows bs → AreWide a b bs
     → kept_slots_of_rows bs ≤ b → AreRowsOver a b bs cs → length q ≡ m → length q + length cs + length r ≡ to
     → laid_rows a b bs m (q ++ (cs ++ r)) ≡ q ++ (row_contents a b bs m to ++ (r ++ lays_in_rows bs to))

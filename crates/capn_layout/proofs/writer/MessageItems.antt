@@ -1,4 +1,4 @@
--- The values inside content of a message, as items of a layout. (For `item_at` and `slots`.)
+-- Lemmas on the items of values whose content is in a message. (For `item_at` and `slots`.)
 use Rattle.std.proofs.Common.{◌≡◌, ℕ, zero, suc, ◌+◌, ◌*◌, ◌^◌, ◌<◌, ◌≤◌, List, [], take, refl, ap, sym, subst}
 use Rattle.std.proofs.Common.{◌∙◌, arith, length-drop}
 use Rattle.capn_words.specs.Message.{IsMessage, segment_at}
@@ -122,7 +122,6 @@ module _ (m : List (List ℕ)) (start : Place) (message : IsMessage m) where
         },
       )
 
--- the slots of a row of a message have values
 slot-at : (m : List (List ℕ)) (s w : ℕ) (ts : Trees) (k : ℕ) → AreAt m s w ts → k < count ts
     → IsAt m (record { segment = s; word = w + k }) (tree_at ts k)
 slot-at m s w no_trees k h lt = absurd (omega arith)
@@ -146,7 +145,6 @@ row-slots m a b s w (body ws ss bs) (suc i) h lt =
     let z : w + a + b + (i * (a + b) + a) ≡ w + (suc i * (a + b) + a) = omega arith in
     (r.0, subst (λ (j : ℕ). AreAt m s j (slots_at bs i)) z r.1)
 
--- row i lies inside all rows
 pub row-within : (n i a b : ℕ) → i < n → i * (a + b) + a + b ≤ n * (a + b)
 row-within (suc n) zero a b h = let d : suc n * (a + b) ≡ a + b + n * (a + b) = omega arith in omega arith
 row-within (suc n) (suc i) a b h =

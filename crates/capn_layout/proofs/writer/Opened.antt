@@ -131,7 +131,6 @@ module _ (n : ℕ) (v : Tree) (bs : Bodies) (h : AreStructs n v bs) (sound : Sou
       (er ∙ ap₂ (λ (x : List ℕ) (y : ℕ). x ++ y ∷ []) eq tagged) g
       (let l = ap length er ∙ length-append q (tag ∷ []) in omega arith)
 
--- the buffer doesn't shrink
 pub grown-end : (a b : ℕ) (bs : Bodies) (n m : ℕ) (p q : List ℕ) → IsGrown a b bs (words_in n p) (words_in m q) → n ≤ m
 grown-end a b bs n m p q g =
     let l = ap length g.grown ∙ length-append (words_in n p) g.cells in

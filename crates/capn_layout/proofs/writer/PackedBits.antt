@@ -1,4 +1,4 @@
--- Packed lists of bits. (For `extend_bits` and `word_of_bits`.)
+-- The words into which a list of bits is packed, bit by bit and word by word. (For `extend_bits` and `word_of_bits`.)
 use Rattle.std.proofs.Common.{◌≡◌, ℕ, suc, ◌+◌, ◌-◌, ◌*◌, ◌^◌, ◌<◌, ◌≤◌, min, List, ◌∷◌, length, take, drop}
 use Rattle.std.proofs.Common.{map, get_or, ap, sym, ◌∙◌, arith, length-drop, Bool, true, false}
 use Rattle.std.proofs.Math.Nat.{pow-succ', pow-le-pow_right}
@@ -6,7 +6,6 @@ use Rattle.std.proofs.lemmas.List.{drop_more, drop-map, drop-drop, take-map, tak
 use Rattle.std.specs.Int.{from_bool}
 use Rattle.capn_layout.specs.Layout.{number, packed}
 
--- the number of the last i + 1 bits, given the number of the last i bits
 pub bits-next : (bits : List Bool) (i : ℕ) → i < length bits
     → number 2 (map from_bool (drop (length bits - (i + 1)) bits)) ≡ from_bool (get_or bits (length bits - 1 - i) false)
     + 2 * number 2 (map from_bool (drop (length bits - i) bits))
@@ -22,7 +21,6 @@ pub one-bit : (b : Bool) → from_bool b ≤ 1
 one-bit true = omega arith
 one-bit false = omega arith
 
--- a number with one more bit is below the next power of 2
 pub bit-below : (w i : ℕ) (b : Bool) → w < 2 ^ i → w * 2 + from_bool b < 2 ^ (i + 1)
 bit-below w i b lt =
     let e : 2 ^ (i + 1) ≡ 2 * 2 ^ i = ap (λ (k : ℕ). 2 ^ k) (omega arith) ∙ pow-succ' 2 i in
@@ -32,7 +30,6 @@ bit-below w i b lt =
 pub fits-word : (w i : ℕ) → w < 2 ^ i → i < 64 → w < 2 ^ 63
 fits-word w i lt le = let p = pow-le-pow_right {n = 2} (omega arith) {i = i} {j = 63} (omega arith) in omega arith
 
--- the next word of a list of bits
 pub packed-next : (bits : List Bool) (n i : ℕ) → i < n
     → packed 64 1 (n - i) (map from_bool (drop (64 * i) bits))
     ≡ number 2 (take 64 (map from_bool (drop (64 * i) bits))) ∷ packed 64 1 (n - (i + 1))
@@ -45,7 +42,6 @@ packed-next bits n i lt =
     (drop-map from_bool 64 (drop (64 * i) bits)
     ∙ ap (map from_bool) (drop-drop 64 (64 * i) bits ∙ ap (λ (k : ℕ). drop k bits) b))
 
--- the next chunk is the next 64 bits, or all bits that are left
 pub chunk-is : (bits : List Bool) (start end : ℕ) → end ≡ min (length bits) (start + 64)
     → map from_bool (take (end - start) (drop start bits)) ≡ take 64 (map from_bool (drop start bits))
 chunk-is bits start end e =

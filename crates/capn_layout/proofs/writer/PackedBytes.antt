@@ -1,4 +1,5 @@
--- Packed lists, given as bytes. (For `append_bytes`, `extend_octs`, `extend_pairs` and `extend_quads`.)
+-- Lists of numbers that are packed into words, and the bytes of these numbers. (For `append_bytes`, `extend_octs`,
+-- `extend_pairs` and `extend_quads`.)
 use Rattle.std.proofs.Common.{◌≡◌, ℕ, zero, suc, ◌+◌, ◌-◌, ◌*◌, ◌^◌, ◌<◌, List, [], ◌∷◌, ◌++◌, length, take, drop}
 use Rattle.std.proofs.Common.{replicate, slice_index, refl, ap, ap₂, sym, ◌∙◌, arith, append-nil, length-append, false}
 use Rattle.std.proofs.Common.{Option, Some}
@@ -29,7 +30,6 @@ word-number : (bs : List ℕ) → word_number (take 8 bs) ≡ number 256 (take 8
 unfolding word_number
 word-number bs = little_from-number 8 (take 8 bs) ∙ ap (number 256) (take-take 8 8 bs (omega arith))
 
--- bytes without holes are the words that the bytes pack
 pub cells-words : (k : ℕ) (bs : List ℕ) → cells (replicate k false) bs ≡ whole (packed 8 8 k bs)
 unfolding cells
 cells-words zero bs = refl
@@ -111,7 +111,7 @@ AreBytes-numbers w [] i = omega arith
 AreBytes-numbers w (x ∷ xs) i =
     AreBytes-append (little_bytes w x) (flat_map (little_bytes w) xs) (low_first-bytes 0 w x) (AreBytes-numbers w xs) i
 
--- each number is below `base`
+-- 0 and each number of `xs` are below `base`.
 abbrev pub AreAllBelow : ℕ → List ℕ → Type 0
 AreAllBelow base xs = (i : ℕ) → slice_index xs i < base
 
@@ -156,7 +156,7 @@ AreAllBelow-take base (suc n) [] h i = h i
 AreAllBelow-take base (suc n) (x ∷ xs) h zero = h 0
 AreAllBelow-take base (suc n) (x ∷ xs) h (suc i) = AreAllBelow-take base n xs (λ j. h (suc j)) i
 
--- the bytes of numbers pack the same words as the numbers, if a word has the bytes of `each` numbers
+-- If `each` numbers of `w` bytes fill a word, the numbers `xs` and their bytes pack into the same words.
 pub packed-numbers : (w each width k : ℕ) (xs : List ℕ) → 8 ≡ each * w → 256 ^ w ≡ 2 ^ width → AreAllBelow (256 ^ w) xs
     → packed 8 8 k (flat_map (little_bytes w) xs) ≡ packed each width k xs
 packed-numbers w each width zero xs e b h = refl
@@ -169,7 +169,6 @@ packed-numbers w each width (suc k) xs e b h =
     (ap (packed 8 8 k) (drop-numbers w each 8 xs e)
     ∙ packed-numbers w each width k (drop each xs) e b (AreAllBelow-drop (256 ^ w) each xs h))
 
--- 64-bit numbers are packed as themselves
 pub packed-words : (xs : List ℕ) → packed 1 64 (length xs) xs ≡ xs
 packed-words [] = refl
 packed-words (x ∷ xs) = ap₂ (λ (y : ℕ) (ys : List ℕ). y ∷ ys) (omega arith) (packed-words xs)

@@ -1,4 +1,4 @@
--- The words and holes for which a buffer's marks and bytes stand, after each change. (For `patch.rt`.)
+-- The words and holes that the marks and bytes of a buffer represent, after each change. (For `patch.rt`.)
 use Rattle.std.proofs.Common.{◌≡◌, ◌≢◌, ℕ, zero, suc, ◌+◌, ◌*◌, ◌/◌, ◌^◌, ◌<◌, ◌≤◌, List, [], ◌∷◌, ◌++◌, length, take}
 use Rattle.std.proofs.Common.{drop, set, replicate, refl, ap, ap₂, sym, subst, ◌∙◌, ◌-◌, arith, append_assoc}
 use Rattle.std.proofs.Common.{length-append, Bool, true, false, Option, Some, None}
@@ -24,7 +24,7 @@ pub patched-none : (ms : List ℕ) → patched ms [] ≡ []
 unfolding flags
 patched-none ms = cells-none []
 
--- a buffer whose words are appended, each without a mark
+-- In this block `k` words with the bytes `tail` are appended, and none of these words is a hole.
 module _ (ms ns bs tail : List ℕ) (k : ℕ) (is : IsPatched ms bs) (l : length tail ≡ 8 * k) (same : (i : ℕ)
     → is_marked ns i ≡ is_marked ms i) where
   pub appended-words : length (bs ++ tail) / 8 ≡ length bs / 8 + k
@@ -63,7 +63,7 @@ AreBytes-zeros zero i = omega arith
 AreBytes-zeros (suc k) zero = omega arith
 AreBytes-zeros (suc k) (suc i) = AreBytes-zeros k i
 
--- words of zeros are appended
+-- In this block `k` words of zeros are appended.
 module _ (ms ns bs : List ℕ) (k : ℕ) (is : IsPatched ms bs) (same : (i : ℕ) → is_marked ns i ≡ is_marked ms i) where
   zeros-length : length (replicate {A = ℕ} (8 * k) 0) ≡ 8 * k
   zeros-length = length-replicate {A = ℕ} (8 * k) 0
@@ -73,14 +73,13 @@ module _ (ms ns bs : List ℕ) (k : ℕ) (is : IsPatched ms bs) (same : (i : ℕ
       patched-append ms ns bs (replicate (8 * k) 0) k is zeros-length same
       ∙ ap (λ (xs : List (Option ℕ)). patched ms bs ++ xs) (cells-zeros k)
 
--- a word is appended
+-- In this block the word `w` is appended.
 module _ (ms ns bs : List ℕ) (w : ℕ) (is : IsPatched ms bs) (same : (i : ℕ) → is_marked ns i ≡ is_marked ms i) where
   pub patched-push : w < 2 ^ 64 → patched ns (bs ++ word_bytes w) ≡ patched ms bs ++ Some w ∷ []
   patched-push lt =
       patched-append ms ns bs (word_bytes w) 1 is (length-word_bytes w) same
       ∙ ap (λ (xs : List (Option ℕ)). patched ms bs ++ xs) (cells-one false w lt)
 
--- one mark changes
 pub is-marked : (ms ns bs : List ℕ) (at : ℕ) → IsPatched ms bs → at < length bs / 8 → length ns ≡ length ms
     → ((i : ℕ) → i ≢ at → is_marked ns i ≡ is_marked ms i) → IsPatched ns bs
 is-marked ms ns bs at is lt len others = record {
@@ -100,7 +99,7 @@ patched-open ms ns bs at others here =
     ∙ here) (λ k ne. others k (λ e. ne (e ∙ sym z))))
     ∙ cells-open at (flags 0 (length bs / 8) ms) bs
 
--- the bytes of word `at` are written, and the mark of that word is cleared
+-- In this block the bytes of `w` are written over word `at`, and the mark of that word is cleared.
 module _ (ms ns bs cs : List ℕ) (at w : ℕ) (is : IsPatched ms bs) (lt : at < length bs / 8) (fits : w < 2 ^ 64)
     (len : length ns ≡ length ms)
     (written : cs ≡ take (8 * at) bs ++ (word_bytes w ++ drop (8 * at + 8) bs))
@@ -127,25 +126,21 @@ module _ (ms ns bs cs : List ℕ) (at w : ℕ) (is : IsPatched ms bs) (lt : at <
       written
       ∙ cells-fill at (flags 0 n ms) bs w e (omega arith) fits
 
--- if there are no holes, the bytes are the bytes of the words
 pub patched-whole : (ms bs : List ℕ) → IsPatched ms bs → IsWhole (patched ms bs) → bs ≡ bytes (filled (patched ms bs))
 patched-whole ms bs is h =
     let lf = length-flags 0 (length bs / 8) ms in
     cells-whole (flags 0 (length bs / 8) ms) bs is.bytes (let e = is.even in omega arith) h
 
--- a statement that holds whatever the result holds for an error
 pub OnErr-always : {T E P : Type 0} (r : Result T E) → P → OnErr r P
 OnErr-always (Ok x) p = tt
 OnErr-always (Err e) p = p
 
--- bytes that are padded with k zeros
 pub filled_up : (bs : List ℕ) (to k : ℕ) → to ≡ length bs + k
     → take to bs ++ replicate (to - length bs) 0 ≡ bs ++ replicate k 0
 filled_up bs to k e =
     let d : to - length bs ≡ k = omega arith in
     ap₂ (λ (xs : List ℕ) (j : ℕ). xs ++ replicate j 0) (take_all to bs (omega arith)) d
 
--- the next of the words appended is made a hole
 pub next_hole : (p : List (Option ℕ)) (n i at : ℕ) → i < n → at ≡ length p + i
     → set (p ++ (replicate i None ++ replicate (n - i) (Some 0))) at None ≡ p
     ++ (replicate (i + 1) None ++ replicate (n - (i + 1)) (Some 0))
@@ -163,7 +158,7 @@ next_hole p n i at lt e =
     (sym (append_assoc (replicate i None) (None ∷ []) (replicate (n - (i + 1)) (Some 0)))
     ∙ ap (λ (xs : List (Option ℕ)). xs ++ replicate (n - (i + 1)) (Some 0)) (replicate_more i None))
 
--- bytes that are padded to whole words are appended
+-- In this block `content`, padded with zeros to `k` words, is appended.
 module _ (ms ns bs content : List ℕ) (k : ℕ) (is : IsPatched ms bs) (same : (i : ℕ)
     → is_marked ns i ≡ is_marked ms i) (l : 8 * k ≡ length content + pad (length content)) where
   padded-length : length (padded content) ≡ 8 * k
@@ -182,7 +177,7 @@ module _ (ms ns bs content : List ℕ) (k : ℕ) (is : IsPatched ms bs) (same : 
       is-appended ms ns bs (padded content) k is padded-length same room
       (AreBytes-append content (replicate (pad (length content)) 0) are (AreBytes-zeros (pad (length content))))
 
--- the content and the zeros after it are appended to the bytes
+-- In this block `items` is `bs` followed by the padded `content`.
 module _ (ms ns bs content items : List ℕ) (k : ℕ) (is : IsPatched ms bs) (same : (i : ℕ)
     → is_marked ns i ≡ is_marked ms i) (l : 8 * k ≡ length content + pad (length content))
     (grown : items ≡ bs ++ padded content) where

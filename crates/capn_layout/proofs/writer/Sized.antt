@@ -1,4 +1,4 @@
--- The number of words below slots and rows. (For the cycle `sizes`.)
+-- The number of words in the contents below slots and rows. (For the cycle `sizes`.)
 use Rattle.std.proofs.Common.{◌≡◌, ℕ, zero, suc, ◌+◌, ◌-◌, ◌*◌, ◌^◌, ◌<◌, ◌≤◌, List, length, refl, ap, ◌∙◌, arith}
 use Rattle.capn_value.specs.Tree.{Tree, Trees, no_trees, tree, tree_at, count, Bodies, no_bodies, body, count_rows}
 use Rattle.capn_value.specs.Tree.{is_null}
@@ -11,7 +11,6 @@ use Rattle.capn_layout.specs.Sound.{AreWide, SoundRows}
 use Rattle.capn_layout.proofs.writer.Stepwise.{rows-over}
 use Rattle.capn_layout.proofs.writer.Laid.{nothing-below, one-fewer, past-next, row-at, sound-at, height-at}
 
--- nothing is below the slots past the kept slots
 pub past-kept : (n : ℕ) (ts : Trees) → kept_slots ts ≤ n → sizes (past n ts) ≡ 0
 past-kept zero ts h = (nothing-below ts 0 h).1
 past-kept (suc n) no_trees h = refl
@@ -22,7 +21,6 @@ kept-at i b no_bodies h lt = absurd (omega arith)
 kept-at zero b (body ws ss bs) h lt = omega arith
 kept-at (suc i) b (body ws ss bs) h lt = kept-at i b bs (omega arith) (omega arith)
 
--- if no slot of any row is kept, nothing is below the rows
 pub rows-nothing : (bs : Bodies) → kept_slots_of_rows bs ≤ 0 → sizes_in_rows bs ≡ 0
 rows-nothing no_bodies h = refl
 rows-nothing (body ws ss bs) h =
@@ -30,7 +28,6 @@ rows-nothing (body ws ss bs) h =
     let b = rows-nothing bs (omega arith) in
     omega arith
 
--- the words below the only row are the words below that row's slots
 one-sizes : (bs : Bodies) → count_rows bs ≡ 1 → sizes_in_rows bs ≡ sizes (slots_at bs 0)
 one-sizes no_bodies e = absurd (omega arith)
 one-sizes (body ws ss no_bodies) e = omega arith
@@ -87,7 +84,7 @@ module _ (v : Tree) (tag : List ℕ) (a b depth : ℕ) (bs : Bodies) (o : IsBloc
         let m : count_rows bs * (a + b) ≡ n * (a + b) = ap (λ (k : ℕ). k * (a + b)) en in
         omega arith
 
--- the size of the next slot is added
+-- In this block `len` is the size of the first `i` slots, and the size of slot `i` is added to `len`.
 module _ {S : Type 0} (has : S → ℕ → Tree → Type 0) (source : S) (n depth i len : ℕ) (lt : i < n)
     (r : AreReady has source 0 n depth 0 (2 ^ 29))
     (rest : (ts : Trees) → n ≤ count ts → ((k : ℕ) → k < n → has source k (tree_at ts k))
@@ -132,7 +129,7 @@ pub rows-sized : (i len : ℕ) (bs : Bodies) → count_rows bs ≤ i → len + s
     → len ≡ sizes_in_rows bs
 rows-sized i len bs le h = let e = ap sizes_in_rows (rows-over i bs le) in omega arith
 
--- the size below the next row is added
+-- In this block `len` is the size below the first `i` rows, and the size below row `i` is added to `len`.
 module _ {S R : Type 0} (has : S → ℕ → Tree → Type 0) (are : R → Bodies → Type 0) (rows : R) (source : S)
     (n a b depth i len : ℕ) (lt : i < n) (r : RowsReady are rows 0 n a b depth 0 (2 ^ 29))
     (slots : (bs : Bodies) → are rows bs → (k : ℕ) → k < count (slots_at bs i)

@@ -13,7 +13,7 @@ use Rattle.capn_layout.specs.Sound.{AreWide, SoundRows}
 use Rattle.capn_layout.proofs.writer.Laid.{laid-is, length-laid, slots-none, slots-next, rows-none, rows-next}
 use Rattle.capn_layout.proofs.writer.Laid.{past-next, sound-at, height-at, row-at, length-slots}
 
--- the next slot is laid out
+-- In this block slot `i` is laid out after the slots before it.
 module _ {S : Type 0} (has : S → ℕ → Tree → Type 0) (source : S) (n depth i : ℕ) (lt : i < n) where
   module _ (len : ℕ) {most : ℕ} (r : AreReady has source i n depth len most) where
     pub next-sizes : sizes (past i r.values) ≡ size (tree_at r.values i) + sizes (past (suc i) r.values)
@@ -86,7 +86,7 @@ slots-end n i ts first p le =
     let z : n - i ≡ 0 = omega arith in
     ap (λ (j : ℕ). laid_slots j (past i ts) (first + i) p) z ∙ slots-none (past i ts) (first + i) p
 
--- the slots of the next row are laid out
+-- In this block the slots of row `i` are laid out after the slots of the rows before it.
 module _ {S R : Type 0} (has : S → ℕ → Tree → Type 0) (are : R → Bodies → Type 0) (rows : R) (source : S)
     (n a b depth i : ℕ) (lt : i < n)
     (slots : (bs : Bodies) → are rows bs → (k : ℕ) → k < count (slots_at bs i)
@@ -172,7 +172,6 @@ pub rows-end : (a b i : ℕ) (bs : Bodies) (at : ℕ) (p : List ℕ) → count_r
     → laid_rows a b (rows_past i bs) at p ≡ p
 rows-end a b i bs at p h = ap (λ (x : Bodies). laid_rows a b x at p) (rows-over i bs h) ∙ rows-none a b at p
 
--- nothing is below rows without slots
 pub rows-empty : (a b : ℕ) (bs : Bodies) (at : ℕ) (p : List ℕ) → b ≡ 0 → p ≡ laid_rows a b bs at p
 rows-empty a b no_bodies at p e = sym (rows-none a b at p)
 rows-empty a b (body ws ss bs) at p e =
@@ -181,14 +180,13 @@ rows-empty a b (body ws ss bs) at p e =
     ∙ ap (laid_rows a b bs (at + a + b)) (slots-none ss (at + a) p)
     ∙ sym (rows-empty a b bs (at + a + b) p e))
 
--- the root is laid out
+-- Laying out `t`, with its pointer written over the only word of `p`, gives the canonical words of `t`.
 pub laid-words : (t : Tree) (p q : List ℕ) → p ≡ [] ++ (0 ∷ []) → q ≡ laid t (set p 0 (point t 0 (length p)))
     → q ≡ words t
 unfolding words
 laid-words t p q e h =
     h ∙ ap (λ (x : List ℕ). laid t (set x 0 (point t 0 (length x)))) e ∙ laid-is t (point t 0 1 ∷ [])
 
--- a value without anything below is laid out
 pub laid-plain : (v : Tree) (from word : ℕ) (ws p q r : List ℕ) → point v from (length p) ≡ word
     → ((at : ℕ) → lay v at ≡ ws) → q ≡ set p from word → r ≡ q ++ ws
     → r ≡ laid v (set p from (point v from (length p)))
@@ -213,7 +211,6 @@ laid-cap v k word from p q e w eq =
     laid-plain v from word [] p q q (ap (λ (x : Tree). point x from (length p)) e ∙ sym w)
     (λ at. ap (λ (x : Tree). lay x at) e) eq (sym (append-nil q))
 
--- the end of the next row is within the bound for the rows that are left
 pub one-more : (next a b n i most : ℕ) → i < n → next + (n - i) * (a + b) ≤ most → next + a + b ≤ most
 one-more next a b n i most lt h =
     let z : n - i ≡ suc (n - (i + 1)) = omega arith in

@@ -1,4 +1,5 @@
--- Values as items of a layout. (For `tree_layout.rt` and `tree_slots.rt`.)
+-- Lemmas on the items of values in memory: lists of numbers, slots and rows. (For `tree_layout.rt` and
+-- `tree_slots.rt`.)
 use Rattle.std.proofs.Common.{◌≡◌, ℕ, zero, suc, ◌+◌, ◌*◌, ◌<◌, ◌≤◌, drop, append_assoc, List, [], ◌∷◌, ◌++◌, length}
 use Rattle.std.proofs.Common.{take, map}
 use Rattle.std.proofs.Common.{replicate, refl, ap, sym, subst, ◌∙◌, arith, append-nil, get_or, Bool}
@@ -31,7 +32,7 @@ voids-list v n e s = record {
   content = λ at. ap (λ (x : Tree). lay x at) e;
 }
 
--- the words that pack a list of numbers
+-- The words that pack the numbers `xs` of the given width.
 abbrev number_words : NumberWidth → List ℕ → List ℕ
 number_words oct xs = xs
 number_words a xs = packed (per_word a) (bits_in a) (content_words (list_width a) (length xs)) xs
@@ -81,7 +82,7 @@ sound-row (body ws ss bs) zero s = s.0
 sound-row (body ws ss bs) (suc i) s = sound-row bs i s.1
 
 module _ {B : Type 0} (v : Tree) where
-  -- a struct, as one row
+  -- Case: `v` is a struct, given as one row.
   pub struct-item : (row : Body B) (d : TreeRows B) → v ≡ node row.words (trees_of row.slots) → Sound v
       → bodies_of d ≡ body row.words (trees_of row.slots) no_bodies → (bs : Bodies) × IsStruct v bs × AreBodies d bs
   struct-item row d e sound ed =
@@ -102,7 +103,7 @@ module _ {B : Type 0} (v : Tree) where
         },
       )
 
-  -- a list of pointers, as one row
+  -- Case: `v` is a list of pointers, given as one row without words.
   pub links-item : (vs : List (Value B)) (d : TreeRows B) (n : ℕ) → v ≡ links (trees_of vs) → Sound v → n ≡ length vs
       → bodies_of d ≡ body [] (trees_of vs) no_bodies → (bs : Bodies) × AreLinks n v bs × AreBodies d bs
   links-item vs d n e sound en ed =
@@ -121,7 +122,7 @@ module _ {B : Type 0} (v : Tree) where
         },
       )
 
-  -- a list of structs
+  -- Case: `v` is a list of structs.
   pub rows-item : (rs : List (Body B)) (d : TreeRows B) (n : ℕ) → v ≡ rows (rows_of rs) → Sound v → n ≡ length rs
       → bodies_of d ≡ rows_of rs → (bs : Bodies) × AreStructs n v bs × AreBodies d bs
   rows-item rs d n e sound en ed =
@@ -138,7 +139,6 @@ module _ {B : Type 0} (v : Tree) where
         },
       )
 
--- zeros are in place of the slots of each row
 pub zeros-over : (a b : ℕ) (bs : Bodies) → AreRowsOver a b bs (zero_rows a b bs)
 zeros-over a b no_bodies = refl
 zeros-over a b (body ws ss bs) =
@@ -187,7 +187,6 @@ some-row (body ws ss cs) zero k h = omega arith
 some-row (body ws ss cs) (suc i) k h = let r = some-row cs i k h in omega arith
 
 module _ {B : Type 0} where
-  -- the root has the value
   pub only-value : (t : Tree) (v : Value B) → tree_of v ≡ t → Sound t → HasValue (v ∷ []) 0 t
   only-value t v et s = record { inside = omega arith; is = sym et; sound = s }
 
@@ -199,7 +198,6 @@ module _ {B : Type 0} where
       → t ≡ tree_of v
   slot-is vs k t v e h = h.is ∙ sym (value-at vs k v h.inside) ∙ ap tree_of (sym e)
 
-  -- the slots of a row have values
   has-slot : (vs : List (Value B)) (ts : Trees) (k : ℕ) → ts ≡ trees_of vs → Sounds ts → k < count ts
       → HasValue vs k (tree_at ts k)
   has-slot vs ts k e s lt = record {

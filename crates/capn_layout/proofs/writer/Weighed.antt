@@ -1,4 +1,5 @@
--- The number of reads of slots and rows. (For the cycle `objects` and the cycle `sizes`.)
+-- The weight of a value bounds the number of reads for its slots and rows. (For the cycle `objects` and the cycle
+-- `sizes`.)
 use Rattle.std.proofs.Common.{◌≡◌, ℕ, suc, ◌+◌, ◌*◌, ◌<◌, ◌≤◌, ap, arith}
 use Rattle.capn_value.specs.Tree.{Tree, Trees, tree_at, count, Bodies, no_bodies, body, count_rows, row_words}
 use Rattle.capn_layout.specs.LayoutSteps.{past, rows_past, slots_at}
@@ -7,7 +8,6 @@ use Rattle.capn_layout.specs.Weight.{weight, weights, weights_in_rows}
 use Rattle.capn_layout.specs.inner.Source.{IsStruct, AreLinks, AreStructs}
 use Rattle.capn_layout.proofs.writer.Laid.{past-next, row-at}
 
--- the weight of a value of one row
 pub struct-weighs : (v : Tree) (bs : Bodies) → IsStruct v bs → weight v ≡ row_words bs + weights_in_rows bs
 struct-weighs v bs is =
     let a = ap weight is.2 in
@@ -24,12 +24,10 @@ links-weigh n v bs is =
     let d = is.2 in
     (omega arith, omega arith)
 
--- the weight of a value of several rows
 pub rows-weigh : (n : ℕ) (v : Tree) (bs : Bodies) → AreStructs n v bs
     → (n + weights_in_rows bs ≤ weight v) × (row_words bs + weights_in_rows bs ≤ weight v)
 rows-weigh n v bs is = let a = ap weight is.0 in let b = is.1 in (omega arith, omega arith)
 
--- the reads of the slots of the only row are within the weight of the row
 pub one-weighed : {S : Type 0} (has : S → ℕ → Tree → Type 0) (source : S) (bs : Bodies) (a b t n : ℕ)
     → count_rows bs ≡ 1 → AreWide a b bs → SoundRows bs
     → ((k : ℕ) → k < count (slots_at bs 0) → has source k (tree_at (slots_at bs 0) k))
@@ -42,7 +40,6 @@ one-weighed has source (body ws ss bs) a b t n e w s are h =
     let l = w.1 in
     omega arith
 
--- the reads of the next slot are within the slot's weight
 pub slot-weighed : {S : Type 0} (has : S → ℕ → Tree → Type 0) (source : S) (n i o l t k : ℕ) → i < n
     → ((ts : Trees) → n ≤ count ts → ((k : ℕ) → k < n → has source k (tree_at ts k))
     → l + 20 * weights (past i ts) ≤ o + 12 * i + 20 * weights ts)
@@ -65,7 +62,6 @@ slots-weighed n i o l ts le ge h =
     let y = ap (λ (j : ℕ). weights (past j ts)) e in
     omega arith
 
--- the reads of the next row are within the row's weight
 pub row-weighed : {S R : Type 0} (has : S → ℕ → Tree → Type 0) (are : R → Bodies → Type 0) (rows : R) (source : S)
     (a b i o l t n : ℕ)
     → ((bs : Bodies) → are rows bs → (k : ℕ) → k < count (slots_at bs i) → has source k (tree_at (slots_at bs i) k))

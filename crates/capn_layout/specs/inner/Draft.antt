@@ -1,22 +1,24 @@
--- Words written into a slice of bytes.
+-- The changes of a slice of bytes into which words are written.
 use Rattle.std.specs.Prelude.{◌≡◌, ℕ, ◌+◌, ◌*◌, List, ◌++◌, length, take, drop, set}
 use Rattle.capn_words.specs.Message.{words_in}
 
--- q is p after the bytes `xs` are written over the bytes from offset `at` on (Our own.)
+-- The bytes `q` are `p` after `xs` are written over the bytes from offset `at` on. (Our own.)
 abbrev pub Writes : ℕ → List ℕ → List ℕ → List ℕ → Type 0
 Writes at xs p q = q ≡ take at p ++ (xs ++ drop (at + length xs) p)
 
--- q has the length of p, and the words of q after the first n are the words of p (Our own.)
+-- `p` and `q` have the same length, and the same bytes after the first `n` words. (Our own.)
 pub record IsKept (n : ℕ) (p q : List ℕ) : Type 0 where
   pub same : length q ≡ length p
   pub rest : drop (8 * n) q ≡ drop (8 * n) p
 
--- q is p after the words `ws` are written after the first n words, which makes m words (Our own.)
+-- The first `m` words of `q` are the first `n` words of `p`, followed by `ws`. All bytes after these `m` words are as
+-- in `p`. (Our own.)
 pub record Appends (n m : ℕ) (ws p q : List ℕ) : Type 0 where
   pub words : words_in m q ≡ words_in n p ++ ws
   pub kept : IsKept m p q
 
--- q is p after `word` is written over word `at`, one of the first n words (Our own.)
+-- The first `n` words of `q` are those of `p`, except that word `at` is `word`. All bytes after these `n` words are as
+-- in `p`. (Our own.)
 pub record Puts (n at word : ℕ) (p q : List ℕ) : Type 0 where
   pub words : words_in n q ≡ set (words_in n p) at word
   pub kept : IsKept n p q

@@ -15,7 +15,7 @@ use Rattle.capn_layout.specs.declared.tree_slots.TreeSlots.TheVariants as places
 use Rattle.capn_layout.specs.Layout.{packed}
 use Rattle.capn_layout.specs.Sound.{Sound, SoundRows}
 
--- the words `ws` are the packed numbers (Our own.)
+-- The words `ws` pack the numbers `xs` of a `TreeNumbers`. (Our own.)
 abbrev pub PacksNumbers : TreeNumbers → List ℕ → Type 0
 PacksNumbers Voids ws = ws ≡ []
 PacksNumbers (Bits xs) ws = ws ≡ packed 64 1 (words_for (length xs.now)) (map from_bool xs.now)
@@ -25,24 +25,25 @@ PacksNumbers (Quads xs) ws = ws ≡ packed 2 32 (words_for (32 * length xs.now))
 PacksNumbers (Octs xs) ws = ws ≡ xs.now
 
 module _ {B : Type 0} where
-  -- slot k has the value `v` (Our own.)
+  -- `v` is the value of slot `k` of `slots`, and is `Sound`. (Our own.)
   pub record HasValue (slots : List (Value B)) (k : ℕ) (v : Tree) : Type 0 where
     pub inside : k < length slots
     pub is : v ≡ tree_at (trees_of slots) k
     pub sound : Sound v
 
-  -- the values in the slots, or the one value (Our own.)
+  -- The values of a `TreeSlots`: the root `v` alone, or the slots `vs`. (Our own.)
   abbrev pub values_of : TreeSlots B → List (Value B)
   values_of (places.Root v) = v.now ∷ []
   values_of (places.Slots vs) = vs.now
 
-  -- the bodies of the rows, or the body of the one row (Our own.)
+  -- The bodies of a `TreeRows`. A single `row` or a list of `slots` gives one body. (Our own.)
   abbrev pub bodies_of : TreeRows B → Bodies
   bodies_of (kinds.Bodies rows) = rows_of rows.now
   bodies_of (kinds.Body row) = body row.now.words (trees_of row.now.slots) no_bodies
   bodies_of (kinds.Slots slots) = body [] (trees_of slots.now) no_bodies
 
-  -- `bs` are the bodies of the rows, and the numbers of kept words and kept slots are below 2^32 (Our own.)
+  -- `bs` are the bodies of `rows`, and their values are `Sound`. `kept_words_of_rows bs` and `kept_slots_of_rows bs`
+  -- are below 2^32. (Our own.)
   pub record AreBodies (rows : TreeRows B) (bs : Bodies) : Type 0 where
     pub are : bs ≡ bodies_of rows
     pub sound : SoundRows bs

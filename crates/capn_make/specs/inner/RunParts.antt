@@ -1,4 +1,4 @@
--- The definitions for the steps of a run.
+-- Definitions for the steps of a run of `make`.
 use Rattle.std.specs.Prelude.{◌≡◌, ◌≢◌, ◌⊎◌, ◌≤◌, ◌<◌, ⊤, ℕ, ◌+◌, ◌*◌, ◌-◌, ◌^◌, ◌==◌, List, [], ◌∷◌, ◌++◌}
 use Rattle.std.specs.Prelude.{length, take, drop}
 use Rattle.std.specs.Prelude.{Bool, true, false, not, cond}
@@ -21,7 +21,8 @@ use Rattle.capn_make.specs.Endings.{IsRefusedForGood, IsLostForGood}
 use Rattle.capn_make.specs.declared.fault.MakeFault.{MakeFault}
 use Rattle.capn_make.specs.declared.fault.MakeFault.TheVariants as faults
 
--- `made` is made of the first texts of `input`, and `place` is behind those texts. In form `Bare` there is at most one.
+-- `made` is what `form` writes for `values`, whose texts are at the front of `input`, and `place` is after those texts.
+-- In form `Bare`, `values` has at most one value.
 pub record HasMade (form : Form) (input : List ℕ) (place : Place) (made : List ℕ) : Type 0 where
   pub values : List Tree
   pub first : AreFirst values input place.rest
@@ -29,59 +30,62 @@ pub record HasMade (form : Form) (input : List ℕ) (place : Place) (made : List
   pub line : place.line ≡ line_after values
   pub few : form ≡ forms.Bare → length values ≤ 1
 
--- `made` is made of `input` with the given result, if no bytes follow. In form `Bare` nothing is said of `made` after a
--- fault.
+-- A run on exactly `input` in the given form has the given result, and `made` is what it writes. For a fault in form
+-- `Bare`, nothing is stated on `made`.
 abbrev pub IsMadeSo : Form → List ℕ → List ℕ → Result (Unit {0}) MakeFault → Type 0
 IsMadeSo forms.Stream input made r = MakesEach forms.Stream input made r
 IsMadeSo forms.Packed input made r = MakesEach forms.Packed input made r
 IsMadeSo forms.Bare input made (Ok u) = MakesOne input made (Ok u)
 IsMadeSo forms.Bare input made (Err fault) = IsNotOne input fault
 
--- The fault is that of a text with a capability.
+-- `fault` is `Capability n index` for some `n` and `index`.
 abbrev pub HasCapability : MakeFault → Type 0
 HasCapability fault = (n : ℕ) × (index : ℕ) × (fault ≡ faults.Capability n index)
 
--- A step made texts of `input` up to `place` or to the end, or an allocation was refused. After a capability, which is
--- refused whatever follows, nothing is known of `place`.
+-- A step parsed the texts of `input` up to `place`, with the result of a run on `input` (`IsMadeSo`), or with `Memory`.
+-- `HasMade` holds at `place`, except after `Memory` or `Capability`. After `Ok`, no bytes are left at `place`.
 abbrev pub GoesOn : Form → List ℕ → Place → List ℕ → Result (Unit {0}) MakeFault → Type 0
 GoesOn form input place made (Ok u) = HasMade form input place made × IsMadeSo form input made (Ok u)
     × (place.rest ≡ [])
 GoesOn form input place made (Err fault) = (fault ≡ faults.Memory)
     ⊎ ((HasCapability fault ⊎ HasMade form input place made) × IsMadeSo form input made (Err fault))
 
--- Line `n` at `place` is wrong whatever bytes follow. Either no text continues with line `n`, or the line follows the
--- only text that the form takes and begins no text.
+-- Line `n` is wrong whatever bytes `more` follow those at `place`. Either no text at `place` continues with line `n`,
+-- or line `n` follows the only text that form `Bare` takes, and begins no text.
 abbrev pub IsLostAt : Form → Place → ℕ → Type 0
 IsLostAt form place n =
     ((form ≡ forms.Bare → place.line ≡ 1) × ((more : List ℕ) → IsWrong place.line (place.rest ++ more) n))
     ⊎ ((form ≡ forms.Bare) × (place.line ≡ 1 → ⊥)
     × ((more : List ℕ) → Follows place.line (place.rest ++ more) (faults.NotText n)))
 
--- All bytes at `place`, except for a few at the end, can be continued to a text. After the only text that the form
--- takes, only a few bytes are left.
+-- In form `Bare`, at a line other than 1, at most `few` bytes are at `place`. In any other case, `MayGoOn` holds for
+-- the bytes at `place`.
 abbrev pub IsOpenAt : Form → Place → Type 0
 IsOpenAt form place = ((form ≡ forms.Bare → place.line ≡ 1) × MayGoOn place.rest)
     ⊎ ((form ≡ forms.Bare) × (place.line ≡ 1 → ⊥) × (length place.rest ≤ few))
 
--- If the fault is a wrong line, `cut` says whether more bytes may mend the line. If `cut` is set, no text with its end
--- is at `place`.
+-- Let `fault` be `NotText n`. If `cut` is true, `IsOpenAt` holds at `place`, and `IsUnended` for its bytes. If `cut` is
+-- false, line `n` is wrong whatever bytes follow (`IsLostAt`).
 abbrev pub TellsCut : Form → Place → Bool → MakeFault → Type 0
 TellsCut form place cut fault = (n : ℕ) → fault ≡ faults.NotText n
     → (cut ≡ true → IsOpenAt form place × IsUnended place.rest) × (cut ≡ false → IsLostAt form place n)
 
--- If the fault is a wrong line of the next text, `cut` says whether more bytes may mend the line.
+-- Let `fault` be `NotText n`. If `cut` is true, `MayGoOn` and `IsUnended` hold for the bytes at `place`. If `cut` is
+-- false, line `n` is wrong whatever bytes `more` follow.
 abbrev pub TellsNext : Place → Bool → MakeFault → Type 0
 TellsNext place cut fault = (n : ℕ) → fault ≡ faults.NotText n
     → (cut ≡ true → MayGoOn place.rest × IsUnended place.rest)
     × (cut ≡ false → (more : List ℕ) → IsWrong place.line (place.rest ++ more) n)
 
--- If the fault is a wrong line after the only text, `cut` says whether more bytes may mend the line.
+-- Let `fault` be `NotText n`. If `cut` is true, at most `few` bytes are at `place`, and `IsUnended` holds for them. If
+-- `cut` is false, `Follows` holds with `fault`, whatever bytes `more` follow.
 abbrev pub TellsEnd : Place → Bool → MakeFault → Type 0
 TellsEnd place cut fault = (n : ℕ) → fault ≡ faults.NotText n
     → (cut ≡ true → (length place.rest ≤ few) × IsUnended place.rest)
     × (cut ≡ false → (more : List ℕ) → Follows place.line (place.rest ++ more) (faults.NotText n))
 
--- The part of `rest`, which begins at `line`, that causes a fault is complete.
+-- `rest` begins at `line`, and the bytes of `rest` that cause the fault are complete. If the fault is `NotText n`, line
+-- `n` has its newline.
 abbrev pub IsWholeFrom : ℕ → List ℕ → MakeFault → Type 0
 IsWholeFrom line rest faults.Memory = ⊤
 IsWholeFrom line rest faults.Io = ⊤
@@ -92,7 +96,7 @@ IsWholeFrom line rest (faults.Capability n index) = ⊤
 IsWholeFrom line rest (faults.Another n) = ⊤
 IsWholeFrom line rest faults.NoText = ⊥
 
--- True if the fault is a wrong line and `cut` is not set, so that no more bytes can mend the line.
+-- True if the fault is `NotText` and `cut` is false.
 abbrev pub is_lost : MakeFault → Bool → Bool
 is_lost faults.Memory cut = false
 is_lost faults.Io cut = false
@@ -103,20 +107,20 @@ is_lost (faults.Capability n index) cut = false
 is_lost (faults.Another n) cut = false
 is_lost faults.NoText cut = false
 
--- `input` has no complete part that refuses it. No first `n` bytes with at least `few` bytes of `input` after them have
--- one fault whatever follows.
+-- `input` is not refused for good. If `few` or more bytes of `input` follow its first `n` bytes, `IsLostForGood` does
+-- not hold for these `n` bytes.
 abbrev pub IsNotYet : Form → List ℕ → Type 0
 IsNotYet form input = (IsRefusedForGood form input → ⊥)
     × ((n : ℕ) → n + few ≤ length input → IsLostForGood form (take n input) → ⊥)
 
--- If a fault is given, `input` has that fault whatever bytes follow, and `made` is made of `input`. If no fault is
--- given, texts were made up to `place`, no text with its end is at `place`, and `input` is not refused for good.
+-- If a fault is given, `IsMadeSo` holds with that fault, whatever bytes `more` follow `input`. If no fault is given,
+-- `HasMade` holds at `place`, `IsNotYet` for `input`, and `IsUnended` for the bytes at `place`.
 abbrev pub TellsRefusal : Form → List ℕ → Place → List ℕ → Option MakeFault → Type 0
 TellsRefusal form input place made (Some fault) = (more : List ℕ) → IsMadeSo form (input ++ more) made (Err fault)
 TellsRefusal form input place made None = HasMade form input place made × IsNotYet form input × IsUnended place.rest
 
--- The first `tested` bytes of `rest`, and all bytes of `input` before `rest`, were tested. They do not refuse `input`
--- for good.
+-- `front` is a prefix of `input`. Its length is the length of `input` minus the length of `rest` plus `tested`.
+-- `IsNotYet` holds for `front`.
 pub record HasTested (form : Form) (tested : ℕ) (input rest : List ℕ) : Type 0 where
   pub front : List ℕ
   pub more : List ℕ
@@ -128,29 +132,31 @@ pub record HasTested (form : Form) (tested : ℕ) (input rest : List ℕ) : Type
 abbrev pub HoldsNoEnd : List ℕ → Type 0
 HoldsNoEnd bytes = (front : List ℕ) (rest : List ℕ) → bytes ≢ front ++ (end_line ++ rest)
 
--- True if the second bytes begin with the first.
+-- True if the second list begins with the first list.
 abbrev pub begins_with : List ℕ → List ℕ → Bool
 begins_with [] bytes = true
 begins_with (c ∷ cs) [] = false
 begins_with (c ∷ cs) (d ∷ ds) = cond (c == d) (begins_with cs ds) false
 
--- True if the line `end` is at any place in the bytes.
+-- True if the line `end` is at some place in the bytes.
 abbrev pub holds_end : List ℕ → Bool
 holds_end [] = false
 holds_end (c ∷ cs) = cond (begins_with end_line (c ∷ cs)) true (holds_end cs)
 
--- The numbers of all lines of `rest`, which begins at `line`, are below 2^64.
+-- The sum of `line` and the length of `rest` is below 2^64. If `rest` begins at `line`, the numbers of its lines are
+-- also below 2^64.
 abbrev pub HasRoom : ℕ → List ℕ → Type 0
 HasRoom line rest = line + length rest < 2 ^ 64
 
--- In frames, all messages that were made were written, and `made` is empty. In form `Bare` no message was written, and
--- `written` is empty.
+-- In form `Stream` or `Packed`, `made` is empty, since all messages were written. In form `Bare`, `written` is empty,
+-- since no message was written.
 abbrev pub IsKept : Form → List ℕ → List ℕ → Type 0
 IsKept forms.Stream written made = made ≡ []
 IsKept forms.Packed written made = made ≡ []
 IsKept forms.Bare written made = written ≡ []
 
--- The messages that were made were written, or kept in form `Bare`. Or the writer failed while they were written.
+-- If the result is `Ok`, some `text` was written, `old` is `text ++ new`, and `IsKept` holds. If the result is a fault,
+-- it is `Io`, the writer failed after a prefix of `old`, and the form is not `Bare`.
 abbrev pub WritesMade : Form → Option (List ℕ) → Option (List ℕ) → Bool → List ℕ → List ℕ
     → Result (Unit {0}) MakeFault → Type 0
 WritesMade form c d failed old new (Ok u) = (failed ≡ false)
@@ -158,9 +164,8 @@ WritesMade form c d failed old new (Ok u) = (failed ≡ false)
 WritesMade form c d failed old new (Err fault) = (failed ≡ true) × (fault ≡ faults.Io) × (form ≡ forms.Bare → ⊥)
     × HasBegun c d old
 
--- The texts of `input` were made up to `rest`, which begins at `line`, and no text with its end is at the front of
--- `rest`. The first `tested` bytes of `rest` were tested. The messages that were made were written, except in form
--- `Bare`.
+-- A run has read `input` and has written `written`. `written ++ made` are the messages of the texts before `rest`,
+-- which begins at `line`. `IsUnended` holds for `rest`, and `HasTested` for `tested`, `input` and `rest`.
 pub record IsUnderWay (form : Form) (input : List ℕ) (c d : Option (List ℕ)) (made rest : List ℕ) (line tested : ℕ)
     : Type 0 where
   pub written : List ℕ
@@ -171,12 +176,13 @@ pub record IsUnderWay (form : Form) (input : List ℕ) (c d : Option (List ℕ))
   pub short : length rest ≤ 4 * tested
   pub unended : IsUnended rest
 
--- The state at the beginning of an input: nothing was made, and nothing is left.
+-- The state at the beginning of an input: `made` and `rest` are empty, `line` is 1, and `tested` is 0.
 abbrev pub IsFresh : List ℕ → List ℕ → ℕ → ℕ → Type 0
 IsFresh made rest line tested = (made ≡ []) × (rest ≡ []) × (line ≡ 1) × (tested ≡ 0)
 
--- The texts of `input` were made up to `rest`, as in `IsUnderWay`, when `rest` had `before` bytes. The other bytes of
--- `rest` were added since. Whatever follows, a first part of the messages was written.
+-- `HasMade` and `HasTested` hold as in `IsUnderWay`, but bytes may follow the first `before` bytes of `rest`. If the
+-- line `end` is nowhere after the first `before` - 3 bytes of `rest`, `IsUnended` holds for `rest`. Whatever bytes
+-- `more` follow `input`, a prefix of the messages was written (`HasBegunText`).
 pub record HasCome (form : Form) (input : List ℕ) (c d : Option (List ℕ)) (made rest : List ℕ)
     (line tested before : ℕ) : Type 0 where
   pub written : List ℕ
@@ -187,38 +193,40 @@ pub record HasCome (form : Form) (input : List ℕ) (c d : Option (List ℕ)) (m
   pub unended : HoldsNoEnd (drop (before - 3) rest) → IsUnended rest
   pub begun : (more : List ℕ) → HasBegunText form (input ++ more) c d
 
--- `bytes` were read and `more` follow. The messages of both together, or a first part of the messages, were written,
--- and the run had their result. An allocation was refused only if some bytes were read.
+-- `EndsAs` and `HasBegunText` hold for an input of `bytes`, which were read, and then `more`. If the result `r` is
+-- `Memory`, `bytes` are not empty.
 abbrev pub GivesMade : Form → List ℕ → List ℕ → Option (List ℕ) → Option (List ℕ) → Result (Unit {0}) MakeFault → Type 0
 GivesMade form bytes more c d r = EndsAs form c d r (bytes ++ more) × HasBegunText form (bytes ++ more) c d
     × (r ≡ Err faults.Memory → bytes ≢ [])
 
--- True if the fault of a text is the fault of an unfinished text.
+-- True if the fault from parsing a text is `Cut`, the fault of an unfinished text.
 abbrev pub is_cut : TextFault → Bool
 is_cut texts.Memory = false
 is_cut (texts.Line n) = false
 is_cut (texts.Cut n) = true
 is_cut (texts.Misfit m) = false
 
--- The fault of a run, from the fault of its next text, which begins at `line`.
+-- The fault of a run, from the fault of parsing its next text, which begins at `line`.
 abbrev pub unread : ℕ → TextFault → MakeFault
 unread line texts.Memory = faults.Memory
 unread line (texts.Line n) = faults.NotText n
 unread line (texts.Cut n) = faults.NotText n
 unread line (texts.Misfit m) = faults.Misfit line m
 
--- The result is the bytes that are written for the value `v`, whose text begins at `line`, or a fault instead.
+-- The result is the bytes that the form writes for `v`, if `v` has no capability. Otherwise it is `Memory`, or
+-- `Capability` at `line` with the `index` of the first capability of `v`.
 abbrev pub MakesValue : {A : Type 0} → Form → ℕ → Tree → Result (Vec ℕ A) MakeFault → Type 0
 MakesValue form line v (Ok piece) = IsWrittenValue form v piece.items × (first_cap v ≡ None)
 MakesValue form line v (Err fault) = (fault ≡ faults.Memory)
     ⊎ ((index : ℕ) × (fault ≡ faults.Capability line index) × (first_cap v ≡ Some index))
 
--- The place `new` is at `old`, or behind it.
+-- The bytes at `old` end with those at `new`: `new` is at `old`, or after it.
 abbrev pub IsAfter : Place → Place → Type 0
 IsAfter old new = (front : List ℕ) × (old.rest ≡ front ++ new.rest)
 
--- The next text was made, and `new` is behind it, or nothing is left. Or the text is refused, and `new` is `old` unless
--- the text has a capability. Or an allocation was refused.
+-- For `None`, no bytes are at `old`. For a `piece`, the text of some `v` is at `old`, `piece` is written for `v`, and
+-- `new` is after the text. A fault is `Memory`, or the text at `old` is refused, and `new` is `old` unless
+-- `HasCapability` holds.
 abbrev pub MakesNext : {A : Type 0} → Form → Place → Place → Result (Option (Vec ℕ A)) MakeFault → Type 0
 MakesNext form old new (Ok None) = (old.rest ≡ []) × (new ≡ old)
 MakesNext form old new (Ok (Some piece)) = (v : Tree) × IsMakeable v
@@ -227,7 +235,8 @@ MakesNext form old new (Ok (Some piece)) = (v : Tree) × IsMakeable v
 MakesNext form old new (Err fault) = (fault ≡ faults.Memory)
     ⊎ ((HasCapability fault ⊎ (new ≡ old)) × IsTextRefused old.line old.rest fault)
 
--- Nothing follows the only text, or the bytes that follow the text are refused.
+-- If the result is `Ok`, no bytes are at `place`. If it is `fault`, the bytes at `place`, which follow the only text,
+-- are refused with `fault` (`Follows`).
 abbrev pub EndsOne : Place → Result (Unit {0}) MakeFault → Type 0
 EndsOne place (Ok u) = place.rest ≡ []
 EndsOne place (Err fault) = Follows place.line place.rest fault

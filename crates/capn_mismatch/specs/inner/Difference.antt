@@ -4,7 +4,7 @@ use Rattle.capn_mismatch.specs.declared.difference.Difference.{Difference}
 use Rattle.capn_mismatch.specs.declared.difference.Difference.TheVariants as differences
 use Rattle.capn_mismatch.specs.Difference.{Differ, GoesOn}
 
--- the difference is the first difference of the lists of words xs and ys
+-- The given `Difference` is the first difference of the lists of words `xs` and `ys`.
 abbrev pub IsDifference : List ℕ → List ℕ → Difference → Type 0
 IsDifference xs ys differences.None = xs ≡ ys
 IsDifference xs ys (differences.Word k x y) = Differ xs ys k x y

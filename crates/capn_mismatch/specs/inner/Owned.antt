@@ -9,7 +9,7 @@ use Rattle.capn_mismatch.specs.declared.word_kind.Owner.{Owner}
 use Rattle.capn_mismatch.specs.Owner.{place}
 use Rattle.capn_mismatch.specs.inner.Search.{owned, same}
 
--- the walk of the message with the one segment `words` visits a slot that owns `word`
+-- The walk of the message with the only segment `words` visits a slot that owns `word`.
 abbrev pub HasOwner : List ℕ → Bounds → ℕ → Type 0
 HasOwner words limits word = (after : Owner)
     → IsPassed (words ∷ []) owned same (record { word = place word })

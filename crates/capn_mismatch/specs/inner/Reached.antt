@@ -1,4 +1,4 @@
--- The slot at which a word is found, reached from another slot.
+-- The path from a slot or an object down to the slot that owns a word.
 use Rattle.std.specs.Prelude.{◌≡◌, ℕ, ◌+◌, ◌*◌, ◌<◌, ◌≤◌, ◌^◌, List, [], ◌∷◌, ◌++◌, length, Some}
 use Rattle.capn_words.specs.Message.{segment_at}
 use Rattle.capn_words.specs.declared.space.Place.{Place}
@@ -13,7 +13,7 @@ use Rattle.capn_mismatch.specs.declared.slot_rows.SlotRows.{SlotRows}
 use Rattle.capn_mismatch.specs.declared.word_kind.WordKind.{WordKind}
 use Rattle.capn_mismatch.specs.inner.Search.{finds}
 
--- the slots of an object whose content starts at `start`, as rows of equal sizes
+-- The slots of an object whose content starts at `start`, as rows of equal sizes.
 abbrev pub rows_of : Place → Shape → SlotRows
 rows_of start (shapes.Node a b) = record { at = start; count = 1; words = a; slots = b }
 rows_of start (shapes.Many Link n) = record { at = start; count = 1; words = 0; slots = n }
@@ -25,25 +25,26 @@ rows_of start (shapes.Rows n a b span) = record {
   slots = b;
 }
 
--- the place of slot `slot` of row `row`
+-- The place of slot `slot` of row `row` of `rows`.
 abbrev pub place_in : SlotRows → ℕ → ℕ → Place
 place_in rows row slot = record {
   segment = rows.at.segment;
   word = rows.at.word + row * (rows.words + rows.slots) + rows.words + slot;
 }
 
--- the rows lie inside a segment of the message, and the number of words of a row fits in 32 bits
+-- The `rows` lie inside a segment of `message`, and a row has fewer than 2^32 words.
 pub record AreWithin (message : List (List ℕ)) (rows : SlotRows) : Type 0 where
   pub inside : rows.at.word + rows.count * (rows.words + rows.slots) ≤ length (segment_at message rows.at.segment)
   pub small : rows.words + rows.slots < 2 ^ 32
 
--- the numbers of a path that lead to slot `slot` of row `row` of an object
+-- The numbers of a path that lead to slot `slot` of row `row` of an object of `shape`.
 abbrev pub numbers : Shape → ℕ → ℕ → List ℕ
 numbers (shapes.Rows n a b span) row slot = row ∷ slot ∷ []
 numbers shape row slot = slot ∷ []
 
 module _ (m : List (List ℕ)) (base : ℕ) (word : Place) where
-  -- the path `new` continues the path `old` with the numbers that lead to a slot, at which the word has the kind `x`
+  -- The path `new` is the path `old` followed by numbers that lead to a slot, in the relation `Onward`. At that slot,
+  -- the word at `word` has the kind `x`.
   pub record ReachesIn (Onward : List ℕ → Place → ℕ → Type 0) (old new : List ℕ) (x : WordKind) : Type 0 where
     pub rest : List ℕ
     pub is : new ≡ old ++ rest
@@ -52,12 +53,11 @@ module _ (m : List (List ℕ)) (base : ℕ) (word : Place) where
     pub found : finds word to (target m to) ≡ Some x
     pub leads : Onward rest to number
 
-  -- the numbers added to the path lead from the slot at `at` to a slot, at which the word has the kind `x`
+  -- `ReachesIn` for numbers that lead down from the slot at `at`, or for no numbers if that slot owns `word`.
   abbrev pub Reaches : ℕ → Place → List ℕ → List ℕ → WordKind → Type 0
   Reaches depth at = ReachesIn (Leads m base depth at)
 
-  -- the numbers added to the path lead from the object of `shape` at `start` to a slot, at which the word has the kind
-  -- `x`
+  -- `ReachesIn` for numbers that lead down from the object of `shape` whose content starts at `start`.
   abbrev pub ReachesBelow : ℕ → Place → Shape → List ℕ → List ℕ → WordKind → Type 0
   ReachesBelow depth start shape =
       ReachesIn (DescendsTo m base depth (slots start.segment start.word shape) (AreNumbersIn shape))

@@ -12,7 +12,7 @@ use Rattle.capn_pack.proofs.shared.FirstParts.{append_same}
 use Rattle.capn_pack.proofs.shared.GroupLemmas.{length_contents}
 use Rattle.capn_pack.proofs.shared.GroupLaws.{one_reading}
 
--- word `m` of dense words is dense
+-- if `bs` are `n` dense words, word `m` of `bs` is dense and complete
 dense_at : (n m : ℕ) (bs : List ℕ) → AllDense n bs → length bs ≡ 8 * n → m < n → IsDense (take 8 (drop (8 * m) bs))
     × (8 ≤ length (drop (8 * m) bs))
 dense_at zero m bs h long less = absurd (omega arith)
@@ -23,7 +23,8 @@ dense_at (suc n) (suc m) bs h long less =
     let there : drop (8 * m) (drop 8 bs) ≡ drop (8 * suc m) bs = drop-drop (8 * m) 8 bs ∙ ap (λ k. drop k bs) at in
     subst (λ l. IsDense (take 8 l) × (8 ≤ length l)) there rest
 
--- a chosen run of zero words is not shorter than another run at the front of the same bytes
+-- a run of `1 + m` zero words that the packer chooses is not shorter than a run of `1 + n` zero words at the front of
+-- the same bytes
 not_shorter : (m n : ℕ) (a b : List ℕ) → n < 256 → (m < 255 → take 8 a ≡ replicate 8 0 → ⊥)
     → replicate (8 * (1 + m)) 0 ++ a ≡ replicate (8 * (1 + n)) 0 ++ b → m < n → ⊥
 not_shorter m n a b top last e less =
@@ -39,7 +40,8 @@ not_shorter m n a b top last e less =
     ∙ append_assoc (replicate 8 0) (replicate (8 * k) 0) b in
     last (omega arith) (ap (take 8) (tail ∙ two))
 
--- a chosen run of dense words is not shorter than another run at the front of the same bytes
+-- a run of `m` dense words that the packer chooses is not shorter than a run of `n` dense words at the front of the
+-- same bytes
 raw_not_shorter : (m n : ℕ) (f g a b : List ℕ) → n < 256 → length f ≡ 8 * m → length g ≡ 8 * n → AllDense n g
     → (m < 255 → IsDense (take 8 a) → ⊥) → f ++ a ≡ g ++ b → m < n → ⊥
 raw_not_shorter m n f g a b top lf lg dense last e less =
@@ -65,11 +67,10 @@ zero_first more a =
     ap (take 8) (ap (λ l. l ++ a) (ap (λ j. replicate j 0) (sym size) ∙ sym (replicate-append-replicate 8 (8 * more) 0))
     ∙ append_assoc (replicate 8 0) (replicate (8 * more) 0) a)
 
--- the first 8 bytes of a word and other bytes are the word
 word_first : (word rest : List ℕ) → length word ≡ 8 → take 8 (word ++ rest) ≡ word
 word_first word rest long = take-append-le 8 word rest (omega arith) ∙ take_all 8 word (omega arith)
 
--- the packer chooses only one group for the front of given bytes
+-- for the words at the front of some bytes, the packer chooses at most one group
 pub choice_same : (g h : Group) (a b : List ℕ) → IsGroup g → IsGroup h → IsChoice g a → IsChoice h b
     → group_bytes g ++ a ≡ group_bytes h ++ b → g ≡ h
 choice_same (Zeros m) (Zeros n) a b p q c d e =
@@ -122,7 +123,7 @@ row_same (g ∷ gs) (h ∷ hs) p q e =
     ∙ ap (λ k. group_bytes k ++ contents hs) (sym first)) in
     (λ i. first i ∷ row_same gs hs p.2 q.2 rest i)
 
--- the packer writes only one text for given words
+-- the packer has at most one text for the bytes `bs`
 pub one_text : (a b bs : List ℕ) → Chosen a bs → Chosen b bs → a ≡ b
 one_text a b bs p q = p.text ∙ ap texts (row_same p.groups q.groups p.chosen q.chosen (sym p.content ∙ q.content))
     ∙ sym q.text
@@ -131,18 +132,18 @@ each_chosen : (gs : List Group) → IsChosenRow gs → AllByRecursion IsGroup gs
 each_chosen [] h = tt
 each_chosen (g ∷ gs) h = (h.0, each_chosen gs h.2)
 
--- the packer's text is a packed text of the same words
+-- the packer's text `b` for `bs` is a packed text of `bs`
 pub packs_from_chosen : (b bs : List ℕ) → Chosen b bs → Packs b bs
 packs_from_chosen b bs c =
     record { groups = c.groups; each = each_chosen c.groups c.chosen; is_text = c.text; are_bytes = c.content }
 
--- two of the packer's texts are equal if and only if they pack the same words
+-- two of the packer's texts, `a` and `b`, are equal exactly if they pack the same bytes
 pub texts_same : (a b vs ws : List ℕ) → Chosen a vs → Chosen b ws → (a ≡ b) ↔ (vs ≡ ws)
 texts_same a b vs ws p q = (
   (λ e. one_reading b vs ws (packs_from_chosen b vs (subst (λ t. Chosen t vs) e p)) (packs_from_chosen b ws q)),
   (λ e. one_text a b ws (subst (Chosen a) e p) q),
 )
 
--- bytes for which the packer has a text are whole words
+-- if the packer has a text for `bs`, the length of `bs` is a multiple of 8
 pub chosen_whole : (b bs : List ℕ) → Chosen b bs → length bs % 8 ≡ 0
 chosen_whole b bs c = omega (arith, ap length c.content, length_contents c.groups (each_chosen c.groups c.chosen))

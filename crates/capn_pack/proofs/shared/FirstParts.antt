@@ -1,5 +1,5 @@
--- Lemma for `ChosenLaws`, `GroupLaws`, capn_commands and capn_serve: equal texts have equal first parts of the same
--- length.
+-- Lemma for `ChosenLaws`, `GroupLaws`, capn_commands and capn_serve: a joined list and the length of its first list
+-- determine both lists.
 use Rattle.std.proofs.Common.{◌≡◌, ℕ, List, [], ◌∷◌, ◌++◌, length, refl, arith}
 
 -- if `a ++ x` equals `b ++ y` and `a` has the length of `b`, then `a` equals `b` and `x` equals `y`

@@ -18,7 +18,7 @@ use Rattle.capn_pack.proofs.shared.FirstParts.{append_same}
 use Rattle.capn_pack.proofs.shared.GroupLemmas.{length_contents, count_append, text_some}
 use Rattle.capn_pack.proofs.shared.SpreadLemmas.{ones_half, no_ones, parity, named_one, named_none}
 
--- a tag names as many bytes as it has set bits
+-- in a `word` of `n` bytes, the number of bytes that a `tag` of `n` bits names is the number of set bits of `tag`
 length_named : (n tag : ℕ) (word : List ℕ) → length word ≡ n → tag < 2 ^ n
     → length (named_bytes tag word) ≡ count_ones tag
 length_named n tag [] long less = let none : tag ≡ 0 = omega (arith, ap (λ k. 2 ^ k) long) in
@@ -32,17 +32,16 @@ length_named (suc n) tag (x ∷ xs) long less =
       | inr odd ↦ omega (arith, ap length (named_one tag x xs odd), ones_half tag, rest)
     ]
 
--- a tag between 0 and 255 is neither 0 nor 255
 middle : (tag : ℕ) → 0 < tag → tag < 255 → (eqb tag 0 ≡ false) × (eqb tag 255 ≡ false)
 middle tag above below = (ne_eqb tag 0 (λ e. absurd (omega arith)), ne_eqb tag 255 (λ e. absurd (omega arith)))
 
--- the bytes `b` begin with the head of `g`, which gives the length of the text of `g` and its number of words
+-- the bytes `b` begin with a complete head, which gives the length of the text of `g` and the number of words of `g`
 pub record HeadOf (g : Group) (b : List ℕ) : Type 0 where
   pub head : HasHead b
   pub long : len_at b ≡ length (group_text g)
   pub count : words_at b ≡ group_words g
 
--- a group's text begins with its head
+-- bytes that begin with the text of the group `g` satisfy `HeadOf g`
 pub head_of : (g : Group) (more : List ℕ) → IsGroup g → HeadOf g (group_text g ++ more)
 head_of (Zeros n) more is = record { head = omega arith; long = refl; count = refl }
 head_of (Named tag word) more is =
@@ -60,7 +59,7 @@ head_of (Raw (a ∷ b ∷ c ∷ d ∷ e ∷ f ∷ g ∷ h ∷ []) n further) mor
 }
 head_of (Raw _ n further) more is = absurd (omega (arith, is.0))
 
--- bytes that are cut within a group begin with no group
+-- if `IsCut` holds of `rest`, `rest` begins with no complete group
 pub no_group : (room : ℕ) (rest : List ℕ) → IsCut room rest → (g : Group) (more : List ℕ) → IsGroup g
     → rest ≡ group_text g ++ more → ⊥
 no_group room rest cut g more is e =
@@ -70,7 +69,6 @@ no_group room rest cut g more is e =
 
 -- ---- two readings of one text
 
--- two words with the same tag and the same named bytes are equal
 named_same : (tag : ℕ) (v w x y : List ℕ) → length v ≡ length w → IsNamedBy tag v → IsNamedBy tag w
     → named_bytes tag v ++ x ≡ named_bytes tag w ++ y → (v ≡ w) × (x ≡ y)
 named_same tag [] [] x y long p q e = (refl, e)
@@ -94,7 +92,7 @@ named_same tag (a ∷ v) (b ∷ w) x y long p q e =
 head_is : (a b : ℕ) (x y : List ℕ) → a ∷ x ≡ b ∷ y → (a ≡ b) × (x ≡ y)
 head_is a b x y e = (cc, cc)
 
--- two groups whose texts begin the same bytes are equal
+-- two groups at the front of the same bytes are equal, and so are the bytes after them
 pub group_same : (g h : Group) (x y : List ℕ) → IsGroup g → IsGroup h → group_text g ++ x ≡ group_text h ++ y
     → (g ≡ h) × (x ≡ y)
 group_same (Zeros m) (Zeros n) x y p q e = let a = head_is _ _ _ _ e in let b = head_is _ _ _ _ a.1 in
@@ -147,7 +145,7 @@ no_texts : (gs : List Group) → [] ≡ texts gs → gs ≡ []
 no_texts [] e = refl
 no_texts (g ∷ gs) e = absurd (omega (arith, text_some g, ap length e, length-append (group_text g) (texts gs)))
 
--- a packed text is read in only one way
+-- the text `b` packs at most one list of bytes
 pub one_reading : (b cs bs : List ℕ) → Packs b cs → Packs b bs → cs ≡ bs
 one_reading b cs bs p q =
     let r = goes_on p.groups q.groups [] p.each q.each
@@ -155,7 +153,7 @@ one_reading b cs bs p q =
     p.are_bytes ∙ ap contents (r.whole ∙ ap (λ l. q.groups ++ l) (no_texts r.more r.text) ∙ append-nil q.groups)
     ∙ sym q.are_bytes
 
--- whole groups are not cut
+-- `IsCut` does not hold of the text of complete groups
 not_cut : (room : ℕ) (rest : List ℕ) (more : List Group) → AllByRecursion IsGroup more → rest ≡ texts more
     → IsCut room rest → ⊥
 not_cut room rest [] p e cut = omega (arith, cut.0, ap length e)
@@ -168,8 +166,8 @@ not_long room rest (g ∷ more) p e fits long =
     let h = head_of g (texts more) p.0 in
     omega (arith, long.2, ap words_at e, h.count)
 
--- if whole groups within the room never have a fault, a text that packs words within the maximum does not have that
--- fault
+-- if the fault `Q` never holds of complete groups of at most `room` words, `Q` is no fault of a text `b` that packs at
+-- most `max` words
 pub not_refused : (Q : ℕ → List ℕ → Type 0)
     → ((room : ℕ) (rest : List ℕ) (more : List Group) → AllByRecursion IsGroup more → rest ≡ texts more
     → word_count more ≤ room → Q room rest → ⊥)
@@ -186,7 +184,7 @@ not_refused Q never b bs max at p fits s =
       s.counted,
     )) s.fault
 
--- a text that packs words within the maximum is refused only for `Memory`
+-- a text `b` that packs at most `max` words is refused only for `Memory`
 pub refused_only : (e : UnpackFault) (b bs : List ℕ) (max : ℕ) → IsUnpackRefused b max e → Packs b bs
     → length bs ≤ 8 * max
     → e ≡ fault.Memory

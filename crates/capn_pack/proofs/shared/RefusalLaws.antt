@@ -1,4 +1,4 @@
--- Lemmas for `reading`, capn_canon and capn_commands: a packed text is refused for one reason only.
+-- Lemmas for `reading`, capn_canon and capn_commands: a text is refused for at most one reason other than `Memory`.
 use Rattle.std.proofs.Common.{◌≡◌, ℕ, ◌+◌, ◌≤◌, List, [], ◌∷◌, ◌++◌, length, refl, ap, sym, subst, ◌∙◌}
 use Rattle.std.proofs.Common.{append_assoc, arith}
 use Rattle.std.specs.List.{AllByRecursion}
@@ -8,7 +8,7 @@ use Rattle.capn_pack.specs.declared.fault.UnpackFault.{UnpackFault}
 use Rattle.capn_pack.specs.declared.fault.UnpackFault.TheVariants as fault
 use Rattle.capn_pack.proofs.shared.GroupLaws.{no_group, head_of, group_same}
 
--- no rest that begins with a whole group of at most `room` words has the fault
+-- `Fault` holds of no `rest` that begins with a complete group of at most `room` words
 abbrev NoneFits : (ℕ → List ℕ → Type 0) → Type 0
 NoneFits Fault = (room : ℕ) (rest more : List ℕ) (g : Group)
     → IsGroup g → rest ≡ group_text g ++ more → group_words g ≤ room → Fault room rest → ⊥
@@ -19,7 +19,7 @@ cut-no_group room rest more g h e fits cut = no_group room rest cut g more h e
 long-no_group : NoneFits IsTooLong
 long-no_group room rest more g h e fits long = let a = head_of g more h in omega (arith, long.2, ap words_at e, a.count)
 
--- two rows of groups have the same text, their rests are equal, and the same number of words is left
+-- `gs` and `hs` have the same text, `rest` equals `other`, and `left` equals `right`
 record SameRow (gs hs : List Group) (rest other : List ℕ) (left right : ℕ) : Type 0 where
   texts_are : texts gs ≡ texts hs
   rest_is : rest ≡ other
@@ -81,7 +81,7 @@ module _ (b : List ℕ) (max : ℕ) where
   one_packed (fault.TooLong at) (fault.TooLong to) r s ne nf =
       ap (λ (n : ℕ). fault.TooLong n) (same_at IsTooLong long-no_group at to r s)
 
--- a packed text is refused for only one reason other than `Memory`
+-- for a given `max`, the text `b` is refused for at most one reason other than `Memory`
 pub one_unpack_fault : (b : List ℕ) (max : ℕ) (e f : UnpackFault)
     → IsUnpackRefused b max e → IsUnpackRefused b max f → (e ≡ fault.Memory → ⊥) → (f ≡ fault.Memory → ⊥) → e ≡ f
 one_unpack_fault b max e f r s ne nf = one_packed b max e f r s ne nf

@@ -1,5 +1,5 @@
--- Lemmas for `splitting`, capn_commands and capn_serve: each text is a row of whole groups and a rest that begins with
--- no group, in exactly one way.
+-- Lemmas for `splitting`, capn_commands and capn_serve: each text is a row of complete groups and a rest that begins
+-- with no group, in exactly one way.
 use Rattle.std.proofs.Common.{◌≡◌, ◌⊎◌, inl, inr, ℕ, zero, suc, ◌+◌, ◌*◌, ◌/◌, ◌%◌, ◌^◌, ◌<◌, ◌≤◌, List, [], ◌∷◌}
 use Rattle.std.proofs.Common.{◌++◌, length, take, drop, get_or, slice_range, refl, ap, sym, ◌∙◌, arith}
 use Rattle.std.proofs.Common.{append_assoc, length-append, length-drop, take-append-drop}
@@ -70,7 +70,7 @@ record First (bs : List ℕ) : Type 0 where
   is : IsGroup group
   text_is : bs ≡ group_text group ++ more
 
--- if the first `n` bytes are the text of a group, `bs` begin with a group
+-- if the first `n` bytes of `bs` are the text of the group `g`, `bs` begin with a group
 first_of : (bs : List ℕ) (n : ℕ) (g : Group) → IsGroup g → take n bs ≡ group_text g → First bs
 first_of bs n g is e =
     record {
@@ -81,14 +81,14 @@ first_of bs n g is e =
           ∙ ap (λ (l : List ℕ). l ++ drop n bs) e;
     }
 
--- bytes that begin with the text of a group begin with the group's tag
+-- if `bs` begin with the text of the group `g`, the first byte of `bs` is the tag of `g`
 tag_of_first : (bs : List ℕ) (g : Group) (more : List ℕ) → bs ≡ group_text g ++ more
     → get_or bs 0 0 ≡ get_or (group_text g) 0 0
 tag_of_first bs (Zeros n) more e = ap (λ (l : List ℕ). get_or l 0 0) e
 tag_of_first bs (Named tag word) more e = ap (λ (l : List ℕ). get_or l 0 0) e
 tag_of_first bs (Raw word n further) more e = ap (λ (l : List ℕ). get_or l 0 0) e
 
--- bytes whose first number is no byte begin with no group
+-- a list whose first number is above 255 begins with no group
 no_tag : (bs : List ℕ) → 256 ≤ get_or bs 0 0 → NoGroupFirst bs
 no_tag bs great (Zeros n) more is e = let t = tag_of_first bs (Zeros n) more e in absurd (omega (arith, t, great))
 no_tag bs great (Named tag word) more is e = let t = tag_of_first bs (Named tag word) more e in
@@ -157,7 +157,7 @@ pub record Split (bs old : List ℕ) : Type 0 where
   pub len : ℕ
   pub splits : Splits bs rest old new len
 
--- if the bytes after a group are split, so are the group and those bytes
+-- if `more` splits, so do the bytes `bs`, which are the text of the group `g` and then `more`
 split_more : (bs old : List ℕ) (g : Group) (more : List ℕ) → IsGroup g → bs ≡ group_text g ++ more
     → Split more (old ++ group_bytes g) → Split bs old
 split_more bs old g more is e s = record {
@@ -198,13 +198,13 @@ split_all (suc n) (b ∷ bs) old short = elim (first_or_none (b ∷ bs) (omega a
   | inr none ↦ split_open (b ∷ bs) old none
 ]
 
--- each text is split into whole groups and a rest
+-- all bytes `bs` are split into complete groups and a rest that begins with no group
 pub splits_all : (bs old : List ℕ) → Split bs old
 splits_all bs old = split_all (suc (length bs)) bs old (omega arith)
 
 -- ---- only one way to split
 
--- a text has only one row of groups before a rest that begins with no group
+-- for one text, there is at most one row of groups before a rest that begins with no group
 pub one_row : (gs hs : List Group) (r s : List ℕ) → AllByRecursion IsGroup gs → AllByRecursion IsGroup hs
     → NoGroupFirst r → NoGroupFirst s → texts gs ++ r ≡ texts hs ++ s → (gs ≡ hs) × (r ≡ s)
 one_row [] [] r s f g n m e = (refl, e)
@@ -217,7 +217,7 @@ one_row (g ∷ gs) (h ∷ hs) r s f k n m e =
     let ih = one_row gs hs r s f.1 k.1 n m same.1 in
     (rw (same.0, ih.0) refl, ih.1)
 
--- a text is split in only one way
+-- the bytes `bs` are split in at most one way
 pub one_split : (bs r s old new other : List ℕ) (len more : ℕ) → Splits bs r old new len → Splits bs s old other more
     → (r ≡ s) × ((new ≡ other) × (len ≡ more))
 one_split bs r s old new other len more f g =

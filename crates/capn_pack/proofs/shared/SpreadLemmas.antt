@@ -7,7 +7,7 @@ use Rattle.std.proofs.lemmas.Nat.{ones_cat}
 use Rattle.std.specs.Prelude.{count_ones}
 use Rattle.capn_pack.specs.Packed.{named_bytes}
 
--- the number of set bits of `n` is the number of set bits of `n / 2` plus the last bit of `n`
+-- the number of set bits of `n` is the number of set bits of `n / 2` plus the lowest bit of `n`
 pub ones_half : (n : ℕ) → count_ones n ≡ n % 2 + count_ones (n / 2)
 unfolding lib.Count.ones
 ones_half n =
@@ -21,15 +21,15 @@ ones_half n =
     ones_below (suc zero) h = refl
     ones_below (suc (suc r)) h = absurd (omega arith)
 
--- a tag whose lowest bit is set names the first byte
+-- if the lowest bit of the tag `left` is set, `left` names the first byte `b`
 pub named_one : (left b : ℕ) (ws : List ℕ) → left % 2 ≡ 1 → named_bytes left (b ∷ ws) ≡ b ∷ named_bytes (left / 2) ws
 named_one left b ws e = grind (arith, nat_tests)
 
--- a tag whose lowest bit is not set does not name the first byte
+-- if the lowest bit of the tag `left` is not set, `left` does not name the first byte `b`
 pub named_none : (left b : ℕ) (ws : List ℕ) → left % 2 ≡ 0 → named_bytes left (b ∷ ws) ≡ named_bytes (left / 2) ws
 named_none left b ws e = grind (arith, nat_tests)
 
--- a number is even or odd
+-- the number `n` is even or odd
 pub parity : (n : ℕ) → (n % 2 ≡ 0) ⊎ (n % 2 ≡ 1)
 parity n = bit_cases (n % 2) (omega arith)
   where

@@ -16,7 +16,7 @@ use Rattle.capn_pack.specs.declared.text_piece.Joined.TheVariants as joins
 use Rattle.capn_pack.proofs.shared.GroupLemmas.{rest_is, each_append, text_some}
 use Rattle.capn_pack.proofs.shared.GroupLaws.{no_group}
 
--- if a row of groups was read from `bytes`, `Begins` holds
+-- if `TakesRow` holds of `bytes`, `Begins` holds
 pub begins : (bytes : List ℕ) (at : ℕ) (old out : List ℕ) → TakesRow bytes at old out → Begins bytes old out
 begins bytes at old out u = record {
   groups = u.groups;
@@ -26,7 +26,7 @@ begins bytes at old out u = record {
   content = u.content;
 }
 
--- if a row of groups was read from `bytes` and no group follows, `Splits` holds
+-- if `TakesRow` holds of `bytes`, and no group follows the row, `Splits` holds
 pub splits : (bytes : List ℕ) (at : ℕ) (old out : List ℕ) → TakesRow bytes at old out → NoGroupFirst (drop at bytes)
     → Splits bytes (drop at bytes) old out at
 splits bytes at old out u none = record {
@@ -38,8 +38,7 @@ splits bytes at old out u none = record {
   open_rest = none;
 }
 
--- if `stream` splits, and a prefix of the words of its rest and `more` is appended, `Begins` holds for `stream` and
--- `more`
+-- if `stream` splits with the rest `rest`, and `Begins` holds of `rest ++ more`, `Begins` holds of `stream ++ more`
 pub begins_then : (stream rest more words next : List ℕ) (len : ℕ) → Splits stream rest [] words len
     → Begins (rest ++ more) [] next → Begins (stream ++ more) [] (words ++ next)
 begins_then stream rest more words next len s b = record {
@@ -62,7 +61,7 @@ begins_then stream rest more words next len s b = record {
 pub nothing_first : NoGroupFirst []
 nothing_first g more is e = omega (arith, text_some g, ap length e, length-append (group_text g) more)
 
--- if a row of groups was read from `bytes` and a cut group follows, `Splits` holds
+-- if `TakesRow` holds of `bytes`, and `IsCut` holds of the bytes after the row, `Splits` holds
 pub splits_cut : (bytes : List ℕ) (at : ℕ) (old out : List ℕ) (room : ℕ) → TakesRow bytes at old out
     → IsCut room (slice_range bytes at (length bytes)) → Splits bytes (drop at bytes) old out at
 splits_cut bytes at old out room u cut =
@@ -70,7 +69,6 @@ splits_cut bytes at old out room u cut =
 
 -- ---- an unfinished group, and a piece that continues it
 
--- a group that was read from the held bytes and more is longer than the held bytes, which begin with no group
 past_rest : (rest piece joined : List ℕ) (more room taken count : ℕ) (old new : List ℕ)
     → joined ≡ rest ++ take more piece → NoGroupFirst rest → Takes joined room taken count old new → length rest ≤ taken
 past_rest rest piece joined more room taken count old new e none t =
@@ -84,14 +82,15 @@ past_rest rest piece joined more room taken count old new e none t =
       | inr le ↦ le
     ]
 
--- a group that was read from the first `len` bytes of `held` and more ends after those bytes
+-- if `joined` is the first `len` bytes of `held` and then bytes of `piece`, and those `len` bytes begin with no
+-- complete group, a group at the front of `joined` has at least `len` bytes
 pub join_past : (held piece joined : List ℕ) (len more room taken count : ℕ) (old new : List ℕ) → len ≤ length held
     → joined ≡ take len held ++ take more piece → NoGroupFirst (take len held) → Takes joined room taken count old new
     → len ≤ taken
 join_past held piece joined len more room taken count old new le e none t =
     omega (arith, past_rest (take len held) piece joined more room taken count old new e none t, length-take len held)
 
--- if the bytes of a piece make the held group whole, `Joins` holds
+-- Case: if `piece` completes the unfinished group, `Joins` holds for `joins.Whole`.
 pub join_whole : (held piece joined kept : List ℕ) (len more room taken count : ℕ) (old new : List ℕ)
     → len ≤ length held → more ≤ length piece → joined ≡ take len held ++ take more piece → NoGroupFirst (take len held)
     → Takes joined room taken count old new
@@ -109,7 +108,7 @@ join_whole held piece joined kept len more room taken count old new le short e n
     ∙ ap (λ n. take n (rest ++ take more piece)) (sym sum) ∙ ap (take taken) (sym e) ∙ t.text in
     (omega arith, t.group, t.is_group, text_is, t.content)
 
--- if the held group is still unfinished after the bytes of a piece, `Joins` holds
+-- Case: if the group is still unfinished after `piece`, `Joins` holds for `joins.Open`.
 pub join_open : (held piece joined kept : List ℕ) (len more all room : ℕ) (old new : List ℕ) → 0 < len
     → len ≤ length held → (length piece ≤ more) ⊎ (2049 ≤ more) → more ≤ length piece
     → joined ≡ take len held ++ take more piece → all ≡ len + length (take more piece) → take all kept ≡ joined
@@ -131,9 +130,9 @@ join_open held piece joined kept len more all room old new some le enough within
       same,
     )
 
--- ---- a group that a piece made whole, and what follows it
+-- ---- a group that a piece completed, and the groups after it
 
--- the held bytes and a piece split into the group that became whole and the groups of the rest of the piece
+-- if `piece` completes the group that begins with `rest`, and the bytes after the group split, `rest ++ piece` splits
 pub splits_more : (rest piece held : List ℕ) (at : ℕ) (old mid new after : List ℕ) (taken : ℕ)
     → Joins rest piece held old mid (joins.Whole at) → Splits (slice_range piece at (length piece)) after mid new taken
     → Splits (rest ++ piece) after old new ((length rest + at) + taken)
@@ -159,7 +158,8 @@ splits_more rest piece held at old mid new after taken j s =
       open_rest = s.open_rest;
     }
 
--- the held bytes and a piece begin with the group that became whole and with a prefix of what follows
+-- if `piece` completes the group that begins with `rest`, and `Begins` holds of the bytes after the group, `Begins`
+-- holds of `rest ++ piece`
 pub begins_more : (rest piece held : List ℕ) (at : ℕ) (old mid new : List ℕ)
     → Joins rest piece held old mid (joins.Whole at) → Begins (slice_range piece at (length piece)) mid new
     → Begins (rest ++ piece) old new
@@ -176,12 +176,12 @@ begins_more rest piece held at old mid new j s =
       content = s.content ∙ ap (λ l. l ++ contents s.groups) j.4 ∙ append_assoc old (group_bytes g) (contents s.groups);
     }
 
--- a stream that begins with no group is split into no groups and the stream as the rest
+-- a `stream` that begins with no group splits into no groups and `stream` as the rest
 pub splits_open : (stream old new : List ℕ) → NoGroupFirst stream → new ≡ old → Splits stream stream old new 0
 splits_open stream old new none e =
     record { groups = []; each = tt; text = refl; content = e ∙ sym (append-nil old); size = refl; open_rest = none }
 
--- if a stream splits, and its rest with the next piece splits, then the stream with the next piece splits
+-- if `stream` splits with the rest `rest`, and `rest ++ piece` splits, then `stream ++ piece` splits
 pub splits_then : (stream rest piece after : List ℕ) (old mid new : List ℕ) (len more : ℕ)
     → Splits stream rest old mid len → Splits (rest ++ piece) after mid new more
     → Splits (stream ++ piece) after old new (len + more)

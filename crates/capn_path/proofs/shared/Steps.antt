@@ -1,4 +1,4 @@
--- Numbers that lead from a slot to a slot below, and on from that slot. (For `Followed`, `Holding`, `Searches` and
+-- A path from a slot to a slot below it is a step and then a further path. (For `Followed`, `Holding`, `Searches` and
 -- capn_mismatch.)
 use Rattle.std.proofs.Common.{◌≡◌, ℕ, zero, suc, ◌+◌, ◌-◌, ◌*◌, ◌<◌, List, [], ◌∷◌, ◌++◌, length, Ok}
 use Rattle.std.proofs.Common.{refl, ap, sym, ◌∙◌, arith, append_assoc, length-append}
@@ -12,7 +12,6 @@ use Rattle.capn_walk.proofs.shared.RowWalks.{row_places-add}
 use Rattle.capn_path.specs.Paths.{AreNumbersOf, Leads, Descends}
 use Rattle.capn_path.specs.Steps.{AreNumbersIn, DescendsTo}
 
--- the number of places
 pub length-places : (s w n : ℕ) → length (places s w n) ≡ n
 length-places s w zero = refl
 length-places s w (suc n) = ap suc (length-places s (w + 1) n)
@@ -25,7 +24,7 @@ length-rows s w a b (suc n) =
     let q = length-rows s (w + a + b) a b n in
     omega arith
 
--- the slots of the rows before row i, the slots of row i, and the slots of the rows after row i
+-- the slots of `n` rows are the slots before row `i`, the slots of row `i`, and the slots after row `i`
 pub row-split : (s w a b i n : ℕ) → i < n
     → row_places s w a b n
     ≡ row_places s w a b i
@@ -34,13 +33,11 @@ row-split s w a b i n lt =
     let e : n ≡ i + suc (n - suc i) = omega arith in
     ap (row_places s w a b) e ∙ row_places-add s w a b i (suc (n - suc i))
 
--- an element in the middle of the second of three lists
 pub middle : {A : Type 0} (xs before : List A) (x : A) (behind ys : List A)
     → xs ++ ((before ++ x ∷ behind) ++ ys) ≡ (xs ++ before) ++ x ∷ (behind ++ ys)
 middle xs before x behind ys =
     ap (λ zs. xs ++ zs) (append_assoc before (x ∷ behind) ys) ∙ sym (append_assoc xs before (x ∷ (behind ++ ys)))
 
--- the numbers lead to a slot of the object, and there is at least one number
 numbers-of : (shape : Shape) (s start pads k : ℕ) (numbers : List ℕ) → AreNumbersIn shape k numbers
     → AreNumbersOf (targets.Content s start shape pads) k numbers × (0 < length numbers)
 numbers-of (shapes.Node a b) s start pads k numbers h = rw h (refl, omega arith)
@@ -48,18 +45,19 @@ numbers-of (shapes.Many width n) s start pads k numbers h = rw h (refl, omega ar
 numbers-of (shapes.Rows n a b span) s start pads k numbers h = rw h.are ((h.small, h.count), omega arith)
 
 module _ (m : List (List ℕ)) (base : ℕ) where
-  -- a path without numbers leads from a slot to itself
+  -- a path without numbers leads from the slot at `at` to itself
   pub stays : (left : ℕ) (at : Place) → Leads m base left at [] at 0
   stays zero at = (refl, refl)
   stays (suc left) at = (refl, refl)
 
-  -- a step followed by a path is a path
+  -- if `path` is not empty, and `Descends` is true of it, `Leads` is true of `path` with one more level of depth
   pub goes : (left : ℕ) (at : Place) (path : List ℕ) (to : Place) (n : ℕ) → 0 < length path
       → Descends m base left (Leads m base left) at path to n → Leads m base (suc left) at path to n
   goes left at [] to n h g = absurd (omega arith)
   goes left at (i ∷ path) to n h g = g
 
-  -- a step from the slot that names an object to one of the object's slots
+  -- if `d` is above 0, and `DescendsTo` is true of `path` and the slots of an object, `Leads` is true of `path` from
+  -- the slot at `at` that names the object
   pub goes-down : (d : ℕ) (at : Place) (s start pads : ℕ) (shape : Shape) (path : List ℕ) (to : Place) (n : ℕ)
       → target m at ≡ Ok (targets.Content s start shape pads) → 0 < d
       → DescendsTo m base (d - 1) (slots s start shape) (AreNumbersIn shape) path to n

@@ -1,5 +1,5 @@
--- The first bits of two lists of words are equal exactly if the whole words are equal and the bits of the last word are
--- equal. (For `are_same_bits`.)
+-- The first `n` bits of two lists of words are equal exactly if the `n / 64` complete words and the last `n % 64` bits
+-- are equal. (For `are_same_bits`.)
 use Rattle.std.proofs.Common.{◌≡◌, ◌≢◌, ℕ, ◌+◌, ◌<◌, ◌≤◌, ◌/◌, ◌%◌, ◌^◌, List, [], ◌∷◌, ◌++◌, length, take, drop}
 use Rattle.std.proofs.Common.{slice_index, ap, ap₂, sym, ◌∙◌, arith, length-drop}
 use Rattle.std.proofs.lemmas.Grind.{same_number_lists}
@@ -12,14 +12,12 @@ module _ (xs : List ℕ) (w n : ℕ) (room : w + n / 64 ≤ length xs) where
   long : length (take (n / 64) (drop w xs)) ≡ n / 64
   long = let d = length-drop w xs in length-take-le (n / 64) (drop w xs) (omega arith)
 
-  -- a whole word of the first bits
   whole-at : (i : ℕ) → i < n / 64 → slice_index (first_bits n (drop w xs)) i ≡ slice_index xs (w + i)
   whole-at i lt =
       get_or_append_left (take (n / 64) (drop w xs)) (last_bits (n % 64) (drop (n / 64) (drop w xs))) 0 i
       (let l = long in omega arith)
       ∙ get_or-take (n / 64) (drop w xs) i 0 lt ∙ get_or-drop w xs i 0
 
-  -- the last word of the first n bits, if n is not a multiple of 64
   last-is : n % 64 ≢ 0 → last_bits (n % 64) (drop (n / 64) (drop w xs))
       ≡ slice_index xs (w + n / 64) % 2 ^ (n % 64) ∷ []
   last-is ne =
@@ -38,12 +36,10 @@ module _ (xs ys : List ℕ) (w v n : ℕ) (room : w + n / 64 ≤ length xs) (spa
   abbrev pub SameBits : Type 0
   SameBits = first_bits n (drop w xs) ≡ first_bits n (drop v ys)
 
-  -- equal bits make equal whole words
   pub equal-of_bits : SameBits → AreEqual xs w ys v (n / 64)
   equal-of_bits e i lt =
       sym (whole-at xs w n room i lt) ∙ ap (λ (l : List ℕ). slice_index l i) e ∙ whole-at ys v n space i lt
 
-  -- equal bits make equal bits of the last word
   pub last-of_bits : n % 64 ≢ 0 → SameBits
       → slice_index xs (w + n / 64) % 2 ^ (n % 64) ≡ slice_index ys (v + n / 64) % 2 ^ (n % 64)
   last-of_bits ne e =
@@ -58,13 +54,11 @@ module _ (xs ys : List ℕ) (w v n : ℕ) (room : w + n / 64 ≤ length xs) (spa
       get_or-take (n / 64) (drop w xs) i 0 (omega arith) ∙ get_or-drop w xs i 0 ∙ eq i (omega arith)
       ∙ sym (get_or-drop v ys i 0) ∙ sym (get_or-take (n / 64) (drop v ys) i 0 (omega arith)))
 
-  -- equal whole words make equal bits, if n is a multiple of 64
   pub bits-of_equal : n % 64 ≡ 0 → AreEqual xs w ys v (n / 64) → SameBits
   bits-of_equal e eq =
       ap₂ (λ (l : List ℕ) (r : ℕ). l ++ last_bits r (drop (n / 64) (drop w xs))) (whole eq) e
       ∙ ap (λ (r : ℕ). take (n / 64) (drop v ys) ++ last_bits r (drop (n / 64) (drop v ys))) (sym e)
 
-  -- equal whole words and equal bits of the last word make equal bits
   pub bits-of_both : n % 64 ≢ 0 → AreEqual xs w ys v (n / 64)
       → slice_index xs (w + n / 64) % 2 ^ (n % 64) ≡ slice_index ys (v + n / 64) % 2 ^ (n % 64) → SameBits
   bits-of_both ne eq e =

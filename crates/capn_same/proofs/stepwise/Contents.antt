@@ -1,4 +1,4 @@
--- The contents of two slots, and whether these contents are the same. (For `objects.rt`.)
+-- Conditions under which the contents of two slots are the same, or are not the same. (For `objects.rt`.)
 use Rattle.std.proofs.Common.{◌≡◌, ◌↔◌, ℕ, ◌+◌, ◌-◌, ◌*◌, ◌<◌, ◌≤◌, ◌^◌, ◌%◌, ◌==◌, Bool, true, false}
 use Rattle.std.proofs.Common.{IsTrue}
 use Rattle.std.proofs.Common.{List, length, take, Ok, refl, ap, ap₂, sym, subst, ◌∙◌, arith, length-drop}
@@ -32,16 +32,13 @@ use Rattle.capn_same.proofs.stepwise.Kinds.{same-mark, same-count}
 use Rattle.capn_same.proofs.stepwise.Numbers.{IsList}
 use Rattle.capn_same.proofs.stepwise.Slots.{slots-each}
 
--- the result `false` is right for a statement that doesn't hold
 pub no : {P : Type 0} → (P → ⊥) → IsTrue false ↔ P
 no n = ((λ e. absurd (false≢true e)), (λ h. absurd (n h)))
 
--- a test for zeros at a place p is a test for zeros at a place q that equals p
 pub zeros-at : (m : List (List ℕ)) (p q : Place) (n : ℕ) (r : Bool) → p ≡ q
     → (IsTrue r ↔ AreZeros (segment_at m p.segment) p.word n) → IsTrue r ↔ AreZeros (segment_at m q.segment) q.word n
 zeros-at m p q n r e h = subst (λ (x : Place). IsTrue r ↔ AreZeros (segment_at m x.segment) x.word n) e h
 
--- the test whether the first k bits of two words are equal
 pub last-test : (x y mask w v k : ℕ) → x ≡ w → y ≡ v → mask ≡ 2 ^ k
     → IsTrue (x % mask == y % mask) ↔ (w % 2 ^ k ≡ v % 2 ^ k)
 last-test x y mask w v k ex ey em =
@@ -62,13 +59,13 @@ both-cap j k v w e f =
     (subst (λ (t : Tree). IsTrue (j == k) ↔ Same t (cap k)) (sym e) (eqb-true j k, eq-eqb j k))
 
 module _ (m k : List (List ℕ)) where
-  -- values of targets of different kinds are not the same
+  -- if the marks of the targets `t` and `u` differ, their values `v` and `w` are not the same
   pub slots-apart : (at beside : Place) (t u : Target) (v w : Tree) → target m at ≡ Ok t → target k beside ≡ Ok u
       → IsAt m at v → IsAt k beside w → (target_mark t ≡ target_mark u → ⊥) → IsTrue false ↔ Same v w
   slots-apart at beside t u v w e f h g n =
       no (λ s. n (at-mark m at t v e h ∙ same-mark v w s ∙ sym (at-mark k beside u w f g)))
 
-  -- values of contents of different kinds or lengths are not the same
+  -- if the marks of the shapes `x` and `y` differ, contents `v` and `z` of these shapes are not the same
   pub contents-apart : (x y : Shape) (s w t u : ℕ) (v z : Tree) → IsInside m x s w v → IsInside k y t u z
       → (shape_mark x ≡ shape_mark y → ⊥) → IsTrue false ↔ Same v z
   contents-apart x y s w t u v z h g n =
@@ -79,7 +76,8 @@ module _ (m k : List (List ℕ)) where
   lengths-apart x y s w t u v z h g n =
       no (λ e. n (inside-count m x s w v h ∙ same-count v z e ∙ sym (inside-count k y t u z g)))
 
-  -- two structs are the same exactly if the words are the same and the slots are the same
+  -- if `r` tells whether the words and the slots of the structs `v` and `z` are the same, `r` tells whether `v` and `z`
+  -- are the same
   pub same-node : (a b c d s w t u : ℕ) (v z : Tree) (h : IsInside m (shapes.Node a b) s w v)
       (g : IsInside k (shapes.Node c d) t u z) (r : Bool)
       → (IsTrue r ↔ (SameWords (as-node m a b s w v h).words (as-node k c d t u z g).words
@@ -90,7 +88,8 @@ module _ (m k : List (List ℕ)) where
       subst (λ (p : Tree). IsTrue r ↔ Same v p) (sym y.is)
       (subst (λ (p : Tree). IsTrue r ↔ Same p (node y.words y.slots)) (sym x.is) q)
 
-  -- two lists of pointers are the same exactly if the slots are the same
+  -- if `r` tells whether the slots of the lists `v` and `z` of `n` pointers are the same, `r` tells whether `v` and `z`
+  -- are the same
   pub same-links : (n s w t u : ℕ) (v z : Tree) (h : IsInside m (shapes.Many Link n) s w v)
       (g : IsInside k (shapes.Many Link n) t u z) (r : Bool)
       → (IsTrue r ↔ SameSlots (as-links m n s w v h).slots (as-links k n t u z g).slots) → IsTrue r ↔ Same v z
@@ -102,7 +101,8 @@ module _ (m k : List (List ℕ)) where
       (subst (λ (p : Tree). IsTrue r ↔ Same p (links y.slots)) (sym x.is)
       ((λ b. e.0 (q.0 b)), (λ o. q.1 (e.1 o))))
 
-  -- two lists of structs are the same exactly if the rows are the same
+  -- if `r` tells whether the rows of the lists `v` and `z` of `n` structs are the same, `r` tells whether `v` and `z`
+  -- are the same
   pub same-rows : (n a b p c d q s w t u : ℕ) (v z : Tree) (h : IsInside m (shapes.Rows n a b p) s w v)
       (g : IsInside k (shapes.Rows n c d q) t u z) (r : Bool)
       → (IsTrue r ↔ SameRows (as-rows m n a b p s w v h).bodies (as-rows k n c d q t u z g).bodies)
@@ -153,7 +153,6 @@ inside-deep m shape s w nil h = absurd h
 inside-deep m shape s w (cap k) h = absurd h
 
 module _ (m : List (List ℕ)) where
-  -- the content that the pointer of a slot with a value names
   pub has-content : (at : Place) (depth s start pads : ℕ) (shape : Shape) → HasValue m at depth
       → target m at ≡ Ok (targets.Content s start shape pads)
       → HasContent m shape (record { segment = s; word = start }) depth
@@ -172,7 +171,6 @@ module _ (m : List (List ℕ)) where
   deep shape at depth r =
       let h = inside-deep m shape at.segment at.word r.value r.is in let l = r.low in omega arith
 
-  -- the content of a struct is a row
   pub is-row : (a b depth : ℕ) (at : Place) (v : Tree) → HasContent m (shapes.Node a b) at depth
       → (h : IsInside m (shapes.Node a b) at.segment at.word v)
       → IsRow m at a b (as-node m a b at.segment at.word v h).words (as-node m a b at.segment at.word v h).slots
@@ -200,7 +198,6 @@ module _ (m : List (List ℕ)) where
       let x = as-node m a b s w v h in
       let e = ap weight x.is in let n = x.number in let c = x.count in omega arith
 
-  -- the content of a list of pointers is the list's slots
   pub are-in : (n depth : ℕ) (at : Place) (v : Tree) → HasContent m (shapes.Many Link n) at depth
       → (h : IsInside m (shapes.Many Link n) at.segment at.word v)
       → AreIn m at n (as-links m n at.segment at.word v h).slots
@@ -221,7 +218,6 @@ module _ (m : List (List ℕ)) where
   links-weigh n s w v h =
       let x = as-links m n s w v h in let e = ap weight x.is in let c = x.count in omega arith
 
-  -- the content of a list of structs is the list's rows
   pub are-rows : (n a b span depth : ℕ) (at : Place) (v : Tree) → HasContent m (shapes.Rows n a b span) at depth
       → (h : IsInside m (shapes.Rows n a b span) at.segment at.word v)
       → AreRowsIn m (record { segment = at.segment; word = at.word + 1 }) n a b
@@ -251,7 +247,6 @@ module _ (m : List (List ℕ)) where
   rows-weigh n a b span s w v h =
       let x = as-rows m n a b span s w v h in let e = ap weight x.is in let c = x.count in omega arith
 
-  -- the content of a list of numbers is the list's elements
   pub is-list : (width : Width) (n depth : ℕ) (at : Place) (v : Tree) → IsPlain width
       → HasContent m (shapes.Many width n) at depth → IsInside m (shapes.Many width n) at.segment at.word v
       → IsList m width n at.segment at.word v

@@ -17,7 +17,7 @@ use Rattle.capn_target.specs.Target.{target, list_width}
 use Rattle.capn_target.specs.Shapes.{RowsFit}
 use Rattle.capn_walk.specs.ValueAt.{IsAt, IsInside}
 
--- a number that marks each width
+-- a number for each width, different for different widths
 abbrev pub width_mark : Width → ℕ
 width_mark W0 = 2
 width_mark W1 = 3
@@ -46,7 +46,7 @@ width-back Rows = refl
 pub same-width : (w v : Width) → width_mark w ≡ width_mark v → w ≡ v
 same-width w v e = sym (width-back w) ∙ ap width_of e ∙ width-back v
 
--- a number that marks each kind of value, of content and of target
+-- a number for each kind of `Tree`, where lists of numbers of different widths are of different kinds
 abbrev pub mark : Tree → ℕ
 mark nil = 0
 mark (node ws ss) = 1
@@ -66,7 +66,7 @@ target_mark targets.Nil = 0
 target_mark (targets.Cap k) = 10
 target_mark (targets.Content s start shape pads) = shape_mark shape
 
--- the number of elements, given the shape of content
+-- the number of elements of a list of `shape`, or 0 for the shape of a struct
 abbrev pub shape_count : Shape → ℕ
 shape_count (shapes.Node a b) = 0
 shape_count (shapes.Many width n) = n
@@ -103,7 +103,7 @@ module _ (m : List (List ℕ)) where
   at-mark at t (links ts) e h = ap target_mark (same-target at t _ e h.is)
   at-mark at t (rows bs) e h = ap target_mark (same-target at t _ e h.3.is)
 
--- values that are the same are of one kind
+-- if the values `v` and `w` are the same, they are of one kind
 pub same-mark : (v w : Tree) → Same v w → mark v ≡ mark w
 same-mark nil nil h = refl
 same-mark (node ws ss) (node vs ts) h = refl
@@ -135,7 +135,6 @@ same-count (rows bs) (rows cs) h = rows-count bs cs h
 same-count (cap j) (cap k) h = refl
 same-count _ _ h = absurd h
 
--- the range of the marks of widths
 width-low : (w : Width) → (2 ≤ width_mark w) × (width_mark w ≤ 9)
 width-low W0 = (omega arith, omega arith)
 width-low W1 = (omega arith, omega arith)
@@ -173,7 +172,7 @@ not-node (shapes.Node a b) n e = n a b refl
 not-node (shapes.Many width k) n e = let l = width-low width in omega arith
 not-node (shapes.Rows k a b span) n e = omega arith
 
--- the mark of the width of a list that isn't composite is at most 8
+-- the mark of the width of a list that is not composite is at most 8
 many-low : (width : Width) (n : ℕ) → RowsFit (shapes.Many width n) → width_mark width ≤ 8
 many-low W0 n r = omega arith
 many-low W1 n r = omega arith

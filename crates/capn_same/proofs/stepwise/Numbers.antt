@@ -1,4 +1,4 @@
--- Two lists of numbers of one width and length are equal exactly if the bits are equal. (For `is_same_content`.)
+-- Two lists of `n` numbers of one width are the same exactly if their bits are equal. (For `is_same_content`.)
 use Rattle.std.proofs.Common.{◌≡◌, ◌↔◌, ◌⊎◌, inl, inr, ℕ, ◌*◌, ◌/◌, ◌%◌, ◌<◌, ◌≤◌, ◌^◌, List, [], ◌++◌}
 use Rattle.std.proofs.Common.{length}
 use Rattle.std.proofs.Common.{slice_index, refl, ap, sym, subst, ◌∙◌, arith}
@@ -22,7 +22,6 @@ use Rattle.capn_layout.specs.Sound.{AreBelow}
 use Rattle.capn_layout.proofs.shared.FirstBits.{list-of}
 use Rattle.capn_layout.proofs.shared.PackedElements.{packed-elements}
 
--- elements of `width` bits are below 2 ^ width
 below : (each width : ℕ) (ws xs : List ℕ) → 0 < 2 ^ width → AreElements each width ws xs → AreBelow (2 ^ width) xs
 below each width ws xs p h i = by (cases_lt i (length xs))
   where
@@ -31,7 +30,6 @@ below each width ws xs p h i = by (cases_lt i (length xs))
         let m = mod-lt (slice_index ws (i / each) / (2 ^ width) ^ (i % each)) p in let e = h i lt in omega arith
     by (inr le) = let e = get_or_past xs i 0 le in omega arith
 
--- elements that are packed in equal words are equal
 unpacked : (each width : ℕ) (size : ℕ → ℕ) (xs ys ws vs : List ℕ) → 0 < each → 0 < 2 ^ width
     → ((n i : ℕ) → i < n → i / each < size n) → AreElements each width ws xs → AreElements each width vs ys
     → length xs ≡ length ys
@@ -43,7 +41,6 @@ unpacked each width size xs ys ws vs some p room h k l e =
     ∙ sym (packed-elements each width (size (length ys)) ys [] some p (below each width vs ys p k) (room (length ys)) i
     (omega arith)))
 
--- lists of numbers with equal layouts are equal
 laid : (a : NumberWidth) (xs ys ws vs : List ℕ) → AreNumbers a ws xs → AreNumbers a vs ys → length xs ≡ length ys
     → lay (numbers a xs) 0 ≡ lay (numbers a ys) 0 → xs ≡ ys
 laid oct xs ys ws vs h k l e = e
@@ -56,7 +53,6 @@ laid pair xs ys ws vs h k l e =
 laid quad xs ys ws vs h k l e =
     unpacked 2 32 (content_words W32) xs ys ws vs (omega arith) (omega arith) (λ n i lt. omega arith) h k l e
 
--- two values have equal layouts exactly if the values are the same
 abbrev AreAlike : Tree → Tree → Type 0
 AreAlike x y = (lay x 0 ≡ lay y 0) ↔ Same x y
 
@@ -66,7 +62,7 @@ numbers-alike a b xs ys ws vs e l h =
     subst (λ (c : NumberWidth). AreNumbers c vs ys → AreAlike (numbers a xs) (numbers c ys)) e
     (λ k. ((λ q. (refl, laid a xs ys ws vs h k l q)), (λ q. ap (λ (zs : List ℕ). lay (numbers a zs) 0) q.1)))
 
--- `x` is a list of n elements of a width, whose elements are numbers or have no size
+-- `x` is a list of `n` numbers of the width `width`, which are read from the words `ws`
 record IsNumbers (width : Width) (n : ℕ) (ws : List ℕ) (x : Tree) : Type 0 where
   pub of : NumberWidth
   pub list : List ℕ
@@ -105,13 +101,13 @@ alike width n ws vs x y (inr a) (inr b) =
     (numbers-alike a.of b.of a.list b.list ws vs (same-list_width a.of b.of (sym a.wide ∙ b.wide))
     (a.long ∙ sym b.long) a.stand b.stand))
 
--- the content of a list of numbers in a message
+-- `x` is the list of `n` elements of the width `width` from word `w` of segment `s` on, and all words of the list exist
 pub record IsList (m : List (List ℕ)) (width : Width) (n s w : ℕ) (x : Tree) : Type 0 where
   pub each : (i : ℕ) → slice_index (words_from m s w) i < 2 ^ 64
   pub room : words_for (element_bits width * n) ≤ length (words_from m s w)
   pub is : IsInside m (shapes.Many width n) s w x
 
--- two lists of numbers are the same exactly if the bits are equal
+-- two lists of `n` elements without pointers are the same exactly if their bits are equal
 pub same-bits : (m k : List (List ℕ)) (width : Width) (n s w t v : ℕ) (x y : Tree) → IsPlain width
     → IsList m width n s w x → IsList k width n t v y
     → (first_bits (element_bits width * n) (words_from m s w)

@@ -11,13 +11,13 @@ use Rattle.capn_layout.specs.Weight.{weights, weights_in_rows}
 use Rattle.capn_layout.proofs.shared.Counted.{rows-words}
 use Rattle.capn_same.specs.inner.Held.{IsRow, HasRow, AreRowsIn, HasRows}
 
--- the words of row i, or none past the last row
+-- the words of row `i` of the bodies, or no words if there is no row `i`
 abbrev pub words_at : Bodies → ℕ → List ℕ
 words_at no_bodies i = []
 words_at (body ws ss bs) zero = ws
 words_at (body ws ss bs) (suc i) = words_at bs i
 
--- a row that begins at word w, with a words `ws` and b slots of the values `ss`
+-- the row at word `w` of segment `s` of `m` has the `a` words `ws`, and then `b` slots with the values `ss`
 pub record IsRowAt (m : List (List ℕ)) (s w a b : ℕ) (ws : List ℕ) (ss : Trees) : Type 0 where
   pub long : length ws ≡ a
   pub number : count ss ≡ b
@@ -36,7 +36,6 @@ row-at m a b s w (body ws ss bs) (suc i) h lt =
     subst (λ (j : ℕ). IsRowAt m s j a b (words_at bs i) (slots_at bs i)) z
     (row-at m a b s (w + a + b) bs i h.4 (omega arith))
 
--- row i lies inside all rows
 pub row-within : (n i a b : ℕ) → i < n → i * (a + b) + (a + b) ≤ n * (a + b)
 row-within (suc n) zero a b h = let d : suc n * (a + b) ≡ a + b + n * (a + b) = omega arith in omega arith
 row-within (suc n) (suc i) a b h =
@@ -57,7 +56,6 @@ weights-row no_bodies i lt = absurd (omega arith)
 weights-row (body ws ss bs) zero lt = refl
 weights-row (body ws ss bs) (suc i) lt = weights-row bs i (omega arith)
 
--- the rows past the first i are the same exactly if row i of both is the same and the rows past row i are the same
 pub row-step : (bs cs : Bodies) (i : ℕ) → i < count_rows bs → i < count_rows cs
     → SameRows (rows_past i bs) (rows_past i cs)
     ↔ ((SameWords (words_at bs i) (words_at cs i) × SameSlots (slots_at bs i) (slots_at cs i))
@@ -67,7 +65,6 @@ row-step (body ws ss bs) no_bodies i l r = absurd (omega arith)
 row-step (body ws ss bs) (body vs ts cs) zero l r = ((λ h. ((h.0, h.1), h.2)), (λ h. (h.0.0, h.0.1, h.1)))
 row-step (body ws ss bs) (body vs ts cs) (suc i) l r = row-step bs cs i (omega arith) (omega arith)
 
--- if no row is left, the rows that are left are the same
 pub rows-end : (bs cs : Bodies) (i : ℕ) → count_rows bs ≡ i → count_rows cs ≡ i
     → SameRows (rows_past i bs) (rows_past i cs)
 rows-end no_bodies no_bodies zero e f = tt
@@ -77,7 +74,6 @@ rows-end no_bodies cs (suc i) e f = absurd (omega arith)
 rows-end (body ws ss bs) no_bodies (suc i) e f = absurd (omega arith)
 rows-end (body ws ss bs) (body vs ts cs) (suc i) e f = rows-end bs cs i (omega arith) (omega arith)
 
--- the comparison continues with the next row
 pub row-next : (bs cs : Bodies) (i j : ℕ) → j ≡ i + 1 → i < count_rows bs → i < count_rows cs
     → SameRows (rows_past i bs) (rows_past i cs)
     ↔ ((SameWords (words_at bs i) (words_at cs i) × SameSlots (slots_at bs i) (slots_at cs i))
@@ -96,7 +92,6 @@ row-weights bs i j e lt =
     (weights-row bs i lt)
 
 module _ (m : List (List ℕ)) (start : Place) (n a b : ℕ) where
-  -- row i of the rows at a place, with the words and the values in the slots
   pub is-row_in : (p : Place) (next i : ℕ) (bs : Bodies) → AreRowsIn m start n a b bs → i < n
       → next ≡ start.word + i * (a + b) → p ≡ record { segment = start.segment; word = next }
       → IsRow m p a b (words_at bs i) (slots_at bs i)
@@ -130,7 +125,6 @@ module _ (m : List (List ℕ)) (start : Place) (n a b : ℕ) where
         low = omega arith;
       }
 
-  -- the bound for i rows and one more row is within the bound for n rows
   pub rows-so_far : (i : ℕ) → i < n → 12 * (i * (a + b)) + 12 * (a + b) ≤ 12 * (n * (a + b))
   rows-so_far i lt = let w = row-within n i a b lt in omega arith
 

@@ -19,7 +19,6 @@ use Rattle.capn_same.specs.inner.Runs.{AreZeros}
 use Rattle.capn_same.specs.inner.Held.{HasValue, AreIn, HasValues}
 
 module _ (m : List (List ℕ)) where
-  -- the value in slot k
   pub slot-at : (s w : ℕ) (ts : Trees) (k : ℕ) → AreAt m s w ts → k < count ts
       → IsAt m (record { segment = s; word = w + k }) (tree_at ts k)
   slot-at s w no_trees k h lt = absurd (omega arith)
@@ -31,7 +30,6 @@ module _ (m : List (List ℕ)) where
       subst (λ (j : ℕ). IsAt m (record { segment = s; word = j }) (tree_at ts k)) z
       (slot-at s (suc w) ts k h.1 (omega arith))
 
-  -- the values past the first k
   pub slots-past : (s w : ℕ) (ts : Trees) (k : ℕ) → AreAt m s w ts → AreAt m s (w + k) (past k ts)
   slots-past s w ts zero h = let z : w ≡ w + 0 = omega arith in subst (λ (j : ℕ). AreAt m s j ts) z h
   slots-past s w no_trees (suc k) h = tt
@@ -42,7 +40,6 @@ module _ (m : List (List ℕ)) where
   null-word : (at : Place) (t : Tree) → IsAt m at t → t ≡ nil → slice_index (segment_at m at.segment) at.word ≡ 0
   null-word at t h e = other-than-nil m at (subst (λ (x : Tree). IsAt m at x) e h)
 
-  -- all slots are null exactly if the words of all slots are zero
   pub zeros-of_null : (s w : ℕ) (ts : Trees) → AreAt m s w ts → AllNull ts → AreZeros (segment_at m s) w (count ts)
   zeros-of_null s w no_trees h a i lt = absurd (omega arith)
   zeros-of_null s w (tree t ts) h a zero lt =
@@ -79,7 +76,6 @@ weights-past no_trees k lt = absurd (omega arith)
 weights-past (tree t ts) zero lt = refl
 weights-past (tree t ts) (suc k) lt = weights-past ts k (omega arith)
 
--- the slots past the first k are the same exactly if slot k of both is the same and the slots past slot k are the same
 pub same-step : (ss ts : Trees) (k : ℕ) → k < count ss → k < count ts
     → SameSlots (past k ss) (past k ts)
     ↔ (Same (tree_at ss k) (tree_at ts k) × SameSlots (past (suc k) ss) (past (suc k) ts))
@@ -99,7 +95,6 @@ no-right (tree s ss) no_trees e =
     ((λ h. ((h.0, (r.0 h.1).0), tt)), (λ h. (h.0.0, r.1 (h.0.1, tt))))
 no-right ss (tree t ts) e = absurd (omega arith)
 
--- if one side has no slot left, the slots that are left are the same exactly if all are null
 pub same-end : (ss ts : Trees) (k : ℕ) → k ≡ min (count ss) (count ts)
     → SameSlots (past k ss) (past k ts) ↔ (AllNull (past k ss) × AllNull (past k ts))
 same-end ss ts k e = by (cases_lt (count ts) (count ss))
@@ -115,7 +110,7 @@ same-end ss ts k e = by (cases_lt (count ts) (count ss))
     by (inl lt) = no-right (past k ss) (past k ts) (omega (arith, a, b))
     by (inr le) = no-left (past k ss) (past k ts) (omega (arith, a, b))
 
--- two lists of equally many slots are the same exactly if slot by slot the values are the same
+-- two lists of equally many slots are the same exactly if their values are the same, slot by slot
 pub slots-each : (ss ts : Trees) → count ss ≡ count ts → SameSlots ss ts ↔ SameEach ss ts
 slots-each no_trees no_trees e = ((λ h. tt), (λ h. tt))
 slots-each no_trees (tree t ts) e = absurd (omega arith)
@@ -123,7 +118,6 @@ slots-each (tree s ss) no_trees e = absurd (omega arith)
 slots-each (tree s ss) (tree t ts) e =
     let r = slots-each ss ts (omega arith) in ((λ h. (h.0, r.0 h.1)), (λ h. (h.0, r.1 h.1)))
 
--- the comparison continues with the next slot
 pub same-next : (ss ts : Trees) (k j : ℕ) → j ≡ k + 1 → k < count ss → k < count ts
     → SameSlots (past k ss) (past k ts) ↔ (Same (tree_at ss k) (tree_at ts k) × SameSlots (past j ss) (past j ts))
 same-next ss ts k j e l r =
@@ -138,7 +132,6 @@ weights-next ts k j e lt =
     subst (λ (x : ℕ). weights (past k ts) ≡ weight (tree_at ts k) + weights (past x ts)) z (weights-past ts k lt)
 
 module _ (m : List (List ℕ)) (start : Place) (n : ℕ) where
-  -- slot i of the slots at a place, and the value of slot i
   pub has-slot : (p : Place) (i : ℕ) (ts : Trees) → AreIn m start n ts → i < n
       → p ≡ record { segment = start.segment; word = start.word + i } → HasSlot m p.segment p.word (tree_at ts i)
   has-slot p i ts h lt e =
@@ -160,7 +153,6 @@ module _ (m : List (List ℕ)) (start : Place) (n : ℕ) where
       let o = low-at h.values i (omega arith) in
       record { value = tree_at h.values i; is = has-slot p i h.values h.are lt e; low = omega arith }
 
-  -- the slots past the first i are null exactly if the words of these slots are zero
   pub rest-null : (i : ℕ) (ts : Trees) → AreIn m start n ts → i ≤ n
       → AllNull (past i ts) ↔ AreZeros (segment_at m start.segment) (start.word + i) (n - i)
   rest-null i ts h le =
@@ -173,8 +165,6 @@ module _ (m : List (List ℕ)) (start : Place) (n : ℕ) where
         null-of_zeros m start.segment (start.word + i) (past i ts) a,
       )
 
--- if the slots that both sides have are the same, all slots are the same exactly if the slots past the end of the
--- shorter list are null
 module _ (m k : List (List ℕ)) (start beside : Place) (n l s i : ℕ) (ss ts : Trees) (h : AreIn m start n ss)
     (g : AreIn k beside l ts) (es : s ≡ min n l) (ei : i ≡ s)
     (so : SameSlots ss ts ↔ SameSlots (past i ss) (past i ts)) where

@@ -1,4 +1,5 @@
--- The result for two contents of one kind, with any shapes. (For `is_same_content`.)
+-- A result is correct for two contents if it is correct for their slots, their rows or their bits. (For
+-- `is_same_content`.)
 use Rattle.std.proofs.Common.{◌≡◌, ◌↔◌, ℕ, ◌+◌, ◌*◌, ◌≤◌, Bool, IsTrue, List, sym, subst}
 use Rattle.capn_words.specs.declared.space.Place.{Place}
 use Rattle.capn_words.specs.declared.pointer.Width.{Width}
@@ -16,7 +17,8 @@ use Rattle.capn_same.proofs.stepwise.Numbers.{same-bits}
 use Rattle.capn_same.proofs.stepwise.Contents.{same-links, same-rows, are-in, are-rows, is-list, is-plain, list-weighs}
 
 module _ (m k : List (List ℕ)) (at beside : Place) (depth : ℕ) (r : Bool) where
-  -- for contents of the shapes, the result says whether the values are the same
+  -- `r` tells whether the content of `x` at `at` is the same as the content of `y` at `beside`, if both are at most
+  -- `depth` objects high
   abbrev pub Says : Shape → Shape → Type 0
   Says x y = HasContent m x at depth → HasContent k y beside depth → (v w : Tree)
       → IsInside m x at.segment at.word v → IsInside k y beside.segment beside.word w → IsTrue r ↔ Same v w
@@ -55,7 +57,6 @@ module _ (m k : List (List ℕ)) (at beside : Place) (depth : ℕ) (r : Bool) wh
       ≡ first_bits i (words_from k beside.segment beside.word))) eb o in
       ((λ t. s.0 (q.0 t)), (λ z. q.1 (s.1 z))))
 
--- the words of a list of numbers are no more than the list's weight
 pub bits-weigh : (m : List (List ℕ)) (x : Shape) (width : Width) (n bits depth : ℕ) (at : Place) (v : Tree)
     → x ≡ shapes.Many width n → (width ≡ Link → ⊥) → bits ≡ element_bits width * n → HasContent m x at depth
     → IsInside m x at.segment at.word v → words_for bits ≤ weight v
@@ -65,7 +66,6 @@ bits-weigh m x width n bits depth at v e ne eb c h =
     subst (λ (b : ℕ). words_for b ≤ weight v) (sym eb)
     (list-weighs m width n at.segment at.word v (is-plain m width n depth at ne d) i)
 
--- the result for rows at two places is the result for rows at equal places
 pub rows-there : (m k : List (List ℕ)) (p q s t : Place) (n a b c d : ℕ) (r : Bool) → p ≡ s → q ≡ t
     → ((bs cs : Bodies) → AreRowsIn m p n a b bs → AreRowsIn k q n c d cs → IsTrue r ↔ SameRows bs cs)
     → (bs cs : Bodies) → AreRowsIn m s n a b bs → AreRowsIn k t n c d cs → IsTrue r ↔ SameRows bs cs

@@ -1,10 +1,10 @@
--- The equality of words of two segments, one by one.
+-- Statements that some words of one segment equal words of another segment, or that some words are zero.
 use Rattle.std.specs.Prelude.{◌≡◌, ℕ, ◌+◌, ◌<◌, List, slice_index}
 
--- the n words of xs from word w on equal the n words of ys from word v on (Our own.)
+-- the `n` words of `xs` from word `w` on equal the `n` words of `ys` from word `v` on, one by one (Our own.)
 abbrev pub AreEqual : List ℕ → ℕ → List ℕ → ℕ → ℕ → Type 0
 AreEqual xs w ys v n = (i : ℕ) → i < n → slice_index xs (w + i) ≡ slice_index ys (v + i)
 
--- the n words of xs from word w on are zero (Our own.)
+-- the `n` words of `xs` from word `w` on are zero (Our own.)
 abbrev pub AreZeros : List ℕ → ℕ → ℕ → Type 0
 AreZeros xs w n = (i : ℕ) → i < n → slice_index xs (w + i) ≡ 0

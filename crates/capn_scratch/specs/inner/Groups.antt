@@ -6,9 +6,8 @@ use Rattle.capn_scratch.specs.declared.group.Size.{Size}
 use Rattle.capn_scratch.specs.declared.group.Stop.{Stop}
 use Rattle.capn_scratch.specs.declared.group.Stop.TheVariants as stops
 
--- The result for the group at the front of `rest` is the number of bytes and the number of words of the group, if the
--- group is whole and the words have room. Otherwise the result says that the group is cut, or has more words than there
--- is room for.
+-- If the result is `Ok`, `size` is the size of the group at the front of `rest`. The group is complete and has at most
+-- `room` words. If the result is `Cut` or `TooLong`, it is true of the group (`IsCut`, `IsTooLong`).
 abbrev pub SizeGives : List ℕ → ℕ → Result Size Stop → Type 0
 SizeGives rest room (Ok size) =
     (size.bytes ≡ len_at rest) × (size.words ≡ words_at rest) × (0 < size.bytes) × (size.bytes ≤ length rest)
@@ -16,7 +15,8 @@ SizeGives rest room (Ok size) =
 SizeGives rest room (Err stops.Cut) = IsCut room rest
 SizeGives rest room (Err stops.TooLong) = IsTooLong room rest
 
--- The group at the front of `rest` takes `taken` bytes and unpacks to `count` words, whose bytes were appended.
+-- `rest` begins with a group of `taken` bytes that unpacks to `count` words. `new` is `old` followed by the bytes of
+-- these words.
 pub record Takes (rest : List ℕ) (taken count : ℕ) (old new : List ℕ) : Type 0 where
   pub group : Group
   pub is_group : IsGroup group

@@ -11,8 +11,9 @@ use Rattle.capn_scratch.specs.Theorem.{WrittenForm}
 use Rattle.capn_scratch.specs.declared.refusal.FormRefusal.{FormRefusal}
 use Rattle.capn_scratch.specs.declared.refusal.FormRefusal.TheVariants as told
 
--- `r` is the report of the canonical bytes of `message`, which are written to the buffer; or it is the reason why they
--- are not, and the buffer is as before; the walk pays at most the budget
+-- If `r` is `Ok`, the canonical bytes of `message` are written to the buffer (`WrittenInto`). If `r` is an `Err`, its
+-- refusal is true of `message` (`IsMessageRefused`), and the buffer is as before. The number of words paid, in an `Ok`,
+-- a `Walk` or a `NoRoom`, is at most the budget.
 pub record IsTold (message : List (List ℕ)) (limits : Bounds) (old new : List ℕ)
     (r : Result CanonicalLength FormRefusal) : Type 0 where
   pub written : IfOk r (λ c. WrittenInto message limits old new c)
@@ -20,8 +21,9 @@ pub record IsTold (message : List (List ℕ)) (limits : Bounds) (old new : List 
   pub unchanged : OnErr r (new ≡ old)
   pub bounded : MatchResult r (λ c. IsBounded limits.budget c.paid c.visits) (λ e. IsFormPaidWithin limits.budget e)
 
--- `r` is the report of the canonical bytes of the message that `bs` encode in `form`, which are written to the buffer;
--- or it is the reason why they are not, and the buffer is as before; the walk pays at most the budget
+-- If `r` is `Ok`, the canonical bytes for `bs` in `form` are written to the buffer (`WrittenForm`). If `r` is an `Err`,
+-- its refusal is true of `bs` (`IsFormRefused`), and the buffer is as before. The number of words paid, in an `Ok`, a
+-- `Walk` or a `NoRoom`, is at most the budget.
 pub record IsFormTold (form : Form) (bs : List ℕ) (limits : Bounds) (scratch : ℕ) (old new : List ℕ)
     (r : Result CanonicalLength FormRefusal) : Type 0 where
   pub written : IfOk r (λ c. WrittenForm form bs limits scratch old new c)
@@ -29,14 +31,16 @@ pub record IsFormTold (form : Form) (bs : List ℕ) (limits : Bounds) (scratch :
   pub unchanged : OnErr r (new ≡ old)
   pub bounded : MatchResult r (λ c. IsBounded limits.budget c.paid c.visits) (λ e. IsFormPaidWithin limits.budget e)
 
--- the refusal is true of the frame `bs`, but `NoScratch` reports `before` words more than the frame needs
+-- The refusal is true of the frame `bs`. If it is `NoScratch`, its number is `before` more than the number of words
+-- that `bs` need.
 abbrev pub IsFrameRefusedAfter : ℕ → List ℕ → Bounds → ℕ → ℕ → FormRefusal → Type 0
 IsFrameRefusedAfter before bs limits scratch room (told.NoScratch n) =
     (k : ℕ) × (n ≡ before + k) × LacksTable forms.Stream bs limits.message_words scratch k
 IsFrameRefusedAfter before bs limits scratch room e = IsFormRefused forms.Stream bs limits scratch room e
 
--- `r` is the report of the canonical bytes of the message of the frame `bs`, which are written to the buffer; or it is
--- the reason why they are not, and the buffer is as before; the walk pays at most the budget
+-- If `r` is `Ok`, the canonical bytes for the frame `bs` are written to the buffer (`WrittenForm`). If `r` is an `Err`,
+-- its refusal is true of `bs` (`IsFrameRefusedAfter`), and the buffer is as before. The number of words paid, in an
+-- `Ok`, a `Walk` or a `NoRoom`, is at most the budget.
 pub record IsFrameTold (before : ℕ) (bs : List ℕ) (limits : Bounds) (scratch : ℕ) (old new : List ℕ)
     (r : Result CanonicalLength FormRefusal) : Type 0 where
   pub written : IfOk r (λ c. WrittenForm forms.Stream bs limits scratch old new c)

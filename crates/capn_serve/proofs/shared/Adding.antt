@@ -19,16 +19,17 @@ done = Ok tt
 pub added_none : (a : Outgoing) → Adds a a []
 added_none a = adds_none a
 
--- If a text was added, and then another one, both texts together were added.
+-- If the text `t` was added, and then the text `u`, then `t ++ u` was added.
 pub added_both : (a b c : Outgoing) (t u : List ℕ) → Adds a b t → Adds b c u → Adds a c (t ++ u)
 added_both a b c t u first second = adds_more a b c t u first second
 
--- If a text was added, and the writer failed within another one, the writer failed within both texts together.
+-- If `Adds` holds for the text `t`, and after that `Breaks` holds for the text `u`, then `Breaks` holds for `t ++ u`
+-- with some count `n`.
 pub broken_after : (a b c : Outgoing) (t u : List ℕ) (count : ℕ) → Adds a b t → Breaks b c count u → (n : ℕ)
     × Breaks a c n (t ++ u)
 broken_after a b c t u count first second = breaks_behind a b c t u count first second
 
--- If the writer failed within a text, the writer failed within that text and a further text together.
+-- If `Breaks` holds for the text `t`, it holds for `t ++ u` with some count `n`.
 pub broken_before : (a b : Outgoing) (t u : List ℕ) (count : ℕ) → Breaks a b count t → (n : ℕ) × Breaks a b n (t ++ u)
 broken_before a b t u count breaks =
     breaks_less a b count (length t) (t ++ u)
@@ -37,7 +38,7 @@ broken_before a b t u count breaks =
 module _ {S : Type 0} (serves : S → Position → List ℕ → List (List ℕ) → List ℕ → S → Type 0)
     (refuses : S → Position → List ℕ → List (List ℕ) → Refusal → Type 0) (s t : S) (at : Position) (frame : List ℕ)
     (message : List (List ℕ)) where
-  -- The text of a message was added, or memory was refused, or the writer failed within the text.
+  -- A service that adds the text `bytes` of a message with `add_bytes` does what `DoesService` states.
   pub does_add : (old new : Outgoing) (bytes : List ℕ) → serves s at frame message bytes t → (failed : Bool)
       (r : Ending) → AddsBytes bytes old new failed r
       → DoesService serves refuses s at frame message old new failed r t
@@ -47,7 +48,7 @@ module _ {S : Type 0} (serves : S → Position → List ℕ → List (List ℕ) 
       ((bytes, t, count, served, breaks), broken)
   does_add old new bytes served failed (Err (faults.Refused r)) none = absurd none
 
-  -- The message was served, and the kept text was written if the kept text was long.
+  -- A service that adds the text of a message, and then calls `flush_long`, does what `DoesService` states.
   pub does_then_flush : (a b c : Outgoing) (fine failed : Bool) (r : Ending)
       → AddsOne serves refuses s at frame message a b fine done t → Flushes b c failed r
       → DoesService serves refuses s at frame message a c failed r t

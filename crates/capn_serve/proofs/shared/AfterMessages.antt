@@ -1,5 +1,5 @@
--- Lemmas for the runs of capn_archive and capn_explain: the text that a run writes after its messages, and the messages
--- served within the limits of an order.
+-- Lemmas for the runs of capn_archive and capn_explain: text that follows the texts of the messages, and
+-- `ServesMessages` with equal arguments.
 use Rattle.std.proofs.Common.{◌≡◌, ℕ, ◌+◌, List, [], ◌++◌, length, take, Bool, Option, Result, inl, inr, sym, subst}
 use Rattle.std.proofs.Math.Seq.{take-append-add}
 use Rattle.std.specs.Io.KnownBytes.{Appends}
@@ -13,7 +13,6 @@ use Rattle.capn_serve.specs.StreamRun.{HasWrittenAll, IsAhead}
 use Rattle.capn_serve.specs.PackedRun.{HasWrittenAllPacked}
 use Rattle.capn_serve.specs.FormRun.{HasWritten, IsReadSoFar, ServesMessages, most_stream}
 
--- The text of which a prefix was written.
 pub begun_text : {X : Type 0} (f : Fold X) (x : X) (form : Form) (bytes : List ℕ) (c d : Option (List ℕ))
     → HasWritten f x form bytes c d → (text : List ℕ) × Appends c d text
 begun_text f x forms.Stream bytes c d (parts, rest, y, count, are, wrote) = (take count (texts_of parts), wrote)
@@ -22,7 +21,7 @@ begun_text f x forms.Packed bytes c d (stream, begins, parts, rest, y, count, ar
 begun_text f x forms.Bare bytes c d (inl wrote) = ([], wrote)
 begun_text f x forms.Bare bytes c d (inr (text, y, count, writes, wrote)) = (take count text, wrote)
 
--- A run whose output is ahead of its input stays ahead if more text is written.
+-- `IsAhead` still holds after more text was written.
 ahead_more : (P : List ℕ → Option (List ℕ) → Option (List ℕ) → Type 0) (bytes more : List ℕ)
     (c m d : Option (List ℕ)) → IsAhead P bytes c m → Appends m d more → IsAhead P bytes c d
 ahead_more P bytes more c m d (before, piece, mid, first, is, small, written, wrote) after =
@@ -36,7 +35,7 @@ read_so_far f x forms.Packed bytes more c m d (bound, ahead) wrote =
     (bound, ahead_more (HasWrittenAllPacked f x most_stream) bytes more c m d ahead wrote)
 read_so_far f x forms.Bare bytes more c m d bound wrote = bound
 
--- After a text, a prefix of the closing text was written.
+-- If `text` and then a prefix of `last` were written, a prefix of `text ++ last` was written.
 pub begun_after : (c m d : Option (List ℕ)) (text last : List ℕ) (count : ℕ) → Appends c m text
     → Appends m d (take count last) → HasBegun c d (text ++ last)
 begun_after c m d text last count before wrote = (
@@ -45,7 +44,7 @@ begun_after c m d text last count before wrote = (
       (Appends-trans c m d text (take count last) before wrote),
 )
 
--- The messages within the limits of an order were served, from the state before the first.
+-- In `ServesMessages` the limit `most` and the first state `x` may be replaced by equal ones.
 pub of_order : {X : Type 0} (fold : ℕ → Fold X) (form : Form) (words most : ℕ) (first x : X) → most ≡ words → x ≡ first
     → (a b c d : Option (List ℕ)) (reader writer : Bool) (r : Result (Unit {0}) RunFault) (y : X)
     → ServesMessages (fold most) x form a b c d reader writer r y

@@ -39,7 +39,7 @@ module _ {S : Type 0} (serves : S → Position → List ℕ → List (List ℕ) 
       subst (λ (g : ServeFault). DoesService serves refuses s at frame message (outgoing c old) (outgoing c new) failed
       (stopped g) t) (sym is) (put_stopped failed fault fine put)
 
-  -- Case: the message's text was appended, and the kept text was written if the kept text was long.
+  -- Case: the text of the message was appended, and then `flush_long` was called.
   pub does_flush : (d : Option (List ℕ)) (kept : List ℕ) (failed : Bool) (r : Ending)
       → PutsMessage serves refuses s at frame message old new done t
       → Flushes (outgoing c new) (outgoing d kept) failed r

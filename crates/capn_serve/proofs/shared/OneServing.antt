@@ -1,4 +1,4 @@
--- The text and the ending of the messages of an input are unique, for a fold that does one thing with each message.
+-- Lemmas on a fold that treats each message in one way. The messages of an input then have one text and one ending.
 use Rattle.std.proofs.Common.{◌≡◌, ◌⊎◌, inl, inr, ℕ, ◌≤◌, List, [], ◌∷◌, ◌++◌, length, take, Bool, Option}
 use Rattle.std.proofs.Common.{true, false}
 use Rattle.std.proofs.Common.{Result, Ok, Err, refl, ap, sym, subst, ◌∙◌, append_assoc, arith, length-append}
@@ -36,7 +36,7 @@ stopped fault = Err fault
 abbrev pub done : Ending
 done = Ok tt
 
--- In each state a message writes one text and leads to one state, or is refused for one reason, and not both.
+-- In each state a message writes one text and leads to one state, or is refused for one reason, but not both.
 pub record IsOneWay {X : Type 0} (f : Fold X) : Type 0 where
   pub steps : (x : X) (frame : List ℕ) (message : List (List ℕ)) (t u : List ℕ) (y z : X) → f.step x frame message t y
       → f.step x frame message u z → (t ≡ u) × (y ≡ z)
@@ -45,7 +45,6 @@ pub record IsOneWay {X : Type 0} (f : Fold X) : Type 0 where
   pub never_both : (x : X) (frame : List ℕ) (message : List (List ℕ)) (t : List ℕ) (y : X) (r : Refusal)
       → f.step x frame message t y → f.refuses x frame message r → ⊥
 
--- Bytes that begin with the frame of a message have that message first.
 stands_first : (most : ℕ) (frame more : List ℕ) (message : List (List ℕ)) → Frames frame message
     → total message ≤ most → StandsFirst (frame ++ more) most message (length frame)
 stands_first most frame more message framed room =
@@ -57,7 +56,7 @@ stands_first most frame more message framed room =
       room = room;
     }
 
--- Bytes begin with at most one frame.
+-- Bytes begin with at most one frame of at most `most` words.
 pub one_front : (most : ℕ) (a b x y : List ℕ) (m n : List (List ℕ)) → Frames a m → total m ≤ most → Frames b n
     → total n ≤ most → a ++ x ≡ b ++ y → (m ≡ n) × ((a ≡ b) × (x ≡ y))
 one_front most a b x y m n framed room also few joined =
@@ -68,15 +67,14 @@ one_front most a b x y m n framed room also few joined =
     (same.0, append_same a b x y same.1 joined)
 
 module _ {X : Type 0} (f : Fold X) (one : IsOneWay f) (last : X → Option RunFault) where
-  -- `ending` is the end of a run in the state `y`, where `rest` is left after the parts.
+  -- `ending` is the end of a run in the state `y` over the bytes `rest`.
   abbrev pub Behind : X → List ℕ → Ending → Type 0
   Behind y rest ending = EndsBy f (f.done y) y rest (last y) ending
 
-  -- `ending` is the end of a run in the state `y`, which is not done, where `rest` is left after the parts.
+  -- `ending` is the end of a run over the bytes `rest` in the state `y`, if `y` is not `done`.
   abbrev pub Open : X → List ℕ → Ending → Type 0
   Open y rest ending = EndsUnframed f y rest (last y) ending ⊎ EndsRefused f y rest ending
 
-  -- A message that is refused is the first message of the bytes that are left.
   refused_first : (y : X) (rest : List ℕ) (r : Ending) → EndsRefused f y rest r → (message : List (List ℕ))
       × (taken : ℕ) × StandsFirst rest f.most message taken
   refused_first y rest r (frame, more, message, refusal, is, framed, room, why, e) = (
@@ -123,7 +121,7 @@ module _ {X : Type 0} (f : Fold X) (one : IsOneWay f) (last : X → Option RunFa
       one.never_both y frame message text z p step
       (subst (λ (l : List (List ℕ)). f.refuses y frame l p) same.0 first)
 
-  -- A run does not end before a message that is served.
+  -- If a message is served in the state `y`, no run ends in `y` before that message.
   pub no_end : (y z : X) (rest frame more text : List ℕ) (message : List (List ℕ)) (r : Ending) → Frames frame message
       → total message ≤ f.most → f.done y ≡ false → f.step y frame message text z → rest ≡ frame ++ more
       → Behind y rest r → ⊥
@@ -229,7 +227,7 @@ module _ {X : Type 0} (f : Fold X) (one : IsOneWay f) (x : X) where
       one.never_both x bytes (ws ∷ []) t y r step
       (subst (λ (l : List ℕ). f.refuses x bytes (l ∷ []) r) words refuses)
 
-  -- The messages of an input have one text, one ending and one state after the messages.
+  -- The messages of one `input` have one text and one ending, and lead to one state.
   pub one_serving : (form : Form) (input t u : List ℕ) (r s : Ending) (y z : X) → AreMessages f x form input t r y
       → AreMessages f x form input u s z → AreSame t u r s y z
   one_serving forms.Stream input t u r s y z h k =

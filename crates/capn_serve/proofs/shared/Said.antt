@@ -1,4 +1,4 @@
--- Lemmas on parts that are put on a line one after the other. (For `put`, `put_between`, `put_named`, `tell`,
+-- Lemmas on texts that are appended to a line one after the other. (For `put`, `put_between`, `put_named`, `tell`,
 -- capn_archive, capn_make and capn_serve.)
 use Rattle.std.proofs.Common.{List, ℕ, ◌++◌, subst, append_assoc}
 use Rattle.capn_serve.specs.Line.{IsOnItsWay, Says, Way}

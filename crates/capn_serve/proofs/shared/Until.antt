@@ -1,4 +1,4 @@
--- Lemmas on a fold that ends once its service is done.
+-- Lemmas on a fold that ends once its service is `done`.
 use Rattle.std.proofs.Common.{◌≡◌, ◌⊎◌, inl, inr, ℕ, List, [], ◌∷◌, Bool, true, false, Option, Result, Ok, refl}
 use Rattle.std.proofs.Common.{sym, subst}
 use Rattle.capn_canon.specs.declared.refusal.Refusal.{Refusal}
@@ -27,7 +27,7 @@ going_of true P none = absurd none
 going_of false P holds = (refl, holds)
 
 module _ {X : Type 0} (f : Fold X) (y : X) (rest : List ℕ) (behind : Option RunFault) (ending : Ending) where
-  -- If a state is not done, the bytes that are left decide how a run ends in that state.
+  -- If the state `y` is not `done`, `rest` decides how a run ends in `y`.
   pub ends_going : f.done y ≡ false → EndsUnframed f y rest behind ending ⊎ EndsRefused f y rest ending
       → EndsBy f (f.done y) y rest behind ending
   ends_going going h = subst (λ (b : Bool). EndsBy f b y rest behind ending) (sym going) h
@@ -36,14 +36,14 @@ module _ {X : Type 0} (f : Fold X) (y : X) (rest : List ℕ) (behind : Option Ru
       → EndsUnframed f y rest behind ending ⊎ EndsRefused f y rest ending
   ends_open going h = subst (λ (b : Bool). EndsBy f b y rest behind ending) going h
 
-  -- If a state is done, a run in that state ends as done.
+  -- If the state `y` is `done`, a run ends with `Ok` in `y`.
   pub ends_done : f.done y ≡ true → ending ≡ Ok tt → EndsBy f (f.done y) y rest behind ending
   ends_done done is = subst (λ (b : Bool). EndsBy f b y rest behind ending) (sym done) is
 
   pub is_done : f.done y ≡ true → EndsBy f (f.done y) y rest behind ending → ending ≡ Ok tt
   is_done done h = subst (λ (b : Bool). EndsBy f b y rest behind ending) done h
 
--- ---- a service that is done, compared with one that never is
+-- ---- a service that may be `done`, compared with a service that is never `done`
 
 module _ {S : Type 0} (serves : S → Position → List ℕ → List (List ℕ) → List ℕ → S → Type 0)
     (refuses : S → Position → List ℕ → List (List ℕ) → Refusal → Type 0) (done : S → Position → Bool) (most : ℕ) where
@@ -53,7 +53,6 @@ module _ {S : Type 0} (serves : S → Position → List ℕ → List (List ℕ) 
   abbrev all : Fold (Run S)
   all = fold_of serves refuses most
 
-  -- Messages that are served until a service is done are also served by the same service if it is never done.
   served_of : (x y : Run S) (ps : List Part) → AreServed f x ps y → AreServed all x ps y
   served_of x y [] is = is
   served_of x y (p ∷ ps) (mid, part, step, more) =
@@ -63,7 +62,8 @@ module _ {S : Type 0} (serves : S → Position → List ℕ → List (List ℕ) 
       → AreParts all x bytes ps rest y
   parts_of x y bytes rest ps are = record { each = served_of x y ps are.each; is = are.is }
 
-  -- A run that ends before its service is done ends in the same way if the service is never done.
+  -- If a run ends in the state `y`, and `y` is not `done`, the run ends in the same way with a service that is never
+  -- `done`.
   pub folded_of : (x y : Run S) (bytes text : List ℕ) (behind : Option RunFault) (ending : Ending)
       → IsFolded f x bytes behind text ending y → f.done y ≡ false → IsFolded all x bytes behind text ending y
   folded_of x y bytes text behind ending due going = record {

@@ -1,4 +1,4 @@
--- The bytes that are held of a message whose frame is refused before the end of an input.
+-- The bytes that a framer holds of a message whose frame is refused before the end of an input.
 use Rattle.std.specs.Prelude.{◌≡◌, ◌⊎◌, ℕ, List, [], ◌++◌}
 use Rattle.capn_pack.specs.PackedPieces as packing
 use Rattle.capn_pack.specs.declared.fault.UnpackFault.TheVariants as cuts
@@ -16,22 +16,22 @@ use Rattle.capn_serve.specs.WhatCame.{HoldsTable, IsOwnRefusal}
 abbrev pub IsOfMessage : {X : Type 0} → Fold X → RunFault → Type 0
 IsOfMessage f fault = (fault ≡ faults.Memory) ⊎ ((fault ≡ faults.Io) ⊎ IsOwnRefusal f fault)
 
--- `fault` is not found at the end of an input: no frame is cut, and no group is cut.
+-- `fault` refuses no frame with `Cut` and no packed group with `Cut`. These two faults are found only at the end of an
+-- input.
 pub record IsWithin (fault : RunFault) : Type 0 where
   pub frame : (at : Position) → fault ≡ faults.Refused at (refusals.Frame frames.Cut) → ⊥
   pub group : (at : Position) (o : ℕ) → fault ≡ faults.Refused at (refusals.Packed (cuts.Cut o)) → ⊥
 
 module _ {X : Type 0} (f : Fold X) (x : X) where
-  -- `fault` is the refusal of a message, or is not found at the end of an input. In the second case, if `fault` refuses
-  -- a frame with too many words, `came` holds the segment table of that frame.
+  -- `fault` is the refusal of a message, or `IsWithin` holds. In the second case, if `fault` refuses a frame with
+  -- `TooManyWords`, `came` is the start of that frame, with its segment table.
   abbrev pub Holds : List ℕ → RunFault → List ℕ → X → Type 0
   Holds stream fault came y = IsOwnRefusal f fault
       ⊎ (IsWithin fault × ((at : Position) (n : ℕ)
       → fault ≡ faults.Refused at (refusals.Frame (frames.TooManyWords n)) → HoldsTable f x stream n came y))
 
-  -- `fault` stopped a run within the packed `bytes`, read after the state `before`. `fault` is the refusal of a
-  -- message, or is not found at the end of an input. In the second case, if `fault` refuses a frame with too many
-  -- words, `came` holds the segment table of that frame.
+  -- `fault` is the refusal of a message, or `IsWithin` holds. In the second case, if `fault` refuses a frame with
+  -- `TooManyWords`, `came` is the start of that frame. The frame is in the words that the packed `bytes` unpack to.
   abbrev pub HoldsPacked : Pending → List ℕ → RunFault → List ℕ → X → Type 0
   HoldsPacked before bytes fault came y = IsOwnRefusal f fault
       ⊎ (IsWithin fault × ((at : Position) (n : ℕ)

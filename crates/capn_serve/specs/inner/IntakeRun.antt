@@ -8,28 +8,27 @@ use Rattle.capn_serve.specs.declared.fault.RunFault.TheVariants as faults
 use Rattle.capn_serve.specs.Fold.{Fold}
 use Rattle.capn_serve.specs.StreamRun.{has_more, taken_of}
 
--- The type of a relation between the state of an intake, the state of a fold, the bytes that were taken, and a writer's
--- content before and after.
+-- The type of a relation. Its arguments are the states of an intake and of a fold, the served bytes, and the writer's
+-- content before and after these bytes were served.
 abbrev pub Taking : Type 0 → Type 0 → Type 1
 Taking I X = I → X → List ℕ → Option (List ℕ) → Option (List ℕ) → Type 0
 
--- The type of a relation between the bytes that were taken, whether the input has more, a writer's content before and
--- after, and the result of a run.
+-- The type of a relation. Its arguments are the served bytes, whether more bytes follow, the writer's content before
+-- and after a run, and the result of the run.
 abbrev pub Closing : Type 1
 Closing = List ℕ → Bool → Option (List ℕ) → Option (List ℕ) → Result (Unit {0}) RunFault → Type 0
 
--- The type of a relation between the states of an intake and of a fold that a run leaves, and the end of that run.
+-- The type of a relation: for the last states of an intake and of a fold, it gives a `Closing`.
 abbrev pub Giving : Type 0 → Type 0 → Type 1
 Giving I X = I → X → Closing
 
--- Some bytes were taken, from some first states on. These bytes and `count` further bytes are less than 2^64 in number.
+-- `takes` holds for some `bytes`, from some first states `first` and `x`. `length bytes + count` is below 2^64.
 abbrev pub HasSome : {I X : Type 0} → (I → X → Taking I X) → I → X → ℕ → Option (List ℕ) → Type 0
 HasSome {I} {X} takes s y count d = (first : I) × (x : X) × (bytes : List ℕ) × (c : Option (List ℕ))
     × takes first x s y bytes c d × (length bytes + count < 2 ^ 64)
 
--- A chunk of `count` bytes can be served in the states `s` and `y`: `f.most` is at most the greatest number of words of
--- any message, the writer has not failed, `y` is not done, the chunk has at most 65,536 bytes, and the bytes before the
--- chunk were taken.
+-- A chunk of `count` bytes, at most 65,536, can be served in the states `s` and `y`. The writer has not failed, `y` is
+-- not `done`, and `f.most` is at most `most_message_words`. `takes` holds for the bytes before the chunk.
 pub record CanFeed {I X : Type 0} (f : Fold X) (takes : I → X → Taking I X) (s : I) (y : X) (count : ℕ)
     (d : Option (List ℕ)) (failed : Bool) : Type 0 where
   pub small : f.most ≤ most_message_words
@@ -38,12 +37,12 @@ pub record CanFeed {I X : Type 0} (f : Fold X) (takes : I → X → Taking I X) 
   pub few : count ≤ 65536
   pub some : HasSome takes s y count d
 
--- A run over `bytes` ends with `r`, whatever bytes follow.
+-- A run over `bytes` ends with `r`, for any bytes `more` after `bytes`.
 abbrev pub Over : Closing → List ℕ → Option (List ℕ) → Option (List ℕ) → Result (Unit {0}) RunFault → Type 0
 Over ends bytes c d r = (more : List ℕ) (is_longer : Bool) → ends (bytes ++ more) is_longer c d r
 
--- After `Ok` in a state `y` that is not done, `bytes` are taken, and a run that finds more than it takes ends with
--- `InputTooLong`. After `Ok` in a state that is done, and after a fault, the run is over.
+-- If the result is `Ok` and the state `y` is not `done`, `takes` holds for `bytes`, and more bytes would end the run
+-- with `InputTooLong`. If the result is a fault, or `y` is `done`, `Over` holds for that result.
 abbrev pub GoesOn : {I X : Type 0} → Taking I X → Giving I X → (X → Bool) → I → X → List ℕ → Option (List ℕ)
     → Option (List ℕ) → Result (Unit {0}) RunFault → Type 0
 GoesOn takes gives done s y bytes c d (Ok u) =
@@ -51,59 +50,61 @@ GoesOn takes gives done s y bytes c d (Ok u) =
     × (done y ≡ true → Over (gives s y) bytes c d (Ok u))
 GoesOn takes gives done s y bytes c d (Err fault) = Over (gives s y) bytes c d (Err fault)
 
--- `bytes`, which end with the last chunk, were served. The run continues or is over, some text was written, and the
--- result is `Io` if and only if the writer failed.
+-- The effect of serving the last chunk of `bytes`. `GoesOn` states whether the run continues. Some `text` was written,
+-- and `r` is `Io` exactly if the writer failed.
 pub record Feeds {I X : Type 0} (takes : Taking I X) (gives : Giving I X) (done : X → Bool) (bytes : List ℕ)
     (c d e : Option (List ℕ)) (failed : Bool) (r : Result (Unit {0}) RunFault) (s : I) (y : X) : Type 0 where
   pub fed : GoesOn takes gives done s y bytes c e r
   pub wrote : (text : List ℕ) × Appends d e text
   pub broken : (r ≡ Err faults.Io) ↔ (failed ≡ true)
 
--- `piece` was served after all bytes that were taken, from any first states on.
+-- For any first states from which `takes` holds for `bytes`, `Feeds` holds for `bytes ++ piece`.
 abbrev pub FeedsAfter : {I X : Type 0} → (I → X → Taking I X) → (I → X → Giving I X) → (X → Bool) → I → X → List ℕ
     → Option (List ℕ) → Option (List ℕ) → Bool → Result (Unit {0}) RunFault → I → X → Type 0
 FeedsAfter {I} {X} takes gives done s y piece d e failed r t z = (first : I) (x : X) (bytes : List ℕ)
     (c : Option (List ℕ)) → takes first x s y bytes c d
     → Feeds (takes first x) (gives first x) done (bytes ++ piece) c d e failed r t z
 
--- A run ends with `r` at the end of its input. The reader and the writer have not failed, and memory was not refused.
+-- A run over `bytes` ends with `r` at the end of its input, and `r` is neither `Io` nor `Memory`.
 abbrev pub Ends : Closing → List ℕ → Option (List ℕ) → Option (List ℕ) → Result (Unit {0}) RunFault → Type 0
 Ends ends bytes c d r = ends bytes false c d r × (r ≢ Err faults.Io) × (r ≢ Err faults.Memory)
 
--- A run ends with `r` at the end of its input after all bytes that were taken, from any first states on.
+-- For any first states `first` and `x`, and any fewer than 2^64 `bytes` for which `takes` holds from these states to
+-- `s` and `y`: a run over `bytes` that ends in the states `t` and `y` ends with `r` (`Ends`).
 abbrev pub EndsAfter : {I X : Type 0} → (I → X → Taking I X) → (I → X → Giving I X) → I → X → Result (Unit {0}) RunFault
     → I → Type 0
 EndsAfter {I} {X} takes gives s y r t = (first : I) (x : X) (bytes : List ℕ) (c d : Option (List ℕ))
     → takes first x s y bytes c d → length bytes < 2 ^ 64 → Ends (gives first x t y) bytes c d r
 
--- Nothing was taken yet. If the state `x` is done, the run is over.
+-- `takes` holds for the empty list of bytes. If the state `x` is `done`, `Over` holds for the result `Ok`.
 abbrev pub IsNew : {I X : Type 0} → Taking I X → Giving I X → (X → Bool) → I → X → Option (List ℕ) → Type 0
 IsNew takes gives done s x c = takes s x [] c c × (done x ≡ true → Over (gives s x) [] c c (Ok tt))
 
--- `bytes` end with a chunk of at most 65,536 bytes. All bytes before that chunk were taken before that chunk was read.
--- Unless nothing was read, the state was not done by then.
+-- `bytes` are `before`, followed by a chunk `piece` of at most 65,536 bytes. `takes` holds for `before` and the
+-- writer's contents `c` and `mid`, and then `more` was written. If a byte was read, the state `y` before `piece` was
+-- not `done`.
 abbrev pub IsTakenAhead : {I X : Type 0} → Taking I X → (X → Bool) → List ℕ → Option (List ℕ) → Option (List ℕ)
     → Type 0
 IsTakenAhead {I} {X} takes done bytes c d = (before : List ℕ) × (piece : List ℕ) × (s : I) × (y : X)
     × (mid : Option (List ℕ)) × (more : List ℕ) × (bytes ≡ before ++ piece) × (length piece ≤ 65536)
     × takes s y before c mid × Appends mid d more × ((bytes ≡ []) ⊎ (done y ≡ false))
 
--- States the effect of a run on a reader (from `a` to `b`) and a writer (from `c` to `d`), the last states of the
--- intake and of the fold, and the result of the run.
+-- The effect of a run that ends with the result `r` and leaves the states `s` and `y`. `a` and `b` are the reader
+-- before and after the run, and `c` and `d` the writer.
 pub record Reads {I X : Type 0} (takes : Taking I X) (gives : Giving I X) (done : X → Bool) (limit : ℕ) (s : I) (y : X)
     (a b c d : Option (List ℕ)) (reader_failed writer_failed : Bool) (r : Result (Unit {0}) RunFault) : Type 0 where
   -- `bytes` were read, at most one byte more than `limit`.
   pub bytes : List ℕ
   pub read : Consumes a b bytes
   pub bounded : length bytes ≤ limit + 1
-  -- Unless the reader failed, the taken bytes of the input decide how the run ended, whatever is left unread.
+  -- The reader failed, or `gives` holds for the first `limit` bytes of `bytes ++ more`, for any unread bytes `more`.
   pub ended : (reader_failed ≡ true) ⊎ ((more : List ℕ) → (IsAtEnd b → more ≡ [])
       → gives s y (taken_of limit (bytes ++ more)) (has_more limit (bytes ++ more)) c d r)
   -- The result is `Io` if and only if the reader or the writer has failed.
   pub broken : (r ≡ Err faults.Io) ↔ ((reader_failed ≡ true) ⊎ (writer_failed ≡ true))
-  -- If the reader failed, all bytes that it returned were taken, and the state `y` is not done.
+  -- If the reader failed, `takes` holds for all of `bytes`, and the state `y` is not `done`.
   pub heard : reader_failed ≡ true → (length bytes ≤ limit) × (done y ≡ false) × takes s y bytes c d
-  -- At most one chunk was read beyond the bytes that were taken, for every result.
+  -- When the last chunk was read, all `bytes` before that chunk had been served.
   pub ahead : IsTakenAhead takes done bytes c d
-  -- Memory was refused only after a byte was read.
+  -- If the result is `Memory`, at least one byte was read.
   pub memory : r ≡ Err faults.Memory → 0 < length bytes

@@ -122,7 +122,7 @@ slots::show_found-overflow_sub-depth-in-Rows g t c =
     c.requires.ready in
     omega arith
 
--- a struct
+-- Case: the target `found` is a struct.
 
 pub slots::show_found-show_body-requires : goal.slots::show_found-show_body-requires
 slots::show_found-show_body-requires g t c κs live =
@@ -159,7 +159,7 @@ slots::show_found-show_body-requires g t c κs live =
       ),
     )
 
--- a list of pointers
+-- Case: the target `found` is a list of pointers.
 
 pub slots::show_found-show_slots-requires : goal.slots::show_found-show_slots-requires
 slots::show_found-show_slots-requires g t c κs live =
@@ -197,7 +197,7 @@ slots::show_found-show_slots-requires g t c κs live =
       ),
     )
 
--- a list of structs
+-- Case: the target `found` is a list of structs.
 
 pub slots::show_found-show_rows-requires : goal.slots::show_found-show_rows-requires
 slots::show_found-show_rows-requires g t c κs live =

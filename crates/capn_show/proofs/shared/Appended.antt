@@ -12,7 +12,6 @@ use Rattle.capn_show.specs.declared.fault.Broken.{Broken}
 use Rattle.capn_show.specs.declared.fault.Broken.TheVariants as broken
 use Rattle.capn_show.specs.Outgoing.{Outgoing, Adds, BreaksOff}
 
--- A first part of `x` is a first part of `x` followed by `y`.
 first-part : (n : ℕ) (x y : List ℕ) → take (length (take n x)) (x ++ y) ≡ take n x
 first-part n x y =
     ap (λ (l : List ℕ). take (length (take n x)) l)
@@ -30,7 +29,7 @@ or-true : (b : Bool) → (b || true) ≡ true
 or-true true = refl
 or-true false = refl
 
--- The text is kept, and nothing is written.
+-- Case: nothing is written, and `x` is appended to the text that is not yet written.
 pub kept-more : (p q : Outgoing) (x : List ℕ) → q.taken ≡ p.taken → q.failed ≡ p.failed → q.kept ≡ p.kept ++ x
     → Adds p q x
 kept-more p q x h f k = record {
@@ -41,7 +40,7 @@ kept-more p q x h f k = record {
 }
 
 module _ {T : Type 0} (p q : Outgoing) where
-  -- The kept text is written.
+  -- Case: the writer accepts all of `p.kept`, and `q.kept` is empty.
   pub sent : (r : Result T Broken) → OnOk r (Appends p.taken q.taken p.kept) → OnOk r (q.kept ≡ [])
       → q.failed ≡ (p.failed || is_err r) → OnOk r (Adds p q [])
   sent (Ok x) h k f = record {
@@ -52,7 +51,7 @@ module _ {T : Type 0} (p q : Outgoing) where
   }
   sent (Err e) h k f = tt
 
-  -- A first part of the kept text is written, and the writer fails.
+  -- Case: the writer fails, after it has accepted some bytes at the front of `p.kept`.
   pub unsent : (r : Result T Broken) → HasBegun p.taken q.taken p.kept → IfErr r (λ e. e ≡ broken.Io)
       → q.failed ≡ (p.failed || is_err r) → IfErr r (λ e. BreaksOff p q e [])
   unsent (Ok x) h k f = tt
@@ -62,7 +61,7 @@ module _ {T : Type 0} (p q : Outgoing) where
     f ∙ or-true p.failed,
   )
 
--- An allocation is refused, and nothing is added.
+-- Case: an allocation is refused, and nothing is added.
 pub refused : (p q : Outgoing) (t : List ℕ) (e : Broken) → e ≡ broken.Memory → q.taken ≡ p.taken → q.failed ≡ p.failed
     → q.kept ≡ p.kept → BreaksOff p q e t
 refused p q t e is h f k =
@@ -77,7 +76,7 @@ otherwise p q x y e h = subst (Adds p q) e h
 pub otherwise-broken : (p q : Outgoing) (e : Broken) (x y : List ℕ) → x ≡ y → BreaksOff p q e x → BreaksOff p q e y
 otherwise-broken p q e x y is h = subst (BreaksOff p q e) is h
 
--- One text is added, and then another.
+-- If `x` is added from `p` to `q`, and `y` from `q` to `r`, `x ++ y` is added from `p` to `r`.
 pub both : (p q r : Outgoing) (x y : List ℕ) → Adds p q x → Adds q r y → Adds p r (x ++ y)
 both p q r x y h k = record {
   written = h.written ++ k.written;
@@ -87,7 +86,7 @@ both p q r x y h k = record {
   failed = k.failed ∙ h.failed;
 }
 
--- One text is added, and then another breaks off.
+-- If `x` is added from `p` to `q`, and `y` breaks off from `q` to `r`, `x ++ y` breaks off from `p` to `r`.
 pub then-broken : (p q r : Outgoing) (e : Broken) (x y : List ℕ) → Adds p q x → BreaksOff q r e y
     → BreaksOff p r e (x ++ y)
 then-broken p q r broken.Io x y h (n, k, f) =
@@ -102,7 +101,7 @@ then-broken p q r broken.Io x y h (n, k, f) =
 then-broken p q r broken.Memory x y h (n, k) =
     (length x + n, otherwise p r (x ++ take n y) _ (sym (take-append-add x y n)) (both p q r x (take n y) h k))
 
--- One text breaks off, before another is begun.
+-- If `x` breaks off from `p` to `q`, `x ++ y` also breaks off from `p` to `q`.
 pub broken-before : (p q : Outgoing) (e : Broken) (x y : List ℕ) → BreaksOff p q e x → BreaksOff p q e (x ++ y)
 broken-before p q broken.Io x y (n, k, f) =
     let front = take n (p.kept ++ x) in (
@@ -114,14 +113,14 @@ broken-before p q broken.Io x y (n, k, f) =
 broken-before p q broken.Memory x y (n, k) =
     (length (take n x), otherwise p q (take n x) _ (sym (first-part n x y)) k)
 
--- A text is added, and then nothing.
+-- If `x` is added from `p` to `q`, and nothing from `q` to `r`, `x` is added from `p` to `r`.
 pub settled : (p q r : Outgoing) (x : List ℕ) → Adds p q x → Adds q r [] → Adds p r x
 settled p q r x h k = otherwise p r (x ++ []) x (append-nil x) (both p q r x [] h k)
 
 pub settled-broken : (p q r : Outgoing) (e : Broken) (x : List ℕ) → Adds p q x → BreaksOff q r e [] → BreaksOff p r e x
 settled-broken p q r e x h k = otherwise-broken p r e (x ++ []) x (append-nil x) (then-broken p q r e x [] h k)
 
--- A statement on the error of a call holds of the error that is passed on.
+-- If `P` holds of `e`, and the error of `r`, if there is one, is `e`, then `P` holds of the error of `r`.
 pub passed : {T : Type 0} (r : Result T Broken) (e : Broken) (P : Broken → Type 0) → IsErrAnd r (λ y. y ≡ e) → P e
     → IfErr r P
 passed (Ok x) e P is h = tt

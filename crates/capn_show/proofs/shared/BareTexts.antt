@@ -1,4 +1,5 @@
--- The text by a rule of lines without marks is the text in lines. (For `show_lines`, `show_message` and capn_marks.)
+-- The text that a rule of lines without marks gives for a value is the value's text in lines. (For `show_lines`,
+-- `show_message` and capn_marks.)
 use Rattle.std.proofs.Common.{◌≡◌, ℕ, zero, suc, ◌+◌, ◌*◌, List, [], ◌∷◌, ◌++◌, Bool, true, false, length, codes, map}
 use Rattle.std.proofs.Common.{replicate, refl, sym, ap, ap₂, ◌∙◌, append_assoc, if◌then◌else◌}
 use Rattle.std.specs.Fmt.{decimal}

@@ -28,7 +28,7 @@ kind_in (numbers a xs) = kind_of_list (list_width a)
 kind_in (links ts) = kinds.Links
 kind_in (rows bs) = kinds.Rows
 
--- The width of the numbers in a list of a kind, or `None` if lists of that kind hold no numbers.
+-- The width of the numbers in a list of a kind, or `None` if lists of that kind have no numbers.
 abbrev number_kind : Kind → Option NumberWidth
 number_kind kinds.Bits = Some bit
 number_kind kinds.Bytes = Some byte
@@ -44,18 +44,17 @@ number_kind-list pair = refl
 number_kind-list quad = refl
 number_kind-list oct = refl
 
--- A kind without a width of numbers is not the kind of a list of numbers.
 no-numbers : (a : NumberWidth) (k : Kind) → number_kind k ≡ None → k ≡ kind_of_list (list_width a) → ⊥
 no-numbers a k none e = let same : None ≡ Some a = sym none ∙ ap number_kind e ∙ number_kind-list a in absurd cc
 
--- The value `v` is a list of `n` numbers of the kind `a`, of which `Are` holds.
+-- The value `v` is a list of `n` numbers of the kind `a`, and `Are` holds of these numbers.
 pub record IsNumbers (a : NumberWidth) (Are : List ℕ → Type 0) (n : ℕ) (v : Tree) : Type 0 where
   pub items : List ℕ
   pub is : v ≡ numbers a items
   pub count : length items ≡ n
   pub are : Are items
 
--- The value `v` is a list of `n` bits, of which, as numbers, `Are` holds.
+-- The value `v` is a list of `n` bits, and `Are` holds of these bits as numbers.
 pub record IsBits (Are : List ℕ → Type 0) (n : ℕ) (v : Tree) : Type 0 where
   pub digits : List Bool
   pub is : v ≡ numbers bit (map from_bool digits)
@@ -80,14 +79,13 @@ pub record IsRows (m : List (List ℕ)) (s w n a b : ℕ) (v : Tree) : Type 0 wh
   pub number : count_rows bodies ≡ n
   pub are : AreRowsAt m s (w + 1) a b bodies
 
--- The numbers at all indexes are below 2.
 bits-below : (xs : List ℕ)
     → ((i : ℕ) → i < length xs → slice_index xs i < 2) → AllBelow (2 ^ 1) xs
 bits-below [] h = tt
 bits-below (x ∷ xs) h = (h 0 (omega arith), bits-below xs (λ i l. h (suc i) (omega arith)))
 
 module _ (m : List (List ℕ)) where
-  -- The value that a target shows has the kind of the target.
+  -- The value `v` that the target `found` shows has the kind of `found`.
   kinded : (found : Target) (v : Tree) → Shows m found v → kind_of found ≡ kind_in v
   kinded found nil h = ap kind_of h
   kinded found (cap k) h = ap kind_of h

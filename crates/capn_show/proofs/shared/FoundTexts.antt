@@ -1,4 +1,4 @@
--- The height of the value of a target, and its parts. (For the cycle `slots`.)
+-- The height of the value of a target, and the values in its slots, elements and rows. (For the cycle `slots`.)
 use Rattle.std.proofs.Common.{◌≡◌, ℕ, ◌+◌, ◌-◌, ◌≤◌, List, refl, subst, ap, ◌∙◌, arith}
 use Rattle.capn_words.specs.declared.pointer.Width.{Width}
 use Rattle.capn_words.specs.declared.pointer.Width.TheVariants.{W0, W1, W8, W16, W32, W64, Link, Rows}
@@ -25,7 +25,7 @@ high m s w pads shape (numbers a xs) h = omega arith
 high m s w pads shape (links ts) h = omega arith
 high m s w pads shape (rows bs) h = omega arith
 
--- Facts on the content of the target `found`, and on the values below it.
+-- Let the target `found` have content of the given `shape` at word `w` of segment `s`.
 module _ (m : List (List ℕ)) (found : Target) (s w pads : ℕ) (shape : Shape)
     (e : found ≡ targets.Content s w shape pads) where
   pub inside : IsInMessage m found → IsContent m (record { segment = s; word = w }) (extent shape) × RowsFit shape
@@ -65,7 +65,7 @@ module _ (m : List (List ℕ)) (found : Target) (s w pads : ℕ) (shape : Shape)
         let l = ready.low in
         record { values = x.bodies; are = x.are; count = x.number; low = omega arith }
 
--- The elements of a list are not pointers or rows, if the list's width is neither.
+-- If the width of a list in a message is not `Link`, its elements are plain: neither pointers nor structs.
 pub plain-of : (width : Width) (n : ℕ) → RowsFit (shapes.Many width n) → (width ≡ Link → ⊥) → IsPlain width
 plain-of W0 n fit other = tt
 plain-of W1 n fit other = tt

@@ -1,5 +1,5 @@
--- One call adds a text, and the next call another. (For the cycle `slots`, `put_item`, `show_bits`, `show_bytes`,
--- `json_text` and capn_marks.)
+-- One call adds a text, and the next call adds another text. (For the cycle `slots`, `put_item`, `show_bits`,
+-- `show_bytes`, `json_text` and capn_marks.)
 use Rattle.std.proofs.Common.{◌≡◌, ℕ, List, ◌++◌, refl}
 use Rattle.std.specs.Prelude.{Result, Ok, Err, OnOk, IfErr}
 use Rattle.capn_show.specs.declared.fault.Broken.{Broken}
@@ -17,11 +17,11 @@ module _ {T : Type 0} (p q r : Outgoing) (x y : List ℕ) (h : Adds p q x) where
   err-then (Ok z) k = tt
   err-then (Err e) k = then-broken p q r e x y h k
 
--- An allocation is refused before anything is added.
+-- If an allocation is refused before any byte of `t` is added, `t` breaks off.
 pub unbegun : (p : Outgoing) (t : List ℕ) (e : Broken) → e ≡ broken.Memory → BreaksOff p p e t
 unbegun p t e is = refused p p t e is refl refl refl
 
--- Three texts are added, one after the other.
+-- Three texts, `x`, `y` and `z`, are to be added one after the other.
 module _ (p q : Outgoing) (x y z : List ℕ) where
   pub three : (r s : Outgoing) → Adds p q x → Adds q r y → Adds r s z → Adds p s (x ++ (y ++ z))
   three r s h k l = both p q s x (y ++ z) h (both q r s y z k l)

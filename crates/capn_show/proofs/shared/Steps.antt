@@ -14,7 +14,7 @@ use Rattle.capn_show.specs.ReadyPlaces.{IsReady, IsFound, IsBody, AreReady, AreR
 use Rattle.capn_show.proofs.SlotTexts.{low-at, row-low}
 
 module _ (m : List (List ℕ)) where
-  -- The pointer at the place of a value has a target.
+  -- If the value `v` is at `at`, the pointer at `at` has a target.
   pub found : (at : Place) (v : Tree) → IsAt m at v → (t : Target) × (target m at ≡ Ok t)
   found at nil h = (targets.Nil, h)
   found at (cap k) h = (targets.Cap k, h)
@@ -24,11 +24,11 @@ module _ (m : List (List ℕ)) where
   found at (links ts) h = (_, h.is)
   found at (rows bs) h = (_, h.3.is)
 
-  -- The pointer at the place of a value has no fault.
+  -- If a value is at `at`, the pointer at `at` has no fault.
   pub no-fault : (at : Place) (depth : ℕ) (e : Fault) → IsReady m at depth → target m at ≡ Err e → ⊥
   no-fault at depth e r f = let g = (found at r.value r.is).1 in absurd (cc)
 
-  -- The target of the pointer shows the value.
+  -- If a value is at `at`, the target `t` of the pointer at `at` shows this value.
   pub found-ready : (laws : (message : List (List ℕ)) (at : Place) (t : Target) (v : Tree) → ViewsShow message at t v)
       (at : Place) (t : Target) (depth : ℕ) → target m at ≡ Ok t → IsReady m at depth → IsFound m t depth
   found-ready laws at t depth e r = record { value = r.value; is = laws m at t r.value e r.is; low = r.low }

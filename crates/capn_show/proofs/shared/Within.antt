@@ -1,4 +1,4 @@
--- An element of a list is in one of the words of its content. (For `show_numbers` and capn_marks.)
+-- An element of a list is in one of the words of the list's content. (For `show_numbers` and capn_marks.)
 use Rattle.std.proofs.Common.{ℕ, ◌+◌, ◌*◌, ◌/◌, ◌<◌, ◌≤◌, arith}
 use Rattle.capn_words.specs.declared.pointer.Width.{Width}
 use Rattle.capn_words.specs.declared.pointer.Width.TheVariants.{W0, W1, W8, W16, W32, W64, Link, Rows}
@@ -17,7 +17,7 @@ element-within W64 n i h below = omega arith
 element-within Link n i h below = absurd h
 element-within Rows n i h below = absurd h
 
--- The bytes before an element are within the words of its list.
+-- Element `i` of a list of `n` elements begins before the end of the words of the list.
 pub bytes-within : (width : Width) (n i : ℕ) → HasNumbers width → i < n
     → i * (8 / per_word width) < 8 * content_words width n
 bytes-within W0 n i h below = absurd h

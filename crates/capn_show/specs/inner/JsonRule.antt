@@ -1,4 +1,4 @@
--- The rule of the emitter of JSON, whose mark is a comma before each item but the first.
+-- The rule of the emitter of JSON. The mark of an item is a comma, and the first item has none.
 use Rattle.std.specs.Prelude.{ℕ, zero, suc, List, [], ◌∷◌, ◌++◌, codes, Bool, true, false, if◌then◌else◌}
 use Rattle.std.specs.Fmt.{decimal}
 use Rattle.capn_words.specs.declared.pointer.Width.{Width}
@@ -14,7 +14,7 @@ abbrev pub comma : ℕ → List ℕ
 comma zero = []
 comma (suc i) = 44 ∷ []
 
--- True if the numbers of a list of this width are written between quotes.
+-- True for `W64`, the width of the numbers that are written between quotes.
 abbrev pub is_quoted : Width → Bool
 is_quoted W64 = true
 is_quoted _ = false
@@ -24,7 +24,7 @@ abbrev pub number_item : Bool → ℕ → List ℕ
 number_item true = number_text
 number_item false = decimal
 
--- The bytes of each piece in JSON.
+-- The text of a piece in JSON.
 abbrev pub json_piece : Piece → List ℕ
 json_piece pieces.Nil = codes "null"
 json_piece (pieces.Cap k) = codes "{\"capability\":" ++ (decimal k ++ 125 ∷ [])
@@ -45,7 +45,7 @@ json_piece pieces.Digits = []
 json_piece pieces.EndDigits = codes "\"}"
 json_piece pieces.NoDigits = codes "\"}"
 
--- The rule of JSON. `quoted` says whether a list of bytes that is a text is written as a string.
+-- The rule of JSON. A list of bytes that is a text is written as a string if `quoted` is true.
 abbrev pub json_rule : Bool → Rule
 json_rule quoted = record {
   is_text = λ xs. if quoted then is_json_text xs else false;
@@ -56,7 +56,7 @@ json_rule quoted = record {
   piece = λ level p. json_piece p;
 }
 
--- The JSON of a list of bytes. The first argument says whether a list that is a text is written as a string.
+-- The JSON of a list of bytes. A list that is a text is written as a string if the first argument is true.
 abbrev pub bytes_json_of : Bool → List ℕ → List ℕ
 bytes_json_of false = digits_json
 bytes_json_of true = text_or_digits

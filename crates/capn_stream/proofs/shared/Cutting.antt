@@ -17,7 +17,7 @@ pub length-cut : (from : ℕ) (ends ws : List ℕ) → length (cut from ends ws)
 length-cut from [] ws = refl
 length-cut from (end ∷ ends) ws = let e = length-cut end ends ws in omega (arith, e)
 
--- segment `s` has the words from its start to its end
+-- segment `s` of the words `ws`, cut at `ends`, has the words from its start to its end
 pub segment-cut : (from : ℕ) (ends ws : List ℕ) (s : ℕ) → s ≤ length ends
     → segment_at (cut from ends ws) s
     ≡ take (slice_index (ends ++ length ws ∷ []) s - slice_index (from ∷ ends) s)
@@ -31,7 +31,7 @@ rising-le : (from : ℕ) (ends : List ℕ) (len : ℕ) → AreRising from ends l
 rising-le from [] len r = r
 rising-le from (end ∷ ends) len r = omega (arith, r.0, rising-le end ends len r.1)
 
--- a segment does not end before it begins, and ends within the words
+-- if `ends` are rising, segment `s` does not end before it begins, and ends at `len` at the latest
 pub rising : (from : ℕ) (ends : List ℕ) (len s : ℕ) → s ≤ length ends → AreRising from ends len
     → (slice_index (from ∷ ends) s ≤ slice_index (ends ++ len ∷ []) s) × (slice_index (ends ++ len ∷ []) s ≤ len)
 rising from [] len zero h r = (r, omega arith)
@@ -49,7 +49,7 @@ each-cut from (end ∷ ends) ws each zero k =
     below-take (2 ^ 64) (end - from) (drop from ws) (omega arith) (below-drop (2 ^ 64) from ws each) k
 each-cut from (end ∷ ends) ws each (suc s) k = each-cut end ends ws each s k
 
--- the segments have all words from index `from` on
+-- if `ends` are rising, the segments have all words of `ws` from index `from` on
 pub total-cut : (from : ℕ) (ends ws : List ℕ) → AreRising from ends (length ws)
     → total (cut from ends ws) + from ≡ length ws
 total-cut from [] ws r = omega (arith, length-drop from ws)
@@ -66,9 +66,9 @@ message-cut ends ws h = record {
   each = each-cut 0 ends ws h.each;
 }
 
--- ---- what the calls on the message that words are cut into read
+-- ---- what the calls on the message read
 
--- a place in range is in a segment that exists
+-- if segment `s` of `message` has a word `k`, the segment exists
 pub place_segment : (message : List (List ℕ)) (s k : ℕ) → k < length (segment_at message s) → s < length message
 place_segment [] s k h = absurd (omega arith)
 place_segment (ws ∷ message) zero k h = omega arith
@@ -122,7 +122,7 @@ module _ (ends ws : List ℕ) (is : AreEnds ends ws) (s : ℕ) (here : s < lengt
       sym (ap (λ (xs : List ℕ). take len (drop (8 * k) (bytes xs))) (segment-cut 0 ends ws s within)
       ∙ bytes_of_part start size k len ws room)
 
--- facts about the message that the words `ws` are, cut at `ends`
+-- each lemma of this block is about `message`, which is the words `ws`, cut at `ends`
 module _ (ends ws : List ℕ) (message : List (List ℕ)) (seen : cut 0 ends ws ≡ message) (is : AreEnds ends ws) where
   pub seen_message : IsMessage message
   seen_message = subst IsMessage seen (message-cut ends ws is)

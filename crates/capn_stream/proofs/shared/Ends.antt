@@ -9,12 +9,12 @@ use Rattle.capn_words.specs.Message.{bytes, word_bytes}
 use Rattle.capn_stream.specs.Cuts.{AreRising, cut, ends_from}
 use Rattle.capn_stream.specs.Frames.{segment_bytes}
 
--- there are as many ends as sizes
+-- `ends_from` has as many ends as there are `sizes`
 pub length-ends_from : (from : ℕ) (sizes : List ℕ) → length (ends_from from sizes) ≡ length sizes
 length-ends_from from [] = refl
 length-ends_from from (size ∷ sizes) = omega (arith, length-ends_from (from + size) sizes)
 
--- one more size gives one more end, which is the sum of all sizes
+-- one more size gives one more end, which is `from` plus the sum of all sizes
 pub ends_from_push : (from : ℕ) (sizes : List ℕ) (size : ℕ)
     → ends_from from (sizes ++ size ∷ []) ≡ ends_from from sizes ++ (from + sum sizes + size) ∷ []
 ends_from_push from [] size = let e : from + size ≡ from + 0 + size = omega arith in ap (λ (n : ℕ). n ∷ []) e
@@ -24,7 +24,7 @@ ends_from_push from (first ∷ sizes) size =
     ap (λ (ends : List ℕ). (from + first) ∷ ends) (ends_from_push (from + first) sizes size
     ∙ ap (λ (n : ℕ). ends_from (from + first) sizes ++ n ∷ []) e)
 
--- the ends for two lists of sizes, joined, are those of the first and those of the second from its start on
+-- the ends for the sizes `xs ++ ys` are the ends for `xs` from `from` on, and then the ends for `ys` after `xs`
 pub ends_from-append : (from : ℕ) (xs ys : List ℕ)
     → ends_from from (xs ++ ys) ≡ ends_from from xs ++ ends_from (from + sum xs) ys
 ends_from-append from [] ys = let e : from ≡ from + 0 = omega arith in ap (λ (n : ℕ). ends_from n ys) e
@@ -34,14 +34,14 @@ ends_from-append from (x ∷ xs) ys =
     ap (λ (ends : List ℕ). (from + x) ∷ ends) (ends_from-append (from + x) xs ys
     ∙ ap (λ (n : ℕ). ends_from (from + x) xs ++ ends_from n ys) e)
 
--- if the sizes fit into `len` words, their ends do not fall and are at most `len`
+-- if the `sizes` fit into `len` words from `from` on, their ends never decrease and are at most `len`
 pub AreRising-ends_from : (from : ℕ) (sizes : List ℕ) (len : ℕ) → from + sum sizes ≤ len
     → AreRising from (ends_from from sizes) len
 AreRising-ends_from from [] len h = omega arith
 AreRising-ends_from from (size ∷ sizes) len h =
     (omega arith, AreRising-ends_from (from + size) sizes len (omega (arith, sum_by-cons (λ (x : ℕ). x) size sizes)))
 
--- if words are cut at the ends for given sizes, the segments have those sizes
+-- if words are cut at the ends for `sizes`, the segments have those sizes, and the last segment has `last` words
 pub lengths-cut : (from : ℕ) (sizes : List ℕ) (last : ℕ) (ws : List ℕ) → length ws ≡ from + (sum sizes + last)
     → map length (cut from (ends_from from sizes) ws) ≡ sizes ++ last ∷ []
 lengths-cut from [] last ws h = let e : length (drop from ws) ≡ last = omega (arith, length-drop from ws) in
@@ -53,7 +53,7 @@ lengths-cut from (size ∷ sizes) last ws h =
     let ih = lengths-cut (from + size) sizes last ws (omega (arith, cons)) in
     rw (first, ih) refl
 
--- the bytes of the segments are the bytes of the words from index `from` on
+-- if `ends` are rising, the bytes of the segments are the bytes of the words `ws` from index `from` on
 pub contents-cut : (from : ℕ) (ends ws : List ℕ) → AreRising from ends (length ws)
     → segment_bytes (cut from ends ws) ≡ bytes (drop from ws)
 contents-cut from [] ws r = append-nil (bytes (drop from ws))
@@ -70,7 +70,7 @@ contents-cut from (end ∷ ends) ws r =
 abbrev pub joined : List (List ℕ) → List ℕ
 joined message = flat_map (λ ws. ws) message
 
--- a message equals its joined words, cut at the ends of its segments
+-- `before ++ joined message`, cut from the end of `before` on at the ends of the segments of `message`, is `message`
 pub cut-joined : (message : List (List ℕ)) (sizes : List ℕ) (last from : ℕ) (before : List ℕ)
     → map length message ≡ sizes ++ last ∷ [] → length before ≡ from
     → cut from (ends_from from sizes) (before ++ joined message) ≡ message

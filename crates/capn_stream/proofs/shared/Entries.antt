@@ -15,14 +15,14 @@ use Rattle.capn_stream.specs.FrameRefusal.{entry_number, entries}
 
 -- ---- parts of lists
 
--- a prefix and then a prefix of the rest are a longer prefix
+-- a prefix of `xs`, and then a prefix of the items after it, are a longer prefix of `xs`
 pub take_then : {A : Type 0} (m n : ℕ) (xs : List A) → take m xs ++ take n (drop m xs) ≡ take (m + n) xs
 take_then m n xs =
     let front = take-take m (m + n) xs (omega arith) in
     let rest = drop-take m n xs in
     rw (front, rest) at (take-append-drop m (take (m + n) xs))
 
--- if all numbers are below a bound, so are those of a prefix
+-- if all numbers of `xs` are below `bound`, so are the first `n` numbers
 pub below-take : (bound n : ℕ) (xs : List ℕ) → 0 < bound → ((i : ℕ) → slice_index xs i < bound) → (i : ℕ)
     → slice_index (take n xs) i < bound
 below-take bound zero xs p h i = p
@@ -30,7 +30,7 @@ below-take bound (suc n) [] p h i = p
 below-take bound (suc n) (x ∷ xs) p h zero = h 0
 below-take bound (suc n) (x ∷ xs) p h (suc i) = below-take bound n xs p (λ k. h (suc k)) i
 
--- if all numbers are below a bound, so are those after a prefix
+-- if all numbers of `xs` are below `bound`, so are the numbers after the first `n`
 pub below-drop : (bound n : ℕ) (xs : List ℕ) → ((i : ℕ) → slice_index xs i < bound) → (i : ℕ)
     → slice_index (drop n xs) i < bound
 below-drop bound n xs h i = rw (get_or-drop n xs i 0) (h (n + i))
@@ -42,12 +42,12 @@ pub length-entry : (n : ℕ) → length (entry n) ≡ 4
 unfolding entry
 length-entry n = refl
 
--- the number that is read from the entry of `n` is `n`
+-- if `n` is below 2^32, the number that is read from the entry of `n` is `n`
 pub entry_number-entry : (n : ℕ) (rest : List ℕ) → n < 2 ^ 32 → entry_number (entry n ++ rest) ≡ n
 unfolding entry entry_number
 entry_number-entry n rest h = little_number-reads_back 4 n rest h
 
--- the entry of the number that is read from 4 bytes is those bytes
+-- if `bs` has at least 4 bytes, the entry of the number that is read from `bs` is the first 4 bytes of `bs`
 pub entry-entry_number : (bs : List ℕ) → AreBytes bs → 4 ≤ length bs → entry (entry_number bs) ≡ take 4 bs
 unfolding entry entry_number
 entry-entry_number bs h l =
@@ -57,7 +57,7 @@ entry-entry_number bs h l =
 
 -- ---- many numbers
 
--- `entries n` has `n` numbers
+-- `entries n bs` has `n` numbers
 pub length-entries : (n : ℕ) (bs : List ℕ) → length (entries n bs) ≡ n
 length-entries zero bs = refl
 length-entries (suc n) bs = let e = length-entries n (drop 4 bs) in omega (arith, e)
@@ -92,7 +92,7 @@ pub sum-entries_more : (n : ℕ) (bs : List ℕ)
 sum-entries_more n bs = ap sum (entries_more n bs)
     ∙ sum_by_push (λ x. x) (entries n bs) (entry_number (drop (4 * n) bs))
 
--- the sum of fewer numbers is at most the sum of more
+-- the sum of the first `n` numbers is at most the sum of the first `n + m` numbers
 pub sum-entries_le : (n m : ℕ) (bs : List ℕ) → sum (entries n bs) ≤ sum (entries (n + m) bs)
 sum-entries_le n zero bs = let e : n + zero ≡ n = omega arith in rw e (omega arith)
 sum-entries_le n (suc m) bs =
@@ -101,7 +101,7 @@ sum-entries_le n (suc m) bs =
     let ih = sum-entries_le n m bs in
     rw e (omega (arith, more, ih))
 
--- the numbers that are read from the entries of `ns` are `ns`
+-- if the numbers `ns` are below 2^32, the numbers that are read from the entries of `ns` are `ns`
 pub entries-entry : (ns rest : List ℕ) → ((k : ℕ) → slice_index ns k < 2 ^ 32)
     → entries (length ns) (flat_map entry ns ++ rest) ≡ ns
 entries-entry [] rest h = refl
@@ -112,7 +112,7 @@ entries-entry (n ∷ ns) rest h =
     let ih = entries-entry ns rest (λ k. h (suc k)) in
     rw (split, first, left, ih) refl
 
--- the entries of the numbers that are read from bytes are those bytes
+-- the entries of the first `n` numbers that are read from `bs` are the first `4 * n` bytes of `bs`
 pub entry-entries : (n : ℕ) (bs : List ℕ) → AreBytes bs → 4 * n ≤ length bs
     → flat_map entry (entries n bs) ≡ take (4 * n) bs
 entry-entries zero bs h l = refl
@@ -122,7 +122,7 @@ entry-entries (suc n) bs h l =
     let e : 4 + 4 * n ≡ 4 * suc n = omega arith in
     rw (first, ih) (take_then 4 (4 * n) bs ∙ ap (λ (j : ℕ). take j bs) e)
 
--- the entries of numbers are 4 bytes for each number
+-- the entries of the numbers `ns` are 4 bytes for each number
 pub length-entry_all : (ns : List ℕ) → length (flat_map entry ns) ≡ 4 * length ns
 length-entry_all [] = refl
 length-entry_all (n ∷ ns) =

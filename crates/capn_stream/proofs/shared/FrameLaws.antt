@@ -46,7 +46,6 @@ length-contents (ws ∷ message) =
       sum_by-cons length ws message,
     )
 
--- the bytes of all words are the bytes of the segments
 bytes-joined : (message : List (List ℕ)) → bytes (joined message) ≡ segment_bytes message
 bytes-joined [] = refl
 bytes-joined (ws ∷ message) = flat_map-append word_bytes ws (joined message)
@@ -67,7 +66,7 @@ size_le [] s = omega arith
 size_le (ws ∷ message) zero = omega (arith, sum_by-cons length ws message)
 size_le (ws ∷ message) (suc s) = omega (arith, size_le message s, sum_by-cons length ws message)
 
--- a table can announce any message
+-- if `message` satisfies `IsMessage`, a table can announce it
 pub FitsTable-message : (message : List (List ℕ)) → IsMessage message → FitsTable message
 FitsTable-message message h = record {
   some = h.some;
@@ -169,7 +168,7 @@ announces bs most message taken h =
     let P : ℕ → Type 0 = λ n. Announces bs message n in
     subst P (sym size) (announces_parts message f.gap rest bs f.fits f.gap_length split)
 
--- bytes that begin with a frame have the whole frame that they announce
+-- bytes that begin with a frame have the complete frame that they announce
 pub whole_of : (bs : List ℕ) (most : ℕ) (message : List (List ℕ)) (taken : ℕ) → StandsFirst bs most message taken
     → IsWhole bs most
 whole_of bs most message taken h =
@@ -182,7 +181,7 @@ whole_of bs most message taken h =
       omega (arith, a.length_is, h.inside),
     )
 
--- bytes that have a whole frame are refused only for `Memory`
+-- bytes that have a complete frame of at most `most` words are refused only for `Memory`
 pub refused_whole : (bs : List ℕ) (most : ℕ) (e : FrameFault) → IsWhole bs most → IsFrameRefused bs most e → e ≡ Memory
 refused_whole bs most Memory w r = refl
 refused_whole bs most Empty w r = absurd (omega arith)
@@ -193,7 +192,7 @@ refused_whole bs most Failed w r = absurd r
 
 -- ---- one refusal
 
--- bytes are refused for only one reason other than `Memory`
+-- for a given `most`, the bytes `bs` are refused for at most one reason other than `Memory`
 pub one_refusal : (bs : List ℕ) (most : ℕ) (e f : FrameFault) → IsFrameRefused bs most e → IsFrameRefused bs most f
     → (e ≡ Memory → ⊥) → (f ≡ Memory → ⊥) → e ≡ f
 one_refusal bs most Memory f r s other also = absurd (other refl)
@@ -225,7 +224,7 @@ one_refusal bs most Cut Cut r s other also = refl
 
 -- ---- one frame
 
--- two frames at the front of the same bytes are of the same message and the same length
+-- two frames at the front of the bytes `bs` have the same message and the same length
 pub one_frame : (bs : List ℕ) (most limit : ℕ) (m n : List (List ℕ)) (taken length : ℕ) → StandsFirst bs most m taken
     → StandsFirst bs limit n length → (m ≡ n) × (taken ≡ length)
 one_frame bs most limit m n taken length f g =
@@ -250,7 +249,7 @@ zeros_below zero i = omega arith
 zeros_below (suc n) zero = omega arith
 zeros_below (suc n) (suc i) = zeros_below n i
 
--- if `bs` are a frame, they begin with that frame
+-- if `bs` are a frame of at most `most` words, they begin with that frame
 pub stands_alone : (bs : List ℕ) (most : ℕ) (message : List (List ℕ)) → Frames bs message → total message ≤ most
     → StandsFirst bs most message (length bs)
 stands_alone bs most message h room = record {

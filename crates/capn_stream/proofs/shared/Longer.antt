@@ -14,12 +14,12 @@ use Rattle.capn_stream.specs.declared.fault.FrameFault.TheVariants.{Failed}
 use Rattle.capn_stream.specs.declared.stage.Stage.{Stage}
 use Rattle.capn_stream.specs.declared.stage.Stage.TheVariants as stages
 
--- more bytes do not change the number in the first 4 bytes
+-- if `bs` has at least 4 bytes, more bytes do not change the number in the first 4 bytes
 pub entry_number-append : (bs more : List ℕ) → 4 ≤ length bs → entry_number (bs ++ more) ≡ entry_number bs
 unfolding entry_number
 entry_number-append bs more h = little_from-append 4 bs more h
 
--- more bytes do not change the first `n` entries
+-- if `bs` has at least `n` entries, more bytes do not change the first `n` entries
 pub entries-append : (n : ℕ) (bs more : List ℕ) → 4 * n ≤ length bs → entries n (bs ++ more) ≡ entries n bs
 entries-append zero bs more h = refl
 entries-append (suc n) bs more h =
@@ -28,40 +28,40 @@ entries-append (suc n) bs more h =
     let ih = entries-append n (drop 4 bs) more (omega (arith, length-drop 4 bs)) in
     rw (first, rest, ih) refl
 
--- more bytes do not change the announced number of segments
+-- if `bs` has at least 4 bytes, more bytes do not change the announced number of segments
 pub segments-append : (bs more : List ℕ) → 4 ≤ length bs → announced_segments (bs ++ more) ≡ announced_segments bs
 segments-append bs more h = ap (λ (n : ℕ). n + 1) (entry_number-append bs more h)
 
--- more bytes do not change the sizes in a complete table
+-- if `bs` has the count and `n` sizes, more bytes do not change these sizes
 pub sizes-append : (n : ℕ) (bs more : List ℕ) → 4 + 4 * n ≤ length bs
     → entries n (drop 4 (bs ++ more)) ≡ entries n (drop 4 bs)
 sizes-append n bs more h =
     rw (drop-append-le 4 bs more (omega arith)) (entries-append n (drop 4 bs) more (omega (arith, length-drop 4 bs)))
 
--- more bytes do not change the announced number of words if the table is complete
+-- if the table in `bs` is complete, more bytes do not change the announced number of words
 pub words-append : (bs more : List ℕ) → HasHead bs → announced_words (bs ++ more) ≡ announced_words bs
 words-append bs more h =
     ap (λ (n : ℕ). sum (entries n (drop 4 (bs ++ more)))) (segments-append bs more h.0.0)
     ∙ ap sum (sizes-append (announced_segments bs) bs more (omega (arith, h.1)))
 
--- more bytes do not change the announced ends of the segments
+-- if the table in `bs` is complete, more bytes do not change the announced ends of the segments
 pub ends-append : (bs more : List ℕ) → HasHead bs → announced_ends (bs ++ more) ≡ announced_ends bs
 ends-append bs more h =
     let count = entry_number-append bs more h.0.0 in
     let sizes = sizes-append (entry_number bs) bs more (omega (arith, h.1)) in
     rw (count, sizes) refl
 
--- a whole and allowed count is still so after more bytes
+-- if `HasCount` holds of `bs`, it holds of `bs ++ more`
 pub HasCount-append : (bs more : List ℕ) → HasCount bs → HasCount (bs ++ more)
 HasCount-append bs more h = (omega (arith, length-append bs more, h.0), omega (arith, segments-append bs more h.0, h.1))
 
--- a complete table is still complete after more bytes
+-- if `HasHead` holds of `bs`, it holds of `bs ++ more`
 pub HasHead-append : (bs more : List ℕ) → HasHead bs → HasHead (bs ++ more)
 HasHead-append bs more h =
     let same = ap head_length (segments-append bs more h.0.0) in
     (HasCount-append bs more h.0, omega (arith, same, length-append bs more, h.1))
 
--- what is known at a stage is still known after more bytes
+-- if `Knows` holds of `bs`, it holds of `bs ++ more`
 pub Knows-append : (stage : Stage) (bs : List ℕ) (most : ℕ) (ends more : List ℕ) → Knows stage bs most ends
     → Knows stage (bs ++ more) most ends
 Knows-append stages.Count bs most ends more h = tt
@@ -78,7 +78,7 @@ Knows-append (stages.Contents start end) bs most ends more (head, room, begins, 
       cuts ∙ sym (ends-append bs more head),
     )
 
--- `IsStage` still holds after bytes of a piece are added
+-- if `IsStage` holds of `old`, it holds of `new`, which has more bytes of `piece`
 pub IsStage-extends : (stage : Stage) (old piece : List ℕ) (most n : ℕ) (new ends : List ℕ)
     → IsStage stage old most ends → Extends old piece (need stage) n new → IsStage stage new most ends
 IsStage-extends stage old piece most n new ends is more = record {
@@ -88,7 +88,7 @@ IsStage-extends stage old piece most n new ends is more = record {
   within = more.upto;
 }
 
--- bytes that are refused before their contents are still refused after more bytes
+-- if `IsHeadRefused` holds of `bs`, it holds of `bs ++ more`
 pub IsStop-append : (bs more : List ℕ) (most : ℕ) (e : FrameFault) → IsHeadRefused bs most e
     → IsHeadRefused (bs ++ more) most e
 IsStop-append bs more most Memory h = tt

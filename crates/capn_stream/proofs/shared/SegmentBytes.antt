@@ -5,7 +5,7 @@ use Rattle.std.proofs.lemmas.List.{drop-drop, drop-take, take-take}
 use Rattle.capn_words.specs.Message.{bytes}
 use Rattle.capn_words.proofs.shared.Words.{bytes-drop, bytes-take}
 
--- a range of the bytes of `size` words is a range of the bytes of all words
+-- a range of the bytes of the `size` words from index `start` on is a range of the bytes of all words `ws`
 pub bytes_of_part : (start size word len : ℕ) (ws : List ℕ) → 8 * word + len ≤ 8 * size
     → take len (drop (8 * word) (bytes (take size (drop start ws)))) ≡ take len (drop (8 * (start + word)) (bytes ws))
 bytes_of_part start size word len ws h =

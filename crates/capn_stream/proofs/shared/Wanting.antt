@@ -24,12 +24,12 @@ pub frame_whole : (bs : List ℕ) (most : ℕ) → IsFrame bs most → IsWhole b
 frame_whole bs most (message, frames, room) =
     whole_of bs most message (length bs) (stands_alone bs most message frames room)
 
--- unfinished bytes are no frame
+-- unfinished bytes `bs` are no frame
 pub unfinished_frame : (bs : List ℕ) (most : ℕ) → IsUnfinished bs most → IsFrame bs most → ⊥
 unfinished_frame bs most (inl none) f = let w = frame_whole bs most f in absurd (omega (arith, w.0.0.0, none))
 unfinished_frame bs most (inr cut) f = let e = refused_whole bs most Cut (frame_whole bs most f) cut in cc
 
--- a frame that begins with `bs` does not end before the part that `stage` receives
+-- a frame that begins with `bs` has at least the length that `stage` needs
 pub need_least : (stage : Stage) (bs : List ℕ) (most : ℕ) (ends more : List ℕ) → IsStage stage bs most ends
     → IsFrame (bs ++ more) most → need stage ≤ length (bs ++ more)
 need_least stages.Count bs most ends more is f = (frame_whole (bs ++ more) most f).0.0.0
@@ -44,12 +44,12 @@ need_least (stages.Contents start end) bs most ends more is f =
     let words = words-append bs more head in
     omega (arith, w.2, is.knows.3, count, words)
 
--- a frame that begins with `bs` continues with at least the bytes that the part of `stage` still lacks
+-- if `bs ++ more` are a frame, `more` has at least as many bytes as `stage` needs in addition to `bs`
 pub least : (stage : Stage) (bs : List ℕ) (most : ℕ) (ends more : List ℕ) → IsStage stage bs most ends
     → IsFrame (bs ++ more) most → need stage - length bs ≤ length more
 least stage bs most ends more is f = omega (arith, need_least stage bs most ends more is f, length-append bs more)
 
--- the part that `stage` receives ends within the greatest length of a frame
+-- `stage` needs at most the greatest length of a frame of `most` words
 pub need_bound : (stage : Stage) (bs : List ℕ) (most : ℕ) (ends : List ℕ) → IsStage stage bs most ends
     → need stage ≤ most_bytes most
 need_bound stages.Count bs most ends is = omega arith
@@ -57,7 +57,7 @@ need_bound (stages.Table segments) bs most ends is = omega (arith, padding_le se
 need_bound (stages.Contents start end) bs most ends is =
     omega (arith, is.knows.3, is.knows.1, is.knows.0.0.1, padding_le (announced_segments bs))
 
--- if no more bytes are added than the part of `stage` lacks, `EndsWithin` holds
+-- if `more` has at most as many bytes as `stage` needs in addition to `bs`, `EndsWithin` holds of `bs ++ more`
 pub ends_within : (stage : Stage) (bs : List ℕ) (most : ℕ) (ends more : List ℕ) → IsStage stage bs most ends
     → length more ≤ need stage - length bs → EndsWithin (bs ++ more) most
 ends_within stages.Count bs most ends more is few = inl (omega (arith, length-append bs more, is.within, few))
@@ -97,7 +97,7 @@ many_words_end bs most n (inl count) refused = absurd (omega (arith, count, refu
 many_words_end bs most n (inr (inl table)) refused = omega (arith, table.1, refused.0.1)
 many_words_end bs most n (inr (inr contents)) refused = absurd (omega (arith, contents.1, refused.1, refused.2))
 
--- if a frame needs all bytes of `piece`, all are taken
+-- if a frame needs all bytes of `piece`, the framer receives all of them
 pub taken_whole : (before : Framing) (piece : List ℕ) (n : ℕ) (after : Framing) → Feeds before piece n after
     → ((more : List ℕ) → IsFrame (before.rest ++ more) before.most → length piece ≤ length more)
     → after.rest ≡ before.rest ++ piece

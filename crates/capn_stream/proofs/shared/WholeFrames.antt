@@ -1,4 +1,4 @@
--- Lemmas for `first` and `read_table`: bytes with a whole frame begin with a message.
+-- Lemmas for `first` and `read_table`: bytes with a complete frame begin with a message.
 use Rattle.std.proofs.Common.{◌≡◌, ℕ, ◌+◌, ◌-◌, ◌*◌, ◌^◌, ◌≤◌, List, ◌++◌, length, take, drop, sum, map, ap, sym, subst}
 use Rattle.std.proofs.Common.{◌∙◌, arith, append_assoc, length-drop}
 use Rattle.std.specs.List.{flat_map}
@@ -16,7 +16,7 @@ use Rattle.capn_stream.proofs.shared.Entries.{length-entries, sum-entries_more, 
 use Rattle.capn_words.proofs.shared.Words.{length-bytes}
 use Rattle.capn_stream.proofs.shared.FrameLaws.{FitsTable-message, table_sizes}
 
--- the announced sizes of all segments but the last
+-- the announced sizes of all segments except the last
 abbrev pub sizes_before : List ℕ → List ℕ
 sizes_before bs = entries (entry_number bs) (drop 4 bs)
 
@@ -109,7 +109,7 @@ module _ (bs : List ℕ) (most : ℕ) (ws : List ℕ) (small : most ≤ 2 ^ 28) 
         room = omega (arith, total-cut 0 (ends_from 0 (sizes_before bs)) ws ends_are.rising, words_are, whole.1);
       }
 
--- the sizes that are read after the count are those of all segments but the last
+-- the sizes that are read after the count are the announced sizes of all segments except the last
 pub sizes_read : (bs : List ℕ) (segments : ℕ) → segments ≡ announced_segments bs
     → entries (segments - 1) (take (length bs - 4) (drop 4 bs)) ≡ sizes_before bs
 sizes_read bs segments count =
@@ -122,7 +122,7 @@ pub sum-sizes_read : (bs : List ℕ) (segments : ℕ) → segments ≡ announced
 sum-sizes_read bs segments count =
     omega (arith, ap sum (sizes_read bs segments count), sum-entries_more (entry_number bs) (drop 4 bs))
 
--- facts about the segments of a frame whose table was read
+-- each lemma of this block is about the segments of a frame whose table was read
 module _ (bs : List ℕ) (most segments words start : ℕ) (ends ws : List ℕ) (small : most ≤ 2 ^ 28) (below : AreBytes bs)
     (whole : IsWhole bs most)
     (count : segments ≡ announced_segments bs) (all : words ≡ announced_words bs)

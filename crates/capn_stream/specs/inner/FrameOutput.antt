@@ -1,4 +1,4 @@
--- The first part of a written frame.
+-- The table of a written frame, with its padding.
 use Rattle.std.specs.Prelude.{ℕ, List, ◌++◌, length, replicate}
 use Rattle.capn_stream.specs.Frames.{padding, table}
 

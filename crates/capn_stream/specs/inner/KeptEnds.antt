@@ -1,4 +1,4 @@
--- The ends of the segments of a message. The first 63 are kept in place, and the others in a list.
+-- The ends of the segments of a message. The first 63 are in an array, and the others in a list.
 use Rattle.std.specs.Prelude.{◌≡◌, ℕ, ◌-◌, List, ◌++◌, length, take}
 use Rattle.capn_stream.specs.declared.ends.Ends.{Ends}
 
@@ -7,6 +7,6 @@ module _ {A : Type 0} where
   abbrev pub kept : Ends A → List ℕ
   kept ends = take ends.count ends.few ++ ends.rest.items
 
-  -- there are 63 places, and the list has the ends from number 63 on
+  -- the array `few` has 63 places, and the list `rest` has the ends from number 63 on
   abbrev pub AreKept : Ends A → Type 0
   AreKept ends = (length ends.few ≡ 63) × (length ends.rest.items ≡ ends.count - 63)

@@ -17,12 +17,12 @@ need stages.Count = 4
 need (stages.Table segments) = head_length segments
 need (stages.Contents start end) = end
 
--- the ends that the table at the front of `bs` announces, for all segments but the last
+-- the ends that the table at the front of `bs` announces, for all segments except the last
 abbrev pub announced_ends : List ℕ → List ℕ
 announced_ends bs = ends_from 0 (entries (entry_number bs) (drop 4 bs))
 
--- `stage` is the one that `bs` announce, `ends` are the announced ends once the table is read, and no earlier part was
--- refused
+-- `stage` has the numbers that the bytes `bs` announce. Once the table is read, `ends` are the announced ends. No
+-- earlier part of the frame has a fault.
 abbrev pub Knows : Stage → List ℕ → ℕ → List ℕ → Type 0
 Knows stages.Count bs most ends = ⊤
 Knows (stages.Table segments) bs most ends = HasCount bs × (segments ≡ announced_segments bs)
@@ -30,29 +30,30 @@ Knows (stages.Contents start end) bs most ends =
     HasHead bs × (announced_words bs ≤ most) × (start ≡ head_length (announced_segments bs)) × (end ≡ frame_length bs)
     × (ends ≡ announced_ends bs)
 
--- `stage` has at most 4,096 segments
+-- if `stage` is `Table`, it has at most 4,096 segments
 abbrev pub FitsStage : Stage → Type 0
 FitsStage stages.Count = ⊤
 FitsStage (stages.Table segments) = segments ≤ most_segments
 FitsStage (stages.Contents start end) = ⊤
 
--- `stage` is the one that `bs` announce, and `bs` end with the part that `stage` receives or before
+-- `Knows` holds of `stage`, and the bytes `bs` do not go beyond the part that `stage` receives
 pub record IsStage (stage : Stage) (bs : List ℕ) (most : ℕ) (ends : List ℕ) : Type 0 where
   pub below : AreBytes bs
   pub knows : Knows stage bs most ends
   pub within : length bs ≤ need stage
 
--- `stage` receives the contents, and `bs` are the whole frame
+-- `stage` receives the contents, and `bs` are the complete frame
 abbrev pub IsDone : Stage → List ℕ → Type 0
 IsDone stages.Count bs = ⊥
 IsDone (stages.Table segments) bs = ⊥
 IsDone (stages.Contents start end) bs = length bs ≡ end
 
--- the part that `stage` receives is not complete, unless it is the last part
+-- the part that `stage` receives still lacks bytes, or `bs` are the complete frame
 abbrev pub Rests : Stage → List ℕ → Type 0
 Rests stage bs = (length bs < need stage) ⊎ IsDone stage bs
 
--- `n` bytes of `piece` were added to `old`, up to `end` bytes in all, and fewer only if `piece` ends
+-- The first `n` bytes of `piece` were appended to `old`, which gives `new`. There are then `end` bytes, or fewer if all
+-- of `piece` was appended.
 pub record Extends (old piece : List ℕ) (end n : ℕ) (new : List ℕ) : Type 0 where
   pub inside : n ≤ length piece
   pub text : new ≡ old ++ take n piece
@@ -60,7 +61,8 @@ pub record Extends (old piece : List ℕ) (end n : ℕ) (new : List ℕ) : Type 
   pub below : AreBytes new
   pub stops : length new < end → n ≡ length piece
 
--- a frame is refused with the given fault before its contents are received; the fault may also be `Memory`
+-- `bs` may be refused with the given fault before the contents of the frame are received. `Memory` is possible for all
+-- `bs`.
 abbrev pub IsHeadRefused : List ℕ → ℕ → FrameFault → Type 0
 IsHeadRefused bs most Memory = ⊤
 IsHeadRefused bs most Empty = ⊥
@@ -69,13 +71,13 @@ IsHeadRefused bs most (TooManyWords n) = IsFrameRefused bs most (TooManyWords n)
 IsHeadRefused bs most Cut = ⊥
 IsHeadRefused bs most Failed = ⊥
 
--- the number of parts that follow the part that `stage` receives
+-- the number of parts of a frame that follow the part that `stage` receives
 abbrev pub parts_left : Stage → ℕ
 parts_left stages.Count = 2
 parts_left (stages.Table segments) = 1
 parts_left (stages.Contents start end) = 0
 
--- `bs` have the whole table and its padding, and the contents are from `start` to `end` with the ends `ends`
+-- `bs` have the complete table with its padding, and the contents are from `start` to `end` with the ends `ends`
 pub record Tabled (bs : List ℕ) (most start end : ℕ) (ends : List ℕ) : Type 0 where
   pub head : HasHead bs
   pub room : announced_words bs ≤ most
@@ -83,7 +85,8 @@ pub record Tabled (bs : List ℕ) (most start end : ℕ) (ends : List ℕ) : Typ
   pub stops : end ≡ frame_length bs
   pub cuts : ends ≡ announced_ends bs
 
--- `n` bytes of `piece` were added to `old`: all bytes, or those up to the end of the frame
+-- the first `n` bytes of `piece` were appended to `old`, which gives `new`: all bytes, or those up to the end of the
+-- frame
 pub record Fills (old piece : List ℕ) (most n : ℕ) (new : List ℕ) (stage : Stage) (ends : List ℕ) : Type 0 where
   pub inside : n ≤ length piece
   pub text : new ≡ old ++ take n piece

@@ -1,4 +1,4 @@
--- Lemmas for `resolve`, capn_canon, capn_diagnostics and other crates: the content that a pointer leads to lies inside
+-- Lemmas for `resolve`, capn_canon, capn_diagnostics and other crates: the content that a pointer leads to lies within
 -- its segment, which exists.
 use Rattle.std.proofs.Common.{◌≡◌, ℕ, ◌+◌, ◌<◌, ◌≤◌, List, length, Result, Ok, Err, IfOk}
 use Rattle.capn_words.specs.Message.{segment_at}
@@ -18,8 +18,7 @@ use Rattle.capn_target.proofs.shared.Ways.{described}
 use Rattle.capn_target.proofs.shared.Present.{present}
 
 module _ (m : List (List ℕ)) where
-  -- content of the form `shape` at `start` lies inside segment `s`, and the rows of a composite list are within its
-  -- words
+  -- content of the form `shape` at `start` lies within segment `s`, and `RowsFit` holds of `shape`
   abbrev Inside : ℕ → ℕ → Shape → Type 0
   Inside s start shape = (start + extent shape ≤ length (segment_at m s)) × RowsFit shape
 
@@ -38,15 +37,15 @@ module _ (m : List (List ℕ)) where
   inside-described (Cap k) s start shape d = absurd d
   inside-described (Reserved n) s start shape d = absurd d
 
-  -- the content that the pointer at `at` leads to lies inside its segment, and the rows of a composite list are within
-  -- its words
+  -- if the pointer at `at` leads to content of the form `shape`, the content lies within segment `s`, and `RowsFit`
+  -- holds of `shape`
   pub inside : (at : Place) (s start pads : ℕ) (shape : Shape) → target m at ≡ Ok (targets.Content s start shape pads) →
       (start + extent shape ≤ length (segment_at m s)) × RowsFit shape
   inside at s start pads shape e =
       let d = described m at s start pads shape e in
       inside-described (pointer_in m d.0.segment d.0.word) s start shape d.1
 
--- if the place `at` is in range, the target of its pointer lies inside the message
+-- if the place `at` is in range, `IsInMessage` holds of the target of the pointer at `at`
 pub found-inside : (m : List (List ℕ)) (at : Place) (t : Target) → at.word < length (segment_at m at.segment)
     → target m at ≡ Ok t → IsInMessage m t
 found-inside m at targets.Nil h e = tt
@@ -55,7 +54,7 @@ found-inside m at (targets.Content s start shape pads) h e =
     let i = inside m at s start pads shape e in
     (record { exists = present m at s start pads shape h e; within = i.0 }, i.1)
 
--- if the place `at` is in range and `r` is the target of its pointer, `r` lies inside the message
+-- `found-inside` for the result `r` of `target` at the place `at`, which may also be a fault
 pub answer-inside : (m : List (List ℕ)) (at : Place) (r : Result Target Fault)
     → at.word < length (segment_at m at.segment) → target m at ≡ r
     → IfOk r (IsInMessage m)

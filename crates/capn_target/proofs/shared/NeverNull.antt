@@ -94,7 +94,7 @@ module _ (m : List (List ℕ)) where
   there-named s w (Node o a b) h = there-near s w 0 (Node o a b)
   there-named s w (Many o width n) h = there-near s w 0 (Many o width n)
 
-  -- if the word at `at` is not 0, its target is not null
+  -- if the word `w` at `at` is not 0, `IsThere` holds of the result of `target` at `at`
   pub there : (at : Place) (w : ℕ) (p : Pointer) → w ≡ word_at m at → p ≡ pointer_of w → word_of p ≡ w → (w ≡ 0 → ⊥)
       → IsThere (target m at)
   unfolding target

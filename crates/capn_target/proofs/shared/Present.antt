@@ -12,7 +12,7 @@ use Rattle.capn_target.specs.Ways.{OneOfThree}
 use Rattle.capn_target.proofs.shared.Ways.{one-of-three}
 
 module _ (m : List (List ℕ)) where
-  -- if a place is in range, its segment exists
+  -- if segment `s` has a word `w`, the segment exists
   has-segment : (s w : ℕ) → w < length (segment_at m s) → s < length m
   has-segment s w h = below (nat_lt s (length m)) refl
     where

@@ -31,7 +31,7 @@ narrow-pointer w =
     pick IsNarrow (w % 4 == 2) _ _ (λ e. tt) (λ z.
     pick IsNarrow (field 2 30 w == 0) _ _ (λ e. omega arith) (λ e. tt)))))
 
--- the sizes and counts of an object of this form fit the fields of its pointer and of its tag word
+-- the sizes and counts of an object of this shape fit the fields of its pointer and of its tag word
 abbrev pub HasRoom : Shape → Type 0
 HasRoom (shapes.Node a b) = (a < 2 ^ 16) × (b < 2 ^ 16)
 HasRoom (shapes.Many width n) = n < 2 ^ 29

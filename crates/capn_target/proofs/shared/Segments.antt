@@ -6,7 +6,7 @@ use Rattle.std.proofs.lemmas.List.Sums.{get_or-le-sum_by}
 use Rattle.capn_words.specs.Message.{most_words, segment_at, words_of, IsMessage}
 use Rattle.capn_words.proofs.shared.Choices.{pick}
 
--- a segment that does not exist has no words
+-- if `words_of` gives `None` for segment `s`, the segment has no words
 pub length_of_none : (m : List (List ℕ)) (s : ℕ) → words_of m s ≡ None → length (segment_at m s) ≡ 0
 length_of_none m s h =
     pick (λ (o : Option ℕ). o ≡ None
@@ -15,7 +15,7 @@ length_of_none m s h =
     (λ e. λ n. let past : length m ≤ s = grind (arith, nat_tests) in ap length (get_or-eq_default m [] past))
     h
 
--- if `words_of` gives a number for a segment, the segment has that number of words
+-- if `words_of` gives `n` for segment `s`, the segment has `n` words
 pub length_of_some : (m : List (List ℕ)) (s n : ℕ) → words_of m s ≡ Some n → length (segment_at m s) ≡ n
 length_of_some m s n h =
     pick (λ (o : Option ℕ). o ≡ Some n
@@ -24,6 +24,6 @@ length_of_some m s n h =
     (λ e. λ k. cc)
     h
 
--- no segment is longer than all segments together may be
+-- a segment `s` of the message `m` has at most `most_words` words
 pub segment-room : (m : List (List ℕ)) (s : ℕ) → IsMessage m → s < length m → length (segment_at m s) ≤ most_words
 segment-room m s h l = let one = get_or-le-sum_by length m s [] l in let all = h.room in omega arith

@@ -127,7 +127,8 @@ module _ (m : List (List ℕ)) where
         (λ f. h (grind (arith, nat_tests), grind (arith, nat_tests))))
         (λ e f. absurd cc)
 
-  -- the pointer at a place leads to content in one of the three ways, or is itself the capability
+  -- `Told`, where `P` says that the pointer at the place leads to the content in one of the three ways, and `Q` says
+  -- that the pointer is itself the capability
   abbrev ToldAt : Place → Result Target Fault → Type 0
   ToldAt at = Told (OneOfThree m at) (λ k. pointer_in m at.segment at.word ≡ Cap k)
 

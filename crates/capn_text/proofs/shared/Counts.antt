@@ -1,4 +1,4 @@
--- The number of elements up to another, counted in two lists. (For `Unquotings` and capn_make.)
+-- `count_to` of two lists, one after the other, is the sum of both counts. (For `Unquotings` and capn_make.)
 use Rattle.std.proofs.Common.{◌≡◌, ℕ, ◌+◌, cond, nat_le, List, [], ◌∷◌, ◌++◌, arith}
 use Rattle.capn_text.specs.PlainForm.{count_to}
 

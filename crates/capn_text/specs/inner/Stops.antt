@@ -1,77 +1,84 @@
--- The places at which reading stops, on a line that cannot be continued after whole lines that can. (Our own.)
+-- The stops of a reader: at a wrong line, at an unfinished line, or at a value that is too deep. (Our own.)
 use Rattle.std.specs.Prelude.{ℕ, suc, ◌≡◌, ◌≤◌, ◌+◌, List, [], ◌++◌, length, Option, Some, None, Result, Ok, Err}
 use Rattle.std.specs.Prelude.{⊤, nat_lt, cond}
 use Rattle.capn_text.specs.Streams.{first_lines, ended_lines, few}
 use Rattle.capn_text.specs.declared.fault.Stop.{Stop}
 use Rattle.capn_text.specs.declared.fault.Stop.TheVariants as stops
 
--- `x` consists of whole lines, or is empty, so bytes after `x` do not change its lines.
+-- `x` is empty, or consists of complete lines. So the first lines of `x ++ y` are the lines of `x`, and then the first
+-- lines of `y`.
 abbrev pub AreLines : List ℕ → Type 0
 AreLines x = (n : ℕ) (y : List ℕ) → first_lines (ended_lines x + n) (x ++ y) ≡ x ++ first_lines n y
 
--- `front` consists of whole lines that some bytes complete to a value of a height of at most `least`. `read r` reads
--- values of a height of at most `r`.
+-- `front` consists of complete lines. For some bytes `y` and some `x`, each `read r` with `r` of at least `least` reads
+-- `x` from all of `front ++ y`.
 abbrev pub GoesOn : {X : Type 0} → (ℕ → List ℕ → Option (X × List ℕ)) → ℕ → List ℕ → Type 0
 GoesOn {X} read least front = AreLines front × (y : List ℕ) × (x : X)
     × ((r : ℕ) → least ≤ r → read r (front ++ y) ≡ Some (x, []))
 
 module _ {X : Type 0} (read : ℕ → List ℕ → Option (X × List ℕ)) (room : ℕ) where
-  -- `text` consists of whole lines that can be continued, and of `left` bytes after them. The first line of the bytes
-  -- after them continues no value of any height.
+  -- `text` is `front ++ rest`, and `rest` has `left` bytes. Some bytes complete `front` (`GoesOn`). Nothing is read
+  -- from `front ++ z` if `z` has the same first line as `rest`.
   abbrev pub Stops : List ℕ → ℕ → Type 0
   Stops text left = (front : List ℕ) × (rest : List ℕ) × (text ≡ front ++ rest) × (length rest ≡ left)
       × GoesOn read room front
       × ((r : ℕ) (z : List ℕ) → room ≤ r → first_lines 1 z ≡ first_lines 1 rest → read r (front ++ z) ≡ None)
 
-  -- `text` begins with whole lines that can be continued, but only to a value that is higher than `room`.
+  -- `text` begins with the complete lines `front`. `read room` reads nothing from `front`, whatever bytes `z` follow.
+  -- `read (suc room)` reads something from `front ++ y`, for some bytes `y`.
   abbrev pub Deepens : List ℕ → Type 0
   Deepens text = (front : List ℕ) × (rest : List ℕ) × (text ≡ front ++ rest)
       × GoesOn read (suc room) front × ((z : List ℕ) → read room (front ++ z) ≡ None)
 
-  -- Nothing is read from `text`, whatever bytes follow it.
+  -- `read r` reads nothing from `text ++ z`, for any bytes `z` and any `r` of at least `room`.
   abbrev pub IsLost : List ℕ → Type 0
   IsLost text = (r : ℕ) (z : List ℕ) → room ≤ r → read r (text ++ z) ≡ None
 
-  -- `text`, except for a few bytes at its end, can be completed by some bytes.
+  -- `front` is `text` without its last bytes, at most `few` of them. Each `read r` with `r` of at least `room` reads
+  -- `x` from all of `front ++ y`, for some `x` and some bytes `y`.
   abbrev pub IsOpen : List ℕ → Type 0
   IsOpen text = (front : List ℕ) × (last : List ℕ) × (text ≡ front ++ last) × (length last ≤ few)
       × (y : List ℕ) × (x : X) × ((r : ℕ) → room ≤ r → read r (front ++ y) ≡ Some (x, []))
 
-  -- Nothing is read from `text`, for the given stop.
+  -- Reading `text` with `read room` ends at the given stop. The stop `Memory` says nothing about `text`.
   abbrev pub FailsAt : Stop → List ℕ → Type 0
   FailsAt stops.Memory text = ⊤
   FailsAt (stops.Left n) text = Stops text n × IsLost text
   FailsAt (stops.Cut n) text = Stops text n × IsOpen text
   FailsAt stops.Deep text = Deepens text
 
--- A function returned, through `view`, the value that `read` reads from `text`, or the stop at which reading ends.
+-- If the result is `Ok x`, `read room` reads `view x` from `text`. If the result is `Err e`, reading `text` ends at the
+-- stop `e`.
 abbrev pub GivesAt : {X Y : Type 0} → (X → Y × List ℕ) → Result X Stop → (ℕ → List ℕ → Option (Y × List ℕ)) → ℕ → List ℕ
     → Type 0
 GivesAt view (Ok x) read room text = read room text ≡ Some (view x)
 GivesAt view (Err e) read room text = FailsAt read room e text
 
--- Nothing is read from the line at the front of `text`, whatever bytes follow.
+-- `read` reads no line from `text ++ z`, for any bytes `z`.
 abbrev pub IsLineLost : {X : Type 0} → (List ℕ → Option (X × List ℕ)) → List ℕ → Type 0
 IsLineLost read text = (z : List ℕ) → read (text ++ z) ≡ None
 
--- `text`, except for a few bytes at its end, can be completed by some bytes to a line that is read.
+-- `front` is `text` without its last bytes, at most `few` of them. `read` reads `x` from all of `front ++ y`, for some
+-- `x` and some bytes `y`.
 abbrev pub IsLineOpen : {X : Type 0} → (List ℕ → Option (X × List ℕ)) → List ℕ → Type 0
 IsLineOpen {X} read text = (front : List ℕ) × (last : List ℕ) × (text ≡ front ++ last) × (length last ≤ few)
     × (y : List ℕ) × (x : X) × (read (front ++ y) ≡ Some (x, []))
 
--- Nothing is read from the line at the front of `text`, for the given stop.
+-- Reading the line at the front of `text` with `read` ends at the given stop. The stop `Memory` says nothing about
+-- `text`. The stop `Deep` is impossible.
 abbrev pub LineFails : {X : Type 0} → Stop → (List ℕ → Option (X × List ℕ)) → List ℕ → Type 0
 LineFails stops.Memory read text = ⊤
 LineFails (stops.Left n) read text = (read text ≡ None) × (n ≡ length text) × IsLineLost read text
 LineFails (stops.Cut n) read text = (read text ≡ None) × (n ≡ length text) × IsLineOpen read text
 LineFails stops.Deep read text = ⊥
 
--- A function returned, through `view`, what `read` reads from the line at the front of `text`, or the stop.
+-- If the result is `Ok x`, `read` reads `view x` from the line at the front of `text`. If the result is `Err e`,
+-- reading that line ends at the stop `e`.
 abbrev pub GivesLine : {X Y : Type 0} → (X → Y × List ℕ) → Result X Stop → (List ℕ → Option (Y × List ℕ)) → List ℕ
     → Type 0
 GivesLine view (Ok x) read text = read text ≡ Some (view x)
 GivesLine view (Err e) read text = LineFails e read text
 
--- The stop on a line that is not read: `Cut` if `text` has fewer than `few` bytes, and `Left` otherwise.
+-- The stop if no line is read from `text`: `Cut` if `text` has fewer than `few` bytes, and `Left` otherwise.
 abbrev pub stop_in : List ℕ → Stop
 stop_in text = cond (nat_lt (length text) few) (stops.Cut (length text)) (stops.Left (length text))

@@ -9,7 +9,7 @@ use Rattle.capn_value.specs.Views.{length-bits}
 use Rattle.capn_value.specs.InRange.{AllBelow}
 use Rattle.capn_value.specs.Text.{line, named, numbers_name, one_line, digits_of, shown}
 
--- the numbers of a list of bits are as many as the bits
+-- if `xs` has `n` bits, these bits as numbers are `n` numbers
 pub bits_long : (xs : List Bool) {n : ℕ} → n ≡ length xs → n ≡ length (map from_bool xs)
 bits_long xs e = e ∙ sym (length-bits xs)
 

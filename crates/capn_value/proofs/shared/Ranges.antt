@@ -8,12 +8,12 @@ use Rattle.capn_value.specs.Trim.{kept_words, kept_slots, kept_words_of_rows, ke
 use Rattle.capn_value.specs.Trim.{trimmed_rows}
 use Rattle.capn_value.specs.InRange.{AllBelow, InRange, EachInRange, RowsInRange}
 
--- if the number at each index is below a bound, `AllBelow` holds
+-- if the number of `xs` at each index is below `most`, `AllBelow most xs` holds
 pub below_from : (most : ℕ) (xs : List ℕ) → ((k : ℕ) → slice_index xs k < most) → AllBelow most xs
 below_from most [] each = tt
 below_from most (x ∷ xs) each = (each 0, below_from most xs (λ k. each (suc k)))
 
--- if all numbers are below a bound, so are those of a prefix
+-- if all numbers of `xs` are below `most`, so are the first `n` numbers of `xs`
 pub below-take : (most n : ℕ) (xs : List ℕ) → AllBelow most xs → AllBelow most (take n xs)
 below-take most zero xs h = tt
 below-take most (suc n) [] h = tt

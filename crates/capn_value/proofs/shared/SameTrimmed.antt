@@ -131,7 +131,7 @@ abbrev AtLeast : ℕ → ℕ → Bodies → Type 0
 AtLeast w s no_bodies = Unit {0}
 AtLeast w s (body ws ss bs) = (w ≤ length ws) × (s ≤ count ss) × AtLeast w s bs
 
--- if all rows have `a` words and `b` slots, at most that many are kept of each
+-- if all rows have `a` words and `b` slots, trimming keeps at most `a` words and `b` slots of each row
 even_bounds : (a b : ℕ) (bs : Bodies) → are_even a b bs ≡ true → (kept_words_of_rows bs ≤ a)
     × (kept_slots_of_rows bs ≤ b)
 even_bounds a b no_bodies h = (omega arith, omega arith)
@@ -163,7 +163,7 @@ at_least_kept (body ws ss bs) h =
           e w s,
     )
 
--- no list of rows in the value is ragged
+-- no list of rows in the value `t` is ragged
 abbrev IsEven : Tree → Type 0
 IsEven t = anywhere is_ragged t ≡ false
 
@@ -228,7 +228,7 @@ mutual
       (rows_same w s bs cs a.2 b.2 x.1 y.1 h.2 i)
   rows_same _ _ _ _ a b p q h = absurd h
 
--- values without ragged rows are the same if and only if they are equal once trimmed
+-- values `t` and `u` without ragged rows are the same if and only if their trimmed values are equal
 pub same_exactly_trimmed : (t u : Tree) → anywhere is_ragged t ≡ false → anywhere is_ragged u ≡ false → Same t u
     ↔ (trimmed t ≡ trimmed u)
 same_exactly_trimmed t u p q = (trimmed_same t u p q, same_from_trimmed t u)

@@ -11,7 +11,7 @@ use Rattle.capn_value.specs.Fits.{Fits}
 use Rattle.capn_value.proofs.shared.Fitting.{fit_parts}
 use Rattle.capn_value.proofs.shared.Prices.{row_words-le}
 
--- if each content costs more in addition to its size, the value does not cost less
+-- this block shows that a greater base never gives a smaller cost
 module _ (less more : ℕ) (le : less ≤ more) where
   raised : (n : ℕ) → less + n ≤ more + n
   raised n = omega (arith, le)
@@ -37,7 +37,8 @@ module _ (less more : ℕ) (le : less ≤ more) where
 doubled : (n : ℕ) → 1 + n ≤ 2 * (0 + n) + 1
 doubled n = omega arith
 
--- the strict cost is at most twice the plain cost plus 1, since each content but the root's has a slot, which is a word
+-- The strict cost is at most twice the plain cost plus 1. Each content except the root's has a slot, and each slot
+-- costs a word.
 mutual
   pub cost-doubled : (t : Tree) → cost 1 t ≤ 2 * cost 0 t + 1
   cost-doubled nil = omega arith

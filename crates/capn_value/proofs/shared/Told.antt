@@ -10,7 +10,7 @@ use Rattle.capn_value.specs.Getters.{to_element, Answer, row_at, kind, word, num
 
 -- ---- if values are the same, the getters agree on them
 
--- a slot that is `nil` is the same as null
+-- if the value `t` is `nil`, it is the same as null
 null_slot : (t : Tree) → t ≡ nil → Same nil t
 null_slot t e = subst (λ (u : Tree). Same nil u) (sym e) tt
 
@@ -51,7 +51,7 @@ rows_counted no_bodies no_bodies h = refl
 rows_counted (body ws ss bs) (body vs ts cs) h = ap suc (rows_counted bs cs h.2)
 rows_counted _ _ h = absurd h
 
--- from values that are the same, a step leads to values that are the same
+-- if `t` and `u` are the same, the values that the step `s` leads to are the same
 pub same_next : (t u : Tree) → Same t u → (s : Step) → Same (next t s) (next u s)
 same_next nil nil h (to_pointer j) = tt
 same_next nil nil h (to_element i) = tt

@@ -18,7 +18,7 @@ abbrev pub are_null : Trees → Bool
 are_null no_trees = true
 are_null (tree t ts) = is_null t && are_null ts
 
--- true if the values are of one kind and their parts pass the test
+-- true if the values are of one kind, and their words, slots, elements and rows pass the tests
 abbrev mutual
   pub test : Tree → Tree → Bool
   test nil nil = true

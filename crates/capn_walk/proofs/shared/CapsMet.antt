@@ -1,5 +1,5 @@
--- The first capability of a value is the first capability that the visits meet, if no visit is a fault. (For
--- `RootSurveys` and capn_mismatch.)
+-- If no visit is a fault, the first capability of a value is the first capability among the targets of the visited
+-- slots. (For `RootSurveys` and capn_mismatch.)
 use Rattle.std.proofs.Common.{◌≡◌, ℕ, zero, suc, ◌+◌, ◌-◌, List, [], ◌∷◌, ◌++◌, length, Option, Some, None, Ok, refl}
 use Rattle.std.proofs.Common.{ap, ap₂, ◌∙◌, arith}
 use Rattle.std.specs.List.{flat_map}
@@ -35,7 +35,6 @@ module _ (m : List (List ℕ)) where
   caps-append (fails at e ∷ xs) ys = caps-append xs ys
 
   module _ (base : ℕ) where
-    -- the visits below an object pay, and the object's first capability is the first that the visits below meet
     record Object (at : Place) (d s start : ℕ) (shape : Shape) : Type 0 where
       below : AllPay (flat_map (visits m base (d - 1)) (slots s start shape))
       caps : first_cap_of m (visits m base d at)

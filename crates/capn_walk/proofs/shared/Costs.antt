@@ -19,19 +19,17 @@ use Rattle.capn_target.proofs.shared.Inside.{inside}
 use Rattle.capn_walk.proofs.shared.Numbers.{numbers-paid}
 use Rattle.capn_walk.proofs.shared.Walks.{slot, visits-deep, visits-object}
 
--- the first visits pay if all do
 pub all-front : (xs ys : List Visit) → AllPay (xs ++ ys) → AllPay xs
 all-front [] ys h = tt
 all-front (pays at n ∷ xs) ys h = all-front xs ys h
 all-front (fails at e ∷ xs) ys h = absurd h
 
--- the last visits pay if all do
 pub all-back : (xs ys : List Visit) → AllPay (xs ++ ys) → AllPay ys
 all-back [] ys h = h
 all-back (pays at n ∷ xs) ys h = all-back xs ys h
 all-back (fails at e ∷ xs) ys h = absurd h
 
--- two lists of visits together pay the sum of the words that each list pays
+-- the words paid for `xs ++ ys` are the sum of the words paid for `xs` and for `ys`
 pub paid-append : (xs ys : List Visit) → paid_of (xs ++ ys) ≡ paid_of xs + paid_of ys
 paid-append [] ys = omega arith
 paid-append (pays at n ∷ xs) ys = omega (arith, paid-append xs ys)
@@ -56,8 +54,6 @@ rows-price bs a b span e f =
         omega arith in grind (arith, nat_tests)
 
 module _ (m : List (List ℕ)) (base : ℕ) where
-  -- an object within the depth limit, where the visits below pay, and the sum paid is the object's price and the prices
-  -- of the visits below
   record Object (at : Place) (d s start pads : ℕ) (shape : Shape) : Type 0 where
     deep : 0 < d
     below : AllPay (flat_map (visits m base (d - 1)) (slots s start shape))
@@ -72,13 +68,11 @@ module _ (m : List (List ℕ)) (base : ℕ) where
       let o = visits-object m base at i.segment i.start i.pads x i.is (suc d) (omega arith) in
       record { deep = omega arith; below = rw o at h; sum = ap paid_of o }
 
-  -- the cost and the height of a value with slots are within the sum that the visits pay and the depth limit
   with-slots : {at : Place} {d s start pads c q n : ℕ} {x : Shape} → Object at d s start pads x
       → (q ≤ paid_of (flat_map (visits m base (d - 1)) (slots s start x))) × (n ≤ d - 1) → c ≤ price base x + q
       → (c ≤ paid_of (visits m base d at)) × (1 + n ≤ d)
   with-slots o below cheap = let deep = o.deep in let sum = o.sum in (omega arith, omega arith)
 
-  -- the cost and the height of a value without slots are within the sum that the visits pay and the depth limit
   without-slots : {c : ℕ} {x : Shape} {Inside : ℕ → ℕ → Type 0} (at : Place) (d : ℕ) → NamesObject m at x Inside
       → AllPay (visits m base d at) → c ≤ price base x → (c ≤ paid_of (visits m base d at)) × (1 ≤ d)
   without-slots at d i h cheap = with-slots {q = 0} {n = 0} (object at d i h) (omega arith, omega arith) (omega arith)

@@ -17,7 +17,6 @@ use Rattle.capn_words.specs.declared.space.Place.{Place}
 use Rattle.capn_words.proofs.shared.Words.{length-bytes, bytes-drop}
 use Rattle.capn_walk.specs.ValueAt.{element, AreElements, words_from}
 
--- byte i of a word
 byte-in_word : (w i : ℕ) (rest : List ℕ) → i < 8 → slice_index (word_bytes w ++ rest) i ≡ w / 256 ^ i % 256
 unfolding word_bytes
 byte-in_word w zero rest h = let same : w / 1 ≡ w = omega arith in ap (λ (x : ℕ). x % 256) (sym same)
@@ -30,7 +29,6 @@ byte-in_word w (suc (suc (suc (suc (suc (suc zero)))))) rest h = refl
 byte-in_word w (suc (suc (suc (suc (suc (suc (suc zero))))))) rest h = refl
 byte-in_word w (suc (suc (suc (suc (suc (suc (suc (suc i)))))))) rest h = absurd (omega arith)
 
--- byte p of word q is 8 * q + p bytes on
 byte-of : (ws : List ℕ) (q p : ℕ) → q < length ws → p < 8
     → slice_index (bytes ws) (8 * q + p) ≡ slice_index ws q / 256 ^ p % 256
 byte-of ws q p inside below =
@@ -95,11 +93,12 @@ eight-bytes : (w : ℕ) → w < 2 ^ 64 →
     ≡ w
 eight-bytes w h = omega arith
 
--- the first bits of a number, the lowest first
+-- the first `count` bits of `x`, the lowest first
 abbrev pub first_bits : ℕ → ℕ → List ℕ
 first_bits count x = map (λ k. x / 2 ^ k % 2) (range_with_len 0 count)
 
--- the first i + 1 bits of a number, given the first i bits and bit i
+-- if `xs` is `zs` and then the first `i` bits of `x`, and `b` is bit `i` of `x`, then `xs ++ b ∷ []` is `zs` and then
+-- the first `i + 1` bits of `x`
 pub first_bits-more : (i x : ℕ) (zs xs ys : List Bool) (b : Bool) → ys ≡ xs ++ b ∷ []
     → map from_bool xs ≡ map from_bool zs ++ first_bits i x → from_bool b ≡ x / 2 ^ i % 2
     → map from_bool ys ≡ map from_bool zs ++ first_bits (i + 1) x
@@ -112,7 +111,6 @@ first_bits-more i x zs xs ys b e before is =
     ∙ ap (λ (l : List ℕ). map from_bool zs ++ l) (ap (λ (y : ℕ). first_bits i x ++ y ∷ []) is
     ∙ sym (map-range_with_len_more bit 0 i i (omega arith)))
 
--- the first elements of a list of bits, followed by the next elements
 elements-joined : (ws xs ys : List ℕ) → AreElements 64 1 ws xs
     → ((k : ℕ) → k < length ys → slice_index ys k ≡ element 64 1 ws (length xs + k)) → AreElements 64 1 ws (xs ++ ys)
 elements-joined ws xs ys before next i below = grind (arith, common_steps)
@@ -120,11 +118,10 @@ elements-joined ws xs ys before next i below = grind (arith, common_steps)
 -- ---- the bytes from a place of a message on
 
 module _ (m : List (List ℕ)) (at : Place) where
-  -- the words from the place on
+  -- the words of the segment from the place `at` on
   abbrev ws : List ℕ
   ws = words_from m at.segment at.word
 
-  -- the bytes from the place on are n in number, if the segment has them all
   pub length-bytes_at : (n : ℕ) → 8 * at.word + n ≤ 8 * length (segment_at m at.segment) → length (bytes_at m at n) ≡ n
   length-bytes_at n h =
       let whole = length-bytes (segment_at m at.segment) in
@@ -133,7 +130,6 @@ module _ (m : List (List ℕ)) (at : Place) where
 
   module _ (n : ℕ) (bs : List ℕ) (are : bs ≡ bytes_at m at n)
       (inside : 8 * at.word + n ≤ 8 * length (segment_at m at.segment)) where
-    -- the bytes that were read are n
     pub length-read : length bs ≡ n
     length-read = ap length are ∙ length-bytes_at n inside
 
@@ -146,23 +142,22 @@ module _ (m : List (List ℕ)) (at : Place) where
         ∙ ap (slice_index (bytes ws)) e
         ∙ byte-of ws q p (omega arith) below
 
-    -- byte k from byte d on
     byte-on : (d k q p : ℕ) → d + k ≡ 8 * q + p → p < 8 → d + k < n
         → slice_index (drop d bs) k ≡ slice_index ws q / 256 ^ p % 256
     byte-on d k q p e below h = get_or-drop d bs k 0 ∙ byte-at (d + k) q p e below h
 
-    -- the bytes are the elements of a list of bytes
+    -- the bytes `bs` are the elements of a list of bytes in the words `ws`
     pub are-bytes : AreElements 8 8 ws bs
     are-bytes i h = byte-at i (i / 8) (i % 8) (omega arith) (omega arith) (omega (arith, length-read))
 
-    -- the bits of the bytes are the elements of a list of bits
     bit-at : (q k : ℕ) → q < n → k < 8 → slice_index bs q / 2 ^ k % 2 ≡ element 64 1 ws (8 * q + k)
     bit-at q k h below =
         let i = 8 * q + k in
         ap (λ (x : ℕ). x / 2 ^ k % 2) (byte-at q (i / 64) (q % 8) (omega arith) (omega arith) h)
         ∙ bit-in_word (slice_index ws (i / 64)) (q % 8) k (i % 64) (omega arith) below (omega arith)
 
-    -- the bits read so far and the first bits of the next byte are elements of a list of bits
+    -- `ys` are `xs` and then the first `count` bits of byte `q`. If `xs` are the first `8 * q` elements of a list of
+    -- bits in the words `ws`, then `ys` are the first elements of that list.
     pub bits-more : (q count x : ℕ) (xs ys : List Bool) → x ≡ slice_index bs q → q < n → count ≤ 8 → length xs ≡ 8 * q
         → map from_bool ys ≡ map from_bool xs ++ first_bits count x
         → AreElements 64 1 ws (map from_bool xs) → AreElements 64 1 ws (map from_bool ys)
@@ -176,7 +171,7 @@ module _ (m : List (List ℕ)) (at : Place) where
         ∙ bit-at q k h (omega arith) ∙ ap (λ (i : ℕ). element 64 1 ws (i + k)) (sym so_far)))
 
     module _ (xs : List ℕ) where
-      -- the 16-bit numbers in the bytes are the elements of a list of pairs
+      -- the 16-bit numbers `xs` in the bytes `bs` are the elements of a list of two-byte numbers in the words `ws`
       pub are-pairs : n ≡ 2 * length xs → IsRead little_number 2 bs xs → AreElements 4 16 ws xs
       are-pairs size read i h =
           let q = i / 4 in
@@ -185,7 +180,7 @@ module _ (m : List (List ℕ)) (at : Place) where
           let b = byte-on (2 * i) 1 q (p + 1) (omega arith) (omega arith) (omega arith) in
           read i h ∙ omega (arith, a, b) ∙ two-bytes (slice_index ws q) (i % 4) (omega arith)
 
-      -- the 32-bit numbers in the bytes are the elements of a list of quads
+      -- the 32-bit numbers `xs` in the bytes `bs` are the elements of a list of four-byte numbers in the words `ws`
       pub are-quads : n ≡ 4 * length xs → IsRead little_number 4 bs xs → AreElements 2 32 ws xs
       are-quads size read i h =
           let q = i / 2 in
@@ -212,7 +207,7 @@ module _ (m : List (List ℕ)) (at : Place) where
           let below : slice_index ws i < 2 ^ 64 = omega (arith, whole, each (at.word + i)) in
           read i h ∙ omega (arith, a, b, c, d, e, f, g, o) ∙ eight-bytes (slice_index ws i) below
 
-      -- the 64-bit numbers in the bytes are the words themselves
+      -- the 64-bit numbers `xs` in the bytes `bs` are the first of the words `ws`
       pub are-words : ((k : ℕ) → slice_index (segment_at m at.segment) k < 2 ^ 64) → n ≡ 8 * length xs
           → IsRead little_number 8 bs xs → take (length xs) ws ≡ xs
       are-words each size read =

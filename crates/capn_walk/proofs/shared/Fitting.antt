@@ -24,7 +24,7 @@ use Rattle.capn_target.proofs.shared.Inside.{inside}
 use Rattle.capn_target.proofs.shared.Ranges.{room-of}
 use Rattle.capn_walk.proofs.shared.Costs.{cost-paid}
 
--- ---- the tests of one part of a value's fitness
+-- ---- the tests for a value that fits
 
 not-wide : (ws : List ℕ) (ss : Trees) → length ws < 2 ^ 16 → count ss < 2 ^ 16 → is_wide_body ws ss ≡ false
 not-wide ws ss a b = or_from _ _ (le-ltb 65535 (length ws) (omega arith)) (le-ltb 65535 (count ss) (omega arith))
@@ -33,7 +33,6 @@ not-long : (t : Tree) → elements t < 2 ^ 29 → words_in_rows t < 2 ^ 29 → i
 not-long t a b =
     or_from _ _ (le-ltb 536870911 (elements t) (omega arith)) (le-ltb 536870911 (words_in_rows t) (omega arith))
 
--- no row is wide, all rows have a words and b slots, and the rows have a + b words each
 record Rows (a b : ℕ) (bs : Bodies) : Type 0 where
   narrow : has_wide_row bs ≡ false
   even : are_even a b bs ≡ true
@@ -67,16 +66,14 @@ module _ (m : List (List ℕ)) where
         words = omega arith;
       }
 
-  -- rows that cost few words are few, even rows without words
   few-rows : (bs : Bodies) → is_ragged (rows bs) ≡ false → row_words bs < 2 ^ 29 → rows_price bs < 2 ^ 29
       → count_rows bs < 2 ^ 29
   few-rows bs e w p =
       elim (words-or_none bs e) as (λ _. count_rows bs < 2 ^ 29)
       [ inl z ↦ omega (arith, rows_price-none bs z) | inr l ↦ omega arith ]
 
-  -- ---- the parts of a value's fitness at every level
+  -- ---- the tests for a value that fits, at every level
 
-  -- no part is wide, long or ragged
   record Parts (wide long ragged : Bool) : Type 0 where
     narrow : wide ≡ false
     short : long ≡ false
@@ -138,8 +135,7 @@ module _ (m : List (List ℕ)) where
 
     -- ---- the root
 
-    -- if no visit is a fault, the value at the root is no capability, and the root's visits are the visits of the
-    -- root's slot
+    -- the value `v` is no capability, no visit from the root's slot is a fault, and the walk makes exactly these visits
     pub record Root (depth : ℕ) (v : Tree) : Type 0 where
       pub kind : is_root v ≡ true
       pub all : AllPay (visits m base depth root)
@@ -168,8 +164,8 @@ module _ (m : List (List ℕ)) where
       root-of (rows bs) h =
           as-it-is (rows bs) refl (ap (λ r. visits_at_root m base r (visits m base depth root)) h.3.is)
 
-      -- the cost of the value at the root is at most the sum that the visits pay, and the value's height is at most the
-      -- depth limit
+      -- if no visit is a fault, the cost of `v` is at most the sum that the visits pay, and the height of `v` is at
+      -- most `depth`
       pub root-costs : (v : Tree) → IsAt m root v → AllPay (root_visits m base depth)
           → (cost base v ≤ paid_of (root_visits m base depth)) × (height v ≤ depth)
       root-costs v h a =
@@ -180,7 +176,7 @@ module _ (m : List (List ℕ)) where
           let y = c.1 in
           (omega arith, y)
 
-  -- the value at the root of a message that is accepted within limits in range fits
+  -- if the budget and the depth limit are in range, the value `v` at the root of an accepted message fits
   pub fits-root : (base budget depth : ℕ) (v : Tree) → budget ≤ most_cost → depth ≤ most_height
       → IsWithin budget (root_visits m base depth) → IsAt m root v → Fits v
   fits-root base budget depth v lb ld w h =

@@ -20,7 +20,6 @@ below-drop most zero xs h = h
 below-drop most (suc n) [] h = tt
 below-drop most (suc n) (x ∷ xs) h = below-drop most n xs h.1
 
--- elements of `bits` bits that are read from words are below 2 ^ bits
 below-by_index : (most : ℕ) (xs : List ℕ) → ((i : ℕ) → i < length xs → slice_index xs i < most) → AllBelow most xs
 below-by_index most [] h = tt
 below-by_index most (x ∷ xs) h = (h 0 (omega arith), below-by_index most xs (λ i l. h (suc i) (omega arith)))
@@ -45,7 +44,7 @@ module _ (m : List (List ℕ)) (each : (s k : ℕ) → slice_index (segment_at m
   numbers-below a s w xs h = elements-below (per_word a) (bits_in a) (words_from m s w) xs (omega arith) h
 
   mutual
-    -- a value at a place of a message whose words are below 2^64 is in range
+    -- if all words of the message are below 2^64, the value `v` at a place of the message is in range
     pub in_range-at : (v : Tree) (at : Place) → IsAt m at v → InRange v
     in_range-at nil at h = tt
     in_range-at (cap k) at h = cap-of m at k h

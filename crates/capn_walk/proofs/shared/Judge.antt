@@ -1,4 +1,5 @@
--- Verdicts of lists of visits. (For `FilledRoom`, `RootSurveys`, `RowWalks` and others.)
+-- The verdict `judge b vs` on a list of visits `vs`, and on two joined lists of visits. (For `FilledRoom`,
+-- `RootSurveys`, `RowWalks` and others.)
 use Rattle.std.proofs.Common.{◌≡◌, ℕ, ◌+◌, ◌-◌, ◌<◌, ◌≤◌, nat_lt, List, [], ◌∷◌, ◌++◌, refl, ap, sym, ◌∙◌, arith}
 use Rattle.std.proofs.lemmas.Bool.Decides.{nat_tests}
 use Rattle.capn_words.specs.declared.space.Place.{Place}
@@ -8,51 +9,51 @@ use Rattle.capn_walk.specs.Visits.{Visit, pays, fails}
 use Rattle.capn_walk.specs.inner.Verdict.{Verdict, accepted, refused, after, judge}
 use Rattle.capn_words.proofs.shared.Choices.{pick}
 
--- a verdict after two parts is a verdict after both together
 pub after-after : (p k q j : ℕ) (r : Verdict) → after p k (after q j r) ≡ after (p + q) (k + j) r
 after-after p k q j (accepted x y) = let a : p + (q + x) ≡ p + q + x = omega arith in let b : k + (j + y) ≡ k + j + y =
     omega arith in cc
 after-after p k q j (refused e at x y) = let a : p + (q + x) ≡ p + q + x = omega arith in
     let b : k + (j + y) ≡ k + j + y = omega arith in cc
 
--- a verdict after nothing is the verdict itself
 pub after-none : (r : Verdict) → after 0 0 r ≡ r
 after-none (accepted x y) = let a : 0 + x ≡ x = omega arith in let b : 0 + y ≡ y = omega arith in cc
 after-none (refused e at x y) = let a : 0 + x ≡ x = omega arith in let b : 0 + y ≡ y = omega arith in cc
 
--- if the verdict with earlier visits added is an acceptance, the verdict without them is an acceptance
+-- if `after n m r` is `accepted p k`, `r` is `accepted` with `n` fewer words paid and `m` fewer visits
 pub after-accepted : (n m p k : ℕ) (r : Verdict) → after n m r ≡ accepted p k → (q j : ℕ) × (r ≡ accepted q j)
     × (p ≡ n + q) × (k ≡ m + j)
 after-accepted n m p k (accepted q j) h = (q, j, refl, cc, cc)
 after-accepted n m p k (refused e at q j) h = absurd cc
 
--- if the verdict with earlier visits added is a refusal, the verdict without them is a refusal
+-- if `after n m r` is `refused e at p k`, `r` is `refused e at` with `n` fewer words paid and `m` fewer visits
 pub after-refused : (n m : ℕ) (e : Fault) (at : Place) (p k : ℕ) (r : Verdict) → after n m r ≡ refused e at p k
     → (q j : ℕ) × (r ≡ refused e at q j) × (p ≡ n + q) × (k ≡ m + j)
 after-refused n m e at p k (accepted q j) h = absurd cc
 after-refused n m e at p k (refused f x q j) h = (q, j, cc, cc, cc)
 
--- the verdict on a visit that pays and on the visits after that visit
+-- if a visit costs at most `b` words, the verdict on that visit and `vs` is the verdict on `vs`, with that visit added.
+-- For the verdict on `vs`, `b - n` words are left to pay.
 pub judge-pays : (b n : ℕ) (at : Place) (vs : List Visit) → n ≤ b
     → judge b (pays at n ∷ vs) ≡ after n 1 (judge (b - n) vs)
 judge-pays b n at vs h =
     pick (λ (r : Verdict). r ≡ after n 1 (judge (b - n) vs)) (nat_lt b n) _ _ (λ e. absurd (grind (arith, nat_tests)))
     (λ e. refl)
 
--- a visit that costs more than is left is refused
+-- a visit that costs more than `b` words is refused if `b` words are left to pay
 pub judge-over : (b n : ℕ) (at : Place) (vs : List Visit) → b < n
     → judge b (pays at n ∷ vs) ≡ refused faults.OverBudget at 0 1
 judge-over b n at vs h =
     pick (λ (r : Verdict). r ≡ refused faults.OverBudget at 0 1) (nat_lt b n) _ _ (λ e. refl)
     (λ e. absurd (grind (arith, nat_tests)))
 
--- the first visit of an accepted list costs at most the words left
+-- if a visit and the visits after it are accepted with `b` words left to pay, the visit costs at most `b` words
 pub judge-fits : (b n : ℕ) (at : Place) (vs : List Visit) (p k : ℕ) → judge b (pays at n ∷ vs) ≡ accepted p k → n ≤ b
 judge-fits b n at vs p k =
     pick (λ (r : Verdict). r ≡ accepted p k
     → n ≤ b) (nat_lt b n) _ _ (λ e. λ h. absurd cc) (λ e. λ h. grind (arith, nat_tests))
 
--- the verdict on visits that follow visits within the budget
+-- if the visits `xs` are accepted, the verdict on `xs ++ ys` is the verdict on `ys`, with the visits `xs` added. For
+-- the verdict on `ys`, `b - p` words are left to pay.
 pub judge-more : (b : ℕ) (xs ys : List Visit) (p k : ℕ) → judge b xs ≡ accepted p k
     → judge b (xs ++ ys) ≡ after p k (judge (b - p) ys)
 judge-more b [] ys p k h =
@@ -83,7 +84,7 @@ stops-paid b n x xs ys e at p k ih =
     let two = ap (after n 1) (ih q j is) in
     cc)
 
--- visits that are refused are refused in the same way if more visits follow
+-- if the visits `xs` are refused, the visits `xs ++ ys` are refused at the same visit
 pub judge-stops : (b : ℕ) (xs ys : List Visit) (e : Fault) (at : Place) (p k : ℕ) → judge b xs ≡ refused e at p k
     → judge b (xs ++ ys) ≡ refused e at p k
 judge-stops b [] ys e at p k h = absurd cc

@@ -1,4 +1,4 @@
--- The list that has a given element at each index. (For `Exists` and capn_canon.)
+-- `listed f n` is the list of `f 0` to `f (n - 1)`. (For `Exists` and capn_canon.)
 use Rattle.std.proofs.Common.{◌≡◌, ℕ, zero, suc, ◌<◌, List, [], ◌∷◌, length, slice_index, refl, ap, arith}
 use Rattle.capn_walk.specs.ValueAt.{AreElements, element}
 
@@ -21,7 +21,7 @@ listed-below f bound zero i some h = some
 listed-below f bound (suc n) zero some h = h 0
 listed-below f bound (suc n) (suc i) some h = listed-below (λ j. f (suc j)) bound n i some (λ j. h (suc j))
 
--- the elements that words hold, as a list
+-- `listed` gives the first `n` elements of the words `ws`
 pub elements-listed : (each width : ℕ) (ws : List ℕ) (n : ℕ)
     → AreElements each width ws (listed (element each width ws) n)
 elements-listed each width ws n i h =

@@ -10,7 +10,7 @@ use Rattle.capn_target.specs.declared.target.Shape.TheVariants as shapes
 use Rattle.capn_target.specs.Target.{list_width, content_words}
 use Rattle.capn_walk.specs.Visits.{slots, price}
 
--- the width of the numbers in a list, if the width is of numbers
+-- the width of numbers for the given width in a pointer to a list, or `None` if the elements are no numbers
 abbrev pub number_width : Width → Option NumberWidth
 number_width W1 = Some bit
 number_width W8 = Some byte
@@ -31,7 +31,7 @@ pub same-list_width : (a b : NumberWidth) → list_width a ≡ list_width b → 
 same-list_width a b e = let same : Some a ≡ Some b =
     sym (number_width-list a) ∙ ap number_width e ∙ number_width-list b in cc
 
--- a width that is not of numbers is not the width of a list of numbers
+-- if `number_width w` is `None`, no list of numbers has the width `w`
 pub no-number_width : (a : NumberWidth) (w : Width) → number_width w ≡ None → list_width a ≡ w → ⊥
 no-number_width a w none e = let same : Some a ≡ None = sym (number_width-list a) ∙ ap number_width e ∙ none in
     absurd cc
@@ -44,7 +44,7 @@ no-slots pair s start n = refl
 no-slots quad s start n = refl
 no-slots oct s start n = refl
 
--- the cost of a list of numbers is the price of the list's shape
+-- the sum of `base` and the words of `n` numbers is the price of a list of these numbers
 pub numbers-price : (a : NumberWidth) (base n : ℕ)
     → base + div_ceil n (per_word a) ≡ price base (shapes.Many (list_width a) n)
 numbers-price bit base n = omega arith
@@ -59,7 +59,7 @@ numbers-paid a base n =
     subst (λ (k : ℕ). base + div_ceil n (per_word a) ≤ k) (numbers-price a base n)
     (le_refl (base + div_ceil n (per_word a)))
 
--- the words of a list of numbers are no more than the list's cost
+-- the number of words of a list of `n` numbers is at most the list's cost
 pub numbers-sized : (a : NumberWidth) (base n : ℕ) → content_words (list_width a) n ≤ base + div_ceil n (per_word a)
 numbers-sized bit base n = omega arith
 numbers-sized byte base n = omega arith

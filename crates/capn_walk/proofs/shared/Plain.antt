@@ -1,4 +1,4 @@
--- No walk stops because memory runs out. (For `verdicts` and capn_c.)
+-- No visit and no stop of a walk has the fault `Memory`. (For `verdicts` and capn_c.)
 use Rattle.std.proofs.Common.{◌≡◌, ◌≢◌, inl, inr, refl, ℕ, zero, suc, List, [], ◌∷◌, ◌++◌, Result, Ok, Err, sym, subst}
 use Rattle.std.proofs.Common.{◌∙◌}
 use Rattle.std.specs.Bool.{⊤}
@@ -16,12 +16,12 @@ use Rattle.capn_walk.specs.Accepted.{IsStopHere, paid_of, root, may_be_root, vis
 use Rattle.capn_walk.specs.Limits.{Bounds}
 use Rattle.capn_target.proofs.shared.Ways.{never-memory}
 
--- a visit that isn't refused because memory runs out
+-- the visit pays, or fails with a fault other than `Memory`
 abbrev pub IsPlainVisit : Visit → Type 0
 IsPlainVisit (pays at n) = ⊤
 IsPlainVisit (fails at e) = e ≢ faults.Memory
 
--- no visit is refused because memory runs out
+-- each visit of the list pays, or fails with a fault other than `Memory`
 abbrev pub ArePlain : List Visit → Type 0
 ArePlain [] = ⊤
 ArePlain (v ∷ vs) = IsPlainVisit v × ArePlain vs

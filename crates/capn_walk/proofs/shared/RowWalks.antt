@@ -1,4 +1,5 @@
--- The state of a walk over rows. (For the cycle `walk`, capn_canon, capn_mismatch and other crates.)
+-- A walk over `n` consecutive rows, of which the first `i` have been visited. (For the cycle `walk`, capn_canon,
+-- capn_mismatch and other crates.)
 use Rattle.std.proofs.Common.{◌≡◌, ◌⊎◌, inl, inr, ℕ, zero, suc, ◌+◌, ◌-◌, ◌*◌, ◌<◌, ◌≤◌, List, [], ◌∷◌, ◌++◌, length}
 use Rattle.std.proofs.Common.{take, refl, ap, sym, subst, ◌∙◌, arith, append_assoc}
 use Rattle.std.specs.List.{flat_map}
@@ -17,16 +18,15 @@ use Rattle.capn_walk.specs.ValueAt.{AreAt, RowsAt, AreWordsAt, words_from}
 use Rattle.capn_walk.specs.inner.Verdict.{Gives, Refuses}
 use Rattle.capn_walk.proofs.shared.Judge.{judge-more, judge-stops}
 
--- (i + 1) * k is at most n * k, if i is below n
 pub one-more : (i n k : ℕ) → i < n → i * k + k ≤ n * k
 one-more i n k h = let e : n ≡ suc i + (n - suc i) = omega arith in
     let m : (suc i + (n - suc i)) * k ≡ i * k + k + (n - suc i) * k = omega arith in rw e (omega arith)
 
--- row i lies inside the words of n rows
+-- if `n` rows of `k` words end within `len` words, row `i` of these rows ends within `len` words
 pub row-inside : (w n i k next len : ℕ) → i < n → next ≡ w + i * k → w + n * k ≤ len → next + k ≤ len
 row-inside w n i k next len h e l = let m = one-more i n k h in omega arith
 
--- the places of i rows and of the n rows that follow
+-- the places of `i + n` rows are the places of the first `i` rows and of the `n` rows after them
 pub row_places-add : (s w a b i n : ℕ)
     → row_places s w a b (i + n) ≡ row_places s w a b i ++ row_places s (w + i * (a + b)) a b n
 row_places-add s w a b zero n = let x : 0 + n ≡ n = omega arith in let y : w + 0 * (a + b) ≡ w = omega arith in
@@ -42,11 +42,10 @@ row_places-add s w a b (suc i) n =
     (row_places s (w + suc i * (a + b)) a b n))
 
 module _ (f : Place → List Visit) (s w a b : ℕ) where
-  -- the visits below the slots of the first n rows
+  -- the visits that `f` gives for the slots of the first `n` rows
   abbrev pub all_rows : ℕ → List Visit
   all_rows n = flat_map f (row_places s w a b n)
 
-  -- the visits of the first i rows, of row i, and of the rows after row i
   rows-split : (i n : ℕ) → i < n
       → all_rows n ≡ all_rows i
       ++ (flat_map f (places s (w + i * (a + b) + a) b)
@@ -69,7 +68,6 @@ module _ (f : Place → List Visit) (s w a b : ℕ) where
       ++ flat_map f (row_places s (w + i * (a + b) + a + b) a b k))) e
       ∙ ap (λ (r : List Visit). all_rows i ++ r) (append-nil (flat_map f (places s (w + i * (a + b) + a) b)))
 
-  -- the next row is accepted
   pub rows-give : (left i p k q j : ℕ) → Gives left (all_rows i) (i * b) p k
       → Gives (left - p) (flat_map f (places s (w + i * (a + b) + a) b)) b q j →
       Gives left (all_rows (i + 1)) ((i + 1) * b) (p + q) (k + j)
@@ -90,7 +88,6 @@ module _ (f : Place → List Visit) (s w a b : ℕ) where
       ∙ judge-more left (all_rows i) (here ++ rest) p k g
       ∙ ap (after p k) (judge-stops (left - p) here rest e at q j r)
 
-  -- the next row is refused after rows that are accepted
   pub rows-refuse : (left i n p k : ℕ) (t : Stopped) → i < n → Gives left (all_rows i) (i * b) p k
       → Refuses (left - p) (flat_map f (places s (w + i * (a + b) + a) b)) b t →
       Refuses left (all_rows n) (n * b)
@@ -106,7 +103,7 @@ module _ (f : Place → List Visit) (s w a b : ℕ) where
   }
 
 module _ (m : List (List ℕ)) where
-  -- the bodies read so far with the next row's body appended are the rows
+  -- the rows are `bs ++ c ∷ []`, if `bs` are the first rows, and `c` is the next row
   pub rows_at-next : {A : Type 0} (a b s w : ℕ) (bs : List (Body A)) (c : Body A) → RowsAt m a b s w (rows_of bs)
       → length c.words ≡ a → count (trees_of c.slots) ≡ b →
       AreWordsAt m s (w + count_rows (rows_of bs) * (a + b)) c.words
@@ -123,13 +120,12 @@ module _ (m : List (List ℕ)) where
       let f : w + suc n * (a + b) + a ≡ w + a + b + n * (a + b) + a = omega arith in
       (h.0, h.1, h.2, h.3, rows_at-next a b s (w + a + b) bs c h.4 la lb (rw e at ws) (rw f at ss))
 
-  -- appending a row adds one to the count
+  -- a row `c` appended to `bs` adds one to the number of rows
   pub count_rows-next : {A : Type 0} (bs : List (Body A)) (c : Body A)
       → count_rows (rows_of (bs ++ c ∷ [])) ≡ count_rows (rows_of bs) + 1
   count_rows-next [] c = refl
   count_rows-next (d ∷ bs) c = let e = count_rows-next bs c in omega arith
 
-  -- the bodies with the next row, if the row's place is known as a number
   pub rows_at-step : {A : Type 0} (a b s w next n : ℕ) (bs : List (Body A)) (c : Body A) → RowsAt m a b s w (rows_of bs)
       → count_rows (rows_of bs) ≡ n → next ≡ w + n * (a + b) →
       length c.words ≡ a → take a (words_from m s next) ≡ c.words → count (trees_of c.slots) ≡ b

@@ -1,4 +1,4 @@
--- The number at a place of a word, found by a shift and a mask. (For `digit`.)
+-- An element of a word, found by a shift and a mask. (For `digit`.)
 use Rattle.std.proofs.Common.{◌≡◌, ℕ, zero, suc, ◌+◌, ◌-◌, ◌*◌, ◌/◌, ◌%◌, ◌^◌, refl, ap, sym, ◌∙◌, arith}
 use Rattle.std.specs.Int.Bits.{bit_and}
 use Rattle.std.proofs.lemmas.Nat.{and_mask, pow-add}
@@ -16,6 +16,6 @@ pow-times k (suc p) =
     e-suc : (k p : ℕ) → k * suc p ≡ k * p + k → 2 ^ (k * suc p) ≡ 2 ^ (k * p + k)
     e-suc k p e = ap (λ (x : ℕ). 2 ^ x) e
 
--- the number of k bits at a place of a word
+-- a shift and a mask of the word `w` give the element `p` of `k` bits
 pub shifted : (k w p : ℕ) → bit_and (w / 2 ^ (k * p)) (2 ^ k - 1) ≡ w / (2 ^ k) ^ p % 2 ^ k
 shifted k w p = and_mask (w / 2 ^ (k * p)) k ∙ ap (λ (x : ℕ). w / x % 2 ^ k) (pow-times k p)

@@ -7,7 +7,7 @@ use Rattle.capn_target.specs.declared.target.Shape.TheVariants as shapes
 use Rattle.capn_walk.specs.Visits.{price}
 use Rattle.capn_target.specs.Shapes.{slot_count, RowsFit}
 
--- the number of slots of an object is at most the object's price, even if `base` is 0
+-- if `RowsFit shape` is true, the number of slots of `shape` is at most the price of `shape`, even if `base` is 0
 pub slots-price : (base : ℕ) (shape : Shape) → RowsFit shape → slot_count shape ≤ price base shape
 slots-price base (shapes.Node a b) h = omega arith
 slots-price base (shapes.Many W0 n) h = omega arith

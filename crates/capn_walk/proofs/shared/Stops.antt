@@ -10,7 +10,7 @@ use Rattle.capn_walk.specs.Accepted.{paid_of, AllPay, IsWithin, IsStop, IsStopHe
 use Rattle.capn_walk.specs.inner.Verdict.{accepted, refused, after, judge}
 use Rattle.capn_walk.proofs.shared.Judge.{judge-pays, judge-over, judge-more}
 
--- visits within the budget are accepted, with the sum of the prices and the number of visits
+-- visits that pay, with prices that sum to at most `b`, are accepted with that sum and with their number
 pub within-accepted : (b : ℕ) (vs : List Visit) → AllPay vs → paid_of vs ≤ b
     → judge b vs ≡ accepted (paid_of vs) (length vs)
 within-accepted b [] h l = refl
@@ -20,14 +20,13 @@ within-accepted b (pays at n ∷ vs) h l =
     let e : 1 + length vs ≡ suc (length vs) = omega arith in
     judge-pays b n at vs (omega arith) ∙ ap (after n 1) rest ∙ ap (accepted (n + paid_of vs)) e
 
--- a list of visits whose first visit ends the walk is refused at that visit
 ends-refused : (b p : ℕ) (v : Visit) (vs : List Visit) (at : Place) (e : Fault) → p ≤ b → IsStopHere b p v at e
     → judge (b - p) (v ∷ vs) ≡ refused e at 0 1
 ends-refused b p (fails x f) vs at e l h = let a = h.0 in let c = h.1 in cc
 ends-refused b p (pays x n) vs at e l h = let a = h.0 in let c = h.1 in let d =
     judge-over (b - p) n x vs (let o = h.2 in omega arith) in cc
 
--- a list of visits with a stop is refused at that stop
+-- if a walk with the visits `vs` has a stop, `vs` are refused at that stop
 pub stop-refused : (b : ℕ) (vs : List Visit) (e : Fault) (at : Place) (p k : ℕ) → IsStop b vs e at p k
     → judge b vs ≡ refused e at p k
 stop-refused b vs e at p k h =
@@ -38,7 +37,6 @@ stop-refused b vs e at p k h =
     let y : length h.before + 1 ≡ k = let s = h.number in omega arith in
     ap (judge b) h.split ∙ two ∙ ap (after (paid_of h.before) (length h.before)) three ∙ ap₂ (refused e at) x y
 
--- a visit that pays and the visits after it are within the budget, if the later visits are within the words left
 one-more : (b n : ℕ) (at : Place) (vs : List Visit) → n ≤ b → IsWithin (b - n) vs → IsWithin b (pays at n ∷ vs)
 one-more b n at vs l h = record { all = h.all; paid = let a = h.paid in omega arith }
 
@@ -59,7 +57,7 @@ stop-more b n x vs e at p k l h = record {
     later (fails y f) g = g
     later (pays y m) g = (g.0, g.1, let a = g.2 in omega arith)
 
--- visits are within the budget, or one of them is a stop
+-- the visits `vs` are within the budget `b`, or one of them is a stop
 pub decided : (b : ℕ) (vs : List Visit) → IsWithin b vs
     ⊎ ((e : Fault) × (at : Place) × (p k : ℕ) × IsStop b vs e at p k)
 decided b [] = inl (record { all = tt; paid = omega arith })
@@ -108,7 +106,8 @@ decided b (pays x n ∷ vs) = fits (nat_lt b n) refl (decided (b - n) vs)
 
 -- ---- the meaning of a verdict
 
--- visits that are accepted are within the budget, with the sum of the prices and the number of visits
+-- if the visits `vs` are accepted, they are within the budget `b`, `p` is the sum of their prices, and `k` is their
+-- number
 pub accepted-within : (b : ℕ) (vs : List Visit) (p k : ℕ) → judge b vs ≡ accepted p k → IsWithin b vs × (p ≡ paid_of vs)
     × (k ≡ length vs)
 accepted-within b vs p k h = from (decided b vs)
@@ -118,7 +117,7 @@ accepted-within b vs p k h = from (decided b vs)
     from (inl w) = let is = within-accepted b vs w.all w.paid in (w, cc, cc)
     from (inr (e, at, q, j, s)) = let is = stop-refused b vs e at q j s in absurd cc
 
--- visits that are refused have a stop at the refused visit
+-- if the visits `vs` are refused, the walk with these visits stops at the refused visit
 pub refused-stop : (b : ℕ) (vs : List Visit) (e : Fault) (at : Place) (p k : ℕ) → judge b vs ≡ refused e at p k
     → IsStop b vs e at p k
 refused-stop b vs e at p k h = from (decided b vs)
@@ -135,7 +134,7 @@ refused-stop b vs e at p k h = from (decided b vs)
         (subst (λ (y : Place). IsStop b vs f y p k) c
         (subst (λ (y : ℕ). IsStop b vs f x y k) d (subst (λ (y : ℕ). IsStop b vs f x q y) l s)))
 
--- visits within the budget have no stop
+-- visits within the budget `b` have no stop
 pub never-both : (b : ℕ) (vs : List Visit) (e : Fault) (at : Place) (p k : ℕ) → IsWithin b vs → IsStop b vs e at p k → ⊥
 never-both b vs e at p k w s =
     let is = within-accepted b vs w.all w.paid in

@@ -27,13 +27,12 @@ module _ (m : List (List ℕ)) where
   same-numbers oct s w xs ys l h k = same-words s w xs ys l h k
   same-numbers a s w xs ys l h k = same-elements (per_word a) (bits_in a) s w xs ys l h k
 
-  -- a target agrees with a value
+  -- `v` is the value that the target names
   abbrev Says : Target → Tree → Type 0
   Says targets.Nil v = v ≡ nil
   Says (targets.Cap k) v = v ≡ cap k
   Says (targets.Content s start shape pads) v = IsInside m shape s start v
 
-  -- the place of a value has a target that agrees with the value
   said : (v : Tree) (at : Place) → IsAt m at v → (t : Target) × (target m at ≡ Ok t) × Says t v
   said nil at i = (_, i, refl)
   said (cap k) at i = (_, i, refl)
@@ -43,7 +42,7 @@ module _ (m : List (List ℕ)) where
   said (links ts) at i = (_, i.is, (refl, i.inside))
   said (rows bs) at i = (_, i.3.is, (i.0, i.1, i.2, refl, i.3.inside))
 
-  -- two values are the same whenever both are inside the same content
+  -- `v` and `w` are equal if both are the value of one content
   abbrev Same : Tree → Tree → Type 0
   Same v w = (x : Shape) (s start : ℕ) → IsInside m x s start v → IsInside m x s start w → v ≡ w
 
@@ -52,7 +51,6 @@ module _ (m : List (List ℕ)) where
   one-said (targets.Cap index) v w same h k = h ∙ sym k
   one-said (targets.Content s start shape pads) v w same h k = same shape s start h k
 
-  -- two values at one place are the same, if they are the same whenever both are inside the same content
   one-at : (v w : Tree) (at : Place) → Same v w → IsAt m at v → IsAt m at w → v ≡ w
   one-at v w at same i j =
       let (t, e, h) = said v at i in
@@ -61,7 +59,6 @@ module _ (m : List (List ℕ)) where
       one-said t v w same h (subst (λ (x : Target). Says x w) g k)
 
   mutual
-    -- at most one value is inside the content that starts at a word
     unique-inside : (v w : Tree) → Same v w
     unique-inside (node ws ss) (node vs ts) x s start h k =
         let p : length vs ≡ length ws = cc in

@@ -1,5 +1,5 @@
--- The state of a walk over slots. (For the cycle `index_slots`, the cycle `walk`, `targets`, `visit_found`, capn_canon
--- and capn_mismatch.)
+-- A walk over `n` consecutive slots, of which the first `i` have been visited. (For the cycle `index_slots`, the cycle
+-- `walk`, `targets`, `visit_found`, capn_canon and capn_mismatch.)
 use Rattle.std.proofs.Common.{◌≡◌, ◌⊎◌, inl, inr, ℕ, zero, suc, ◌+◌, ◌-◌, ◌<◌, ◌≤◌, List, [], ◌∷◌, ◌++◌, length, take}
 use Rattle.std.proofs.Common.{Ok, Err, refl, ap, ap₂, sym, ◌∙◌, arith}
 use Rattle.std.proofs.lemmas.List.{append-nil}
@@ -27,11 +27,11 @@ use Rattle.capn_target.proofs.shared.Inside.{inside}
 use Rattle.capn_walk.proofs.shared.SlotPrices.{slots-price}
 use Rattle.capn_walk.proofs.shared.Judge.{judge-more, judge-stops, judge-pays}
 
--- the place of word w of segment s
+-- the place of word `w` of segment `s`
 abbrev pub slot : ℕ → ℕ → Place
 slot s w = record { segment = s; word = w }
 
--- the places of i slots and of the n slots that follow
+-- the places of `i + n` slots are the places of the first `i` slots and of the `n` slots after them
 pub places-add : (s w i n : ℕ) → places s w (i + n) ≡ places s w i ++ places s (w + i) n
 places-add s w zero n = let a : 0 + n ≡ n = omega arith in let b : w + 0 ≡ w = omega arith in rw (a, b) refl
 places-add s w (suc i) n =
@@ -39,7 +39,7 @@ places-add s w (suc i) n =
     let b : w + 1 + i ≡ w + suc i = omega arith in
     rw a (ap (λ (ps : List Place). slot s w ∷ ps) (rw (← b) (places-add s (w + 1) i n)))
 
--- the places before slot i, the place of slot i, and the places after slot i
+-- the places of `n` slots are the places before slot `i`, the place of slot `i`, and the places after slot `i`
 pub places-split : (s w i n : ℕ) → i < n
     → places s w n ≡ places s w i ++ slot s (w + i) ∷ places s (w + i + 1) (n - suc i)
 places-split s w i n h =
@@ -47,11 +47,11 @@ places-split s w i n h =
     ap (places s w) a ∙ places-add s w i (suc (n - suc i))
 
 module _ (f : Place → List Visit) (s w : ℕ) where
-  -- the visits below the first n slots
+  -- the visits that `f` gives for the first `n` slots
   abbrev pub all : ℕ → List Visit
   all n = flat_map f (places s w n)
 
-  -- the visits before slot i, the visits of slot i, and the visits after slot i
+  -- the visits of `n` slots are the visits before slot `i`, the visits of slot `i`, and the visits after slot `i`
   pub all-split : (i n : ℕ) → i < n
       → all n ≡ all i ++ (f (slot s (w + i)) ++ flat_map f (places s (w + i + 1) (n - suc i)))
   all-split i n h = ap (flat_map f) (places-split s w i n h)
@@ -62,7 +62,6 @@ module _ (f : Place → List Visit) (s w : ℕ) where
       ap (flat_map f) (places-add s w i 1) ∙ flat_map-append f (places s w i) (slot s (w + i) ∷ [])
       ∙ ap (λ (vs : List Visit). all i ++ vs) (append-nil (f (slot s (w + i))))
 
-  -- the next slot is accepted
   pub gives-next : (left i p k q j : ℕ) → Gives left (all i) i p k → Gives (left - p) (f (slot s (w + i))) 1 q j
       → Gives left (all (i + 1)) (i + 1) (p + q) (k + j)
   gives-next left i p k q j g h = record {
@@ -71,7 +70,6 @@ module _ (f : Place → List Visit) (s w : ℕ) where
     few = let a = g.few in let b = h.few in omega arith;
   }
 
-  -- the verdict, if slot i is refused after the first i slots
   refuses-is : (left i n p k : ℕ) (e : Fault) (at : Place) (q j : ℕ) → i < n → judge left (all i) ≡ accepted p k →
       judge (left - p) (f (slot s (w + i))) ≡ refused e at q j → judge left (all n) ≡ refused e at (p + q) (k + j)
   refuses-is left i n p k e at q j h g r =
@@ -80,7 +78,6 @@ module _ (f : Place → List Visit) (s w : ℕ) where
       ∙ judge-more left (all i) (f (slot s (w + i)) ++ rest) p k g
       ∙ ap (after p k) (judge-stops (left - p) (f (slot s (w + i))) rest e at q j r)
 
-  -- slot i is refused after slots that are accepted
   pub refuses-next : (left i n p k : ℕ) (t : Stopped) → i < n → Gives left (all i) i p k
       → Refuses (left - p) (f (slot s (w + i))) 1 t →
       Refuses left (all n) n (record { fault = t.fault; place = t.place; paid = p + t.paid; visits = k + t.visits })
@@ -95,7 +92,7 @@ module _ (f : Place → List Visit) (s w : ℕ) where
   }
 
 module _ (m : List (List ℕ)) where
-  -- the values read so far with the next slot's value appended are the values of the slots
+  -- the values are `vs ++ v ∷ []`, if `vs` are the values of the first slots, and `v` is the value of the next slot
   pub at-next : {A : Type 0} (s w : ℕ) (vs : List (Value A)) (v : Value A) → AreAt m s w (trees_of vs)
       → IsAt m (slot s (w + count (trees_of vs))) (tree_of v) →
       AreAt m s w (trees_of (vs ++ v ∷ []))
@@ -105,13 +102,13 @@ module _ (m : List (List ℕ)) where
       let j = rw e at i in
       (h.0, at-next s (suc w) vs v h.1 j)
 
-  -- appending a value adds one to the count
+  -- a value `v` appended to `vs` adds one to the number of values
   pub count-next : {A : Type 0} (vs : List (Value A)) (v : Value A)
       → count (trees_of (vs ++ v ∷ [])) ≡ count (trees_of vs) + 1
   count-next [] v = refl
   count-next (u ∷ vs) v = let e = count-next vs v in omega arith
 
-  -- the visits of a slot, given the slot's target
+  -- the visits of the slot at `at`, given the target of that slot
   module _ (base : ℕ) (at : Place) where
     -- the visit of a null pointer pays nothing
     pub visits-null : (d : ℕ) → target m at ≡ Ok targets.Nil → visits m base d at ≡ pays at 0 ∷ []
@@ -125,20 +122,20 @@ module _ (m : List (List ℕ)) where
     visits-cap zero k e = ap (last_visit m base at) e
     visits-cap (suc d) k e = ap (visit m base (visits m base d) at) e
 
-    -- the visit of a pointer that is a fault fails
+    -- if the target of the slot at `at` is the fault `f`, the visit of that slot fails with `f`
     pub visits-fault : (d : ℕ) (f : Fault) → target m at ≡ Err f → visits m base d at ≡ fails at f ∷ []
     unfolding visits
     visits-fault zero f e = ap (last_visit m base at) e
     visits-fault (suc d) f e = ap (visit m base (visits m base d) at) e
 
     module _ (s start pads : ℕ) (shape : Shape) (e : target m at ≡ Ok (targets.Content s start shape pads)) where
-      -- the visit of content fails if no depth is left
+      -- if `d` is 0, the visit of content fails with `TooDeep`
       pub visits-deep : (d : ℕ) → d ≡ 0 → visits m base d at ≡ fails at faults.TooDeep ∷ []
       unfolding visits
       visits-deep zero z = ap (last_visit m base at) e
       visits-deep (suc d) z = absurd (omega arith)
 
-      -- the visit of content pays the content's price if depth is left, and then the content's slots are visited
+      -- if `d` is above 0, the visit of content pays the content's price, and then the content's slots are visited
       pub visits-object : (d : ℕ) → 0 < d
           → visits m base d at
           ≡ pays at (price base shape + pads) ∷ flat_map (visits m base (d - 1)) (slots s start shape)
@@ -149,7 +146,7 @@ module _ (m : List (List ℕ)) where
           ∙ ap (λ (c : ℕ). pays at (price base shape + pads) ∷ flat_map (visits m base c) (slots s start shape))
           (sym f)
 
-  -- a slot that names an object
+  -- Case: the slot at `at` names an object, and the depth and `left` allow that object.
   module _ (base : ℕ) (at : Place) (s start pads : ℕ) (shape : Shape)
       (e : target m at ≡ Ok (targets.Content s start shape pads))
       (left d : ℕ) (deep : 0 < d) (room : price base shape + pads ≤ left) where
@@ -160,7 +157,7 @@ module _ (m : List (List ℕ)) where
     few_slots : slot_count shape ≤ price base shape
     few_slots = slots-price base shape (inside m at s start pads shape e).1
 
-    -- an object is accepted if the slots below are accepted
+    -- the object is accepted if the slots below the object are accepted
     pub gives-object : (p k : ℕ)
         → Gives (left - (price base shape + pads)) below (slot_count shape) p k →
         Gives left (visits m base d at) 1 (price base shape + pads + p) (1 + k)
@@ -172,7 +169,7 @@ module _ (m : List (List ℕ)) where
       few = let a = g.few in let b = few_slots in omega arith;
     }
 
-    -- an object is refused if one of the slots below is refused
+    -- the object is refused if the slots below the object are refused
     pub refuses-object : (t : Stopped)
         → Refuses (left - (price base shape + pads)) below (slot_count shape) t →
         Refuses left (visits m base d at) 1
@@ -190,20 +187,18 @@ module _ (m : List (List ℕ)) where
       few = let a = r.few in let b = few_slots in omega arith;
     }
 
-  -- the slot itself is refused
   pub refuses-here : (base : ℕ) (at : Place) (left d : ℕ) (f : Fault) (t : Stopped)
       → visits m base d at ≡ fails at f ∷ [] →
       t ≡ record { fault = f; place = at; paid = 0; visits = 1 } → Refuses left (visits m base d at) 1 t
   refuses-here base at left d f t e h =
       rw h (record { is = inr (ap (judge left) e); within = omega arith; few = omega arith })
 
-  -- a visit that pays nothing is accepted
+  -- a slot whose only visit pays 0 words is accepted
   pub gives-nothing : (base : ℕ) (at : Place) (left d : ℕ) → visits m base d at ≡ pays at 0 ∷ []
       → Gives left (visits m base d at) 1 0 1
   gives-nothing base at left d e =
       record { is = ap (judge left) e ∙ judge-pays left 0 at [] (omega arith); within = omega arith; few = omega arith }
 
-  -- the content that a pointer names, with a shape that equals another
   names : {at : Place} {s start pads : ℕ} {shape x : Shape} {Inside : ℕ → ℕ → Type 0}
       → target m at ≡ Ok (targets.Content s start shape pads) → shape ≡ x → Inside s start → NamesObject m at x Inside
   names {s = s} {start = start} {pads = pads} e h i = record {
@@ -214,7 +209,7 @@ module _ (m : List (List ℕ)) where
     inside = i;
   }
 
-  -- the value inside the content that a pointer names is at the pointer's place
+  -- the value of the content that the pointer at `at` names is the value at `at`
   pub is-inside : (at : Place) (s start pads : ℕ) (shape : Shape) (v : Tree)
       → target m at ≡ Ok (targets.Content s start shape pads) →
       IsInside m shape s start v → IsAt m at v
@@ -226,20 +221,17 @@ module _ (m : List (List ℕ)) where
   is-inside at s start pads shape (rows bs) e h = (h.0, h.1, h.2, names e h.3 h.4)
   is-inside at s start pads shape (cap k) e h = absurd h
 
--- the values inside content
+-- the value of content of `shape`, given the words and the slots of the content
 module _ (m : List (List ℕ)) (s start : ℕ) (shape : Shape) where
-  -- words and slots inside a struct's content are the struct's
   pub inside-struct : (a b : ℕ) (ws : List ℕ) (ts : Trees) → shape ≡ shapes.Node a b → length ws ≡ a
       → take a (words_from m s start) ≡ ws →
       count ts ≡ b → AreAt m s (start + a) ts → IsInside m shape s start (node ws ts)
   inside-struct a b ws ts e l w n h = (e ∙ ap₂ shapes.Node (sym l) (sym n), rw l w, rw l h)
 
-  -- slots inside a list's content are the list's
   pub inside-links : (n : ℕ) (ts : Trees) → shape ≡ shapes.Many Link n → count ts ≡ n → AreAt m s start ts
       → IsInside m shape s start (links ts)
   inside-links n ts e l h = (e ∙ ap (shapes.Many Link) (sym l), h)
 
-  -- rows after the tag word are the rows of the list
   pub inside-rows : (n a b span : ℕ) (bs : Bodies) → shape ≡ shapes.Rows n a b span → count_rows bs ≡ n
       → RowsAt m a b s (suc start) bs →
       IsInside m shape s start (rows bs)

@@ -1,5 +1,4 @@
--- The outcomes of the inner functions of surveys and walks: the findings, with the number of words paid and the number
--- of visits, or a refusal.
+-- The results of the inner functions of surveys and walks: the findings, or an error.
 use Rattle.std.specs.Prelude.{◌≡◌, ◌≢◌, ℕ, ◌-◌, ◌*◌, ◌<◌, ◌≤◌, List, ◌∷◌, Result, Ok, Err}
 use Rattle.capn_words.specs.declared.space.Place.{Place}
 use Rattle.capn_value.specs.Tree.{count, count_rows}
@@ -25,7 +24,8 @@ use Rattle.capn_walk.specs.Visits.{Visit, pays, places, row_places, slots, visit
 -- ---- a survey
 
 module _ (message : List (List ℕ)) (base depth left : ℕ) where
-  -- the visit of the slot at `at` is paid; `v` has the price, the capability if the slot names one, and the slots below
+  -- the visit of the slot at `at` is paid, and `v` has the visit's price, the capability that the slot names, and the
+  -- slots below the slot at `at`
   pub record IsVisit (at : Place) (v : Visited) : Type 0 where
     pub visits : visits message base depth at ≡ pays at v.price ∷ visits_of message base (depth - 1) (places_of v.below)
     pub price : v.price ≤ left
@@ -35,18 +35,18 @@ module _ (message : List (List ℕ)) (base depth left : ℕ) where
     pub deep : 0 < owed v.below → 0 < depth
     pub owed : owed v.below ≤ v.price
 
-  -- the visit of the slot at `at` is refused with the fault `e`
+  -- the visit of the slot at `at` is refused with the fault `e`, which is not `Memory`
   pub record IsRefusal (at : Place) (e : Fault) : Type 0 where
     pub refused : judge left (visits message base depth at) ≡ refused e at 0 1
     pub memory : e ≢ faults.Memory
 
-  -- the outcome of one visit of a slot, without the slot's value
+  -- the result of one visit of the slot at `at`: the findings of the visit, or the fault
   abbrev pub Visits : Place → Result Visited Fault → Type 0
   Visits at (Ok v) = IsVisit at v
   Visits at (Err e) = IsRefusal at e
 
--- the outcome of a survey of n slots and all slots below them: the number of words paid, the number of visits, and the
--- first capability
+-- the result of a survey of `n` slots and all slots below them, which makes the visits `vs`: the number of words paid,
+-- the number of visits and the first capability, or an error
 abbrev pub SurveysAs : List (List ℕ) → ℕ → ℕ → List Visit → Result Measured Stopped → Type 0
 SurveysAs message left n vs (Ok m) =
     Gives left vs n m.survey.paid m.survey.visits × (first_cap_of message vs ≡ m.survey.capability)
@@ -55,12 +55,12 @@ SurveysAs message left n vs (Err s) = Refuses left vs n s
 -- ---- a walk
 
 module _ {A : Type 0} (message : List (List ℕ)) (base depth left : ℕ) where
-  -- the outcome for the slot at `at`: the slot's value, or a refusal
+  -- the result for the slot at `at`: the slot's value, or an error
   abbrev pub Walks : Place → Result (Found A) Stopped → Type 0
   Walks at (Ok f) = Gives left (visits message base depth at) 1 f.paid f.visits × IsAt message at (tree_of f.value)
   Walks at (Err s) = Refuses left (visits message base depth at) 1 s
 
-  -- the outcome for an object of `shape` whose own price has been paid: the value of the content, or a refusal
+  -- the result for an object of `shape` whose own price has been paid: the value of the content at `start`, or an error
   abbrev pub WalksObject : Shape → Place → Result (Found A) Stopped → Type 0
   WalksObject shape start (Ok f) =
       Gives left (visits_of message base depth (slots start.segment start.word shape))
@@ -69,14 +69,14 @@ module _ {A : Type 0} (message : List (List ℕ)) (base depth left : ℕ) where
   WalksObject shape start (Err s) =
       Refuses left (visits_of message base depth (slots start.segment start.word shape)) (slot_count shape) s
 
-  -- the outcome for n consecutive slots: the slots' values, or a refusal
+  -- the result for `n` consecutive slots from word `start` of `segment` on: the slots' values, or an error
   abbrev pub WalksSlots : ℕ → ℕ → ℕ → Result (FoundSlots A) Stopped → Type 0
   WalksSlots segment start n (Ok f) =
       Gives left (visits_of message base depth (places segment start n)) n f.paid f.visits
       × AreAt message segment start (trees_of f.items) × (count (trees_of f.items) ≡ n)
   WalksSlots segment start n (Err s) = Refuses left (visits_of message base depth (places segment start n)) n s
 
-  -- the outcome for n consecutive rows of a words and b slots: the rows' bodies, or a refusal
+  -- the result for `n` consecutive rows from `start` on, of `a` words and `b` slots each: the rows' bodies, or an error
   abbrev pub WalksRows : Place → ℕ → ℕ → ℕ → Result (FoundRows A) Stopped → Type 0
   WalksRows start a b n (Ok f) =
       Gives left (visits_of message base depth (row_places start.segment start.word a b n)) (n * b) f.paid f.visits

@@ -1,4 +1,4 @@
--- The results of walks, surveys and indexes of a message, for calls that count reads and calls that don't.
+-- The results of walks, surveys and indexes of a message, for calls that count reads and for calls that do not.
 use Rattle.std.specs.Prelude.{◌≡◌, ◌≢◌, ◌-◌, ◌≤◌, ◌⊎◌, ℕ, List, length, drop, Result, IfOk, IfErr, IsOk, OnOk}
 use Rattle.std.specs.Prelude.{MatchResult}
 use Rattle.capn_value.specs.Tree.{Tree}
@@ -17,8 +17,8 @@ use Rattle.capn_walk.specs.Limits.{Bounds}
 use Rattle.capn_walk.specs.Surveyed.{IsSurvey}
 use Rattle.capn_walk.specs.View.{IsEntered, stepped_to_root}
 
--- the result of a walk: the value of an accepted message with the number of words paid, or the first stop, or `Memory`
--- if an allocation was refused for content within the budget
+-- `r` is a correct result of a walk: if `message` is accepted, the value and the totals, and if `message` is refused,
+-- the stop of the walk. `r` may also have the fault `Memory`, but only if the root leads to content within the limits.
 pub record IsWalkTold {W : Type 0} (message : List (List ℕ)) (limits : Bounds) (r : Result W Stopped) (tree : W → Tree)
     (price visits : W → ℕ) : Type 0 where
   pub found : IfOk r (λ w. IsValueOf message limits (tree w))
@@ -33,7 +33,8 @@ pub record IsWalkTold {W : Type 0} (message : List (List ℕ)) (limits : Bounds)
   pub thrifty : IfOk r (λ w. cost (base limits.tariff) (tree w) ≤ price w)
   pub low : IfOk r (λ w. height (tree w) ≤ limits.depth)
 
--- the result of a survey: the totals of the walk of an accepted message, or the first stop, but never `Memory`
+-- `r` is a correct result of a survey: if `message` is accepted, the totals, and if `message` is refused, the stop of
+-- the walk. The fault is never `Memory`.
 pub record IsSurveyTold (message : List (List ℕ)) (limits : Bounds) (r : Result Surveyed Stopped) : Type 0 where
   pub found : IfOk r (λ s. IsSurvey message limits s)
   pub only : (v : Tree) → IsValueOf message limits v
@@ -43,7 +44,8 @@ pub record IsSurveyTold (message : List (List ℕ)) (limits : Bounds) (r : Resul
   pub bounded : MatchResult r (λ s. IsBounded limits.budget s.paid s.visits)
       (λ s. IsBounded limits.budget s.paid s.visits)
 
--- the result of a survey that also finds the least depth limit
+-- `r` is a correct result of a survey that also finds the least depth limit: if `message` is accepted, the totals and
+-- that limit, and if `message` is refused, the stop of the walk. The fault is never `Memory`.
 pub record IsDepthTold (message : List (List ℕ)) (limits : Bounds) (r : Result Measured Stopped) : Type 0 where
   pub found : IfOk r (λ m. IsSurvey message limits m.survey)
   pub depth : IfOk r (λ m. IsDepth message limits m.depth)
@@ -55,8 +57,9 @@ pub record IsDepthTold (message : List (List ℕ)) (limits : Bounds) (r : Result
   pub bounded : MatchResult r (λ m. IsBounded limits.budget m.survey.paid m.survey.visits)
       (λ s. IsBounded limits.budget s.paid s.visits)
 
--- the result of an index in a room: the totals of an accepted message, whose entries the room has, or the first stop,
--- which leaves the room unchanged except for the entries of the visits before the stop
+-- `r` is a correct result of writing an index to a room: if `message` is accepted, the totals, and if `message` is
+-- refused, the stop of the walk. `new` has the index of an accepted message. If `r` is an error, `new` is `old`, except
+-- for the entries of the visits before the stop.
 pub record IsIndexTold {A : Type 0} (form : Entry → A) (message : List (List ℕ)) (limits : Bounds) (old new : List A)
     (r : Result Indexed Stopped) : Type 0 where
   pub found : IfOk r (λ t. IsIndexedAs form message limits old new t)
@@ -66,8 +69,9 @@ pub record IsIndexTold {A : Type 0} (form : Entry → A) (message : List (List �
   pub bounded : MatchResult r (λ t. IsBounded limits.budget t.paid t.visits)
       (λ s. IsBounded limits.budget s.paid s.visits)
 
--- the result of an index in a new vector: the entries of an accepted message and the number of words paid, or the first
--- stop, or `Memory` if the allocation of the vector was refused
+-- `r` is a correct result of making an index in a new vector: if `message` is accepted, the entries and the words paid,
+-- and if `message` is refused, the stop of the walk. `r` may also have the fault `Memory`, but only if `message` is
+-- accepted.
 pub record IsIndexMade {X : Type 0} (message : List (List ℕ)) (limits : Bounds) (r : Result X Stopped)
     (entries : X → List Entry) (price : X → ℕ) : Type 0 where
   pub accepted : OnOk r (IsAccepted message limits)

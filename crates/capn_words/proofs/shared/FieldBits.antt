@@ -9,12 +9,12 @@ use Rattle.capn_words.proofs.shared.Choices.{if-yes, if-no, less-yes, less-no}
 
 -- ---- offsets
 
--- the field of an offset has 30 bits
+-- if the offset `o` fits, `offset_field o` is below 2^30
 pub offset_field-lt : (o : ℤ) → FitsOffset o → offset_field o < 2 ^ 30
 offset_field-lt (pos n) h = omega arith
 offset_field-lt (negsuc n) h = omega arith
 
--- the 30 bits of an offset stand for that offset
+-- if the offset `o` fits, `signed` reads it back from its 30 bits
 pub signed-again : (o : ℤ) → FitsOffset o → signed (offset_field o) ≡ o
 signed-again (pos n) h = if-yes (nat_lt n (2 ^ 29)) _ _ (less-yes n (2 ^ 29) h)
 signed-again (negsuc n) h =
@@ -24,7 +24,7 @@ signed-again (negsuc n) h =
 
 -- ---- widths
 
--- a width's code has three bits
+-- the code of the width `k` is below 8
 pub width_code-lt : (k : Width) → width_code k < 8
 width_code-lt W0 = omega arith
 width_code-lt W1 = omega arith
@@ -35,7 +35,7 @@ width_code-lt W64 = omega arith
 width_code-lt Link = omega arith
 width_code-lt Rows = omega arith
 
--- the code of a width stands for that width
+-- `width_of` reads the width `k` back from its code
 pub width_of-width_code : (k : Width) → width_of (width_code k) ≡ k
 width_of-width_code W0 = refl
 width_of-width_code W1 = refl
@@ -48,12 +48,12 @@ width_of-width_code Rows = refl
 
 -- ---- the bit of a double far pointer
 
--- a bit is 0 or 1
+-- the truth value `d` as a number is at most 1
 pub from_bool-le : (d : Bool) → from_bool d ≤ 1
 from_bool-le true = omega arith
 from_bool-le false = omega arith
 
--- a truth value is read back from its bit
+-- the truth value `d` is true exactly if it is 1 as a number
 pub bool-again : (d : Bool) → (from_bool d == 1) ≡ d
 bool-again true = refl
 bool-again false = refl

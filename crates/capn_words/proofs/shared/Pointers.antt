@@ -11,7 +11,7 @@ use Rattle.capn_words.proofs.shared.Choices.{if-yes, if-no, same-yes, same-no}
 use Rattle.capn_words.proofs.shared.FieldBits.{offset_field-lt, signed-again}
 use Rattle.capn_words.proofs.shared.FieldBits.{width_code-lt, width_of-width_code, from_bool-le, bool-again}
 
--- ---- `pointer_of` reads back the fields that a word is the sum of
+-- ---- `pointer_of` reads the fields back from their sum
 
 struct-again : (w : ℕ) (o : ℤ) (a b : ℕ) → w ≡ 4 * offset_field o + 2 ^ 32 * a + 2 ^ 48 * b → FitsOffset o → a < 2 ^ 16
     → b < 2 ^ 16 → 0 < offset_field o + a + b → pointer_of w ≡ Node o a b
@@ -38,7 +38,6 @@ list-again w o k c e ho hc =
     if-no (w == 0) _ _ (same-no w 0 (omega arith)) ∙ if-no (w % 4 == 0) _ _ (same-no (w % 4) 0 (omega arith))
     ∙ if-yes (w % 4 == 1) _ _ (same-yes (w % 4) 1 (omega arith)) ∙ cc
 
--- a word that is neither null nor a struct pointer nor a list pointer is read by `other_pointer`
 other-again : (w : ℕ) → w % 4 ≢ 0 → w % 4 ≢ 1 → pointer_of w ≡ other_pointer w
 unfolding pointer_of
 other-again w h l =
@@ -72,7 +71,7 @@ null-again : pointer_of 0 ≡ Nil
 unfolding pointer_of
 null-again = refl
 
--- `pointer_of` applied to a pointer's word returns the pointer
+-- if the fields of `p` fit, `pointer_of` reads `p` back from the word of `p`
 pub pointer_of-word_of : (p : Pointer) → FitsFields p → pointer_of (word_of p) ≡ p
 pointer_of-word_of Nil h = null-again
 pointer_of-word_of (Node o w s) h = struct-again (word_of (Node o w s)) o w s refl h.0 h.1 h.2 h.3
@@ -81,7 +80,7 @@ pointer_of-word_of (Far d w s) h = far-again (word_of (Far d w s)) d w s refl h.
 pointer_of-word_of (Cap i) h = cap-again (word_of (Cap i)) i refl h
 pointer_of-word_of (Reserved n) h = reserved-again n h.1 h.2
 
--- a pointer's word has 64 bits
+-- if the fields of `p` fit, the word of `p` is below 2^64
 pub word_of-lt : (p : Pointer) → FitsFields p → word_of p < 2 ^ 64
 word_of-lt Nil h = omega arith
 word_of-lt (Node o w s) h = let l = offset_field-lt o h.0 in omega (arith, h.1, h.2)

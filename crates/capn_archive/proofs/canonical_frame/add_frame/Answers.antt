@@ -5,7 +5,6 @@ use Rattle.capn_archive.specs.CanonicalFrame.{AddsText, framed, head}
 use Rattle.capn_archive.proofs.FramesAdded.{both_added, none_added}
 use Rattle.capn_archive.proofs.canonical_frame.add_frame.Goals as goal
 
--- The segment table and the bytes are the frame.
 whole : (front bytes : List ℕ) → front ≡ head (length bytes / 8) → front ++ bytes ≡ framed bytes
 whole front bytes is = ap (λ (l : List ℕ). l ++ bytes) is
 

@@ -6,7 +6,6 @@ use Rattle.capn_archive.specs.UniqMessages.{kept_text}
 use Rattle.capn_archive.proofs.FramesAdded.{text_added}
 use Rattle.capn_archive.proofs.uniq_service.add_kept.Goals as goal
 
--- The text for a message that is no duplicate is its frame, unless messages are only counted.
 whole : (count is_duplicate : Bool) (frame : List ℕ) → count ≡ false → is_duplicate ≡ false
     → frame ≡ kept_text count is_duplicate frame
 whole true is_duplicate frame e d = absurd (cc)

@@ -8,7 +8,6 @@ use Rattle.capn_args.proofs.OneInvocation.{means_one_invocation, same_command}
 use Rattle.capn_args.proofs.command_invocation.command_of.Given.{Over}
 use Rattle.capn_args.proofs.command_invocation.command_of.Goals as goal
 
--- If the words mean an invocation that is not a command over messages or bytes, they mean no such command.
 no_command : (g : Over) (c : goal.After-no_command g) (command : Command)
     → MeansInvocation (subcommand_of program_line (map g.S.AsStr.text c.args.words.now)) (invocations.Message command)
     → ⊥

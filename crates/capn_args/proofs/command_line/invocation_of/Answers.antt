@@ -41,7 +41,6 @@ returns-in-Some-named-clause-passes g c =
     subst (λ (a : App). is_simple_and_free a ≡ true → fault_of a (map g.S.AsStr.text c.args.words.now) ≡ [])
     c.in_ok-tool.ensures c.in_ok-matches.ensures.kinds refl
 
--- If the parser reports a refused allocation, the call reports it too.
 told_memory : (invocation : Invocation) (e : Error) (r : Result Invocation Usage) → kind_of e ≡ kinds.OutOfMemory
     → IsErr r × IsErrAnd r (λ usage. error_of usage ≡ e) → GivesInvocation invocation r
 told_memory invocation e (Ok given) memory (is_err, is) = absurd cc
@@ -62,12 +61,10 @@ no_parser invocation (Err usage) (is_err, is) = is
 pub returns-in_err-tool-clause-only : goal.returns-in_err-tool-clause-only
 returns-in_err-tool-clause-only g c taken invocation means = no_parser invocation _ c.from_residual.ensures
 
--- An invocation that exists is not missing.
 not_missing : {A : Type 0} (invocation result : Option A) → invocation ≡ None → invocation ≡ result → IsSome result → ⊥
 not_missing invocation None none is some = cc
 not_missing invocation (Some x) none is some = cc
 
--- If no invocation was found, the words mean none.
 meaningless : (g : Over) (c : goal.Joined-matches-2 g) (invocation : Invocation)
     → MeansInvocation (subcommand_of program_line (map g.S.AsStr.text c.args.words.now)) invocation → ⊥
 meaningless g c invocation means =
@@ -88,7 +85,6 @@ meaningless g c invocation means =
 pub returns-clause-only : goal.returns-clause-only
 returns-clause-only g c taken invocation means = absurd (meaningless g c invocation means)
 
--- An error of the parser is reported with its kind.
 told_reason : (words : List Text) (e : Error) (r : Result Invocation Usage) → HasKind (fault_of program_line words) e
     → IsErr r × IsErrAnd r (λ usage. error_of usage ≡ e) → IfErr r (λ usage. IsReason words (kind_of (error_of usage)))
 told_reason words e (Ok given) kind (is_err, is) = tt

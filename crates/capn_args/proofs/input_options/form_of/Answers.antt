@@ -27,7 +27,6 @@ returns-in_err-get_str-clause-served c form named =
 abbrev text_in : Option Text → Text
 text_in text = unwrap_or text (codes "")
 
--- A text that is none of the three names is not the name of a form.
 none_named : (text : Text) → (text ≡ codes "stream" → ⊥) → (text ≡ codes "packed" → ⊥) → (text ≡ codes "bare" → ⊥)
     → (form : Form) → text ≡ form_name form → ⊥
 none_named text not_stream not_packed not_bare forms.Stream is = not_stream is

@@ -24,7 +24,6 @@ returns-in_err-get_str-clause-served c tariff named =
 abbrev text_in : Option Text → Text
 text_in text = unwrap_or text (codes "")
 
--- A text that is neither of the two names is not the name of a tariff.
 none_named : (text : Text) → (text ≡ codes "strict" → ⊥) → (text ≡ codes "plain" → ⊥) → (tariff : Tariff)
     → text ≡ tariff_name tariff → ⊥
 none_named text not_strict not_plain tariffs.Strict is = not_strict is

@@ -3,7 +3,6 @@ use Rattle.clap.proofs.WalkLemmas.{first_value-rows}
 use Rattle.clap.specs.Words.{Text, found_of}
 use Rattle.capn_args.proofs.option_values.text_in.Goals as goal
 
--- The text that was read is the text that `there` has.
 given : (o : Option (Bor Text)) (there : Option Text) → option_map (λ s. s.now) o ≡ there
     → IfSome o (λ text. there ≡ Some text.now)
 given None there is = tt

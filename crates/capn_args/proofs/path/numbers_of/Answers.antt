@@ -3,7 +3,6 @@ use Rattle.clap.specs.Words.{Text}
 use Rattle.capn_args.specs.Path.{numbers_of, path_of}
 use Rattle.capn_args.proofs.path.numbers_of.Goals as goal
 
--- The numbers of a given path are the numbers of its text.
 given : {A E : Type 0} (path : Option (Bor Text)) (text : Bor Text) (r : Result (Vec ℕ A) E) → path ≡ Some text
     → IfOk r (λ numbers. (are : List ℕ) → path_of text.now ≡ Some are → numbers.items ≡ are)
     → IfOk r (λ numbers. (are : List ℕ) → numbers_of path ≡ Some are → numbers.items ≡ are)

@@ -4,11 +4,9 @@ use Rattle.clap.specs.declared.builder.command.Command.{Command}
 use Rattle.clap.specs.declared.builder.command.Command.TheOpen.{Command-F}
 use Rattle.capn_args.proofs.subcommands.plain_command.Goals as goal
 
--- Equal fields give the same command line.
 same_line : {f g : Command-F Command} → f ≡ g → app_of_fields f ≡ app_of_fields g
 same_line e = cc
 
--- Equal fields have the same global options.
 same_globals : {f g : Command-F Command} → f ≡ g → f.has_globals ≡ g.has_globals
 same_globals e = cc
 

@@ -4,7 +4,6 @@ use Rattle.clap.specs.declared.builder.command.Command.{Command}
 use Rattle.capn_args.specs.CommandLine.{commands, program_line, top_line, with_commands}
 use Rattle.capn_args.proofs.subcommands.program_command.Goals as goal
 
--- The program without commands has its line, so the program with all of them has the whole line.
 whole : {E : Type 0} (top : App) (r : Result Command E) → top ≡ top_line
     → IfOk r (λ c. app_of c ≡ with_commands top commands) → IfOk r (λ c. app_of c ≡ program_line)
 whole top r is has = subst (λ (a : App). IfOk r (λ c. app_of c ≡ with_commands a commands)) is has

@@ -1,4 +1,4 @@
--- The inner call gets the form and the limits that the caller's numbers name.
+-- `survey_length` and `fill` get the form and the limits that the caller's numbers name.
 use Rattle.std.proofs.Common.{subst, take}
 use Rattle.capn_walk.specs.Limits.{Bounds}
 use Rattle.capn_canon.specs.Canonicity.{IsCanonicalForm}

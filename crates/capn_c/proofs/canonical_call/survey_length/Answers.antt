@@ -1,4 +1,5 @@
--- A survey gives a length that is enough. A value without capabilities is refused only by `Memory`.
+-- A survey gives a length that is enough for the canonical bytes. For a value without capabilities, the only error is
+-- `Memory`.
 use Rattle.std.proofs.Common.{inl, ap, sym, refl, ◌∙◌, arith, Err}
 use Rattle.capn_canon.specs.Layout.{canon}
 use Rattle.capn_abi.specs.declared.report.CapnReport.{CapnReport}

@@ -1,4 +1,4 @@
--- The form is the one that was matched.
+-- In each branch of `fill`, `form` is the form that the branch matches.
 use Rattle.capn_c.proofs.Filled.{filled_for}
 use Rattle.capn_c.proofs.OutOfMemory.{packed_need}
 use Rattle.capn_c.proofs.canonical_fill.fill.Goals as goal

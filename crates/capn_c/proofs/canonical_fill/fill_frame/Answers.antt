@@ -1,4 +1,4 @@
--- The canonical bytes written for the message of a frame are those of the frame's bytes.
+-- The canonical bytes that are written for the message of a frame are those of the frame's bytes.
 use Rattle.std.proofs.Common.{ap, Err}
 use Rattle.capn_canon.specs.declared.form.Form.TheVariants as forms
 use Rattle.capn_c.proofs.OutOfMemory.{unaccepted_refused}

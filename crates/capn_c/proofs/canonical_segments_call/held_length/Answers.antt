@@ -1,4 +1,5 @@
--- A survey gives the price, and a length that is enough. No refusal has the status 8, since no memory is needed.
+-- A survey gives the price, and a length that is enough for the canonical bytes. No refusal has the status 8, since no
+-- memory is needed.
 use Rattle.std.proofs.Common.{ap, sym, refl, ◌∙◌, arith}
 use Rattle.capn_canon.specs.Layout.{canon}
 use Rattle.capn_stream.specs.Segments.{message_of}

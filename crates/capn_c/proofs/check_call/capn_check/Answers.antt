@@ -1,4 +1,4 @@
--- The inner call gets the form and the limits that the caller's numbers name.
+-- `check` gets the form and the limits that the caller's numbers name.
 use Rattle.capn_c.proofs.OfMessage.{denoted}
 use Rattle.capn_c.proofs.check_call.capn_check.Goals as goal
 

@@ -1,4 +1,4 @@
--- The inner call gets the form and the limits that the caller's numbers name.
+-- `find_mismatch` gets the form and the limits that the caller's numbers name.
 use Rattle.capn_c.proofs.OfMessage.{denoted}
 use Rattle.capn_c.proofs.departure_call.capn_departure.Goals as goal
 

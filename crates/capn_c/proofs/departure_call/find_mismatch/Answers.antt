@@ -1,4 +1,4 @@
--- An accepted message is refused only by `Memory`.
+-- For an accepted message, the only error is `Memory`.
 use Rattle.std.proofs.Common.{ap, Err}
 use Rattle.capn_c.proofs.Reported.{unaccepted_done}
 use Rattle.capn_c.proofs.departure_call.find_mismatch.Goals as goal

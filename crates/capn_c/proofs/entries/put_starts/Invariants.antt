@@ -3,7 +3,7 @@ use Rattle.std.specs.List.{sum_by}
 use Rattle.capn_c.specs.Entries.{starts_from}
 use Rattle.capn_c.proofs.entries.put_starts.Given as goal
 
--- the segments so far have their starts, and the next one starts after their words
+-- The starts of the first `segment` segments are written, and `total` is the number of words of these segments.
 abbrev pub invariant-loop-segment : goal.invariant-loop-segment
 invariant-loop-segment g l = record {
   starts : l.starts ≡ take l.segment (starts_from 0 (g.S.Space.message l.space)) ++ drop l.segment l.fn.starts;

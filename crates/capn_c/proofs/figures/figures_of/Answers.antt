@@ -1,4 +1,4 @@
--- The figures of a message are those that were measured.
+-- The figures in the result are those of the measure of the message.
 use Rattle.capn_c.proofs.Figured.{figured}
 use Rattle.capn_c.proofs.figures.figures_of.Goals as goal
 

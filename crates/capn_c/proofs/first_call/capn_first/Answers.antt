@@ -1,4 +1,4 @@
--- The limit on message words is that of the limits that were passed.
+-- `frame` gets the limit on message words that the caller passed.
 use Rattle.std.proofs.Common.{ℕ, ap, sym, subst, ◌∙◌}
 use Rattle.capn_stream.specs.Frames.{StandsFirst}
 use Rattle.capn_walk.specs.Limits.{Bounds}

@@ -1,4 +1,4 @@
--- The report of a frame that comes first, and of one that is not whole.
+-- The report for a first frame that is complete, and for one that is refused.
 use Rattle.std.proofs.Common.{inl, inr, ap, refl, sym, ◌∙◌, Err}
 use Rattle.capn_abi.specs.declared.report.CapnReport.{CapnReport}
 use Rattle.capn_abi.specs.StatusCodes.{frame_code}

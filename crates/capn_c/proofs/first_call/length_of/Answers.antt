@@ -1,4 +1,4 @@
--- The length of the first frame follows from the result for that frame.
+-- `length_of` returns the length that `first` returns.
 use Rattle.std.proofs.Common.{rules}
 use Rattle.capn_c.proofs.first_call.length_of.Goals as goal
 

@@ -1,4 +1,4 @@
--- The canonical bytes are at most 8 for each word paid, and 8 more.
+-- There are at most 8 canonical bytes for each word that the walk pays, and 8 more.
 use Rattle.std.proofs.Common.{ℕ, List, sym, subst, arith}
 use Rattle.std.proofs.lemmas.Result.{IfOk-weaker}
 use Rattle.capn_walk.specs.Accepted.{IsValueOf}

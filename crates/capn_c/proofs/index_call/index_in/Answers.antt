@@ -1,4 +1,5 @@
--- The index has as many entries as its survey has visits; the form is the one that was matched.
+-- The index has as many entries as its survey has visits. In each branch of `index_in`, `form` is the form that the
+-- branch matches.
 use Rattle.capn_canon.specs.declared.form.Form.TheVariants as forms
 use Rattle.capn_c.proofs.Counted.{entries_told}
 use Rattle.capn_c.proofs.OutOfMemory.{flat_packed}

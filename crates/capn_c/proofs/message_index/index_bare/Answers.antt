@@ -1,4 +1,4 @@
--- The index written for bare words is that of the bytes that encode the words.
+-- The index that is written for bare words is that of the bytes that encode the words.
 use Rattle.std.proofs.Common.{[], ◌∷◌, refl, arith}
 use Rattle.capn_canon.specs.declared.form.Form.TheVariants as forms
 use Rattle.capn_canon.specs.declared.refusal.Refusal.TheVariants as refusals

@@ -1,4 +1,4 @@
--- The index has as many entries as the survey has visits. An accepted message is refused only by `Memory`.
+-- The index has as many entries as the survey has visits. For an accepted message, the only error is `Memory`.
 use Rattle.std.proofs.Common.{refl, arith}
 use Rattle.capn_c.proofs.Counted.{many_entries}
 use Rattle.capn_c.proofs.Listed.{message_listed}

@@ -1,4 +1,4 @@
--- The inner call gets the form and the limits that the caller's numbers name.
+-- `refusal_way` gets the form and the limits that the caller's numbers name.
 use Rattle.capn_c.proofs.OfMessage.{denoted}
 use Rattle.capn_c.proofs.refusal_way_call.capn_refusal_way.Goals as goal
 

@@ -1,4 +1,4 @@
--- A message is accepted, or its walk stopped and the status is that of the stop, or the bytes are not read.
+-- The three cases of `refusal_way`: a message is accepted, or its walk is refused, or the bytes are not read.
 use Rattle.std.proofs.Common.{ℕ, List, length, inr, ap, sym, subst, ◌∙◌, arith, Err}
 use Rattle.std.specs.Bool.{IsTrue}
 use Rattle.capn_walk.specs.Accepted.{IsBounded}

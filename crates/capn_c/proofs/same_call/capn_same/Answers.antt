@@ -1,4 +1,4 @@
--- The inner call gets the form and the limits that the caller's numbers name.
+-- `compare` gets the form and the limits that the caller's numbers name.
 use Rattle.capn_c.proofs.OfMessage.{denoted}
 use Rattle.capn_c.proofs.same_call.capn_same.Goals as goal
 

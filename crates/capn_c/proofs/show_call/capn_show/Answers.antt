@@ -1,4 +1,4 @@
--- The inner call gets the form and the limits that the caller's numbers name.
+-- `show_in` gets the form and the limits that the caller's numbers name.
 use Rattle.capn_c.proofs.OfMessage.{denoted}
 use Rattle.capn_c.proofs.show_call.capn_show.Goals as goal
 

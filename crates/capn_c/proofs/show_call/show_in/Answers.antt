@@ -1,4 +1,4 @@
--- Bytes have only one text in a style. An accepted message is refused only by `Memory`.
+-- An accepted message has only one text in each style. The only error for it is `Memory`.
 use Rattle.std.proofs.Common.{rules, List, ℕ, inl, inr, ap, subst, ◌∙◌, Err}
 use Rattle.capn_canon.proofs.shared.NotUnaccepted.{not_unaccepted}
 use Rattle.capn_show.specs.declared.style.Style.{Style}

@@ -1,4 +1,4 @@
--- An accepted message is refused only by `Memory`, with the status 8.
+-- For an accepted message, the only error is `Memory`, with the status 8.
 use Rattle.std.proofs.Common.{ap, Err}
 use Rattle.capn_c.proofs.Reported.{unaccepted_done}
 use Rattle.capn_c.proofs.survey_call.survey_in.Goals as goal

@@ -1,4 +1,4 @@
--- The words that were unpacked fit into the buffer, and are at its start.
+-- The words to which the first groups unpack fit into the buffer, and are written at its start.
 use Rattle.std.proofs.Common.{rules, [], length}
 use Rattle.capn_pack.specs.WholeGroups.{UnpacksSome}
 use Rattle.capn_c.specs.UnpackedPieces.{words_in}

@@ -8,7 +8,6 @@ use Rattle.capn_canon.proofs.check.CanonicalSurvey.{under-limits, canonical-surv
 use Rattle.capn_canon.proofs.check.DueRoot.{root-due, root-ends}
 use Rattle.capn_canon.proofs.canonical_survey.measure_root.Goals as goal
 
--- two numbers are equal if the test of them says so, and the test says so if they are equal
 yes-same : (a b : ℕ) → IsTrue (nat_eq a b) → a ≡ b
 yes-same a b t = grind (arith, nat_tests)
 

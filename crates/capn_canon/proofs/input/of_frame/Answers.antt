@@ -1,4 +1,4 @@
--- A message's frame comes first in the bytes, or no frame does. Bytes after the frame are refused.
+-- The clause of `of_frame`: bytes that begin with no frame are refused.
 use Rattle.std.proofs.Common.{subst, ℕ, ap, Err}
 use Rattle.capn_stream.specs.FrameRefusal.{HasTable, IsFrameRefused}
 use Rattle.capn_stream.specs.declared.fault.FrameFault.{FrameFault}

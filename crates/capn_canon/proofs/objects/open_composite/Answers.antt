@@ -24,18 +24,16 @@ use Rattle.capn_canon.proofs.objects.open_composite.Goals.{then-tag-via-then-tag
 use Rattle.capn_canon.proofs.objects.open_composite.Goals.{then-tag-via-else-tag+then-tag-step}
 use Rattle.capn_canon.proofs.objects.open_composite.Goals as goal
 
--- the elements without a size, counted by the test of the size
 extra-yes : (s n w : ℕ) → s ≡ 0 → w ≡ n → w ≡ (if s == 0 then n else 0)
 extra-yes s n w z e = e ∙ sym (if-yes (s == 0) n 0 (same-yes s 0 z))
 
 extra-no : (s n w : ℕ) → s ≢ 0 → w ≡ 0 → w ≡ (if s == 0 then n else 0)
 extra-no s n w z e = e ∙ sym (if-no (s == 0) n 0 (grind (arith, nat_tests)))
 
--- the number of elements without a size is equal for equal sizes
 if-same : (s t n m : ℕ) → s ≡ t → n ≡ m → (if s == 0 then n else 0) ≡ (if t == 0 then m else 0)
 if-same s t n m e f = ap₂ (λ (x y : ℕ). if x == 0 then y else 0) e f
 
--- the list of structs that is laid out has the sizes of the tag
+-- A list of structs is due at the next free word, and the tag `g` has its sizes.
 record IsTagged (all : List ℕ) (base : ℕ) (p : Pass) (span : ℕ) (g : Tag) : Type 0 where
   due : DueTagged all base p.from p.next p.depth p.left span
   count : g.count ≡ due.n

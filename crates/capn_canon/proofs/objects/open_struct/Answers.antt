@@ -21,7 +21,6 @@ use Rattle.capn_canon.proofs.objects.open_struct.Goals.{then-not-is_kept-via-the
 use Rattle.capn_canon.proofs.objects.open_struct.Goals.{then-not-is_kept-via-else-not-is_kept+then-not-is_kept-2}
 use Rattle.capn_canon.proofs.objects.open_struct.Goals as goal
 
--- a word is the pointer to a struct at the next free word if the low half of the word says so
 struct-word : (x from next a b : ℕ) → x < 2 ^ 64 → from < next → next ≤ 2 ^ 29 → x % 2 ^ 32 ≡ 4 * (next - from - 1)
     → a ≡ field 32 16 x → b ≡ field 48 16 x → 0 < a + b → x ≡ struct_to from next a b
 struct-word x from next a b lt order room low ea eb some =
@@ -29,7 +28,7 @@ struct-word x from next a b lt order room low ea eb some =
     let n : next - from - 1 ≡ next - (from + 1) = omega arith in
     f ∙ sym (ap word_of (if-no ((a == 0) && (b == 0)) _ _ (grind (arith, nat_tests))) ∙ omega arith)
 
--- the struct that is laid out has the sizes of the pointer
+-- A struct is due at the next free word, and the tag `g` has its sizes.
 record IsTagged (all : List ℕ) (base : ℕ) (p : Pass) (g : Tag) : Type 0 where
   due : DueStruct all base p.from p.next p.depth p.left
   words : g.words ≡ due.a

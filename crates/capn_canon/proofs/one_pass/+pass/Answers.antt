@@ -45,12 +45,13 @@ check_slots-returns-in-None g t c = record {
 
 -- ---- a slot
 
--- the bound on the reads for the slots after the first one
+-- The bound on the reads of the pass `r`, which is `p` without its first slot.
 behind-reads : (p : Pass) (q : Progress) (r : Pass) → p.from < p.end → r ≡ behind p q
     → may_read r + 7 ≡ 7 * (p.end - p.from) + 10 * q.left
 behind-reads p q r some e = let f = ap may_read e in omega arith
 
--- the pass continues with the slots after the first
+-- The pass `r` begins at a later slot than the pass `p`, and decides what `p` finds (`Leads`). If values are due at the
+-- slots of `p`, values are due at the slots of `r`.
 record GoesOn (all : List ℕ) (base : ℕ) (deep : Bool) (p : Pass) (least : ℕ) (r : Pass) (here : ℕ) : Type 0 where
   found : (p.from < r.from) × IsOpen all r × Leads all base deep p least r here
   only : Due all base p → Due all base r

@@ -7,14 +7,15 @@ use Rattle.capn_layout.proofs.shared.EachRow.{kept_each-le}
 use Rattle.capn_canon.proofs.own_words_test.is_part_kept.Goals as goal
 
 module _ (all : List ℕ) (w size step n : ℕ) (some : 0 < size) where
-  -- if trimming keeps the whole section of the first row, it keeps the section in all rows
+  -- Case: in the first row, the last word of the section is not zero. Trimming then keeps all `size` words.
   row-whole : slice_index all (w + (size - 1)) ≢ 0 → kept_each (all ∷ []) 0 w size step (suc n) ≡ size
   row-whole ne =
       let k = all-kept all w size some ne in
       let l = kept_each-le (all ∷ []) 0 (w + step) size step n in
       omega arith
 
-  -- if trimming the first row cuts the section, all rows keep the section if and only if the later rows do
+  -- Case: in the first row, the last word of the section is zero. Trimming then keeps all `size` words if and only if
+  -- it keeps them for the later rows.
   row-less : slice_index all (w + (size - 1)) ≡ 0
       → (kept_each (all ∷ []) 0 w size step (suc n) ≡ size → kept_each (all ∷ []) 0 (w + step) size step n ≡ size)
       × (kept_each (all ∷ []) 0 (w + step) size step n ≡ size → kept_each (all ∷ []) 0 w size step (suc n) ≡ size)

@@ -11,7 +11,7 @@ use Rattle.capn_commands.proofs.command_run.write_made.Goals as goal
 abbrev Ending : Type 0
 Ending = Result (Unit {0}) ToolFault
 
--- Case: there is no output. The result is Io if and only if the reader has failed.
+-- Case: there is no output. The result is `Io` exactly if the reader has failed.
 unmade : (fault : ToolFault) (r : Ending) (reader writer : Bool) → ((fault ≡ faults.Io) ↔ (reader ≡ true))
     → writer ≡ false → r ≡ Err fault → IsErrOf r faults.Io ↔ ((reader ≡ true) ⊎ (writer ≡ true))
 unmade fault r reader writer io fine is = (λ h. inl (io.0 (cc)), from)
@@ -20,7 +20,7 @@ unmade fault r reader writer io fine is = (λ h. inl (io.0 (cc)), from)
     from (inl h) = is ∙ ap (λ (f : ToolFault). Err f) (io.1 h)
     from (inr h) = absurd (let bad : true ≡ false = sym h ∙ fine in cc)
 
--- Case: there is an output. The result is Io if and only if the writer has failed.
+-- Case: there is an output. The result is `Io` exactly if the writer has failed.
 made : (r : Ending) (reader writer : Bool) → reader ≡ false → (IsErrOf r faults.Io ↔ (writer ≡ true))
     → IsErrOf r faults.Io ↔ ((reader ≡ true) ⊎ (writer ≡ true))
 made r reader writer fine io = (λ h. inr (io.0 h), from)
@@ -43,7 +43,6 @@ returns-in-Err g c whole a b unread given =
       memory = λ is. unmade_memory whole a b a unread c.in-Err.fault none (cc);
     }
 
--- A writer that had not failed before a call fails in that call if and only if the call returns an error.
 has_failed_by : (old new : Bool) → new ≡ (old || true) → old ≡ false → new ≡ true
 has_failed_by old new is fine = is ∙ ap (λ (was : Bool). was || true) fine
 

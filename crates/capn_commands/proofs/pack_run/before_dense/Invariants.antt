@@ -2,7 +2,7 @@ use Rattle.std.proofs.Common.{◌≡◌, ◌≤◌, ◌%◌, ℕ, drop, length}
 use Rattle.capn_pack.specs.Chosen.{AllDense}
 use Rattle.capn_commands.proofs.pack_run.before_dense.Given as goal
 
--- Whole words are before the cut, and dense words follow the cut.
+-- `cut` is at the end of a word, and all words after `cut` are dense.
 abbrev pub invariant-loop-cut : goal.invariant-loop-cut
 invariant-loop-cut l = record {
   inside : l.cut ≤ length l.words;

@@ -4,7 +4,6 @@ use Rattle.std.proofs.lemmas.List.{drop-take}
 use Rattle.std.proofs.lemmas.List.Edits.{take-paste}
 use Rattle.capn_commands.proofs.pending.keep.Goals as goal
 
--- After a part was copied to the front, the first bytes are that part.
 front : (old new : List ℕ) (from to : ℕ) → from ≤ to → to ≤ length old → new ≡ paste old 0 (drop from old) (to - from)
     → take (to - from) new ≡ drop from (take to old)
 front old new from to order within is =

@@ -2,6 +2,6 @@ use Rattle.std.proofs.Common.{◌≡◌, ◌*◌, ◌^◌, ◌≤◌, sum}
 use Rattle.capn_stream.specs.FrameRefusal.{entries}
 use Rattle.capn_explain.proofs.what_came.total_of.Given as goal
 
--- Loop invariant: `total` is the sum of the sizes so far, each of which is below 2^32.
+-- `total` is the sum of the first `index` sizes, each of which is below 2^32.
 abbrev pub invariant-loop-index : goal.invariant-loop-index
 invariant-loop-index l = record { is : l.total ≡ sum (entries l.index l.sizes); small : l.total ≤ l.index * 2 ^ 32 }

@@ -4,8 +4,8 @@ use Rattle.capn_make.specs.inner.SinkRun.{Holds}
 use Rattle.capn_make.proofs.SinkRuns.{HasTaken}
 use Rattle.capn_make.proofs.sink.run.Given as goal
 
--- Neither the reader nor the writer has failed. The sink took the bytes so far, and `taken` is their number, below
--- 2^64.
+-- Neither the reader nor the writer has failed. The sink took all bytes that were read, and `taken`, their number, is
+-- below 2^64.
 abbrev pub invariant-pieces : goal.invariant-pieces
 invariant-pieces g l = record {
   fine : has_failed l.reader ≡ false;
@@ -16,6 +16,6 @@ invariant-pieces g l = record {
       (g.W.Write.contents (inner_of l.fn.writer)) (g.W.Write.contents (inner_of l.writer)) l.taken;
 }
 
--- The number of bytes that can still be counted decreases.
+-- The difference of 2^64 and `taken` decreases.
 abbrev pub decreases-pieces : goal.decreases-pieces
 decreases-pieces g l = 2 ^ 64 - l.taken

@@ -2,7 +2,7 @@ use Rattle.std.proofs.Common.{ℕ, List, ◌++◌, length}
 use Rattle.capn_make.specs.inner.RunParts.{HasMade, IsAfter}
 use Rattle.capn_make.proofs.whole_texts.make_each.Given as goal
 
--- If an input was made up to the place at which the call began, each of its texts up to the current place is made.
+-- If `HasMade` held for `texts` and `made` when the call began, it holds for `texts` and `made` now.
 abbrev pub invariant-texts : goal.invariant-texts
 invariant-texts g l = record {
   after : IsAfter l.fn.texts l.texts;

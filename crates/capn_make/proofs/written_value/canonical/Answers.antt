@@ -2,7 +2,6 @@ use Rattle.std.proofs.Common.{◌≡◌, ◌%◌, ◌<◌, ◌^◌, ℕ, List, l
 use Rattle.capn_make.proofs.CanonBytes.{canon_short, canon_whole}
 use Rattle.capn_make.proofs.written_value.canonical.Goals as goal
 
--- A statement on a list holds of the bytes that are returned, which are equal.
 of_answer : {A E : Type 0} (P : List ℕ → Type 0) (bytes : List ℕ) (r : Result (Vec ℕ A) E)
     → IfOk r (λ v. v.items ≡ bytes) → P bytes → IfOk r (λ v. P v.items)
 of_answer P bytes (Ok v) is h = subst P (sym is) h

@@ -8,7 +8,6 @@ use Rattle.capn_stream.proofs.shared.Ends.{ends_from_push}
 use Rattle.capn_scratch.proofs.EndWords.{numbers_more}
 use Rattle.capn_scratch.proofs.ends.put_ends.Goals as goal
 
--- the sum of the sizes up to the next one is at most the sum of all
 pub overflow_add-end : goal.overflow_add-end
 overflow_add-end c =
     let left : ℕ = c.args.count - (c.loop-index.index + 1) in

@@ -4,7 +4,8 @@ use Rattle.capn_stream.specs.FrameRefusal.{entries}
 use Rattle.capn_scratch.specs.inner.Ends.{numbers}
 use Rattle.capn_scratch.proofs.ends.put_ends.Given as goal
 
--- the words written are the ends of the segments so far, and `end` is the last of them
+-- The first `l.index` words of `l.ends` are the ends of the first `l.index` segments, and `l.end` is the sum of the
+-- sizes of these segments.
 abbrev pub invariant-loop-index : goal.invariant-loop-index
 invariant-loop-index l = record {
   ends : numbers (take l.index l.ends) ≡ ends_from 0 (entries l.index l.sizes);

@@ -2,7 +2,7 @@ use Rattle.std.proofs.Common.{◌≡◌, ◌+◌, ◌*◌, length, take, ◌-◌
 use Rattle.capn_scratch.proofs.Groups.{Unpacked}
 use Rattle.capn_scratch.proofs.unpacked.unpack_into.Given as goal
 
--- the bytes so far are groups, and their words were written
+-- The first `l.at` bytes of `l.bytes` are groups, which unpack to the first `l.fill` bytes of `l.out`.
 abbrev pub invariant-loop-at : goal.invariant-loop-at
 invariant-loop-at l = record {
   unpacked : Unpacked l.bytes l.at (take l.fill l.out) l.room l.max_words;

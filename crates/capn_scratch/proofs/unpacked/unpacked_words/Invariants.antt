@@ -2,7 +2,7 @@ use Rattle.std.proofs.Common.{ℕ, List, length, ◌-◌}
 use Rattle.capn_scratch.proofs.Groups.{Unpacked}
 use Rattle.capn_scratch.proofs.unpacked.unpacked_words.Given as goal
 
--- the bytes so far are groups, which unpack to some words
+-- The first `l.at` bytes of `l.bytes` are groups, which unpack to some `out`.
 abbrev pub invariant-loop-at : goal.invariant-loop-at
 invariant-loop-at l = (out : List ℕ) × Unpacked l.bytes l.at out l.room l.max_words
 

@@ -6,7 +6,6 @@ use Rattle.std.proofs.KnownBytes.{Appends-trans}
 use Rattle.capn_words.specs.Watched.{HasBegun}
 use Rattle.capn_serve.proofs.adding.send_bytes.Goals as goal
 
--- If a text was written, and then a prefix of some bytes, a prefix of the text and the bytes was written.
 begun_after : (c d e : Option (List ℕ)) (text seen bytes : List ℕ) → seen ≡ text → Appends c d seen
     → HasBegun d e bytes → HasBegun c e (text ++ bytes)
 begun_after c d e text seen bytes same wrote (count, begun) = (
@@ -15,7 +14,6 @@ begun_after c d e text seen bytes same wrote (count, begun) = (
       (Appends-trans c d e text (take count bytes) (subst (Appends c d) same wrote) begun),
 )
 
--- A call that returned no error has the effect of its `Ok`.
 on_ok : {T E : Type 0} (r : Result T E) (P : Type 0) → is_err r ≡ false → OnOk r P → P
 on_ok (Ok u) P is p = p
 on_ok (Err e) P is p = absurd (cc)

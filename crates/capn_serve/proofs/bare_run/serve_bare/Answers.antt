@@ -9,7 +9,6 @@ use Rattle.capn_serve.specs.Outgoing.{Outgoing, outgoing}
 use Rattle.capn_serve.proofs.Sends.{adds_none}
 use Rattle.capn_serve.proofs.bare_run.serve_bare.Goals as goal
 
--- The bytes are one segment, and their message was served or not, as `r` says.
 added : {X : Type 0} (f : Fold X) (x y : X) (bytes words : List ℕ) (a b : Outgoing) (failed : Bool)
     (r : Result (Unit {0}) RunFault) → IsBare bytes words → AddsMessage f x bytes (words ∷ []) a b failed r y
     → ServesBare f x bytes a b failed r y

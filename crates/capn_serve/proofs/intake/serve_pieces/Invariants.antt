@@ -4,7 +4,7 @@ use Rattle.capn_serve.specs.Fold.{fold_until}
 use Rattle.capn_serve.proofs.IntakeRuns.{HasTaken}
 use Rattle.capn_serve.proofs.intake.serve_pieces.Given as goal
 
--- Neither the reader nor the writer has failed, the service is not done, and the bytes read so far were taken.
+-- Neither the reader nor the writer has failed, the service is not finished, and all bytes read so far were served.
 abbrev pub invariant-pieces : goal.invariant-pieces
 invariant-pieces g l = record {
   reader : has_failed l.reader ≡ false;

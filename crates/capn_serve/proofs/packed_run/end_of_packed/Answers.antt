@@ -20,7 +20,7 @@ stopped fault = Err fault
 abbrev refused : Position → UnpackFault → Ending
 refused at fault = Err (faults.Refused at (refusals.Packed fault))
 
--- Case: no group has begun. The run ends as the unpacked stream does.
+-- Case: no group has begun. The run ends as `EndsInput` states.
 whole : (at : Position) (group rest : List ℕ) (offset most : ℕ) (r : Ending) → group ≡ [] → EndsInput at rest most r
     → EndsPacked at group offset rest most r
 whole at [] rest offset most (Ok u) none ends = (frames.Empty, (λ e. cc), ends, refl, λ e. cc)

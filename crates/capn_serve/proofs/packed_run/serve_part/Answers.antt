@@ -7,7 +7,6 @@ use Rattle.capn_stream.specs.StreamPieces.{Framing, IsUnfinished}
 use Rattle.capn_serve.proofs.Holding.{holds_long, holds_part}
 use Rattle.capn_serve.proofs.packed_run.serve_part.Goals as goal
 
--- The bytes that are left after served messages are no whole frame.
 unfinished : {X : Type 0} (f : Fold X) (framer : Framing) (rest : List ℕ) → framer.rest ≡ rest → IsListening f framer
     → IsUnfinished rest f.most
 unfinished f framer rest is listening =

@@ -95,7 +95,7 @@ returns-after-loop-at g c =
       came = tt;
     }
 
--- Case: the service is done.
+-- Case: the service is finished.
 pub returns-then-is_done : goal.returns-then-is_done
 returns-then-is_done g c =
     let f = fold_until g.S.Service.serves g.S.Service.refuses g.S.Service.done c.args.most in

@@ -6,7 +6,7 @@ use Rattle.capn_serve.specs.ChunkRun.{HasRoom, IsListening}
 use Rattle.capn_serve.specs.PackedChunkRun.{TellsPacked, pending}
 use Rattle.capn_serve.proofs.packed_run.serve_slices.Given as goal
 
--- The messages that the first `at` bytes complete are served.
+-- The loop has served each message that is complete after the first `at` bytes.
 abbrev pub invariant-loop-at : goal.invariant-loop-at
 invariant-loop-at g l = record {
   fine : has_failed l.writer ≡ false;

@@ -9,7 +9,6 @@ use Rattle.capn_serve.proofs.pick_run.run_pick.Goals as goal
 is_not_below : (a b : ℕ) → b ≤ a → nat_lt a b ≡ false
 is_not_below a b h = grind (arith, nat_tests)
 
--- The numbers from `from` to `to` are one range.
 one_range : (from to first : ℕ) → first ≡ max from 1 → first ≤ to
     → (record { from = first; to = to }) ∷ [] ≡ range_of from to
 one_range from to first is some =

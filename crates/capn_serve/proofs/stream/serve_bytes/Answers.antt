@@ -29,7 +29,7 @@ module _ {X : Type 0} (f : Fold X) (x : X) where
     fine,
   )
 
-  -- Case: the loop has reached a state that is done.
+  -- Case: the loop has reached a state `y` that is `done`.
   served_done : (y : X) (before after : Framing) (bytes : List ℕ) (at : ℕ) (a b : Outgoing) (failed : Bool)
       → f.done y ≡ true → Tells f x (before.rest ++ take at bytes) after.rest a b y → failed ≡ false
       → Serves f x before bytes a b failed (Ok tt) after y

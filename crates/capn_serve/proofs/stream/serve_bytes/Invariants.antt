@@ -5,7 +5,7 @@ use Rattle.capn_serve.specs.Outgoing.{outgoing}
 use Rattle.capn_serve.specs.ChunkRun.{IsListening, Tells}
 use Rattle.capn_serve.proofs.stream.serve_bytes.Given as goal
 
--- The messages that the first `at` bytes complete are served.
+-- The loop has served each message that is complete after the first `at` bytes.
 abbrev pub invariant-loop-at : goal.invariant-loop-at
 invariant-loop-at g l = record {
   fine : has_failed l.writer ≡ false;

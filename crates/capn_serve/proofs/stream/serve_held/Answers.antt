@@ -10,7 +10,6 @@ use Rattle.capn_serve.proofs.Next.{held_frame, held_passed, held_some, held_stop
 use Rattle.capn_serve.proofs.Holding.{adds_fault, pass_fault}
 use Rattle.capn_serve.proofs.stream.serve_held.Goals as goal
 
--- The bytes of the framer up to the end of the message are all of its bytes.
 whole : (held rest : List ℕ) (most : ℕ) (message : List (List ℕ)) (taken : ℕ) → held ≡ rest
     → StandsFirst held most message taken → IsFrame rest most ⊎ IsUnfinished rest most
     → ((m : List (List ℕ)) (t : ℕ) → StandsFirst held most m t → (message ≡ m) × (taken ≡ t)) → take taken held ≡ rest

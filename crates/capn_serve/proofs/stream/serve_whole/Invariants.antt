@@ -5,7 +5,7 @@ use Rattle.capn_serve.specs.Outgoing.{outgoing}
 use Rattle.capn_serve.specs.ChunkRun.{HasRoom, Tells}
 use Rattle.capn_serve.proofs.stream.serve_whole.Given as goal
 
--- The bytes taken so far are whole messages, and these messages were served.
+-- The first `at` bytes are complete messages, and these messages were served.
 abbrev pub invariant-loop-at : goal.invariant-loop-at
 invariant-loop-at g l = record {
   fine : has_failed l.writer ≡ false;

@@ -7,7 +7,7 @@ use Rattle.capn_show.proofs.shared.Appended.{otherwise, otherwise-broken}
 use Rattle.capn_show.proofs.bytes.show_byte_list.Goals as goal
 
 module _ (rule : Rule) (level : ℕ) (path : List ℕ) (first : ℕ) (bs xs : List ℕ) (e : bs ≡ xs) where
-  -- The lines of a list in two cases: the bytes that were read are a text, or they are not.
+  -- Case: the bytes `bs` that were read are a text.
   text-lines : rule.is_text bs ≡ true → rule.text level bs ≡ text_or_digits rule level path first xs
   text-lines t =
       ap (λ (b : Bool). if b then rule.text level bs else digit_lines rule level path first bs) (sym t)

@@ -12,7 +12,7 @@ use Rattle.capn_show.proofs.shared.PlainTexts.{plain-shown}
 use Rattle.capn_show.proofs.shared.Appended.{otherwise, otherwise-broken}
 use Rattle.capn_show.proofs.message.show_message.Goals as goal
 
--- The text by the rule of plain lines is the text of `show`.
+-- The rule of lines without marks gives the text `show_text v` for the value `v`.
 plain-text : (m : List (List ℕ)) (v : Tree) → emitted_slot m (plain_rule false) 0 0 [] root v ≡ show_text v
 plain-text m v =
     bare false (λ m at. 0) (λ path i. path) (λ byte path. []) (λ n path. refl) m 0 [] (named_by (target m root)) v

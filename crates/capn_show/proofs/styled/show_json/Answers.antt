@@ -11,7 +11,7 @@ use Rattle.capn_show.specs.Outgoing.{outgoing}
 use Rattle.capn_show.proofs.shared.Appended.{both, otherwise, otherwise-broken, then-broken, broken-before, passed}
 use Rattle.capn_show.proofs.styled.show_json.Goals as goal
 
--- The line of JSON is the text in the style that `QUOTED` selects.
+-- The JSON of `v` and a newline is the text of `v` in the style `json_style quoted`.
 lined : (quoted : Bool) (v : Tree) → json_line_by (bytes_json_of quoted) v ≡ part_in (json_style quoted) (Some v)
 lined false v = refl
 lined true v = refl

@@ -11,7 +11,7 @@ use Rattle.capn_show.proofs.shared.BareTexts.{bare}
 use Rattle.capn_show.proofs.shared.PlainTexts.{plain-shown}
 use Rattle.capn_show.proofs.styled.show_lines.Goals as goal
 
--- The lines are the text in the style that `QUOTED` selects.
+-- The lines of `v` are the text of `v` in the style `lines_style quoted`.
 lined : (quoted : Bool) (v : Tree) → shown_by (bytes_of quoted) 0 v ≡ part_in (lines_style quoted) (Some v)
 lined false v = plain-shown 0 v
 lined true v = refl

@@ -1,4 +1,4 @@
--- The proof of `read_ends`: the sum of the first sizes is at most the sum of all.
+-- The proof of `read_ends`: the sum of the first sizes is at most the sum of all sizes.
 use Rattle.std.proofs.Common.{◌≡◌, ℕ, ◌+◌, ◌-◌, sum, ap, arith}
 use Rattle.capn_stream.specs.FrameRefusal.{entries}
 use Rattle.capn_stream.proofs.shared.Entries.{sum-entries_le}

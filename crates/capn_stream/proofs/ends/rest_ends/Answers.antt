@@ -13,7 +13,7 @@ use Rattle.capn_stream.proofs.ends.rest_ends.Goals as goal
 abbrev left_of : (first count : ℕ) → List ℕ → List ℕ
 left_of first count sizes = entries (count - first) (take (length sizes - 4 * first) (drop (4 * first) sizes))
 
--- the sizes of all segments are those of the first ones and of the others
+-- the sizes of all segments are the first `first` sizes and then the sizes of the other segments
 all_of : (first count : ℕ) (sizes : List ℕ) → first ≤ count
     → entries count sizes ≡ entries first sizes ++ left_of first count sizes
 all_of first count sizes l =
@@ -21,7 +21,6 @@ all_of first count sizes l =
     ap (λ (n : ℕ). entries n sizes) e ∙ entries_then first (count - first) sizes
     ∙ ap (λ (xs : List ℕ). entries first sizes ++ entries (count - first) xs) (sym (take_rest sizes (4 * first)))
 
--- the sum of all sizes is the sum over the first segments and the sum over the others
 sums_of : (first count : ℕ) (sizes : List ℕ) → first ≤ count
     → sum (entries count sizes) ≡ sum (entries first sizes) + sum (left_of first count sizes)
 sums_of first count sizes l =

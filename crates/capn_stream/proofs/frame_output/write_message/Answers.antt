@@ -12,7 +12,7 @@ use Rattle.capn_stream.proofs.frame_output.write_message.Goals as goal
 in_two : (message : List (List ℕ)) → frame_text message ≡ head_text message ++ segment_bytes message
 in_two message = sym (append_assoc (table message) (replicate (padding (length message)) 0) (segment_bytes message))
 
--- a frame is its table with padding, the bytes of some segments, and those of the others
+-- a frame is its table with padding, the bytes of the first `s` segments, and the bytes of the other segments
 in_three : (message : List (List ℕ)) (s : ℕ)
     → frame_text message ≡ (head_text message ++ segment_bytes (take s message)) ++ segment_bytes (drop s message)
 in_three message s =

@@ -5,7 +5,7 @@ use Rattle.capn_stream.specs.Frames.{segment_bytes}
 use Rattle.capn_stream.specs.inner.FrameOutput.{head_text}
 use Rattle.capn_stream.proofs.frame_output.write_message.Given as goal
 
--- the writer has not failed, and has taken the table and the bytes of the segments before `segment`
+-- the writer has not failed, and has written the table with its padding and the bytes of the segments before `segment`
 abbrev pub invariant-loop-segment : goal.invariant-loop-segment
 invariant-loop-segment g l = record {
   fine : has_failed l.writer ≡ false;

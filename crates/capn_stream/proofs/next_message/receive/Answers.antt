@@ -10,7 +10,7 @@ use Rattle.capn_stream.proofs.Received.{received_end, received_err, received_io,
 use Rattle.capn_stream.proofs.Received.{received_some, took_front, took_none, took_some}
 use Rattle.capn_stream.proofs.next_message.receive.Goals as goal
 
--- after a read returned an error, the flag of the reader is set
+-- if the last read returned an error, the flag `now` of the reader is set
 has_broken : (was now : Bool) → now ≡ (was || true) → now ≡ true
 has_broken true now e = e
 has_broken false now e = e
@@ -42,7 +42,7 @@ returns-in-Ok-eq0 g c =
           received_end _ _ c.pieces.framer.rest c.args.max_words _ c.end_of.result ends read.0 read.1 bound fine;
     }
 
--- the bytes that were read do not go beyond the message
+-- if at most `wanted` bytes were read into `buf`, `EndsWithin` holds of all bytes that were read
 read_within : (framer : Framing) (buf : List ℕ) (wanted count most : ℕ)
     → ((more : List ℕ) → length more ≤ wanted → EndsWithin (framer.rest ++ more) framer.most) → framer.most ≡ most
     → count ≤ wanted → EndsWithin (framer.rest ++ take count buf) most

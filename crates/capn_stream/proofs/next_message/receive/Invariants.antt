@@ -5,7 +5,7 @@ use Rattle.capn_stream.specs.StreamPieces.{IsUnfinished}
 use Rattle.capn_stream.specs.NextMessage.{most_bytes}
 use Rattle.capn_stream.proofs.next_message.receive.Given as goal
 
--- neither reader nor framer has failed, and the framer has the bytes that were read, which are no whole message
+-- neither the reader nor the framer has failed, and the framer has the bytes that were read, which are unfinished
 abbrev pub invariant-pieces : goal.invariant-pieces
 invariant-pieces g l = record {
   fine : has_failed l.reader ≡ false;
@@ -15,6 +15,6 @@ invariant-pieces g l = record {
   part : IsUnfinished l.framer.rest l.max_words;
 }
 
--- the greatest number of bytes that the frame can still have
+-- the greatest number of bytes that can still be read for the frame
 abbrev pub decreases-pieces : goal.decreases-pieces
 decreases-pieces g l = most_bytes l.max_words - length l.framer.rest

@@ -55,7 +55,7 @@ module _ {M : Type 1} {𝓤 : Ura M} (𝓛 : Logic 𝓤) {D : Type 0} (c : D →
   abbrev run_of : List D → ℕ → ℕ → Lft → Fml
   run_of ys b' o = beside (said (feq ℕ (length ys) n)) (each_shared ys c 1 b' o)
 
-  -- a borrow of elements and a borrow of the elements after them are a borrow of all
+  -- a borrow of `xs`, and a borrow of `ys` right after `xs`, are a borrow of `xs ++ ys`
   after : (xs ys : List D) (o : ℕ)
       → ent 𝓤 (sem 𝓛 (beside (each_shared xs c 1 b o) (each_shared ys c 1 b (at o 1 (length xs))) κ))
       (sem 𝓛 (each_shared (xs ++ ys) c 1 b o κ))
@@ -93,7 +93,7 @@ module _ {M : Type 1} {𝓤 : Ura M} (𝓛 : Logic 𝓤) (at_mem : Memory → SP
   abbrev clauses : Clauses 𝓤 F.ended
   clauses = F.clauses 𝓛 at_mem run
 
-  -- facts about words that are borrowed for `κ` and begin at offset `o` of the block `b`
+  -- each lemma of this block is about words that are borrowed for `κ` and begin at offset `o` of the block `b`
   module _ (C : Calls 𝓤 H) (Λ : Loops 𝓤 H) (κ : Lft) (q : Share) (b o : ℕ) (xs : List (List ℕ)) (m : ℕ) where
     abbrev words : Bor (List (List ℕ))
     words = record { ref_ptr = (b, o); now = xs }

@@ -6,7 +6,6 @@ use Rattle.capn_commands.specs.FaultText.{fault_line}
 use Rattle.capn_commands.specs.declared.fault.ToolFault.TheVariants as faults
 use Rattle.capn_tool.proofs.unordered.tell_mistake.Goals as goal
 
--- A text was written to the errors, or the error line of Memory.
 told_text : {A E : Type 0} (errors : Course) (said : Result (String A) E)
     → IfOk said (λ text. WritesLine (string_bytes text) errors.before errors.after errors.failed)
     → IfErr said (λ e. WritesLine (fault_line faults.Memory) errors.before errors.after errors.failed)

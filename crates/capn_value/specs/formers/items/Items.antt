@@ -1,5 +1,5 @@
 -- The storage of the elements in `Items`, which allows a `Value` to have `Items` of values. It is the storage of the
--- `Vec` inside, seen as the list of its elements.
+-- wrapped `Vec`, seen as the list of its elements.
 use mathlib.Core.Path.{◌≡◌, refl, sym}
 use mathlib.Core.List.{List, []}
 use mathlib.Core.Former.{Former, this, list, via, children}
@@ -22,7 +22,7 @@ use Rattle.capn_value.specs.contracts.items.Items.TheInside as fields
 abbrev pub the_former : Former {0} → Type 0 → Former {0}
 the_former elements A = list elements
 
--- if the elements have weights, a list of them has one
+-- if the elements have weights, a list of them has a weight
 abbrev pub the_weighed : {elements : Former {0}} → Weighed elements → (A : Type 0) → Weighed (the_former elements A)
 the_weighed weights A = w_list weights
 

@@ -13,7 +13,6 @@ use Rattle.capn_commands.specs.declared.fault.ToolFault.TheVariants as faults
 use Rattle.capn_commands.proofs.PartServed.{does_part}
 use Rattle.capn_commands.proofs.message_texts.MessageTextsService.serve.Goals as goal
 
--- The text that the service writes for the message was appended.
 puts : (this : MessageText) (s : MessageTexts) (message : List (List ℕ)) (old new : List ℕ)
     (r : Result (Unit {0}) ToolFault) → s.piece ≡ this → PutsMessageText this message s.limits old new r
     → PutsMessageText s.piece message s.limits old new r

@@ -3,7 +3,7 @@ use Rattle.std.specs.Fmt.{IsPlainFormatter, HasWritten}
 use Rattle.capn_diagnostics.specs.Texts.{dotted, path_text}
 use Rattle.capn_diagnostics.proofs.path_text.PathTextDisplay.fmt.Given as goal
 
--- The bytes written so far, followed by the text of the numbers that are left, are the text of the path.
+-- The bytes `done` are written. These bytes, and then the text of the numbers from `i` on, are the text of the path.
 abbrev pub invariant-loop-i : goal.invariant-loop-i
 invariant-loop-i g l =
     IsPlainFormatter l.fn.f

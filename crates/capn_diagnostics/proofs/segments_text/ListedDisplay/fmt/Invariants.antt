@@ -3,7 +3,7 @@ use Rattle.std.specs.Fmt.{IsPlainFormatter, HasWritten}
 use Rattle.capn_diagnostics.specs.MessageTexts.{behind_commas, listed}
 use Rattle.capn_diagnostics.proofs.segments_text.ListedDisplay.fmt.Given as goal
 
--- The bytes written so far, followed by the text of the numbers that are left, are the text of the list.
+-- The bytes `done` are written. These bytes, and then the text of the numbers from `i` on, are the text of the list.
 abbrev pub invariant-loop-i : goal.invariant-loop-i
 invariant-loop-i g l =
     IsPlainFormatter l.fn.f

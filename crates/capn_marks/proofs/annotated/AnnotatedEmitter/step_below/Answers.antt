@@ -6,7 +6,6 @@ use Rattle.capn_marks.specs.Annotation.{stepped}
 use Rattle.capn_marks.specs.Marked.{below}
 use Rattle.capn_marks.proofs.annotated.AnnotatedEmitter.step_below.Goals as goal
 
--- The path is a prefix of each path below it.
 above : (path : List ℕ) (i : ℕ) → take (length path) (below path i) ≡ path
 above [] i = refl
 above (c ∷ path) i = take-append_seam (c ∷ path) _

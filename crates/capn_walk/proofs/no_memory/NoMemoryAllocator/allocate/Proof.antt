@@ -1,4 +1,4 @@
--- The call has no block to return. Assumes `Logic`.
+-- The proof of `NoMemory::allocate`. Each call returns an error. Assumes `Logic`.
 use Rattle.std.proofs.Common.{ℕ, ◌^◌, ◌<◌, false, List, [], ◌∷◌, Err, refl, w64, Bor}
 use seplogic.Ra.Ura.{Ura}
 use mir.Syntax.{Ty}
@@ -58,7 +58,6 @@ module _ {M : Type 1} {𝓤 : Ura M} (𝓛 : Logic 𝓤) (at_mem : Memory → SP
     abbrev Post : Val → SProp 𝓤
     Post = (walk_of 𝓛 F.ended stayed held).post bound
 
-    -- each call returns the refusal
     walk : n < 2 ^ 64 → a < 2 ^ 64
         → ent 𝓤 ((walk_of 𝓛 F.ended stayed held).pre bound) (WpFn 𝓤 H 𝓣.C 𝓣.Λ code.function vs Post)
     walk fn fa =

@@ -1,4 +1,4 @@
--- The call gets back no block, since none was given. Assumes `Logic`.
+-- The proof of `NoMemory::deallocate`. Each call does nothing, since `allocate` never returns a block. Assumes `Logic`.
 use Rattle.std.proofs.Common.{ℕ, ◌^◌, ◌<◌, T, List, [], ◌∷◌, refl, lit<, w64, Bor}
 use seplogic.Ra.Ura.{Ura}
 use mir.Syntax.{Ty, ty_ptr}
@@ -46,7 +46,6 @@ stayed = (
   ),
 )
 
--- a pointer is passed as a value of its type
 passes : (p : Ptr) → T (has_ty ty_ptr (ptr_val p)) × WT (ptr_val p)
 passes (block_ptr b o) = (tt, tt)
 passes null_ptr = (tt, record { fits = lit< tt })
@@ -77,7 +76,6 @@ module _ {M : Type 1} {𝓤 : Ura M} (𝓛 : Logic 𝓤) (at_mem : Memory → SP
     abbrev Post : Val → SProp 𝓤
     Post = (walk_of 𝓛 F.ended stayed held).post bound
 
-    -- the call does nothing
     walk : n < 2 ^ 64 → a < 2 ^ 64
         → ent 𝓤 ((walk_of 𝓛 F.ended stayed held).pre bound) (WpFn 𝓤 H 𝓣.C 𝓣.Λ code.function vs Post)
     walk fn fa =

@@ -3,7 +3,7 @@ use Rattle.std.specs.Io.KnownBytes.{Appends}
 use Rattle.capn_words.specs.Watched.{inner_of, has_failed}
 use Rattle.capn_words.proofs.watched.Watched.write_all.Given as goal
 
--- the loop's calls have not failed, and the writer has taken the first `at` bytes of `text`
+-- no call of the loop has set the flag, and the writer has written the first `at` bytes of `text`
 abbrev pub invariant-loop-at : goal.invariant-loop-at
 invariant-loop-at g l = record {
   same : has_failed l.self ≡ has_failed l.fn.self;

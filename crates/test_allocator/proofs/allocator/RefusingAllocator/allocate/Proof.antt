@@ -1,4 +1,5 @@
--- It counts the call, and refuses it or answers what the inner allocator answers. Assumes `Logic`.
+-- The proof of `allocate` of `Refusing`: it counts the call, and then refuses it or returns what the inner allocator
+-- returns. Assumes `Logic`.
 use Rattle.std.proofs.Common.{◌≡◌, ℕ, ◌+◌, ◌^◌, ◌<◌, true, false, List, [], ◌∷◌, Ok, Err, refl, ap, w64, Bor}
 use seplogic.Ra.Ura.{Ura}
 use mir.Syntax.{Ty, Args, Fn, a_type, dnil, dcons}
@@ -55,7 +56,7 @@ use Rattle.test_allocator.proofs.allocator.RefusingAllocator.allocate.Code as co
 abbrev Count : RattleType
 Count = cells.the_row account.the_row
 
--- `is_refused` at a call: what it is handed, and what a caller has of it.
+-- The contract of `is_refused`, and the values that one call of it has.
 module _ {M : Type 1} {𝓤 : Ura M} (𝓛 : Logic 𝓤) (at_mem : Memory → SProp 𝓤) (run : Routine → Fun 𝓤) where
   abbrev Counts : Contract 𝓤
   Counts = triple_of 𝓛 counting.signature (counting.spec 𝓛 at_mem run)
