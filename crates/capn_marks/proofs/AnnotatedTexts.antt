@@ -116,8 +116,7 @@ module _ (marks : Marks) where
           (ap₂ (λ (x y : List ℕ). x ++ y) (same-mark (stepped marks.ways v i) (below w i)
           (agree-below marks.ways v w i a) (byte_at m marks (place i)))
           (same (stepped marks.ways v i) (below w i) (agree-below marks.ways v w i a) level (named_by (target m
-          (place i))) t))
-          (same-each v w a level place (suc i) ts)
+          (place i))) t)) (same-each v w a level place (suc i) ts)
 
       same-rows : (v w : List ℕ) (a : Agree marks.ways v w) (level : ℕ) (row : ℕ → Target) (i : ℕ) (bs : Bodies)
           → by.emitted_rows m (rule_of marks) level v row i bs ≡ marked_rows m marks level w row i bs
@@ -130,5 +129,4 @@ module _ (marks : Marks) where
           (same-lines (stepped marks.ways v i) (below w i) (agree-below marks.ways v w i a) 8 (word_line (level + 1)) 0
           (byte_at m marks (begin (row i))) ws)
           (same-each (stepped marks.ways v i) (below w i) (agree-below marks.ways v w i a) (level + 1) (step_place
-          (row i)) 0 ss)))
-          (same-rows v w a level row (suc i) bs)
+          (row i)) 0 ss))) (same-rows v w a level row (suc i) bs)

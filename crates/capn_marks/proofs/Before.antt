@@ -1,14 +1,12 @@
--- The list of the numbers of words before each segment, made one segment after another. (For `byte_of` and
--- `words_before`.)
-use Rattle.std.proofs.Common.{◌≡◌, ℕ, zero, suc, ◌+◌, ◌<◌, ◌≤◌, nat_lt, Bool, true, false, List, [], ◌∷◌, ◌++◌, length}
-use Rattle.std.proofs.Common.{take, slice_index, refl, ap, subst, ◌∙◌, arith}
+-- The list with the number of words before each segment, made segment by segment. (For `byte_of` and `words_before`.)
+use Rattle.std.proofs.Common.{◌≡◌, ℕ, ◌+◌, ◌<◌, ◌≤◌, nat_lt, Bool, true, false, List, [], ◌∷◌, ◌++◌, length, take}
+use Rattle.std.proofs.Common.{slice_index, refl, ap, subst, ◌∙◌, arith}
 use Rattle.std.proofs.lemmas.Bool.Decides.{nat_tests}
 use Rattle.std.proofs.Math.ListN.{get_or-append}
 use Rattle.std.proofs.Math.Seq.{get_or-append_seam}
 use Rattle.std.proofs.lemmas.List.{length-append}
 use Rattle.std.proofs.lemmas.List.Sums.{sum_by_more, sum_by_more_le}
 use Rattle.capn_words.specs.Message.{segment_at, total}
-use Rattle.capn_marks.specs.MarkedPlaces.{CountsBefore}
 
 module _ (m : List (List ℕ)) (s : ℕ) (below : s < length m) where
   pub next : total (take (s + 1) m) ≡ total (take s m) + length (segment_at m s)
@@ -43,13 +41,3 @@ module _ (m : List (List ℕ)) (xs : List ℕ) (n x : ℕ) (h : AreBefore m xs n
         count = length-append xs (x ∷ []) ∙ omega arith;
         each = λ s below. one s below (nat_lt s n) refl;
       }
-
-pub counts_before : (m : List (List ℕ)) (xs : List ℕ) (n : ℕ) → AreBefore m xs n → n ≡ length m → CountsBefore m xs
-counts_before m xs n h e = record { count = h.count ∙ e; each = λ s below. h.each s (omega arith) }
-
-first : (m : List (List ℕ)) (s : ℕ) → s < 1 → slice_index (0 ∷ []) s ≡ total (take s m)
-first m zero below = refl
-first m (suc s) below = absurd (omega arith)
-
-pub alone : (m : List (List ℕ)) → 1 ≡ length m → CountsBefore m (0 ∷ [])
-alone m one = record { count = one; each = λ s below. first m s (omega arith) }

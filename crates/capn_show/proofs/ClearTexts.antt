@@ -1,11 +1,10 @@
--- Lemmas for `is_json_text` and `is_well_formed`: the test of a text for JSON, byte by byte.
-use Rattle.std.proofs.Common.{◌≡◌, ℕ, zero, suc, ◌+◌, ◌<◌, ◌==◌, ◌&&◌, ◌||◌, List, [], ◌∷◌, Bool, true, false}
-use Rattle.std.proofs.Common.{length, drop, get_or, ap, refl, ◌∙◌, arith}
+-- Lemmas for `is_json_text` and `is_well_formed`: bytes that are a text in JSON, and bytes that are not UTF-8.
+use Rattle.std.proofs.Common.{◌≡◌, ℕ, zero, suc, ◌==◌, ◌&&◌, List, [], ◌∷◌, Bool, true, false, length, get_or, ap, refl}
+use Rattle.std.proofs.Common.{◌∙◌, arith}
 use Rattle.std.specs.Str.{IsUtf8, is_utf8}
 use Rattle.std.proofs.lemmas.Bool.{ne_eqb}
 use Rattle.std.proofs.lemmas.Str.{IsUtf8-from_is_utf8}
-use Rattle.capn_show.specs.JsonTexts.{is_control, is_long_control, has_control, ends_in_zero, before_last, is_clear}
-use Rattle.capn_show.specs.JsonTexts.{is_json_text}
+use Rattle.capn_show.specs.JsonTexts.{ends_in_zero, before_last, is_clear, is_json_text}
 
 -- ---- UTF-8
 
@@ -15,45 +14,6 @@ false-by bs false e h = refl
 
 pub no-utf8 : (bs : List ℕ) → (IsUtf8 bs → ⊥) → is_utf8 bs ≡ false
 no-utf8 bs h = false-by bs (is_utf8 bs) refl h
-
--- ---- control characters
-
-control-from : (xs : List ℕ) (i : ℕ) → suc i < length xs → has_control (drop i xs)
-    ≡ ((is_control (get_or xs i 0) || is_long_control (get_or xs i 0) (get_or xs (suc i) 0))
-    || has_control (drop (suc i) xs))
-control-from [] i h = absurd (omega arith)
-control-from (b ∷ []) i h = absurd (omega arith)
-control-from (b ∷ c ∷ cs) zero h = refl
-control-from (b ∷ c ∷ cs) (suc i) h = control-from (c ∷ cs) i (omega arith)
-
-control-last : (xs : List ℕ) (i : ℕ) → suc i ≡ length xs → has_control (drop i xs) ≡ is_control (get_or xs i 0)
-control-last [] i h = absurd (omega arith)
-control-last (b ∷ []) zero h = refl
-control-last (b ∷ []) (suc i) h = absurd (omega arith)
-control-last (b ∷ c ∷ cs) zero h = absurd (omega arith)
-control-last (b ∷ c ∷ cs) (suc i) h = control-last (c ∷ cs) i (omega arith)
-
-module _ (xs : List ℕ) (i : ℕ) (so_far : has_control xs ≡ has_control (drop i xs)) where
-  -- Let `found` be true exactly if byte `i` is a control character, or bytes `i` and `i + 1` encode one.
-  module _ (h : suc i < length xs) (found : Bool)
-      (e : (is_control (get_or xs i 0) || is_long_control (get_or xs i 0) (get_or xs (suc i) 0)) ≡ found) where
-    found-here : has_control xs ≡ (found || has_control (drop (suc i) xs))
-    found-here = so_far ∙ control-from xs i h ∙ ap (λ (x : Bool). x || has_control (drop (suc i) xs)) e
-
-  pub control-here : suc i < length xs
-      → (is_control (get_or xs i 0) || is_long_control (get_or xs i 0) (get_or xs (suc i) 0)) ≡ true
-      → has_control xs ≡ true
-  control-here h e = found-here h true e
-
-  pub none-here : suc i < length xs
-      → (is_control (get_or xs i 0) || is_long_control (get_or xs i 0) (get_or xs (suc i) 0)) ≡ false
-      → has_control xs ≡ has_control (drop (i + 1) xs)
-  none-here h e =
-      let next : suc i ≡ i + 1 = omega arith in
-      found-here h false e ∙ ap (λ (k : ℕ). has_control (drop k xs)) next
-
-  pub at-last : suc i ≡ length xs → has_control xs ≡ is_control (get_or xs i 0)
-  at-last h = so_far ∙ control-last xs i h
 
 -- ---- a text
 

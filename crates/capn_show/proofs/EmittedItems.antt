@@ -111,7 +111,7 @@ nth first k = record { segment = first.segment; word = first.word + k }
 abbrev pub nth_row : Place → ℕ → ℕ → ℕ → Target
 nth_row first a b k = struct_at first.segment (first.word + k * (a + b)) a b
 
--- Let `r` and `rule` be equal rules, and `here` and `path` be equal paths. So both rules give an item the same text.
+-- Let `r` and `rule` be equal rules, and `here` and `path` equal paths. Both rules then give an item the same text.
 module _ (m : List (List ℕ)) (rule : Rule) (level : ℕ) (path : List ℕ) (r : Rule) (here : List ℕ) (e : r ≡ rule)
     (f : here ≡ path) where
   pub item-is : (place : ℕ → Place) (ts : Trees) (i : ℕ)

@@ -36,8 +36,7 @@ pub digits-emitted : (rule : Rule) (level : ℕ) (path : List ℕ) (first n : �
     ≡ emitted_digits rule level path first n digits
 digits-emitted rule level path first zero digits some = absurd (omega arith)
 digits-emitted rule level path first (suc n) digits some =
-    append_assoc (rule.mark 0 first path) (rule.piece level pieces.Digits)
-    (digits ++ rule.piece level pieces.EndDigits)
+    append_assoc (rule.mark 0 first path) (rule.piece level pieces.Digits) (digits ++ rule.piece level pieces.EndDigits)
 
 module _ (m : List (List ℕ)) (rule : Rule) (level : ℕ) (path : List ℕ) where
   -- ---- a slot
@@ -108,8 +107,7 @@ module _ (m : List (List ℕ)) (rule : Rule) (level : ℕ) (path : List ℕ) whe
               let rest = emitted_slots m rule (level + 1) path (step_place t) 0 x.slots in
               subst Says
               (ap (λ (j : ℕ). rule.piece level (pieces.Links j) ++ rest) (sym x.number)
-              ∙ sym (ap (emitted m rule level path t) x.is))
-              (step rest (k x.slots x.are x.number)))
+              ∙ sym (ap (emitted m rule level path t) x.is)) (step rest (k x.slots x.are x.number)))
 
           pub rows-emitted : (n a b span : ℕ) → shape ≡ shapes.Rows n a b span
               → ((y : List ℕ) → Below y → Says (rule.piece level (pieces.Rows n) ++ y))
@@ -121,8 +119,7 @@ module _ (m : List (List ℕ)) (rule : Rule) (level : ℕ) (path : List ℕ) whe
               let rest = emitted_rows m rule (level + 1) path (seen.row_of t) 0 x.bodies in
               subst Says
               (ap (λ (j : ℕ). rule.piece level (pieces.Rows j) ++ rest) (sym x.number)
-              ∙ sym (ap (emitted m rule level path t) x.is))
-              (step rest (k x.bodies x.are x.number)))
+              ∙ sym (ap (emitted m rule level path t) x.is)) (step rest (k x.bodies x.are x.number)))
 
   -- ---- a list of elements without pointers
 
@@ -163,8 +160,7 @@ module _ (m : List (List ℕ)) (rule : Rule) (level : ℕ) (path : List ℕ) whe
           ≡ rule.piece level (head (length xs))
           ++ emitted_each rule (list_width a) (8 / seen.per_word (list_width a)) (level + 1) path f xs)
           → width ≡ list_width a → ((y : List ℕ) → Below y → Says (rule.piece level (head n) ++ y))
-          → NumbersShown m s w width n
-          (emitted_each rule width (8 / seen.per_word width) (level + 1) path first) Below
+          → NumbersShown m s w width n (emitted_each rule width (8 / seen.per_word width) (level + 1) path first) Below
           → IsListEmitted
       numbers-emitted a head each e step k pads v i =
           let x = as-numbers m a s w pads n v (subst (λ (y : Width). Shows m
@@ -177,8 +173,7 @@ module _ (m : List (List ℕ)) (rule : Rule) (level : ℕ) (path : List ℕ) whe
           ∙ ap (λ (y : Width). rule.piece level (head (length x.items))
           ++ emitted_each rule y (8 / seen.per_word y) (level + 1) path first x.items) e
           ∙ sym (each first x.items)
-          ∙ sym (ap (emitted m rule level path t) x.is))
-          (step rest (k x.items are x.count))
+          ∙ sym (ap (emitted m rule level path t) x.is)) (step rest (k x.items are x.count))
 
       pub bits-emitted : width ≡ W1 → ((y : List ℕ) → Below y → Says (rule.piece level (pieces.Bits n) ++ y))
           → BitsShown m s w n (λ xs. emitted_digits rule (level + 1) path first (length xs) (digits_of xs)) Below
@@ -193,8 +188,7 @@ module _ (m : List (List ℕ)) (rule : Rule) (level : ℕ) (path : List ℕ) whe
           ∙ ap₂ (λ (j : ℕ) (ys : List Bool). rule.piece level (pieces.Bits j)
           ++ emitted_digits rule (level + 1) path first j (digits_of ys))
           (sym (length-bits x.digits)) (sym (bits_again x.digits))
-          ∙ sym (ap (emitted m rule level path t) x.is))
-          (step rest (k x.digits x.are x.count)))
+          ∙ sym (ap (emitted m rule level path t) x.is)) (step rest (k x.digits x.are x.count)))
 
 -- ---- the same texts by an equal rule and at an equal path
 

@@ -75,8 +75,7 @@ module _ (by : ℕ → List ℕ) (p q : Outgoing) where
         → Adds q r (by x) → Adds p r (escapes_by by (take (i + 1) xs))
     escapes-more r x below e h k =
         more (escapes_by by) (escapes-joined by) p q xs i r 0 below h
-        (otherwise q r (by x) (escapes_by by (get_or xs i 0 ∷ []))
-        (ap by e ∙ sym (append-nil (by (get_or xs i 0)))) k)
+        (otherwise q r (by x) (escapes_by by (get_or xs i 0 ∷ [])) (ap by e ∙ sym (append-nil (by (get_or xs i 0)))) k)
 
     pub escapes-cut : (r : Outgoing) (e : Broken) (x : ℕ) → i < length xs → x ≡ get_or xs i 0
         → Adds p q (escapes_by by (take i xs)) → BreaksOff q r e (by x) → BreaksOff p r e (escapes_by by xs)
@@ -125,8 +124,7 @@ module _ (p q : Outgoing) where
     pub bits-more : (r : Outgoing) (i k : ℕ) (digits : List ℕ) → digits ≡ digits_of (take k (drop i xs))
         → Adds p q (digits_of (take i xs)) → Adds q r digits → Adds p r (digits_of (take (i + k) xs))
     bits-more r i k digits e h j =
-        block-more digits_of digits_of-joined p q r xs i k h
-        (otherwise q r digits (digits_of (take k (drop i xs))) e j)
+        block-more digits_of digits_of-joined p q r xs i k h (otherwise q r digits (digits_of (take k (drop i xs))) e j)
 
     pub bits-cut : (r : Outgoing) (e : Broken) (i k : ℕ) (digits : List ℕ)
         → digits ≡ digits_of (take k (drop i xs)) → Adds p q (digits_of (take i xs)) → BreaksOff q r e digits

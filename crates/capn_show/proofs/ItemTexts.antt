@@ -41,8 +41,7 @@ module _ {A : Type 0} (item : ℕ → A → List ℕ) where
         rest.0,
         ap (λ (l : List ℕ). l ++ rest.0) (append_assoc (item k x) front (item (k + suc i) y))
             ∙ append_assoc (item k x) (front ++ item (k + suc i) y) rest.0
-            ∙ ap (λ (l : List ℕ). item k x ++ l)
-            (ap (λ (n : ℕ). (front ++ item n y) ++ rest.0) same ∙ rest.1),
+            ∙ ap (λ (l : List ℕ). item k x ++ l) (ap (λ (n : ℕ). (front ++ item n y) ++ rest.0) same ∙ rest.1),
       )
 
   module _ (d : A) (p q : Outgoing) (xs : List A) (i : ℕ) where
@@ -55,8 +54,7 @@ module _ {A : Type 0} (item : ℕ → A → List ℕ) where
         let here = get_or xs i d in
         otherwise p r (front ++ item i here) (texts 0 (take (i + 1) xs))
         (ap (λ (n : ℕ). front ++ item n here) number ∙ texts-next d 0 i xs below
-        ∙ ap (λ (n : ℕ). texts 0 (take n xs)) next)
-        (both p q r front (item i here) h k)
+        ∙ ap (λ (n : ℕ). texts 0 (take n xs)) next) (both p q r front (item i here) h k)
 
     pub item-cut : (r : Outgoing) (e : Broken) (end : List ℕ) → i < length xs → Adds p q (texts 0 (take i xs))
         → BreaksOff q r e (item i (get_or xs i d)) → BreaksOff p r e (texts 0 xs ++ end)

@@ -29,8 +29,7 @@ struct-parts : (ws : List ℕ) (slots : List (List ℕ)) → codes "{\"words\":[
 struct-parts ws slots =
     let own = with_commas (map word_text ws) in
     let below = with_commas slots in
-    ap (λ (l : List ℕ). codes "{\"words\":[" ++ l)
-    (append_assoc own (codes "],\"slots\":[") (below ++ codes "]}")
+    ap (λ (l : List ℕ). codes "{\"words\":[" ++ l) (append_assoc own (codes "],\"slots\":[") (below ++ codes "]}")
     ∙ ap (λ (l : List ℕ). own ++ (codes "],\"slots\":[" ++ l)) (sym (append_assoc below (93 ∷ []) (125 ∷ [])))
     ∙ sym (append_assoc own (93 ∷ []) (codes ",\"slots\":[" ++ ((below ++ 93 ∷ []) ++ 125 ∷ []))))
 

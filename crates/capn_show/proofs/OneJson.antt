@@ -1,4 +1,4 @@
--- Lemmas for the law `json_texts`: a list of bytes can be found from its JSON.
+-- Lemmas for the law `json_texts`: the JSON of a list of bytes determines the list.
 use Rattle.std.proofs.Common.{◌≡◌, ℕ, suc, ◌-◌, ◌==◌, List, [], ◌∷◌, ◌++◌, Bool, true, false, ◌&&◌}
 use Rattle.std.proofs.Common.{if◌then◌else◌, length, take, ap, sym, refl, ◌∙◌, arith, codes}
 use Rattle.std.proofs.lemmas.Bool.{eqb-true}

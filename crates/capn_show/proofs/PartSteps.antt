@@ -4,10 +4,10 @@ use Rattle.std.proofs.Common.{refl, subst, sym, ap, ◌∙◌, arith, Err}
 use Rattle.std.proofs.Math.Seq.{drop-cons}
 use Rattle.std.proofs.Math.ListN.{drop_of_length-le}
 use Rattle.capn_words.specs.declared.pointer.Width.{Width}
-use Rattle.capn_words.specs.declared.pointer.Width.TheVariants.{W0, W1, W8, W16, W32, W64, Link, Rows}
+use Rattle.capn_words.specs.declared.pointer.Width.TheVariants.{Link, Rows}
 use Rattle.capn_words.specs.declared.space.Place.{Place}
-use Rattle.capn_value.specs.Tree.{Tree, node, Trees}
-use Rattle.capn_value.specs.Tree.{no_trees, tree, Bodies, no_bodies, body, count, count_rows, tree_at}
+use Rattle.capn_value.specs.Tree.{Tree, node, Trees, no_trees, tree, Bodies, no_bodies, body, count, count_rows}
+use Rattle.capn_value.specs.Tree.{tree_at}
 use Rattle.capn_value.specs.Cost.{height}
 use Rattle.capn_target.specs.declared.target.Target.{Target}
 use Rattle.capn_target.specs.declared.target.Target.TheVariants as targets
@@ -16,12 +16,9 @@ use Rattle.capn_target.specs.declared.target.Shape.TheVariants as shapes
 use Rattle.capn_target.specs.declared.target.Fault.{Fault}
 use Rattle.capn_target.specs.Target.{target}
 use Rattle.capn_walk.specs.ValueAt.{IsAt}
-use Rattle.capn_target.specs.Shapes.{RowsFit}
 use Rattle.capn_walk.specs.ShownValue.{Shows, words_of_row, slots_of_row}
 use Rattle.capn_show.specs.Part.{nth_tree, nth_row, step_down, follow}
 use Rattle.capn_show.specs.ReadyPlaces.{HasValue, Holds, LeadsTo, struct_at}
-use Rattle.capn_value.specs.NumberWidth.{bit, byte, pair, quad, oct}
-use Rattle.capn_show.proofs.shared.FoundKinds.{as-nil, as-cap, as-voids, as-numbers}
 use Rattle.capn_show.proofs.shared.FoundKinds.{as-node, as-links, as-rows}
 use Rattle.capn_show.proofs.SlotTexts.{low-at, row-low}
 use Rattle.capn_show.proofs.shared.Steps.{found}
@@ -77,38 +74,13 @@ module _ (m : List (List ℕ)) where
   pub no-fault-held : (at : Place) (e : Fault) → Holds m at → target m at ≡ Err e → ⊥
   no-fault-held at e h f = let g = (found m at h.0 h.1).1 in absurd (cc)
 
-  pub nil-none : (t : Target) (i : ℕ) → t ≡ targets.Nil → (v : Tree) → Shows m t v → step_down v i ≡ None
-  nil-none t i e v h =
-      ap (λ (u : Tree). step_down u i) (as-nil m v (subst (λ (x : Target). Shows m x v) e h))
-
-  pub cap-none : (t : Target) (k i : ℕ) → t ≡ targets.Cap k → (v : Tree) → Shows m t v → step_down v i ≡ None
-  cap-none t k i e v h =
-      ap (λ (u : Tree). step_down u i) (as-cap m k v (subst (λ (x : Target). Shows m x v) e h))
-
-  plain-none : (s w pads : ℕ) (width : Width) (n i : ℕ) (v : Tree) → (width ≡ Link → ⊥)
-      → RowsFit (shapes.Many width n) → Shows m (targets.Content s w (shapes.Many width n) pads) v
-      → step_down v i ≡ None
-  plain-none s w pads W0 n i v other fit h = ap (λ (u : Tree). step_down u i) (as-voids m s w pads n v h)
-  plain-none s w pads W1 n i v other fit h = ap (λ (u : Tree). step_down u i) (as-numbers m bit s w pads n v h).is
-  plain-none s w pads W8 n i v other fit h = ap (λ (u : Tree). step_down u i) (as-numbers m byte s w pads n v h).is
-  plain-none s w pads W16 n i v other fit h = ap (λ (u : Tree). step_down u i) (as-numbers m pair s w pads n v h).is
-  plain-none s w pads W32 n i v other fit h = ap (λ (u : Tree). step_down u i) (as-numbers m quad s w pads n v h).is
-  plain-none s w pads W64 n i v other fit h = ap (λ (u : Tree). step_down u i) (as-numbers m oct s w pads n v h).is
-  plain-none s w pads Link n i v other fit h = absurd (other refl)
-  plain-none s w pads Rows n i v other fit h = absurd fit
-
   module _ (t : Target) (s w pads : ℕ) (shape : Shape) (e : t ≡ targets.Content s w shape pads) where
     named-by : (other : Shape) (v : Tree) → shape ≡ other → Shows m t v
         → Shows m (targets.Content s w other pads) v
     named-by other v f h =
         subst (λ (x : Target). Shows m x v) (e ∙ ap (λ (x : Shape). targets.Content s w x pads) f) h
 
-    pub many-none : (width : Width) (n i : ℕ) → shape ≡ shapes.Many width n → (width ≡ Link → ⊥) → RowsFit shape
-        → (v : Tree) → Shows m t v → step_down v i ≡ None
-    many-none width n i f other fit v h =
-        plain-none s w pads width n i v other (subst RowsFit f fit) (named-by (shapes.Many width n) v f h)
-
-    -- Case: `shape` is that of a struct with `a` data words and `b` slots.
+    -- Case: `shape` is the shape of a struct with `a` data words and `b` slots.
     module _ (a b i : ℕ) (f : shape ≡ shapes.Node a b) where
       pub slot-held : i < b → HasValue m t → Holds m (record { segment = s; word = w + a + i })
       slot-held below h =
@@ -139,7 +111,7 @@ module _ (m : List (List ℕ)) where
           let number = x.are.slots in
           ap (λ (u : Tree). step_down u i) x.is ∙ nth-none x.slots i (omega arith)
 
-    -- Case: `shape` is that of a list of `n` pointers.
+    -- Case: `shape` is the shape of a list of `n` pointers.
     module _ (width : Width) (n i : ℕ) (f : shape ≡ shapes.Many width n) (g : width ≡ Link) where
       is-links : shape ≡ shapes.Many Link n
       is-links = f ∙ ap (λ (y : Width). shapes.Many y n) g
@@ -173,7 +145,7 @@ module _ (m : List (List ℕ)) where
           let number = x.number in
           ap (λ (u : Tree). step_down u i) x.is ∙ nth-none x.slots i (omega arith)
 
-    -- Case: `shape` is that of a list of `n` structs.
+    -- Case: `shape` is the shape of a list of `n` structs.
     module _ (n a b span i : ℕ) (f : shape ≡ shapes.Rows n a b span) where
       pub row-step : i < n → (v : Tree) → Shows m t v
           → LeadsTo m v (step_down v i) (struct_at s (w + 1 + i * (a + b)) a b)

@@ -1,39 +1,9 @@
--- Lemmas on the test of a text, byte by byte, and on its bytes between quotes. (For `bare_run`.)
-use Rattle.std.proofs.Common.{◌≡◌, ℕ, zero, suc, ◌+◌, ◌<◌, ◌==◌, ◌&&◌, ◌||◌, List, [], ◌∷◌, ◌++◌, Bool, true, false}
-use Rattle.std.proofs.Common.{if◌then◌else◌, length, take, drop, get_or, ap, ap₂, sym, refl, ◌∙◌, arith, append_assoc}
+-- Lemmas for `bare_run` and `Grown`: the bytes of a text between quotes, and bytes that need no escape.
+use Rattle.std.proofs.Common.{◌≡◌, ℕ, ◌+◌, ◌<◌, ◌==◌, ◌||◌, List, [], ◌∷◌, ◌++◌, Bool, true, false, if◌then◌else◌}
+use Rattle.std.proofs.Common.{length, take, get_or, ap, ap₂, sym, refl, ◌∙◌, append_assoc}
 use Rattle.std.proofs.lemmas.List.{append-nil, take_more}
-use Rattle.capn_show.specs.Quoting.{is_printable, is_text, escapes_by}
+use Rattle.capn_show.specs.Quoting.{escapes_by}
 use Rattle.capn_show.specs.ReadyPlaces.{escaped_of, is_escaped}
-
-text-from : (xs : List ℕ) (i : ℕ) → suc i < length xs
-    → is_text (drop i xs) ≡ (is_printable (get_or xs i 0) && is_text (drop (suc i) xs))
-text-from [] i h = absurd (omega arith)
-text-from (b ∷ []) i h = absurd (omega arith)
-text-from (b ∷ c ∷ cs) zero h = refl
-text-from (b ∷ c ∷ cs) (suc i) h = text-from (c ∷ cs) i (omega arith)
-
-text-last : (xs : List ℕ) (i : ℕ) → suc i ≡ length xs
-    → is_text (drop i xs) ≡ (is_printable (get_or xs i 0) || get_or xs i 0 == 0)
-text-last [] i h = absurd (omega arith)
-text-last (b ∷ []) zero h = refl
-text-last (b ∷ []) (suc i) h = absurd (omega arith)
-text-last (b ∷ c ∷ cs) zero h = absurd (omega arith)
-text-last (b ∷ c ∷ cs) (suc i) h = text-last (c ∷ cs) i (omega arith)
-
-module _ (xs : List ℕ) (i : ℕ) (so_far : is_text xs ≡ is_text (drop i xs)) where
-  -- If byte `i` is printable and a byte follows it, `xs` is a text exactly if the bytes after byte `i` are a text.
-  pub goes-on : suc i < length xs → is_printable (get_or xs i 0) ≡ true → is_text xs ≡ is_text (drop (i + 1) xs)
-  goes-on h p =
-      let next : suc i ≡ i + 1 = omega arith in
-      so_far ∙ text-from xs i h ∙ ap (λ (x : Bool). x && is_text (drop (suc i) xs)) p
-      ∙ ap (λ (k : ℕ). is_text (drop k xs)) next
-
-  -- If byte `i` is not printable and a byte follows it, `xs` is not a text.
-  pub stops : suc i < length xs → is_printable (get_or xs i 0) ≡ false → is_text xs ≡ false
-  stops h p = so_far ∙ text-from xs i h ∙ ap (λ (x : Bool). x && is_text (drop (suc i) xs)) p
-
-  pub ends : suc i ≡ length xs → is_text xs ≡ (is_printable (get_or xs i 0) || get_or xs i 0 == 0)
-  ends h = so_far ∙ text-last xs i h
 
 -- ---- between quotes
 

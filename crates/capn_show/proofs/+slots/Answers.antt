@@ -29,36 +29,19 @@ use Rattle.capn_show.proofs.EmittedTexts.{slot-emitted, body-emitted, nil-emitte
 use Rattle.capn_show.proofs.EmittedTexts.{list-emitted, links-emitted, rows-emitted, slot-moved, row-moved}
 use Rattle.capn_show.proofs.+slots.Goals as goal
 
+-- The facts `live`, and then the fact `x`.
+and-then : {A B C D E : Type 0} → A × (B × (C × D)) → E → A × (B × (C × (D × E)))
+and-then live x = (live.0, (live.1.0, (live.1.1.0, (live.1.1.1, x))))
+
 pub slots::show_slot-show_found-requires : goal.slots::show_slot-show_found-requires
 slots::show_slot-show_found-requires g t c κs live =
     let m = g.S.Space.message c.args.space.now in
     let e = sym c.resolve.ensures.exact ∙ c.in-Ok.is in
     let ready = found-ready m c.views_show_values.ensures c.args.at c.in-Ok.found c.args.depth e c.requires.ready in (
       omega arith,
-      (
-        live.0,
-        (
-          live.1.0,
-          (
-            live.1.1.0,
-            (
-              live.1.1.1,
-              (
-                c.requires.message,
-                (
-                  c.requires.of,
-                  (
-                    c.in-Ok.ensures.inside,
-                    (
-                      ready,
-                      c.requires.room,
-                    ),
-                  ),
-                ),
-              ),
-            ),
-          ),
-        ),
+      and-then live (
+        c.requires.message,
+        (c.requires.of, (c.in-Ok.ensures.inside, (ready, c.requires.room))),
       ),
     )
 
@@ -76,28 +59,8 @@ slots::show_body-show_slots-requires g t c κs live =
     let ready = slots-ready m c.args.start.segment c.args.start.word c.args.size.words c.args.size.slots c.args.depth
     c.requires.ready in
     let content : IsContent m (record { segment = c.args.start.segment; word = c.args.start.word + c.args.size.words })
-    c.args.size.slots = record { exists = c.requires.content.exists; within = omega arith } in (
-      omega arith,
-      (
-        live.0,
-        (
-          live.1.0,
-          (
-            live.1.1.0,
-            (
-              live.1.1.1,
-              (
-                c.requires.message,
-                (
-                  c.requires.of,
-                  (content, (ready, c.requires.room)),
-                ),
-              ),
-            ),
-          ),
-        ),
-      ),
-    )
+    c.args.size.slots = record { exists = c.requires.content.exists; within = omega arith } in
+    (omega arith, and-then live (c.requires.message, (c.requires.of, (content, (ready, c.requires.room)))))
 
 -- ---- the target of a pointer
 
@@ -136,28 +99,8 @@ slots::show_found-show_body-requires g t c κs live =
       within = subst (λ (sh : Shape). x.start + extent sh ≤ length (segment_at m x.segment)) k.is i.0.within;
     } in
     let ready = node-ready m c.args.found x.segment x.start x.pads x.shape x.is c.args.depth c.requires.ready k.words
-    k.slots k.is in (
-      omega arith,
-      (
-        live.0,
-        (
-          live.1.0,
-          (
-            live.1.1.0,
-            (
-              live.1.1.1,
-              (
-                c.requires.message,
-                (
-                  c.requires.of,
-                  (content, (ready, omega arith)),
-                ),
-              ),
-            ),
-          ),
-        ),
-      ),
-    )
+    k.slots k.is in
+    (omega arith, and-then live (c.requires.message, (c.requires.of, (content, (ready, omega arith)))))
 
 -- Case: the target `found` is a list of pointers.
 
@@ -174,28 +117,8 @@ slots::show_found-show_slots-requires g t c κs live =
       within = subst (λ (sh : Shape). x.start + extent sh ≤ length (segment_at m x.segment)) is i.0.within;
     } in
     let ready = links-ready m c.args.found x.segment x.start x.pads x.shape x.is c.args.depth c.requires.ready k.width
-    k.count k.is c.in-Link.is in (
-      omega arith,
-      (
-        live.0,
-        (
-          live.1.0,
-          (
-            live.1.1.0,
-            (
-              live.1.1.1,
-              (
-                c.requires.message,
-                (
-                  c.requires.of,
-                  (content, (ready, omega arith)),
-                ),
-              ),
-            ),
-          ),
-        ),
-      ),
-    )
+    k.count k.is c.in-Link.is in
+    (omega arith, and-then live (c.requires.message, (c.requires.of, (content, (ready, omega arith)))))
 
 -- Case: the target `found` is a list of structs.
 
@@ -212,28 +135,8 @@ slots::show_found-show_rows-requires g t c κs live =
     let content : IsContent m (record { segment = x.segment; word = x.start + 1 }) (k.count * (k.words + k.slots)) =
     record { exists = i.0.exists; within = room } in
     let ready = rows-ready m c.args.found x.segment x.start x.pads x.shape x.is c.args.depth c.requires.ready k.count
-    k.words k.slots k.span k.is in (
-      omega arith,
-      (
-        live.0,
-        (
-          live.1.0,
-          (
-            live.1.1.0,
-            (
-              live.1.1.1,
-              (
-                c.requires.message,
-                (
-                  c.requires.of,
-                  (content, (ready, omega arith)),
-                ),
-              ),
-            ),
-          ),
-        ),
-      ),
-    )
+    k.words k.slots k.span k.is in
+    (omega arith, and-then live (c.requires.message, (c.requires.of, (content, (ready, omega arith)))))
 
 -- ---- rows
 
@@ -241,8 +144,7 @@ pub rows::show_rows-overflow_add-next : goal.rows::show_rows-overflow_add-next
 rows::show_rows-overflow_add-next g t c =
     let m = g.S.Space.message c.args.space.now in
     let room = row-inside c.args.first.word c.args.count c.loop-row.row (c.args.size.words + c.args.size.slots)
-    c.loop-row.next _
-    c.loop-row-test.true c.loop-row.invariant.next c.requires.content.within in
+    c.loop-row.next _ c.loop-row-test.true c.loop-row.invariant.next c.requires.content.within in
     let all = segment-room m c.args.first.segment c.requires.message c.requires.content.exists in
     omega arith
 
@@ -266,8 +168,8 @@ slots::show_found-overflow_add-first g t c =
     let m = g.S.Space.message c.args.space.now in
     let x = c.in-Content in
     let i = inside m c.args.found x.segment x.start x.pads x.shape x.is c.requires.inside in
-    let within = subst (λ (sh : Shape). x.start + extent sh ≤ length (segment_at m x.segment)) c.in-Rows.is
-    i.0.within in
+    let within = subst (λ (sh : Shape). x.start + extent sh ≤ length (segment_at m x.segment)) c.in-Rows.is i.0.within
+    in
     let all = segment-room m x.segment c.requires.message i.0.exists in
     omega arith
 
@@ -277,8 +179,7 @@ pub slots::show_found-returns-in-Nil-clause-shown : goal.slots::show_found-retur
 slots::show_found-returns-in-Nil-clause-shown g t c =
     let rule = g.E.Emitter.rule c.args.emitter.now in
     let path = g.E.Emitter.path c.args.emitter.now in
-    on_ok_weaker c.put_piece.result
-    (nil-emitted (g.S.Space.message c.args.space.now) rule c.args.level path (Adds
+    on_ok_weaker c.put_piece.result (nil-emitted (g.S.Space.message c.args.space.now) rule c.args.level path (Adds
     (outgoing g.W.Write.contents c.args.writer.now c.args.text.now.items)
     (outgoing g.W.Write.contents c.put_piece.new.writer c.put_piece.new.text.items)) c.args.found c.in-Nil.is)
     c.put_piece.ensures.shown
@@ -301,8 +202,7 @@ slots::show_found-returns-in-Cap-clause-shown g t c =
     (cap-emitted (g.S.Space.message c.args.space.now) rule c.args.level path (Adds
     (outgoing g.W.Write.contents c.args.writer.now c.args.text.now.items)
     (outgoing g.W.Write.contents c.put_piece-in-Cap.new.writer c.put_piece-in-Cap.new.text.items)) c.args.found
-    c.in-Cap.index c.in-Cap.is)
-    c.put_piece-in-Cap.ensures.shown
+    c.in-Cap.index c.in-Cap.is) c.put_piece-in-Cap.ensures.shown
 
 pub slots::show_found-returns-in-Cap-clause-cut : goal.slots::show_found-returns-in-Cap-clause-cut
 slots::show_found-returns-in-Cap-clause-cut g t c =
@@ -312,21 +212,17 @@ slots::show_found-returns-in-Cap-clause-cut g t c =
     (λ e. cap-emitted (g.S.Space.message c.args.space.now) rule c.args.level path (BreaksOff
     (outgoing g.W.Write.contents c.args.writer.now c.args.text.now.items)
     (outgoing g.W.Write.contents c.put_piece-in-Cap.new.writer c.put_piece-in-Cap.new.text.items) e) c.args.found
-    c.in-Cap.index c.in-Cap.is)
-    c.put_piece-in-Cap.ensures.cut
+    c.in-Cap.index c.in-Cap.is) c.put_piece-in-Cap.ensures.cut
 
 pub slots::show_found-returns-in-Node-clause-shown : goal.slots::show_found-returns-in-Node-clause-shown
 slots::show_found-returns-in-Node-clause-shown g t c =
     let rule = g.E.Emitter.rule c.args.emitter.now in
     let path = g.E.Emitter.path c.args.emitter.now in
-    on_ok_weaker c.show_body.result
-    (node-emitted (g.S.Space.message c.args.space.now) rule c.args.level path (Adds
+    on_ok_weaker c.show_body.result (node-emitted (g.S.Space.message c.args.space.now) rule c.args.level path (Adds
     (outgoing g.W.Write.contents c.args.writer.now c.args.text.now.items)
     (outgoing g.W.Write.contents c.show_body.new.writer c.show_body.new.text.items)) c.args.found c.in-Content.segment
-    c.in-Content.start c.in-Content.pads
-    c.in-Content.shape c.in-Content.is
-    c.in-Node.words c.in-Node.slots c.in-Node.is)
-    c.show_body.ensures.shown
+    c.in-Content.start c.in-Content.pads c.in-Content.shape c.in-Content.is
+    c.in-Node.words c.in-Node.slots c.in-Node.is) c.show_body.ensures.shown
 
 pub slots::show_found-returns-in-Node-clause-cut : goal.slots::show_found-returns-in-Node-clause-cut
 slots::show_found-returns-in-Node-clause-cut g t c =
@@ -336,23 +232,18 @@ slots::show_found-returns-in-Node-clause-cut g t c =
     (λ e. node-emitted (g.S.Space.message c.args.space.now) rule c.args.level path (BreaksOff
     (outgoing g.W.Write.contents c.args.writer.now c.args.text.now.items)
     (outgoing g.W.Write.contents c.show_body.new.writer c.show_body.new.text.items) e) c.args.found c.in-Content.segment
-    c.in-Content.start c.in-Content.pads
-    c.in-Content.shape c.in-Content.is
-    c.in-Node.words c.in-Node.slots c.in-Node.is)
-    c.show_body.ensures.cut
+    c.in-Content.start c.in-Content.pads c.in-Content.shape c.in-Content.is
+    c.in-Node.words c.in-Node.slots c.in-Node.is) c.show_body.ensures.cut
 
 pub slots::show_found-returns-in_default-clause-shown : goal.slots::show_found-returns-in_default-clause-shown
 slots::show_found-returns-in_default-clause-shown g t c =
     let rule = g.E.Emitter.rule c.args.emitter.now in
     let path = g.E.Emitter.path c.args.emitter.now in
-    on_ok_weaker c.show_list.result
-    (list-emitted (g.S.Space.message c.args.space.now) rule c.args.level path (Adds
+    on_ok_weaker c.show_list.result (list-emitted (g.S.Space.message c.args.space.now) rule c.args.level path (Adds
     (outgoing g.W.Write.contents c.args.writer.now c.args.text.now.items)
     (outgoing g.W.Write.contents c.show_list.new.writer c.show_list.new.text.items)) c.args.found c.in-Content.segment
-    c.in-Content.start c.in-Content.pads
-    c.in-Content.shape c.in-Content.is
-    c.in-Many.width c.in-Many.count c.in-Many.is)
-    c.show_list.ensures.shown
+    c.in-Content.start c.in-Content.pads c.in-Content.shape c.in-Content.is
+    c.in-Many.width c.in-Many.count c.in-Many.is) c.show_list.ensures.shown
 
 pub slots::show_found-returns-in_default-clause-cut : goal.slots::show_found-returns-in_default-clause-cut
 slots::show_found-returns-in_default-clause-cut g t c =
@@ -362,53 +253,41 @@ slots::show_found-returns-in_default-clause-cut g t c =
     (λ e. list-emitted (g.S.Space.message c.args.space.now) rule c.args.level path (BreaksOff
     (outgoing g.W.Write.contents c.args.writer.now c.args.text.now.items)
     (outgoing g.W.Write.contents c.show_list.new.writer c.show_list.new.text.items) e) c.args.found c.in-Content.segment
-    c.in-Content.start c.in-Content.pads
-    c.in-Content.shape c.in-Content.is
-    c.in-Many.width c.in-Many.count c.in-Many.is)
-    c.show_list.ensures.cut
+    c.in-Content.start c.in-Content.pads c.in-Content.shape c.in-Content.is
+    c.in-Many.width c.in-Many.count c.in-Many.is) c.show_list.ensures.cut
 
 pub slots::show_found-returns-in_ok-put_piece-in-Link-clause-shown :
     goal.slots::show_found-returns-in_ok-put_piece-in-Link-clause-shown
 slots::show_found-returns-in_ok-put_piece-in-Link-clause-shown g t c =
     let rule = g.E.Emitter.rule c.args.emitter.now in
     let path = g.E.Emitter.path c.args.emitter.now in
-    on_ok_weaker c.show_slots.result
-    (links-emitted (g.S.Space.message c.args.space.now) rule c.args.level path (Adds
+    on_ok_weaker c.show_slots.result (links-emitted (g.S.Space.message c.args.space.now) rule c.args.level path (Adds
     (outgoing g.W.Write.contents c.args.writer.now c.args.text.now.items)
     (outgoing g.W.Write.contents c.show_slots.new.writer c.show_slots.new.text.items)) c.args.found c.in-Content.segment
-    c.in-Content.start c.in-Content.pads
-    c.in-Content.shape c.in-Content.is
+    c.in-Content.start c.in-Content.pads c.in-Content.shape c.in-Content.is
     (Adds (outgoing g.W.Write.contents c.put_piece-in-Link.new.writer c.put_piece-in-Link.new.text.items)
     (outgoing g.W.Write.contents c.show_slots.new.writer c.show_slots.new.text.items)) c.in-Many.width c.in-Many.count
-    c.in-Many.is c.in-Link.is
-    (λ y. both (outgoing g.W.Write.contents c.args.writer.now c.args.text.now.items)
+    c.in-Many.is c.in-Link.is (λ y. both (outgoing g.W.Write.contents c.args.writer.now c.args.text.now.items)
     (outgoing g.W.Write.contents c.put_piece-in-Link.new.writer c.put_piece-in-Link.new.text.items)
     (outgoing g.W.Write.contents c.show_slots.new.writer c.show_slots.new.text.items) _ y
-    c.in_ok-put_piece-in-Link.ensures.shown))
-    c.show_slots.ensures.shown
+    c.in_ok-put_piece-in-Link.ensures.shown)) c.show_slots.ensures.shown
 
 pub slots::show_found-returns-in_ok-put_piece-in-Link-clause-cut :
     goal.slots::show_found-returns-in_ok-put_piece-in-Link-clause-cut
 slots::show_found-returns-in_ok-put_piece-in-Link-clause-cut g t c =
     let rule = g.E.Emitter.rule c.args.emitter.now in
     let path = g.E.Emitter.path c.args.emitter.now in
-    IfErr-weaker c.show_slots.result _ _
-    (λ e. links-emitted (g.S.Space.message c.args.space.now) rule c.args.level path
-    (BreaksOff
-    (outgoing g.W.Write.contents c.args.writer.now c.args.text.now.items)
+    IfErr-weaker c.show_slots.result _ _ (λ e. links-emitted (g.S.Space.message c.args.space.now) rule c.args.level path
+    (BreaksOff (outgoing g.W.Write.contents c.args.writer.now c.args.text.now.items)
     (outgoing g.W.Write.contents c.show_slots.new.writer c.show_slots.new.text.items) e) c.args.found
-    c.in-Content.segment
-    c.in-Content.start c.in-Content.pads
-    c.in-Content.shape c.in-Content.is
+    c.in-Content.segment c.in-Content.start c.in-Content.pads c.in-Content.shape c.in-Content.is
     (BreaksOff (outgoing g.W.Write.contents c.put_piece-in-Link.new.writer c.put_piece-in-Link.new.text.items)
     (outgoing g.W.Write.contents c.show_slots.new.writer c.show_slots.new.text.items) e) c.in-Many.width
-    c.in-Many.count c.in-Many.is
-    c.in-Link.is
+    c.in-Many.count c.in-Many.is c.in-Link.is
     (λ y. then-broken (outgoing g.W.Write.contents c.args.writer.now c.args.text.now.items)
     (outgoing g.W.Write.contents c.put_piece-in-Link.new.writer c.put_piece-in-Link.new.text.items)
     (outgoing g.W.Write.contents c.show_slots.new.writer c.show_slots.new.text.items) e _ y
-    c.in_ok-put_piece-in-Link.ensures.shown))
-    c.show_slots.ensures.cut
+    c.in_ok-put_piece-in-Link.ensures.shown)) c.show_slots.ensures.cut
 
 pub slots::show_found-returns-in_err-put_piece-in-Link-clause-cut :
     goal.slots::show_found-returns-in_err-put_piece-in-Link-clause-cut
@@ -419,34 +298,28 @@ slots::show_found-returns-in_err-put_piece-in-Link-clause-cut g t c =
     (links-emitted (g.S.Space.message c.args.space.now) rule c.args.level path (BreaksOff
     (outgoing g.W.Write.contents c.args.writer.now c.args.text.now.items)
     (outgoing g.W.Write.contents c.put_piece-in-Link.new.writer c.put_piece-in-Link.new.text.items) _) c.args.found
-    c.in-Content.segment c.in-Content.start c.in-Content.pads
-    c.in-Content.shape c.in-Content.is
+    c.in-Content.segment c.in-Content.start c.in-Content.pads c.in-Content.shape c.in-Content.is
     (λ y. ⊤) c.in-Many.width c.in-Many.count c.in-Many.is c.in-Link.is
     (λ y u. broken-before (outgoing g.W.Write.contents c.args.writer.now c.args.text.now.items)
     (outgoing g.W.Write.contents c.put_piece-in-Link.new.writer c.put_piece-in-Link.new.text.items) _ _ y
-    c.in_err-put_piece-in-Link.ensures.cut) (λ ts h
-    n. tt))
+    c.in_err-put_piece-in-Link.ensures.cut) (λ ts h n. tt))
 
 pub slots::show_found-returns-in_ok-put_piece-in-Rows-clause-shown :
     goal.slots::show_found-returns-in_ok-put_piece-in-Rows-clause-shown
 slots::show_found-returns-in_ok-put_piece-in-Rows-clause-shown g t c =
     let rule = g.E.Emitter.rule c.args.emitter.now in
     let path = g.E.Emitter.path c.args.emitter.now in
-    on_ok_weaker c.show_rows.result
-    (rows-emitted (g.S.Space.message c.args.space.now) rule c.args.level path (Adds
+    on_ok_weaker c.show_rows.result (rows-emitted (g.S.Space.message c.args.space.now) rule c.args.level path (Adds
     (outgoing g.W.Write.contents c.args.writer.now c.args.text.now.items)
     (outgoing g.W.Write.contents c.show_rows.new.writer c.show_rows.new.text.items)) c.args.found c.in-Content.segment
-    c.in-Content.start c.in-Content.pads
-    c.in-Content.shape c.in-Content.is
+    c.in-Content.start c.in-Content.pads c.in-Content.shape c.in-Content.is
     (Adds (outgoing g.W.Write.contents c.put_piece-in-Rows.new.writer c.put_piece-in-Rows.new.text.items)
     (outgoing g.W.Write.contents c.show_rows.new.writer c.show_rows.new.text.items)) c.in-Rows.count c.in-Rows.words
-    c.in-Rows.slots
-    c.in-Rows.span c.in-Rows.is
+    c.in-Rows.slots c.in-Rows.span c.in-Rows.is
     (λ y. both (outgoing g.W.Write.contents c.args.writer.now c.args.text.now.items)
     (outgoing g.W.Write.contents c.put_piece-in-Rows.new.writer c.put_piece-in-Rows.new.text.items)
     (outgoing g.W.Write.contents c.show_rows.new.writer c.show_rows.new.text.items) _ y
-    c.in_ok-put_piece-in-Rows.ensures.shown))
-    c.show_rows.ensures.shown
+    c.in_ok-put_piece-in-Rows.ensures.shown)) c.show_rows.ensures.shown
 
 pub slots::show_found-returns-in_ok-put_piece-in-Rows-clause-cut :
     goal.slots::show_found-returns-in_ok-put_piece-in-Rows-clause-cut
@@ -457,17 +330,14 @@ slots::show_found-returns-in_ok-put_piece-in-Rows-clause-cut g t c =
     (λ e. rows-emitted (g.S.Space.message c.args.space.now) rule c.args.level path (BreaksOff
     (outgoing g.W.Write.contents c.args.writer.now c.args.text.now.items)
     (outgoing g.W.Write.contents c.show_rows.new.writer c.show_rows.new.text.items) e) c.args.found c.in-Content.segment
-    c.in-Content.start c.in-Content.pads
-    c.in-Content.shape c.in-Content.is
+    c.in-Content.start c.in-Content.pads c.in-Content.shape c.in-Content.is
     (BreaksOff (outgoing g.W.Write.contents c.put_piece-in-Rows.new.writer c.put_piece-in-Rows.new.text.items)
     (outgoing g.W.Write.contents c.show_rows.new.writer c.show_rows.new.text.items) e) c.in-Rows.count c.in-Rows.words
-    c.in-Rows.slots
-    c.in-Rows.span c.in-Rows.is
+    c.in-Rows.slots c.in-Rows.span c.in-Rows.is
     (λ y. then-broken (outgoing g.W.Write.contents c.args.writer.now c.args.text.now.items)
     (outgoing g.W.Write.contents c.put_piece-in-Rows.new.writer c.put_piece-in-Rows.new.text.items)
     (outgoing g.W.Write.contents c.show_rows.new.writer c.show_rows.new.text.items) e _ y
-    c.in_ok-put_piece-in-Rows.ensures.shown))
-    c.show_rows.ensures.cut
+    c.in_ok-put_piece-in-Rows.ensures.shown)) c.show_rows.ensures.cut
 
 pub slots::show_found-returns-in_err-put_piece-in-Rows-clause-cut :
     goal.slots::show_found-returns-in_err-put_piece-in-Rows-clause-cut
@@ -479,20 +349,17 @@ slots::show_found-returns-in_err-put_piece-in-Rows-clause-cut g t c =
     (rows-emitted (g.S.Space.message c.args.space.now) rule c.args.level path (BreaksOff
     (outgoing g.W.Write.contents c.args.writer.now c.args.text.now.items)
     (outgoing g.W.Write.contents c.put_piece-in-Rows.new.writer c.put_piece-in-Rows.new.text.items) _) c.args.found
-    c.in-Content.segment c.in-Content.start c.in-Content.pads
-    c.in-Content.shape c.in-Content.is
+    c.in-Content.segment c.in-Content.start c.in-Content.pads c.in-Content.shape c.in-Content.is
     (λ y. ⊤) c.in-Rows.count c.in-Rows.words c.in-Rows.slots c.in-Rows.span c.in-Rows.is
     (λ y u. broken-before (outgoing g.W.Write.contents c.args.writer.now c.args.text.now.items)
     (outgoing g.W.Write.contents c.put_piece-in-Rows.new.writer c.put_piece-in-Rows.new.text.items) _ _ y
-    c.in_err-put_piece-in-Rows.ensures.cut) (λ bs h
-    n. tt))
+    c.in_err-put_piece-in-Rows.ensures.cut) (λ bs h n. tt))
 
 pub slots::show_body-returns-clause-shown : goal.slots::show_body-returns-clause-shown
 slots::show_body-returns-clause-shown g t c =
     let rule = g.E.Emitter.rule c.args.emitter.now in
     let path = g.E.Emitter.path c.args.emitter.now in
-    on_ok_weaker c.show_slots.result
-    (body-emitted (g.S.Space.message c.args.space.now) rule c.args.level path
+    on_ok_weaker c.show_slots.result (body-emitted (g.S.Space.message c.args.space.now) rule c.args.level path
     c.args.start.segment c.args.start.word c.args.size.words c.args.size.slots (Adds
     (outgoing g.W.Write.contents c.args.writer.now c.args.text.now.items)
     (outgoing g.W.Write.contents c.show_slots.new.writer c.show_slots.new.text.items)) (Adds
@@ -507,15 +374,13 @@ slots::show_body-returns-clause-shown g t c =
     (both (outgoing g.W.Write.contents c.put_piece.new.writer c.put_piece.new.text.items)
     (outgoing g.W.Write.contents c.show_words.new.writer c.show_words.new.text.items)
     (outgoing g.W.Write.contents c.show_slots.new.writer c.show_slots.new.text.items) x y h k))
-    c.in_ok-show_words.ensures.shown)
-    c.show_slots.ensures.shown
+    c.in_ok-show_words.ensures.shown) c.show_slots.ensures.shown
 
 pub slots::show_body-returns-clause-cut : goal.slots::show_body-returns-clause-cut
 slots::show_body-returns-clause-cut g t c =
     let rule = g.E.Emitter.rule c.args.emitter.now in
     let path = g.E.Emitter.path c.args.emitter.now in
-    IfErr-weaker c.show_slots.result _ _
-    (λ e. body-emitted (g.S.Space.message c.args.space.now) rule c.args.level path
+    IfErr-weaker c.show_slots.result _ _ (λ e. body-emitted (g.S.Space.message c.args.space.now) rule c.args.level path
     c.args.start.segment c.args.start.word c.args.size.words c.args.size.slots (BreaksOff
     (outgoing g.W.Write.contents c.args.writer.now c.args.text.now.items)
     (outgoing g.W.Write.contents c.show_slots.new.writer c.show_slots.new.text.items) e) (Adds
@@ -530,8 +395,7 @@ slots::show_body-returns-clause-cut g t c =
     (then-broken (outgoing g.W.Write.contents c.put_piece.new.writer c.put_piece.new.text.items)
     (outgoing g.W.Write.contents c.show_words.new.writer c.show_words.new.text.items)
     (outgoing g.W.Write.contents c.show_slots.new.writer c.show_slots.new.text.items) e x y h k))
-    c.in_ok-show_words.ensures.shown)
-    c.show_slots.ensures.cut
+    c.in_ok-show_words.ensures.shown) c.show_slots.ensures.cut
 
 pub slots::show_body-returns-in_err-show_words-clause-cut : goal.slots::show_body-returns-in_err-show_words-clause-cut
 slots::show_body-returns-in_err-show_words-clause-cut g t c =
@@ -544,15 +408,13 @@ slots::show_body-returns-in_err-show_words-clause-cut g t c =
     (outgoing g.W.Write.contents c.args.writer.now c.args.text.now.items)
     (outgoing g.W.Write.contents c.show_words.new.writer c.show_words.new.text.items) _) (BreaksOff
     (outgoing g.W.Write.contents c.put_piece.new.writer c.put_piece.new.text.items)
-    (outgoing g.W.Write.contents c.show_words.new.writer c.show_words.new.text.items)
-    _) (λ y. ⊤)
+    (outgoing g.W.Write.contents c.show_words.new.writer c.show_words.new.text.items) _) (λ y. ⊤)
     (λ x y h k. then-broken (outgoing g.W.Write.contents c.args.writer.now c.args.text.now.items)
     (outgoing g.W.Write.contents c.put_piece.new.writer c.put_piece.new.text.items)
     (outgoing g.W.Write.contents c.show_words.new.writer c.show_words.new.text.items) _ _ (x ++ y)
     c.in_ok-put_piece.ensures.shown (broken-before (outgoing g.W.Write.contents c.put_piece.new.writer
     c.put_piece.new.text.items) (outgoing g.W.Write.contents c.show_words.new.writer c.show_words.new.text.items) _ x
-    y h))
-    c.in_err-show_words.ensures.cut (λ ts h n. tt))
+    y h)) c.in_err-show_words.ensures.cut (λ ts h n. tt))
 
 pub slots::show_body-returns-in_err-put_piece-clause-cut : goal.slots::show_body-returns-in_err-put_piece-clause-cut
 slots::show_body-returns-in_err-put_piece-clause-cut g t c =
@@ -565,8 +427,7 @@ slots::show_body-returns-in_err-put_piece-clause-cut g t c =
     (outgoing g.W.Write.contents c.put_piece.new.writer c.put_piece.new.text.items) _) (λ y. ⊤) (λ y. ⊤)
     (λ x y h k. broken-before (outgoing g.W.Write.contents c.args.writer.now c.args.text.now.items)
     (outgoing g.W.Write.contents c.put_piece.new.writer c.put_piece.new.text.items) _ _
-    (x ++ y) c.in_err-put_piece.ensures.cut) (λ ws h n. tt)
-    (λ ts h n. tt))
+    (x ++ y) c.in_err-put_piece.ensures.cut) (λ ws h n. tt) (λ ts h n. tt))
 
 pub rows::show_slots-show_below-requires : goal.rows::show_slots-show_below-requires
 rows::show_slots-show_below-requires g t c κs live =
@@ -576,23 +437,12 @@ rows::show_slots-show_below-requires g t c κs live =
     let ready = slot-ready m c.args.first.segment c.args.first.word c.args.count c.args.depth c.loop-i.i lt
     c.requires.ready in (
       omega arith,
-      (
-        live.0,
+      and-then live (
+        c.requires.message,
         (
-          live.1.0,
-          (
-            live.1.1.0,
-            (
-              live.1.1.1,
-              (
-                c.requires.message,
-                (
-                  c.loop-i.invariant.kept.of (g.S.Space.message c.args.space.now) c.requires.of,
-                  (omega arith, (ready, c.requires.room)),
-                ),
-              ),
-            ),
-          ),
+          c.loop-i.invariant.kept.of (g.S.Space.message c.args.space.now)
+              c.requires.of,
+          (omega arith, (ready, c.requires.room)),
         ),
       ),
     )
@@ -603,31 +453,19 @@ rows::show_rows-show_row-requires g t c κs live =
     let s = c.args.first.segment in
     let next = c.loop-row.invariant.next in
     let within = row-inside c.args.first.word c.args.count c.loop-row.row (c.args.size.words + c.args.size.slots)
-    c.loop-row.next
-    _ c.loop-row-test.true next c.requires.content.within in
+    c.loop-row.next _ c.loop-row-test.true next c.requires.content.within in
     let content : IsContent m (record { segment = s; word = c.loop-row.next }) (c.args.size.words + c.args.size.slots) =
     record { exists = c.requires.content.exists; within = within } in
-    let ready = subst (λ (w : ℕ). IsBody m s w c.args.size.words c.args.size.slots c.args.depth) (sym next)
-    (row-ready m s c.args.first.word c.args.count c.args.size.words c.args.size.slots c.args.depth c.loop-row.row
+    let ready = subst (λ (w : ℕ). IsBody m s w c.args.size.words c.args.size.slots c.args.depth) (sym next) (row-ready m
+    s c.args.first.word c.args.count c.args.size.words c.args.size.slots c.args.depth c.loop-row.row
     c.loop-row-test.true c.requires.ready) in (
       omega arith,
-      (
-        live.0,
+      and-then live (
+        c.requires.message,
         (
-          live.1.0,
-          (
-            live.1.1.0,
-            (
-              live.1.1.1,
-              (
-                c.requires.message,
-                (
-                  c.loop-row.invariant.kept.of (g.S.Space.message c.args.space.now) c.requires.of,
-                  (content, (ready, c.requires.room)),
-                ),
-              ),
-            ),
-          ),
+          c.loop-row.invariant.kept.of (g.S.Space.message c.args.space.now)
+              c.requires.of,
+          (content, (ready, c.requires.room)),
         ),
       ),
     )
@@ -636,8 +474,7 @@ rows::show_rows-show_row-requires g t c κs live =
 
 pub slots::show_found-returns-in-Nil-clause-kept : goal.slots::show_found-returns-in-Nil-clause-kept
 slots::show_found-returns-in-Nil-clause-kept g t c =
-    on_ok_weaker c.put_piece.result (λ h. record { rule = refl; path = refl; of = λ m k. k })
-    c.put_piece.ensures.shown
+    on_ok_weaker c.put_piece.result (λ h. record { rule = refl; path = refl; of = λ m k. k }) c.put_piece.ensures.shown
 
 pub slots::show_found-returns-in-Cap-clause-kept : goal.slots::show_found-returns-in-Cap-clause-kept
 slots::show_found-returns-in-Cap-clause-kept g t c =
@@ -659,13 +496,11 @@ slots::show_slot-returns-clause-shown g t c =
     let q = (outgoing g.W.Write.contents c.put_mark.new.writer c.put_mark.new.text.items) in
     let r = (outgoing g.W.Write.contents c.show_found.new.writer c.show_found.new.text.items) in
     on_ok_weaker c.show_found.result
-    (slot-emitted m rule c.args.level path c.views_show_values.ensures c.args.number c.args.at
-    c.in-Ok.found
+    (slot-emitted m rule c.args.level path c.views_show_values.ensures c.args.number c.args.at c.in-Ok.found
     (sym c.resolve.ensures.exact ∙ c.in-Ok.is) (Adds p r) (Adds q r)
     (λ y. both p q r (rule.mark c.args.number (rule.lies m c.args.at) path) y
     (otherwise p q _ _ (ap (λ (n : ℕ). rule.mark c.args.number n path) c.byte_of-byte.ensures.is)
-    c.in_ok-put_mark.ensures.shown)))
-    c.show_found.ensures.shown
+    c.in_ok-put_mark.ensures.shown))) c.show_found.ensures.shown
 
 pub slots::show_slot-returns-clause-cut : goal.slots::show_slot-returns-clause-cut
 slots::show_slot-returns-clause-cut g t c =
@@ -676,13 +511,11 @@ slots::show_slot-returns-clause-cut g t c =
     let q = (outgoing g.W.Write.contents c.put_mark.new.writer c.put_mark.new.text.items) in
     let r = (outgoing g.W.Write.contents c.show_found.new.writer c.show_found.new.text.items) in
     IfErr-weaker c.show_found.result _ _
-    (λ e. slot-emitted m rule c.args.level path c.views_show_values.ensures c.args.number c.args.at
-    c.in-Ok.found
+    (λ e. slot-emitted m rule c.args.level path c.views_show_values.ensures c.args.number c.args.at c.in-Ok.found
     (sym c.resolve.ensures.exact ∙ c.in-Ok.is) (BreaksOff p r e) (BreaksOff q r e)
     (λ y. then-broken p q r e (rule.mark c.args.number (rule.lies m c.args.at) path) y
     (otherwise p q _ _ (ap (λ (n : ℕ). rule.mark c.args.number n path) c.byte_of-byte.ensures.is)
-    c.in_ok-put_mark.ensures.shown)))
-    c.show_found.ensures.cut
+    c.in_ok-put_mark.ensures.shown))) c.show_found.ensures.cut
 
 pub slots::show_slot-returns-in_err-put_mark-clause-cut : goal.slots::show_slot-returns-in_err-put_mark-clause-cut
 slots::show_slot-returns-in_err-put_mark-clause-cut g t c =
@@ -697,30 +530,17 @@ slots::show_slot-returns-in_err-put_mark-clause-cut g t c =
     (otherwise-broken p q _ _ _ (ap (λ (n : ℕ). rule.mark c.args.number n path) c.byte_of-byte.ensures.is)
     c.in_err-put_mark.ensures.cut))
 
--- ---- the text of a slot by its number
+-- ---- the text of a slot, with its number at the end of the path
 
 pub rows::show_below-show_slot-requires : goal.rows::show_below-show_slot-requires
 rows::show_below-show_slot-requires g t c κs live =
-    let of = c.in_ok-step_below.ensures.of (g.S.Space.message c.args.space.now) c.requires.of in (
-      omega arith,
-      (
-        live.0,
-        (
-          live.1.0,
-          (
-            live.1.1.0,
-            (live.1.1.1, (c.requires.message, (of, (c.requires.place, (c.requires.ready, c.requires.room))))),
-          ),
-        ),
-      ),
-    )
+    let of = c.in_ok-step_below.ensures.of (g.S.Space.message c.args.space.now) c.requires.of in
+    (omega arith, and-then live (c.requires.message, (of, (c.requires.place, (c.requires.ready, c.requires.room)))))
 
 pub rows::show_below-returns-clause-shown : goal.rows::show_below-returns-clause-shown
 rows::show_below-returns-clause-shown g t c =
-    let m = (g.S.Space.message c.args.space.now) in
-    let p = (outgoing g.W.Write.contents c.args.writer.now c.args.text.now.items) in
-    let r = (outgoing g.W.Write.contents c.show_slot.new.writer c.show_slot.new.text.items) in
-    slot-moved m c.args.level _ _ c.in_ok-step_below.ensures.rule _ _ c.in_ok-step_below.ensures.below (Adds p r)
+    let m = g.S.Space.message c.args.space.now in
+    slot-moved m c.args.level _ _ c.in_ok-step_below.ensures.rule _ _ c.in_ok-step_below.ensures.below (Adds _ _)
     c.args.number c.args.at c.in_ok-show_slot.ensures.shown
 
 pub rows::show_below-returns-clause-kept : goal.rows::show_below-returns-clause-kept
@@ -736,16 +556,14 @@ pub rows::show_below-returns-in_err-step_below-clause-cut :
     goal.rows::show_below-returns-in_err-step_below-clause-cut
 rows::show_below-returns-in_err-step_below-clause-cut g t c =
     passed c.from_residual.result c.in_err-step_below.field-0.0 _ c.from_residual.ensures.1
-    (λ v i. unbegun (outgoing g.W.Write.contents c.args.writer.now c.args.text.now.items) _ _
-    c.in_err-step_below.ensures.memory)
+    (λ v i. unbegun _ _ _ c.in_err-step_below.ensures.memory)
 
 pub rows::show_below-returns-in_err-show_slot-clause-cut : goal.rows::show_below-returns-in_err-show_slot-clause-cut
 rows::show_below-returns-in_err-show_slot-clause-cut g t c =
     passed c.from_residual-in_err-show_slot.result c.in_err-show_slot.field-0.0 _
     c.from_residual-in_err-show_slot.ensures.1
     (slot-moved (g.S.Space.message c.args.space.now) c.args.level _ _ c.in_ok-step_below.ensures.rule _ _
-    c.in_ok-step_below.ensures.below
-    (BreaksOff (outgoing g.W.Write.contents c.args.writer.now c.args.text.now.items)
+    c.in_ok-step_below.ensures.below (BreaksOff (outgoing g.W.Write.contents c.args.writer.now c.args.text.now.items)
     (outgoing g.W.Write.contents c.show_slot.new.writer c.show_slot.new.text.items) c.in_err-show_slot.field-0.0)
     c.args.number c.args.at c.in_err-show_slot.ensures.cut)
 
@@ -753,19 +571,8 @@ rows::show_below-returns-in_err-show_slot-clause-cut g t c =
 
 pub rows::show_row-show_body-requires : goal.rows::show_row-show_body-requires
 rows::show_row-show_body-requires g t c κs live =
-    let of = c.in_ok-step_below.ensures.of (g.S.Space.message c.args.space.now) c.requires.of in (
-      omega arith,
-      (
-        live.0,
-        (
-          live.1.0,
-          (
-            live.1.1.0,
-            (live.1.1.1, (c.requires.message, (of, (c.requires.content, (c.requires.ready, c.requires.room))))),
-          ),
-        ),
-      ),
-    )
+    let of = c.in_ok-step_below.ensures.of (g.S.Space.message c.args.space.now) c.requires.of in
+    (omega arith, and-then live (c.requires.message, (of, (c.requires.content, (c.requires.ready, c.requires.room)))))
 
 pub rows::show_row-returns-clause-shown : goal.rows::show_row-returns-clause-shown
 rows::show_row-returns-clause-shown g t c =
@@ -781,8 +588,7 @@ rows::show_row-returns-clause-shown g t c =
     (λ ws ss h. both p q r (rule.mark c.args.number (rule.lies m (begin row)) path)
     (emitted_body m rule c.args.level path row ws ss)
     (otherwise p q _ _ (ap (λ (n : ℕ). rule.mark c.args.number n path) c.byte_of-byte.ensures.is)
-    c.in_ok-put_mark.ensures.shown)
-    (c.in_ok-show_body.ensures.shown ws ss h))
+    c.in_ok-put_mark.ensures.shown) (c.in_ok-show_body.ensures.shown ws ss h))
 
 pub rows::show_row-returns-clause-kept : goal.rows::show_row-returns-clause-kept
 rows::show_row-returns-clause-kept g t c =
@@ -796,8 +602,7 @@ rows::show_row-returns-clause-kept g t c =
 pub rows::show_row-returns-in_err-step_below-clause-cut : goal.rows::show_row-returns-in_err-step_below-clause-cut
 rows::show_row-returns-in_err-step_below-clause-cut g t c =
     passed c.from_residual.result c.in_err-step_below.field-0.0 _ c.from_residual.ensures.1
-    (λ ws ss h. unbegun (outgoing g.W.Write.contents c.args.writer.now c.args.text.now.items) _ _
-    c.in_err-step_below.ensures.memory)
+    (λ ws ss h. unbegun _ _ _ c.in_err-step_below.ensures.memory)
 
 pub rows::show_row-returns-in_err-put_mark-clause-cut : goal.rows::show_row-returns-in_err-put_mark-clause-cut
 rows::show_row-returns-in_err-put_mark-clause-cut g t c =
@@ -834,8 +639,7 @@ rows::show_row-returns-in_err-show_body-clause-cut g t c =
     (λ ws ss h. then-broken p q r _ (rule.mark c.args.number (rule.lies m (begin row)) path)
     (emitted_body m rule c.args.level path row ws ss)
     (otherwise p q _ _ (ap (λ (n : ℕ). rule.mark c.args.number n path) c.byte_of-byte.ensures.is)
-    c.in_ok-put_mark.ensures.shown)
-    (c.in_err-show_body.ensures.cut ws ss h)))
+    c.in_ok-put_mark.ensures.shown) (c.in_err-show_body.ensures.cut ws ss h)))
 
 -- ---- slots, one after the other
 
@@ -843,7 +647,7 @@ pub rows::show_slots-loop-i-init : goal.rows::show_slots-loop-i-init
 rows::show_slots-loop-i-init g t c = record {
   kept = record { rule = refl; path = refl; of = λ m h. h };
   rest = λ ts h n. same
-      (outgoing g.W.Write.contents c.args.writer.now c.args.text.now.items);
+      _;
 }
 
 pub rows::show_slots-loop-i-preserved : goal.rows::show_slots-loop-i-preserved
@@ -862,8 +666,7 @@ rows::show_slots-loop-i-preserved g t c =
           record { rule = n.rule ∙ k.rule; path = n.path ∙ k.path; of = λ m h. n.of m (k.of m h) };
       rest = λ ts h n. let below : i < count ts = omega arith in
           let long = length-listed ts in
-          item-more (slot_item m rule c.args.level path (nth c.args.first)) nil p q
-          (listed ts) i r
+          item-more (slot_item m rule c.args.level path (nth c.args.first)) nil p q (listed ts) i r
           (omega arith) (c.loop-i.invariant.rest ts h n)
           (otherwise q r _ _ (item-is m rule c.args.level path _ _ c.loop-i.invariant.kept.rule
           c.loop-i.invariant.kept.path (nth c.args.first) ts i) (c.in_ok-show_below.ensures.shown (tree_at ts i)
@@ -879,14 +682,11 @@ rows::show_slots-returns-clause-shown g t c =
     let q = (outgoing g.W.Write.contents c.loop-i.writer c.loop-i.text.items) in
     let r = (outgoing g.W.Write.contents c.put_piece.new.writer c.put_piece.new.text.items) in
     let past = c.loop-i-test.false in
-    on_ok_weaker c.put_piece.result
-    (λ k ts h n. let long = length-listed ts in
+    on_ok_weaker c.put_piece.result (λ k ts h n. let long = length-listed ts in
     otherwise p r _ _ (slots-items m rule c.args.level path (nth c.args.first) 0 ts)
     (items-end (slot_item m rule c.args.level path (nth c.args.first)) nil p q
-    (listed ts) c.loop-i.i r (end m rule c.args.level path)
-    (omega arith) (c.loop-i.invariant.rest ts h n)
-    (otherwise q r _ _ (closing c.args.level c.loop-i.invariant.kept.rule) k)))
-    c.put_piece.ensures.shown
+    (listed ts) c.loop-i.i r (end m rule c.args.level path) (omega arith) (c.loop-i.invariant.rest ts h n)
+    (otherwise q r _ _ (closing c.args.level c.loop-i.invariant.kept.rule) k))) c.put_piece.ensures.shown
 
 pub rows::show_slots-returns-clause-cut : goal.rows::show_slots-returns-clause-cut
 rows::show_slots-returns-clause-cut g t c =
@@ -897,14 +697,11 @@ rows::show_slots-returns-clause-cut g t c =
     let q = (outgoing g.W.Write.contents c.loop-i.writer c.loop-i.text.items) in
     let r = (outgoing g.W.Write.contents c.put_piece.new.writer c.put_piece.new.text.items) in
     let past = c.loop-i-test.false in
-    IfErr-weaker c.put_piece.result _ _
-    (λ e k ts h n. let long = length-listed ts in
+    IfErr-weaker c.put_piece.result _ _ (λ e k ts h n. let long = length-listed ts in
     otherwise-broken p r e _ _ (slots-items m rule c.args.level path (nth c.args.first) 0 ts)
     (end-cut (slot_item m rule c.args.level path (nth c.args.first)) nil p q
-    (listed ts) c.loop-i.i r e (end m rule c.args.level path)
-    (omega arith) (c.loop-i.invariant.rest ts h n)
-    (otherwise-broken q r e _ _ (closing c.args.level c.loop-i.invariant.kept.rule) k)))
-    c.put_piece.ensures.cut
+    (listed ts) c.loop-i.i r e (end m rule c.args.level path) (omega arith) (c.loop-i.invariant.rest ts h n)
+    (otherwise-broken q r e _ _ (closing c.args.level c.loop-i.invariant.kept.rule) k))) c.put_piece.ensures.cut
 
 pub rows::show_slots-returns-clause-kept : goal.rows::show_slots-returns-clause-kept
 rows::show_slots-returns-clause-kept g t c =
@@ -924,11 +721,9 @@ rows::show_slots-returns-in_err-show_below-clause-cut g t c =
     let r = (outgoing g.W.Write.contents c.show_below.new.writer c.show_below.new.text.items) in
     let below : i < count ts = omega arith in
     let long = length-listed ts in
-    otherwise-broken p r _ _ _ (slots-items m rule c.args.level path (nth c.args.first) 0
-    ts)
+    otherwise-broken p r _ _ _ (slots-items m rule c.args.level path (nth c.args.first) 0 ts)
     (item-cut (slot_item m rule c.args.level path (nth c.args.first)) nil p q (listed ts) i
-    r _ (end m rule c.args.level path)
-    (omega arith) (c.loop-i.invariant.rest ts h n)
+    r _ (end m rule c.args.level path) (omega arith) (c.loop-i.invariant.rest ts h n)
     (otherwise-broken q r _ _ _ (item-is m rule c.args.level path _ _ c.loop-i.invariant.kept.rule
     c.loop-i.invariant.kept.path (nth c.args.first) ts i) (c.in_err-show_below.ensures.cut (tree_at ts i)
     (h i below)))))
@@ -939,7 +734,7 @@ pub rows::show_rows-loop-row-init : goal.rows::show_rows-loop-row-init
 rows::show_rows-loop-row-init g t c = record {
   next = omega arith;
   kept = record { rule = refl; path = refl; of = λ m h. h };
-  rest = λ bs h n. same (outgoing g.W.Write.contents c.args.writer.now c.args.text.now.items);
+  rest = λ bs h n. same _;
 }
 
 pub rows::show_rows-loop-row-preserved : goal.rows::show_rows-loop-row-preserved
@@ -963,8 +758,7 @@ rows::show_rows-loop-row-preserved g t c =
           record { rule = n.rule ∙ k.rule; path = n.path ∙ k.path; of = λ m h. n.of m (k.of m h) };
       rest = λ bs h n. let below : i < count_rows bs = omega arith in
           let long = length-rows_listed bs in
-          item-more (row_item m rule c.args.level path (nth_row c.args.first a b)) no_row p
-          q
+          item-more (row_item m rule c.args.level path (nth_row c.args.first a b)) no_row p q
           (rows_listed bs) i r (omega arith) (c.loop-row.invariant.rest bs h n)
           (otherwise q r _ _ (row-is m rule c.args.level path _ _ c.loop-row.invariant.kept.rule
           c.loop-row.invariant.kept.path c.args.first a b c.loop-row.next bs i next)
@@ -983,14 +777,11 @@ rows::show_rows-returns-clause-shown g t c =
     let r = (outgoing g.W.Write.contents c.put_piece.new.writer c.put_piece.new.text.items) in
     let past = c.loop-row-test.false in
     let row = nth_row c.args.first c.args.size.words c.args.size.slots in
-    on_ok_weaker c.put_piece.result
-    (λ k bs h n. let long = length-rows_listed bs in
+    on_ok_weaker c.put_piece.result (λ k bs h n. let long = length-rows_listed bs in
     otherwise p r _ _ (rows-items m rule c.args.level path row 0 bs)
     (items-end (row_item m rule c.args.level path row) no_row p q
-    (rows_listed bs) c.loop-row.row r (end m rule c.args.level path)
-    (omega arith) (c.loop-row.invariant.rest bs h n)
-    (otherwise q r _ _ (closing c.args.level c.loop-row.invariant.kept.rule) k)))
-    c.put_piece.ensures.shown
+    (rows_listed bs) c.loop-row.row r (end m rule c.args.level path) (omega arith) (c.loop-row.invariant.rest bs h n)
+    (otherwise q r _ _ (closing c.args.level c.loop-row.invariant.kept.rule) k))) c.put_piece.ensures.shown
 
 pub rows::show_rows-returns-clause-cut : goal.rows::show_rows-returns-clause-cut
 rows::show_rows-returns-clause-cut g t c =
@@ -1002,14 +793,11 @@ rows::show_rows-returns-clause-cut g t c =
     let r = (outgoing g.W.Write.contents c.put_piece.new.writer c.put_piece.new.text.items) in
     let past = c.loop-row-test.false in
     let row = nth_row c.args.first c.args.size.words c.args.size.slots in
-    IfErr-weaker c.put_piece.result _ _
-    (λ e k bs h n. let long = length-rows_listed bs in
+    IfErr-weaker c.put_piece.result _ _ (λ e k bs h n. let long = length-rows_listed bs in
     otherwise-broken p r e _ _ (rows-items m rule c.args.level path row 0 bs)
     (end-cut (row_item m rule c.args.level path row) no_row p q
-    (rows_listed bs) c.loop-row.row r e (end m rule c.args.level path)
-    (omega arith) (c.loop-row.invariant.rest bs h n)
-    (otherwise-broken q r e _ _ (closing c.args.level c.loop-row.invariant.kept.rule) k)))
-    c.put_piece.ensures.cut
+    (rows_listed bs) c.loop-row.row r e (end m rule c.args.level path) (omega arith) (c.loop-row.invariant.rest bs h n)
+    (otherwise-broken q r e _ _ (closing c.args.level c.loop-row.invariant.kept.rule) k))) c.put_piece.ensures.cut
 
 pub rows::show_rows-returns-clause-kept : goal.rows::show_rows-returns-clause-kept
 rows::show_rows-returns-clause-kept g t c =
@@ -1033,11 +821,9 @@ rows::show_rows-returns-in_err-show_row-clause-cut g t c =
     let r = (outgoing g.W.Write.contents c.show_row.new.writer c.show_row.new.text.items) in
     let below : i < count_rows bs = omega arith in
     let long = length-rows_listed bs in
-    otherwise-broken p r _ _ _ (rows-items m rule c.args.level path
-    (nth_row c.args.first a b) 0 bs)
+    otherwise-broken p r _ _ _ (rows-items m rule c.args.level path (nth_row c.args.first a b) 0 bs)
     (item-cut (row_item m rule c.args.level path (nth_row c.args.first a b)) no_row p q
-    (rows_listed bs) i r _ (end m rule c.args.level path)
-    (omega arith) (c.loop-row.invariant.rest bs h n)
+    (rows_listed bs) i r _ (end m rule c.args.level path) (omega arith) (c.loop-row.invariant.rest bs h n)
     (otherwise-broken q r _ _ _ (row-is m rule c.args.level path _ _ c.loop-row.invariant.kept.rule
     c.loop-row.invariant.kept.path c.args.first a b c.loop-row.next bs i next)
     (c.in_err-show_row.ensures.cut (words_of_row bs i) (slots_of_row bs i)

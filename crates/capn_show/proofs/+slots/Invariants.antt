@@ -50,6 +50,5 @@ invariant-rows::show_rows-loop-row g l = record {
       (texts (row_item (g.S.Space.message l.space) (g.E.Emitter.rule l.initial.emitter) l.level
       (g.E.Emitter.path l.initial.emitter)
       (λ (k : ℕ). struct_at l.first.segment (l.first.word + k * (l.size.words + l.size.slots)) l.size.words
-      l.size.slots)) 0
-      (take l.row (rows_listed bs)));
+      l.size.slots)) 0 (take l.row (rows_listed bs)));
 }

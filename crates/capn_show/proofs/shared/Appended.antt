@@ -1,13 +1,12 @@
 -- Lemmas on text that is added to an output or breaks off. (For `bits.rt`, `byte_digits.rt`, `bytes.rt`, capn_commands
 -- and capn_marks.)
-use Rattle.std.proofs.Common.{◌≡◌, ℕ, ◌+◌, Bool, List, IsErrAnd, [], ◌++◌, length, take, drop}
-use Rattle.std.proofs.Common.{refl, ◌∙◌, sym, ap, subst, append_assoc}
-use Rattle.std.specs.Prelude.{Option, Result, Ok, Err, OnOk, IfErr, is_err, true, false, ◌||◌}
+use Rattle.std.proofs.Common.{◌≡◌, ℕ, ◌+◌, List, IsErrAnd, [], ◌++◌, length, take, drop, refl, ◌∙◌, sym, ap, subst}
+use Rattle.std.proofs.Common.{append_assoc}
+use Rattle.std.specs.Prelude.{Option, Result, Ok, Err, IfErr}
 use Rattle.std.specs.Io.KnownBytes.{Appends}
 use Rattle.std.proofs.KnownBytes.{Appends-nil, Appends-trans}
 use Rattle.std.proofs.Math.Seq.{take-append-add, take-append_seam}
 use Rattle.std.proofs.lemmas.List.{append-nil, take-append-drop}
-use Rattle.capn_words.specs.Watched.{HasBegun}
 use Rattle.capn_show.specs.declared.fault.Broken.{Broken}
 use Rattle.capn_show.specs.declared.fault.Broken.TheVariants as broken
 use Rattle.capn_show.specs.Outgoing.{Outgoing, Adds, BreaksOff}
@@ -21,14 +20,6 @@ first-part n x y =
 joined : (w k p t u : List ℕ) → w ++ k ≡ p ++ t → w ++ (k ++ u) ≡ p ++ (t ++ u)
 joined w k p t u e = sym (append_assoc w k u) ∙ ap (λ (l : List ℕ). l ++ u) e ∙ append_assoc p t u
 
-or-false : (b : Bool) → (b || false) ≡ b
-or-false true = refl
-or-false false = refl
-
-or-true : (b : Bool) → (b || true) ≡ true
-or-true true = refl
-or-true false = refl
-
 -- Case: nothing is written, and `x` is appended to the text that is not yet written.
 pub kept-more : (p q : Outgoing) (x : List ℕ) → q.taken ≡ p.taken → q.failed ≡ p.failed → q.kept ≡ p.kept ++ x
     → Adds p q x
@@ -38,28 +29,6 @@ kept-more p q x h f k = record {
   kept = k;
   failed = f;
 }
-
-module _ {T : Type 0} (p q : Outgoing) where
-  -- Case: the writer accepts all of `p.kept`, and `q.kept` is empty.
-  pub sent : (r : Result T Broken) → OnOk r (Appends p.taken q.taken p.kept) → OnOk r (q.kept ≡ [])
-      → q.failed ≡ (p.failed || is_err r) → OnOk r (Adds p q [])
-  sent (Ok x) h k f = record {
-    written = p.kept;
-    taken = h;
-    kept = ap (λ (l : List ℕ). p.kept ++ l) k;
-    failed = f ∙ or-false p.failed;
-  }
-  sent (Err e) h k f = tt
-
-  -- Case: the writer fails, after it has accepted some bytes at the front of `p.kept`.
-  pub unsent : (r : Result T Broken) → HasBegun p.taken q.taken p.kept → IfErr r (λ e. e ≡ broken.Io)
-      → q.failed ≡ (p.failed || is_err r) → IfErr r (λ e. BreaksOff p q e [])
-  unsent (Ok x) h k f = tt
-  unsent (Err e) h k f = subst (λ (x : Broken). BreaksOff p q x []) (sym k) (
-    h.0,
-    subst (λ (l : List ℕ). Appends p.taken q.taken (take h.0 l)) (sym (append-nil p.kept)) h.1,
-    f ∙ or-true p.failed,
-  )
 
 -- Case: an allocation is refused, and nothing is added.
 pub refused : (p q : Outgoing) (t : List ℕ) (e : Broken) → e ≡ broken.Memory → q.taken ≡ p.taken → q.failed ≡ p.failed
@@ -113,14 +82,10 @@ broken-before p q broken.Io x y (n, k, f) =
 broken-before p q broken.Memory x y (n, k) =
     (length (take n x), otherwise p q (take n x) _ (sym (first-part n x y)) k)
 
--- If `x` is added from `p` to `q`, and nothing from `q` to `r`, `x` is added from `p` to `r`.
-pub settled : (p q r : Outgoing) (x : List ℕ) → Adds p q x → Adds q r [] → Adds p r x
-settled p q r x h k = otherwise p r (x ++ []) x (append-nil x) (both p q r x [] h k)
-
 pub settled-broken : (p q r : Outgoing) (e : Broken) (x : List ℕ) → Adds p q x → BreaksOff q r e [] → BreaksOff p r e x
 settled-broken p q r e x h k = otherwise-broken p r e (x ++ []) x (append-nil x) (then-broken p q r e x [] h k)
 
--- If `P` holds of `e`, and the error of `r`, if there is one, is `e`, then `P` holds of the error of `r`.
+-- If `r` fails with the error `e`, and `P` holds of `e`, `P` holds of the error of `r`.
 pub passed : {T : Type 0} (r : Result T Broken) (e : Broken) (P : Broken → Type 0) → IsErrAnd r (λ y. y ≡ e) → P e
     → IfErr r P
 passed (Ok x) e P is h = tt

@@ -92,8 +92,7 @@ module _ (quoted : Bool) (lies : List (List ℕ) → Place → ℕ) (below : Lis
       bare level path found nil = refl
       bare level path found (node ws ss) =
           ap₂ (λ (x y : List ℕ). body_line level (length ws) (count ss) ++ (x ++ y))
-          (bare-words (level + 1) path 0 (lies m (begin found)) ws)
-          (bare-each (level + 1) path (step_place found) 0 ss)
+          (bare-words (level + 1) path 0 (lies m (begin found)) ws) (bare-each (level + 1) path (step_place found) 0 ss)
       bare level path found (voids n) = refl
       bare level path found (numbers a xs) = bare-list a level path (lies m (begin found)) xs
       bare level path found (links ts) =
@@ -110,8 +109,7 @@ module _ (quoted : Bool) (lies : List (List ℕ) → Place → ℕ) (below : Lis
       bare-each level path place i (tree t ts) =
           ap₂ (λ (x y : List ℕ). x ++ y)
           (ap₂ (λ (x y : List ℕ). x ++ y) (no-mark (lies m (place i)) (below path i))
-          (bare level (below path i) (named_by (target m (place i))) t))
-          (bare-each level path place (suc i) ts)
+          (bare level (below path i) (named_by (target m (place i))) t)) (bare-each level path place (suc i) ts)
 
       bare-rows : (level : ℕ) (path : List ℕ) (row : ℕ → Target) (i : ℕ) (bs : Bodies)
           → emitted_rows m rule level path row i bs ≡ shown_rows_by by level bs
@@ -125,7 +123,6 @@ module _ (quoted : Bool) (lies : List (List ℕ) → Place → ℕ) (below : Lis
           (ap₂ (λ (x y : List ℕ). x ++ y) (no-mark (lies m (begin (row i))) (below path i))
           (ap₂ (λ (x y : List ℕ). first ++ (x ++ y))
           (bare-words (level + 1) (below path i) 0 (lies m (begin (row i))) ws)
-          (bare-each (level + 1) (below path i) (step_place (row i)) 0 ss)))
-          (bare-rows level path row (suc i) bs)
+          (bare-each (level + 1) (below path i) (step_place (row i)) 0 ss))) (bare-rows level path row (suc i) bs)
           ∙ append_assoc first (words ++ slots) rest
           ∙ ap (λ (l : List ℕ). first ++ l) (append_assoc words slots rest)

@@ -85,7 +85,7 @@ bits-below [] h = tt
 bits-below (x ∷ xs) h = (h 0 (omega arith), bits-below xs (λ i l. h (suc i) (omega arith)))
 
 module _ (m : List (List ℕ)) where
-  -- The value `v` that the target `found` shows has the kind of `found`.
+  -- If the target `found` shows the value `v`, `v` has the kind of `found`.
   kinded : (found : Target) (v : Tree) → Shows m found v → kind_of found ≡ kind_in v
   kinded found nil h = ap kind_of h
   kinded found (cap k) h = ap kind_of h

@@ -1,15 +1,14 @@
 -- The height of the value of a target, and the values in its slots, elements and rows. (For the cycle `slots`.)
-use Rattle.std.proofs.Common.{◌≡◌, ℕ, ◌+◌, ◌-◌, ◌≤◌, List, refl, subst, ap, ◌∙◌, arith}
+use Rattle.std.proofs.Common.{◌≡◌, ℕ, ◌+◌, ◌-◌, ◌≤◌, List, subst, ap, ◌∙◌, arith}
 use Rattle.capn_words.specs.declared.pointer.Width.{Width}
-use Rattle.capn_words.specs.declared.pointer.Width.TheVariants.{W0, W1, W8, W16, W32, W64, Link, Rows}
+use Rattle.capn_words.specs.declared.pointer.Width.TheVariants.{Link, Rows}
 use Rattle.capn_value.specs.Tree.{Tree, nil, node, voids, numbers, links, rows, cap}
 use Rattle.capn_value.specs.Cost.{height}
 use Rattle.capn_target.specs.declared.target.Target.{Target}
 use Rattle.capn_target.specs.declared.target.Target.TheVariants as targets
 use Rattle.capn_target.specs.declared.target.Shape.{Shape}
 use Rattle.capn_target.specs.declared.target.Shape.TheVariants as shapes
-use Rattle.capn_target.specs.Shapes.{IsContent, IsPlain, RowsFit, extent}
-use Rattle.capn_target.specs.Shapes.{IsInMessage}
+use Rattle.capn_target.specs.Shapes.{IsContent, RowsFit, extent, IsInMessage}
 use Rattle.capn_walk.specs.ShownValue.{Shows}
 use Rattle.capn_show.specs.ReadyPlaces.{IsFound, IsBody, AreReady, AreRows}
 use Rattle.capn_show.proofs.shared.FoundKinds.{as-node, as-links, as-rows}
@@ -64,14 +63,3 @@ module _ (m : List (List ℕ)) (found : Target) (s w pads : ℕ) (shape : Shape)
         let h = ap height x.is in
         let l = ready.low in
         record { values = x.bodies; are = x.are; count = x.number; low = omega arith }
-
--- If the width of a list in a message is not `Link`, its elements are plain: neither pointers nor structs.
-pub plain-of : (width : Width) (n : ℕ) → RowsFit (shapes.Many width n) → (width ≡ Link → ⊥) → IsPlain width
-plain-of W0 n fit other = tt
-plain-of W1 n fit other = tt
-plain-of W8 n fit other = tt
-plain-of W16 n fit other = tt
-plain-of W32 n fit other = tt
-plain-of W64 n fit other = tt
-plain-of Link n fit other = other refl
-plain-of Rows n fit other = fit

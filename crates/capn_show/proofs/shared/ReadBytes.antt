@@ -12,5 +12,4 @@ pub read-bytes : (m : List (List ℕ)) (at : Place) (n : ℕ) (bs xs : List ℕ)
     → bs ≡ xs
 read-bytes m at n bs xs are inside h size =
     let many = length-read m at n bs are inside in
-    same_number_lists bs xs (many ∙ sym size)
-    (λ k below. are-bytes m at n bs are inside k below ∙ h k (omega arith))
+    same_number_lists bs xs (many ∙ sym size) (λ k below. are-bytes m at n bs are inside k below ∙ h k (omega arith))

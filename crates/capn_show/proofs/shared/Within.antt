@@ -1,5 +1,5 @@
 -- An element of a list is in one of the words of the list's content. (For `show_numbers` and capn_marks.)
-use Rattle.std.proofs.Common.{ℕ, ◌+◌, ◌*◌, ◌/◌, ◌<◌, ◌≤◌, arith}
+use Rattle.std.proofs.Common.{ℕ, ◌+◌, ◌/◌, ◌<◌, ◌≤◌, arith}
 use Rattle.capn_words.specs.declared.pointer.Width.{Width}
 use Rattle.capn_words.specs.declared.pointer.Width.TheVariants.{W0, W1, W8, W16, W32, W64, Link, Rows}
 use Rattle.capn_target.specs.Target.{content_words}
@@ -16,15 +16,3 @@ element-within W32 n i h below = omega arith
 element-within W64 n i h below = omega arith
 element-within Link n i h below = absurd h
 element-within Rows n i h below = absurd h
-
--- Element `i` of a list of `n` elements begins before the end of the words of the list.
-pub bytes-within : (width : Width) (n i : ℕ) → HasNumbers width → i < n
-    → i * (8 / per_word width) < 8 * content_words width n
-bytes-within W0 n i h below = absurd h
-bytes-within W1 n i h below = omega arith
-bytes-within W8 n i h below = omega arith
-bytes-within W16 n i h below = omega arith
-bytes-within W32 n i h below = omega arith
-bytes-within W64 n i h below = omega arith
-bytes-within Link n i h below = absurd h
-bytes-within Rows n i h below = absurd h

@@ -7,28 +7,17 @@ use Rattle.capn_marks.proofs.marked_part.mark_none.Goals as goal
 
 pub returns-clause-shown : goal.returns-clause-shown
 returns-clause-shown g c =
-    let p = (outgoing g.W.Write.contents c.args.writer.now c.args.text.now.items) in
-    let q = (outgoing g.W.Write.contents c.put_tab.new.writer c.put_tab.new.text.items) in
-    let r = (outgoing g.W.Write.contents c.put_tab-2.new.writer c.put_tab-2.new.text.items) in
-    let s = (outgoing g.W.Write.contents c.plain_line.new.writer c.plain_line.new.text.items) in
-    ok-then p q s (if c.args.marks.now.offsets then 9 ∷ [] else []) ((if c.args.marks.now.ways then 9 ∷ [] else []) ++
-    (line 0
-    (codes "none")))
-    c.in_ok-put_tab.ensures.shown c.plain_line.result
-    (ok-then q r s (if c.args.marks.now.ways then 9 ∷ [] else []) (line 0
-    (codes "none")) c.in_ok-put_tab-2.ensures.shown c.plain_line.result c.plain_line.ensures.shown)
+    ok-then _ _ _ (if c.args.marks.now.offsets then 9 ∷ [] else []) ((if c.args.marks.now.ways then 9 ∷ [] else [])
+    ++ (line 0 (codes "none"))) c.in_ok-put_tab.ensures.shown c.plain_line.result (ok-then _ _ _
+    (if c.args.marks.now.ways then 9 ∷ [] else []) (line 0 (codes "none")) c.in_ok-put_tab-2.ensures.shown
+    c.plain_line.result c.plain_line.ensures.shown)
 
 pub returns-clause-cut : goal.returns-clause-cut
 returns-clause-cut g c =
-    let p = (outgoing g.W.Write.contents c.args.writer.now c.args.text.now.items) in
-    let q = (outgoing g.W.Write.contents c.put_tab.new.writer c.put_tab.new.text.items) in
-    let r = (outgoing g.W.Write.contents c.put_tab-2.new.writer c.put_tab-2.new.text.items) in
-    let s = (outgoing g.W.Write.contents c.plain_line.new.writer c.plain_line.new.text.items) in
-    err-then p q s (if c.args.marks.now.offsets then 9 ∷ [] else []) ((if c.args.marks.now.ways then 9 ∷ [] else []) ++
-    (line 0 (codes "none")))
-    c.in_ok-put_tab.ensures.shown c.plain_line.result
-    (err-then q r s (if c.args.marks.now.ways then 9 ∷ [] else []) (line 0
-    (codes "none")) c.in_ok-put_tab-2.ensures.shown c.plain_line.result c.plain_line.ensures.cut)
+    err-then _ _ _ (if c.args.marks.now.offsets then 9 ∷ [] else []) ((if c.args.marks.now.ways then 9 ∷ [] else [])
+    ++ (line 0 (codes "none"))) c.in_ok-put_tab.ensures.shown c.plain_line.result (err-then _ _ _
+    (if c.args.marks.now.ways then 9 ∷ [] else []) (line 0 (codes "none")) c.in_ok-put_tab-2.ensures.shown
+    c.plain_line.result c.plain_line.ensures.cut)
 
 pub returns-in_err-put_tab-clause-cut : goal.returns-in_err-put_tab-clause-cut
 returns-in_err-put_tab-clause-cut g c =
@@ -36,8 +25,7 @@ returns-in_err-put_tab-clause-cut g c =
     let q = (outgoing g.W.Write.contents c.put_tab.new.writer c.put_tab.new.text.items) in
     passed c.from_residual.result c.in_err-put_tab.field-0.0 _ c.from_residual.ensures.1
     (broken-before p q _ (if c.args.marks.now.offsets then 9 ∷ [] else []) ((if c.args.marks.now.ways then 9 ∷ [] else
-    []) ++
-    (line 0 (codes "none"))) c.in_err-put_tab.ensures.cut)
+    []) ++ (line 0 (codes "none"))) c.in_err-put_tab.ensures.cut)
 
 pub returns-in_err-put_tab-2-clause-cut : goal.returns-in_err-put_tab-2-clause-cut
 returns-in_err-put_tab-2-clause-cut g c =
@@ -47,7 +35,6 @@ returns-in_err-put_tab-2-clause-cut g c =
     passed c.from_residual-in_err-put_tab-2.result c.in_err-put_tab-2.field-0.0 _
     c.from_residual-in_err-put_tab-2.ensures.1
     (then-broken p q r _ (if c.args.marks.now.offsets then 9 ∷ [] else []) ((if c.args.marks.now.ways then 9 ∷ [] else
-    []) ++
-    (line 0 (codes "none"))) c.in_ok-put_tab.ensures.shown
+    []) ++ (line 0 (codes "none"))) c.in_ok-put_tab.ensures.shown
     (broken-before q r _ (if c.args.marks.now.ways then 9 ∷ [] else []) (line 0
     (codes "none")) c.in_err-put_tab-2.ensures.cut))

@@ -14,12 +14,9 @@ write_digits-start-requires g c =
 
 pub returns-clause-shown : goal.returns-clause-shown
 returns-clause-shown g c =
-    on_ok_weaker c.put.result
-    (otherwise (outgoing g.W.Write.contents c.args.writer.now c.args.text.now.items)
-    (outgoing g.W.Write.contents c.put.new.writer c.put.new.text.items) _ _
-    (before-name (decimal c.args.byte) c.name_block-block.result c.write_digits-start.new.buf c.args.name.now
-    c.write_digits-start.result c.write_digits-start.ensures.start c.write_digits-start.ensures.written
-    c.name_block-block.ensures.tab c.name_block-block.ensures.name))
+    on_ok_weaker c.put.result (otherwise _ _ _ _ (before-name (decimal c.args.byte) c.name_block-block.result
+    c.write_digits-start.new.buf c.args.name.now c.write_digits-start.result c.write_digits-start.ensures.start
+    c.write_digits-start.ensures.written c.name_block-block.ensures.tab c.name_block-block.ensures.name))
     c.put.ensures.shown
 
 pub returns-clause-cut : goal.returns-clause-cut
@@ -29,5 +26,4 @@ returns-clause-cut g c =
     (outgoing g.W.Write.contents c.put.new.writer c.put.new.text.items) e _ _
     (before-name (decimal c.args.byte) c.name_block-block.result c.write_digits-start.new.buf c.args.name.now
     c.write_digits-start.result c.write_digits-start.ensures.start c.write_digits-start.ensures.written
-    c.name_block-block.ensures.tab c.name_block-block.ensures.name))
-    c.put.ensures.cut
+    c.name_block-block.ensures.tab c.name_block-block.ensures.name)) c.put.ensures.cut

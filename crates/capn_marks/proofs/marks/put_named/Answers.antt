@@ -6,24 +6,15 @@ use Rattle.capn_marks.proofs.marks.put_named.Goals as goal
 
 pub returns-clause-shown : goal.returns-clause-shown
 returns-clause-shown g c =
-    let p = (outgoing g.W.Write.contents c.args.writer.now c.args.text.now.items) in
-    let q = (outgoing g.W.Write.contents c.put.new.writer c.put.new.text.items) in
-    let r = (outgoing g.W.Write.contents c.put-2.new.writer c.put-2.new.text.items) in
-    ok-then p q r c.args.name.now (9 ∷ [])
-    c.in_ok-put.ensures.shown c.put-2.result c.put-2.ensures.shown
+    ok-then _ _ _ c.args.name.now (9 ∷ []) c.in_ok-put.ensures.shown c.put-2.result c.put-2.ensures.shown
 
 pub returns-clause-cut : goal.returns-clause-cut
 returns-clause-cut g c =
-    let p = (outgoing g.W.Write.contents c.args.writer.now c.args.text.now.items) in
-    let q = (outgoing g.W.Write.contents c.put.new.writer c.put.new.text.items) in
-    let r = (outgoing g.W.Write.contents c.put-2.new.writer c.put-2.new.text.items) in
-    err-then p q r c.args.name.now (9 ∷ [])
-    c.in_ok-put.ensures.shown c.put-2.result c.put-2.ensures.cut
+    err-then _ _ _ c.args.name.now (9 ∷ []) c.in_ok-put.ensures.shown c.put-2.result c.put-2.ensures.cut
 
 pub returns-in_err-put-clause-cut : goal.returns-in_err-put-clause-cut
 returns-in_err-put-clause-cut g c =
     let p = (outgoing g.W.Write.contents c.args.writer.now c.args.text.now.items) in
     let q = (outgoing g.W.Write.contents c.put.new.writer c.put.new.text.items) in
     passed c.from_residual.result c.in_err-put.field-0.0 _ c.from_residual.ensures.1
-    (broken-before p q _ c.args.name.now (9 ∷ [])
-    c.in_err-put.ensures.cut)
+    (broken-before p q _ c.args.name.now (9 ∷ []) c.in_err-put.ensures.cut)

@@ -45,8 +45,7 @@ returns-in_err-put-clause-cut g c =
     let room : 64 * i + 64 ≤ length xs = omega arith in
     bits-cut old now xs new _ (64 * i) 64 c.word_bits.result
     (whole-bits ws xs i c.number_at-word.result c.word_bits.result h (length-map xs from_bool)
-    c.word_bits.ensures.each c.word_bits.ensures.size c.number_at-word.ensures
-    room)
+    c.word_bits.ensures.each c.word_bits.ensures.size c.number_at-word.ensures room)
     (c.loop-i.invariant xs h n) c.in_err-put.ensures.cut)
 
 pub returns-then-left-eq0-clause-shown : goal.returns-then-left-eq0-clause-shown
@@ -71,8 +70,7 @@ returns-clause-shown g c =
     (bits-more old now xs new (64 * i) left (take left c.word_bits-2.result)
     (first-bits ws xs i left c.number_at-last.result c.word_bits-2.result h (length-map xs from_bool)
     c.word_bits-2.ensures.each c.word_bits-2.ensures.size
-    (c.number_at-last.ensures ∙ ap (slice_index ws) last) (omega arith) room)
-    (c.loop-i.invariant xs h n) k))
+    (c.number_at-last.ensures ∙ ap (slice_index ws) last) (omega arith) room) (c.loop-i.invariant xs h n) k))
     c.put-2.ensures.shown
 
 pub returns-clause-cut : goal.returns-clause-cut
@@ -89,6 +87,5 @@ returns-clause-cut g c =
     bits-cut old now xs new e (64 * i) left (take left c.word_bits-2.result)
     (first-bits ws xs i left c.number_at-last.result c.word_bits-2.result h (length-map xs from_bool)
     c.word_bits-2.ensures.each c.word_bits-2.ensures.size
-    (c.number_at-last.ensures ∙ ap (slice_index ws) last) (omega arith) room)
-    (c.loop-i.invariant xs h n) k)
+    (c.number_at-last.ensures ∙ ap (slice_index ws) last) (omega arith) room) (c.loop-i.invariant xs h n) k)
     c.put-2.ensures.cut

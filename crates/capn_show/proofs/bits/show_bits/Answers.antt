@@ -16,8 +16,7 @@ returns-then-count-eq0-clause-shown g c =
     let lies = rule.lies (g.S.Space.message c.args.space.now) c.args.start in
     let p = (outgoing g.W.Write.contents c.args.writer.now c.args.text.now.items) in
     let q = (outgoing g.W.Write.contents c.put_piece.new.writer c.put_piece.new.text.items) in
-    on_ok_weaker c.put_piece.result
-    (λ k xs h n. let none : 0 ≡ length xs = omega arith in
+    on_ok_weaker c.put_piece.result (λ k xs h n. let none : 0 ≡ length xs = omega arith in
     subst (λ (j : ℕ). Adds p q (emitted_digits rule c.args.level path lies j (digits_of xs))) none k)
     c.put_piece.ensures.shown
 
@@ -28,8 +27,7 @@ returns-then-count-eq0-clause-cut g c =
     let lies = rule.lies (g.S.Space.message c.args.space.now) c.args.start in
     let p = (outgoing g.W.Write.contents c.args.writer.now c.args.text.now.items) in
     let q = (outgoing g.W.Write.contents c.put_piece.new.writer c.put_piece.new.text.items) in
-    IfErr-weaker c.put_piece.result _ _
-    (λ e k xs h n. let none : 0 ≡ length xs = omega arith in
+    IfErr-weaker c.put_piece.result _ _ (λ e k xs h n. let none : 0 ≡ length xs = omega arith in
     subst (λ (j : ℕ). BreaksOff p q e (emitted_digits rule c.args.level path lies j (digits_of xs))) none k)
     c.put_piece.ensures.cut
 
@@ -38,18 +36,11 @@ returns-clause-shown g c =
     let rule = g.E.Emitter.rule c.args.emitter.now in
     let path = g.E.Emitter.path c.args.emitter.now in
     let lies = rule.lies (g.S.Space.message c.args.space.now) c.args.start in
-    let p = (outgoing g.W.Write.contents c.args.writer.now c.args.text.now.items) in
-    let q = (outgoing g.W.Write.contents c.begin_digits.new.writer c.begin_digits.new.text.items) in
-    let r = (outgoing g.W.Write.contents c.push_bits.new.writer c.push_bits.new.text.items) in
-    let s = (outgoing g.W.Write.contents c.put_piece-2.new.writer c.put_piece-2.new.text.items) in
     let head = rule.piece c.args.level pieces.Digits in
-    on_ok_weaker c.put_piece-2.result
-    (λ k xs h n. otherwise p s _ _
-    (digits-emitted rule c.args.level path lies (length xs) (digits_of xs) (omega arith))
-    (three p q _ (digits_of xs) _ r s
-    (otherwise p q _ _ (ap (λ (f : ℕ). rule.mark 0 f path ++ head) c.byte_of-first.ensures.is)
-    c.in_ok-begin_digits.ensures.shown) (c.in_ok-push_bits.ensures.shown xs h n) k))
-    c.put_piece-2.ensures.shown
+    on_ok_weaker c.put_piece-2.result (λ k xs h n. otherwise _ _ _ _ (digits-emitted rule c.args.level path lies
+    (length xs) (digits_of xs) (omega arith)) (three _ _ _ (digits_of xs) _ _ _ (otherwise _ _ _ _
+    (ap (λ (f : ℕ). rule.mark 0 f path ++ head) c.byte_of-first.ensures.is) c.in_ok-begin_digits.ensures.shown)
+    (c.in_ok-push_bits.ensures.shown xs h n) k)) c.put_piece-2.ensures.shown
 
 pub returns-clause-cut : goal.returns-clause-cut
 returns-clause-cut g c =
@@ -61,13 +52,11 @@ returns-clause-cut g c =
     let r = (outgoing g.W.Write.contents c.push_bits.new.writer c.push_bits.new.text.items) in
     let s = (outgoing g.W.Write.contents c.put_piece-2.new.writer c.put_piece-2.new.text.items) in
     let head = rule.piece c.args.level pieces.Digits in
-    IfErr-weaker c.put_piece-2.result _ _
-    (λ e k xs h n. otherwise-broken p s e _ _
+    IfErr-weaker c.put_piece-2.result _ _ (λ e k xs h n. otherwise-broken p s e _ _
     (digits-emitted rule c.args.level path lies (length xs) (digits_of xs) (omega arith))
     (cut-third p q _ (digits_of xs) _ r s e
     (otherwise p q _ _ (ap (λ (f : ℕ). rule.mark 0 f path ++ head) c.byte_of-first.ensures.is)
-    c.in_ok-begin_digits.ensures.shown) (c.in_ok-push_bits.ensures.shown xs h n) k))
-    c.put_piece-2.ensures.cut
+    c.in_ok-begin_digits.ensures.shown) (c.in_ok-push_bits.ensures.shown xs h n) k)) c.put_piece-2.ensures.cut
 
 pub returns-in_err-begin_digits-clause-cut : goal.returns-in_err-begin_digits-clause-cut
 returns-in_err-begin_digits-clause-cut g c =
@@ -79,8 +68,7 @@ returns-in_err-begin_digits-clause-cut g c =
     let head = rule.piece c.args.level pieces.Digits in
     passed c.from_residual.result c.in_err-begin_digits.field-0.0 _ c.from_residual.ensures.1
     (λ xs h n. otherwise-broken p q _ _ _
-    (digits-emitted rule c.args.level path lies (length xs) (digits_of xs) (omega arith))
-    (broken-before p q _ _ _
+    (digits-emitted rule c.args.level path lies (length xs) (digits_of xs) (omega arith)) (broken-before p q _ _ _
     (otherwise-broken p q _ _ _ (ap (λ (f : ℕ). rule.mark 0 f path ++ head) c.byte_of-first.ensures.is)
     c.in_err-begin_digits.ensures.cut)))
 
@@ -94,8 +82,7 @@ returns-in_err-push_bits-clause-cut g c =
     let r = (outgoing g.W.Write.contents c.push_bits.new.writer c.push_bits.new.text.items) in
     let head = rule.piece c.args.level pieces.Digits in
     passed c.from_residual-in_err-push_bits.result c.in_err-push_bits.field-0.0 _
-    c.from_residual-in_err-push_bits.ensures.1
-    (λ xs h n. otherwise-broken p r _ _ _
+    c.from_residual-in_err-push_bits.ensures.1 (λ xs h n. otherwise-broken p r _ _ _
     (digits-emitted rule c.args.level path lies (length xs) (digits_of xs) (omega arith))
     (cut-second p q _ (digits_of xs) _ r _
     (otherwise p q _ _ (ap (λ (f : ℕ). rule.mark 0 f path ++ head) c.byte_of-first.ensures.is)

@@ -43,8 +43,7 @@ returns-in_err-put-clause-cut g c =
     let room : 8 * i + 8 ≤ length xs = omega arith in
     bytes-cut old now xs new _ (8 * i) 8 c.word_digits.result
     (whole-word ws xs i h c.number_at-word.result c.word_digits.result c.word_digits.ensures c.number_at-word.ensures
-    room)
-    (c.loop-i.invariant xs h n) c.in_err-put.ensures.cut)
+    room) (c.loop-i.invariant xs h n) c.in_err-put.ensures.cut)
 
 pub returns-then-left-eq0-clause-shown : goal.returns-then-left-eq0-clause-shown
 returns-then-left-eq0-clause-shown g c xs h n =
@@ -67,8 +66,7 @@ returns-clause-shown g c =
     bytes-all old new xs (8 * i + left) (omega arith)
     (bytes-more old now xs new (8 * i) left (take (2 * left) c.word_digits-2.result)
     (first-bytes ws xs i h left c.number_at-last.result c.word_digits-2.result c.word_digits-2.ensures
-    (c.number_at-last.ensures ∙ ap (slice_index ws) last) (omega arith) room)
-    (c.loop-i.invariant xs h n) k))
+    (c.number_at-last.ensures ∙ ap (slice_index ws) last) (omega arith) room) (c.loop-i.invariant xs h n) k))
     c.put-2.ensures.shown
 
 pub returns-clause-cut : goal.returns-clause-cut
@@ -84,6 +82,5 @@ returns-clause-cut g c =
     let room : 8 * i + left ≤ length xs = omega arith in
     bytes-cut old now xs new e (8 * i) left (take (2 * left) c.word_digits-2.result)
     (first-bytes ws xs i h left c.number_at-last.result c.word_digits-2.result c.word_digits-2.ensures
-    (c.number_at-last.ensures ∙ ap (slice_index ws) last) (omega arith) room)
-    (c.loop-i.invariant xs h n) k)
+    (c.number_at-last.ensures ∙ ap (slice_index ws) last) (omega arith) room) (c.loop-i.invariant xs h n) k)
     c.put-2.ensures.cut

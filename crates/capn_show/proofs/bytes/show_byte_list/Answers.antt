@@ -30,8 +30,7 @@ returns-then-is_text-clause-shown g c =
     let within = c.requires.content.within in
     on_ok_weaker c.put_text.result
     (λ k xs h n. let same = read-bytes m c.args.start c.args.count bs xs c.bytes-bytes.ensures (omega arith) h n in
-    otherwise p q _ _ (text-lines rule c.args.level path lies bs xs same
-    (sym c.is_text.ensures ∙ c.if-is_text.true)) k)
+    otherwise p q _ _ (text-lines rule c.args.level path lies bs xs same (sym c.is_text.ensures ∙ c.if-is_text.true)) k)
     c.put_text.ensures.shown
 
 pub returns-then-is_text-clause-cut : goal.returns-then-is_text-clause-cut
@@ -47,8 +46,7 @@ returns-then-is_text-clause-cut g c =
     IfErr-weaker c.put_text.result _ _
     (λ e k xs h n. let same = read-bytes m c.args.start c.args.count bs xs c.bytes-bytes.ensures (omega arith) h n in
     otherwise-broken p q e _ _ (text-lines rule c.args.level path lies bs xs same
-    (sym c.is_text.ensures ∙ c.if-is_text.true)) k)
-    c.put_text.ensures.cut
+    (sym c.is_text.ensures ∙ c.if-is_text.true)) k) c.put_text.ensures.cut
 
 pub returns-else-is_text-clause-shown : goal.returns-else-is_text-clause-shown
 returns-else-is_text-clause-shown g c =
@@ -63,8 +61,7 @@ returns-else-is_text-clause-shown g c =
     on_ok_weaker c.show_digits.result
     (λ k xs h n. let same = read-bytes m c.args.start c.args.count bs xs c.bytes-bytes.ensures (omega arith) h n in
     otherwise p q _ _ (digit-lines rule c.args.level path lies bs xs same
-    (sym c.is_text.ensures ∙ c.if-is_text.false)) (k xs h n))
-    c.show_digits.ensures.shown
+    (sym c.is_text.ensures ∙ c.if-is_text.false)) (k xs h n)) c.show_digits.ensures.shown
 
 pub returns-else-is_text-clause-cut : goal.returns-else-is_text-clause-cut
 returns-else-is_text-clause-cut g c =
@@ -79,6 +76,4 @@ returns-else-is_text-clause-cut g c =
     IfErr-weaker c.show_digits.result _ _
     (λ e k xs h n. let same = read-bytes m c.args.start c.args.count bs xs c.bytes-bytes.ensures (omega arith) h n in
     otherwise-broken p q e _ _ (digit-lines rule c.args.level path lies bs xs same
-    (sym c.is_text.ensures ∙ c.if-is_text.false))
-    (k xs h n))
-    c.show_digits.ensures.cut
+    (sym c.is_text.ensures ∙ c.if-is_text.false)) (k xs h n)) c.show_digits.ensures.cut

@@ -14,11 +14,9 @@ returns-clause-shown g c =
     let r = outgoing g.W.Write.contents c.put_escapes.new.writer c.put_escapes.new.text.items in
     let s = outgoing g.W.Write.contents c.put.new.writer c.put.new.text.items in
     let xs = c.args.bytes.now in
-    on_ok_weaker c.put.result
-    (λ k. otherwise p s _ _ (quoted-lined c.args.level (length xs) (escapes xs))
-    (both p q s (quoted_front c.args.level (length xs)) (escapes xs ++ 34 ∷ 10 ∷ []) c.in_ok-quoted_front.ensures.shown
-    (both q r s (escapes xs) (34 ∷ 10 ∷ []) c.in_ok-put_escapes.ensures.shown k)))
-    c.put.ensures.shown
+    on_ok_weaker c.put.result (λ k. otherwise p s _ _ (quoted-lined c.args.level (length xs) (escapes xs)) (both p q s
+    (quoted_front c.args.level (length xs)) (escapes xs ++ 34 ∷ 10 ∷ []) c.in_ok-quoted_front.ensures.shown
+    (both q r s (escapes xs) (34 ∷ 10 ∷ []) c.in_ok-put_escapes.ensures.shown k))) c.put.ensures.shown
 
 pub returns-clause-cut : goal.returns-clause-cut
 returns-clause-cut g c =
@@ -27,22 +25,19 @@ returns-clause-cut g c =
     let r = outgoing g.W.Write.contents c.put_escapes.new.writer c.put_escapes.new.text.items in
     let s = outgoing g.W.Write.contents c.put.new.writer c.put.new.text.items in
     let xs = c.args.bytes.now in
-    IfErr-weaker c.put.result _ _
-    (λ e k. otherwise-broken p s e _ _ (quoted-lined c.args.level (length xs) (escapes xs))
-    (then-broken p q s e (quoted_front c.args.level (length xs)) (escapes xs ++ 34 ∷ 10 ∷ [])
-    c.in_ok-quoted_front.ensures.shown
-    (then-broken q r s e (escapes xs) (34 ∷ 10 ∷ []) c.in_ok-put_escapes.ensures.shown k)))
-    c.put.ensures.cut
+    IfErr-weaker c.put.result _ _ (λ e k. otherwise-broken p s e _ _
+    (quoted-lined c.args.level (length xs) (escapes xs)) (then-broken p q s e (quoted_front c.args.level (length xs))
+    (escapes xs ++ 34 ∷ 10 ∷ []) c.in_ok-quoted_front.ensures.shown (then-broken q r s e (escapes xs) (34 ∷ 10 ∷ [])
+    c.in_ok-put_escapes.ensures.shown k))) c.put.ensures.cut
 
 pub returns-in_err-quoted_front-clause-cut : goal.returns-in_err-quoted_front-clause-cut
 returns-in_err-quoted_front-clause-cut g c =
     let p = outgoing g.W.Write.contents c.args.writer.now c.args.text.now.items in
     let q = outgoing g.W.Write.contents c.quoted_front.new.writer c.quoted_front.new.text.items in
     let xs = c.args.bytes.now in
-    passed c.from_residual.result c.in_err-quoted_front.field-0.0 _ c.from_residual.ensures.1
-    (otherwise-broken p q _ _ _ (quoted-lined c.args.level (length xs) (escapes xs))
-    (broken-before p q _ (quoted_front c.args.level (length xs)) (escapes xs ++ 34 ∷ 10 ∷ [])
-    c.in_err-quoted_front.ensures.cut))
+    passed c.from_residual.result c.in_err-quoted_front.field-0.0 _ c.from_residual.ensures.1 (otherwise-broken p q _ _
+    _ (quoted-lined c.args.level (length xs) (escapes xs)) (broken-before p q _ (quoted_front c.args.level (length xs))
+    (escapes xs ++ 34 ∷ 10 ∷ []) c.in_err-quoted_front.ensures.cut))
 
 pub returns-in_err-put_escapes-clause-cut : goal.returns-in_err-put_escapes-clause-cut
 returns-in_err-put_escapes-clause-cut g c =
@@ -51,8 +46,7 @@ returns-in_err-put_escapes-clause-cut g c =
     let r = outgoing g.W.Write.contents c.put_escapes.new.writer c.put_escapes.new.text.items in
     let xs = c.args.bytes.now in
     passed c.from_residual-in_err-put_escapes.result c.in_err-put_escapes.field-0.0 _
-    c.from_residual-in_err-put_escapes.ensures.1
-    (otherwise-broken p r _ _ _ (quoted-lined c.args.level (length xs) (escapes xs))
-    (then-broken p q r _ (quoted_front c.args.level (length xs)) (escapes xs ++ 34 ∷ 10 ∷ [])
-    c.in_ok-quoted_front.ensures.shown
-    (broken-before q r _ (escapes xs) (34 ∷ 10 ∷ []) c.in_err-put_escapes.ensures.cut)))
+    c.from_residual-in_err-put_escapes.ensures.1 (otherwise-broken p r _ _ _
+    (quoted-lined c.args.level (length xs) (escapes xs)) (then-broken p q r _ (quoted_front c.args.level (length xs))
+    (escapes xs ++ 34 ∷ 10 ∷ []) c.in_ok-quoted_front.ensures.shown (broken-before q r _ (escapes xs) (34 ∷ 10 ∷ [])
+    c.in_err-put_escapes.ensures.cut)))

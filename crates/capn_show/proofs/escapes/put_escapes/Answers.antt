@@ -27,10 +27,9 @@ returns-in_err-put-clause-cut g c =
     let after-put = outgoing g.W.Write.contents c.put.new.writer c.put.new.text.items in
     let xs = c.args.bytes.now in
     let done = c.loop-done.done in
-    passed c.from_residual.result c.in_err-put.field-0.0 _ c.from_residual.ensures.1
-    (bare-cut (escaped_of c.args.json) old here xs done after-put c.bare_run-run.result (left_of xs done) (left-is xs
-    done)
-    c.bare_run-run.ensures.bare _ c.loop-done.invariant.rest c.in_err-put.ensures.cut)
+    passed c.from_residual.result c.in_err-put.field-0.0 _ c.from_residual.ensures.1 (bare-cut (escaped_of c.args.json)
+    old here xs done after-put c.bare_run-run.result (left_of xs done) (left-is xs done) c.bare_run-run.ensures.bare _
+    c.loop-done.invariant.rest c.in_err-put.ensures.cut)
 
 pub returns-then-run-rest-clause-shown : goal.returns-then-run-rest-clause-shown
 returns-then-run-rest-clause-shown g c =
@@ -43,9 +42,8 @@ returns-then-run-rest-clause-shown g c =
     let low = c.loop-done.invariant.low in
     let many = left-length xs done in
     let end = c.if-run-rest.true in
-    escapes-all (escaped_of c.args.json) old after-put xs (done + run) (omega arith)
-    (bare-more (escaped_of c.args.json) old here xs done after-put run (left_of xs done) (left-is xs done)
-    c.bare_run-run.ensures.bare
+    escapes-all (escaped_of c.args.json) old after-put xs (done + run) (omega arith) (bare-more (escaped_of c.args.json)
+    old here xs done after-put run (left_of xs done) (left-is xs done) c.bare_run-run.ensures.bare
     c.loop-done.invariant.rest c.in_ok-put.ensures.shown)
 
 pub returns-in_err-put_escaped-clause-cut : goal.returns-in_err-put_escaped-clause-cut
@@ -63,13 +61,10 @@ returns-in_err-put_escaped-clause-cut g c =
     let other = c.if-run-rest.false in
     let below : done + run < length xs = omega arith in
     passed c.from_residual-in_err-put_escaped.result c.in_err-put_escaped.field-0.0 _
-    c.from_residual-in_err-put_escaped.ensures.1
-    (escapes-cut (escaped_of c.args.json) old after-put xs (done + run) new _ (slice_index (left_of xs done) run)
-    below (left-at xs done run)
-    (bare-more (escaped_of c.args.json) old here xs done after-put run (left_of xs done) (left-is xs done)
-    c.bare_run-run.ensures.bare
-    c.loop-done.invariant.rest c.in_ok-put.ensures.shown)
-    c.in_err-put_escaped.ensures.cut)
+    c.from_residual-in_err-put_escaped.ensures.1 (escapes-cut (escaped_of c.args.json) old after-put xs (done + run) new
+    _ (slice_index (left_of xs done) run) below (left-at xs done run) (bare-more (escaped_of c.args.json) old here xs
+    done after-put run (left_of xs done) (left-is xs done) c.bare_run-run.ensures.bare c.loop-done.invariant.rest
+    c.in_ok-put.ensures.shown) c.in_err-put_escaped.ensures.cut)
 
 pub loop-done-preserved : goal.loop-done-preserved
 loop-done-preserved g c =

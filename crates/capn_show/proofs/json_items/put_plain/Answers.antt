@@ -15,17 +15,13 @@ returns-clause-shown g c =
     let w = c.write_digits-start in
     let old = outgoing g.W.Write.contents c.args.writer.now c.args.text.now.items in
     let new = outgoing g.W.Write.contents c.put.new.writer c.put.new.text.items in
-    on_ok_weaker c.put.result
-    (otherwise old new _ (decimal c.args.n) (plain-digits w.new.buf c.args.n w.result 20 w.ensures.written
-    w.ensures.start))
-    c.put.ensures.shown
+    on_ok_weaker c.put.result (otherwise old new _ (decimal c.args.n) (plain-digits w.new.buf c.args.n w.result 20
+    w.ensures.written w.ensures.start)) c.put.ensures.shown
 
 pub returns-clause-cut : goal.returns-clause-cut
 returns-clause-cut g c =
     let w = c.write_digits-start in
     let old = outgoing g.W.Write.contents c.args.writer.now c.args.text.now.items in
     let new = outgoing g.W.Write.contents c.put.new.writer c.put.new.text.items in
-    IfErr-weaker c.put.result _ _
-    (λ e. otherwise-broken old new e _ (decimal c.args.n)
-    (plain-digits w.new.buf c.args.n w.result 20 w.ensures.written w.ensures.start))
-    c.put.ensures.cut
+    IfErr-weaker c.put.result _ _ (λ e. otherwise-broken old new e _ (decimal c.args.n)
+    (plain-digits w.new.buf c.args.n w.result 20 w.ensures.written w.ensures.start)) c.put.ensures.cut

@@ -24,10 +24,8 @@ returns-clause-shown g c =
     let few : length (decimal c.args.n) ≤ 20 = search (rules, length-decimal-le 20) in
     let w = c.write_digits-start in
     let start = w.ensures.start in
-    on_ok_weaker c.put.result
-    (otherwise old new _ (number_text c.args.n)
-    (quoted-digits w.new.buf c.args.n w.result w.ensures.before w.ensures.written start (omega arith)))
-    c.put.ensures.shown
+    on_ok_weaker c.put.result (otherwise old new _ (number_text c.args.n) (quoted-digits w.new.buf c.args.n w.result
+    w.ensures.before w.ensures.written start (omega arith))) c.put.ensures.shown
 
 pub returns-clause-cut : goal.returns-clause-cut
 returns-clause-cut g c =
@@ -36,7 +34,6 @@ returns-clause-cut g c =
     let few : length (decimal c.args.n) ≤ 20 = search (rules, length-decimal-le 20) in
     let w = c.write_digits-start in
     let start = w.ensures.start in
-    IfErr-weaker c.put.result _ _
-    (λ e. otherwise-broken old new e _ (number_text c.args.n)
+    IfErr-weaker c.put.result _ _ (λ e. otherwise-broken old new e _ (number_text c.args.n)
     (quoted-digits w.new.buf c.args.n w.result w.ensures.before w.ensures.written start (omega arith)))
     c.put.ensures.cut

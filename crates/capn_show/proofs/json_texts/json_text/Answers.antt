@@ -22,11 +22,9 @@ returns-clause-shown g c =
     let new = outgoing g.W.Write.contents c.put-2.new.writer c.put-2.new.text.items in
     let xs = c.args.bytes.now in
     let size = c.saturating_sub.result in
-    on_ok_weaker c.put-2.result
-    (λ k. otherwise old new _ _ (text-parts xs size c.saturating_sub.ensures)
-    (three old begun (codes "{\"text\":\"") (json_escapes (take size xs)) (codes "\"}") full new
-    c.in_ok-put.ensures.shown c.in_ok-put_escapes.ensures.shown k))
-    c.put-2.ensures.shown
+    on_ok_weaker c.put-2.result (λ k. otherwise old new _ _ (text-parts xs size c.saturating_sub.ensures) (three old
+    begun (codes "{\"text\":\"") (json_escapes (take size xs)) (codes "\"}") full new c.in_ok-put.ensures.shown
+    c.in_ok-put_escapes.ensures.shown k)) c.put-2.ensures.shown
 
 pub returns-clause-cut : goal.returns-clause-cut
 returns-clause-cut g c =
@@ -36,11 +34,9 @@ returns-clause-cut g c =
     let new = outgoing g.W.Write.contents c.put-2.new.writer c.put-2.new.text.items in
     let xs = c.args.bytes.now in
     let size = c.saturating_sub.result in
-    IfErr-weaker c.put-2.result _ _
-    (λ e k. otherwise-broken old new e _ _ (text-parts xs size c.saturating_sub.ensures)
+    IfErr-weaker c.put-2.result _ _ (λ e k. otherwise-broken old new e _ _ (text-parts xs size c.saturating_sub.ensures)
     (cut-third old begun (codes "{\"text\":\"") (json_escapes (take size xs)) (codes "\"}") full new e
-    c.in_ok-put.ensures.shown c.in_ok-put_escapes.ensures.shown k))
-    c.put-2.ensures.cut
+    c.in_ok-put.ensures.shown c.in_ok-put_escapes.ensures.shown k)) c.put-2.ensures.cut
 
 pub returns-in_err-put-clause-cut : goal.returns-in_err-put-clause-cut
 returns-in_err-put-clause-cut g c =
@@ -48,10 +44,9 @@ returns-in_err-put-clause-cut g c =
     let begun = outgoing g.W.Write.contents c.put.new.writer c.put.new.text.items in
     let xs = c.args.bytes.now in
     let size = length xs - 1 in
-    passed c.from_residual.result c.in_err-put.field-0.0 _ c.from_residual.ensures.1
-    (otherwise-broken old begun _ _ _ (text-parts xs size refl)
-    (broken-before old begun _ (codes "{\"text\":\"") (json_escapes (take size xs) ++ codes "\"}")
-    c.in_err-put.ensures.cut))
+    passed c.from_residual.result c.in_err-put.field-0.0 _ c.from_residual.ensures.1 (otherwise-broken old begun _ _ _
+    (text-parts xs size refl) (broken-before old begun _
+    (codes "{\"text\":\"") (json_escapes (take size xs) ++ codes "\"}") c.in_err-put.ensures.cut))
 
 pub returns-in_err-put_escapes-clause-cut : goal.returns-in_err-put_escapes-clause-cut
 returns-in_err-put_escapes-clause-cut g c =
@@ -61,7 +56,7 @@ returns-in_err-put_escapes-clause-cut g c =
     let xs = c.args.bytes.now in
     let size = c.saturating_sub.result in
     passed c.from_residual-in_err-put_escapes.result c.in_err-put_escapes.field-0.0 _
-    c.from_residual-in_err-put_escapes.ensures.1
-    (otherwise-broken old full _ _ _ (text-parts xs size c.saturating_sub.ensures)
-    (cut-second old begun (codes "{\"text\":\"") (json_escapes (take size xs)) (codes "\"}") full _
-    c.in_ok-put.ensures.shown c.in_err-put_escapes.ensures.cut))
+    c.from_residual-in_err-put_escapes.ensures.1 (otherwise-broken old full _ _ _
+    (text-parts xs size c.saturating_sub.ensures) (cut-second old begun
+    (codes "{\"text\":\"") (json_escapes (take size xs)) (codes "\"}") full _ c.in_ok-put.ensures.shown
+    c.in_err-put_escapes.ensures.cut))

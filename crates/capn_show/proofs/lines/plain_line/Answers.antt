@@ -12,13 +12,12 @@ returns-clause-shown g c =
     let after-indent = outgoing g.W.Write.contents c.indent.new.writer c.indent.new.text.items in
     let after-put = outgoing g.W.Write.contents c.put.new.writer c.put.new.text.items in
     let new = outgoing g.W.Write.contents c.end_line.new.writer c.end_line.new.text.items in
-    on_ok_weaker c.end_line.result
-    (λ k. otherwise old new (replicate (2 * c.args.level) 32 ++ (c.as_bytes.result.now ++ (10 ∷ [])))
-    (line c.args.level c.args.word.now) (ap (λ (l : List ℕ). replicate (2 * c.args.level) 32 ++
-    (l ++ 10 ∷ [])) c.as_bytes.ensures.value ∙ lined c.args.level c.args.word.now) (both old after-indent new
-    (replicate (2 * c.args.level) 32) (c.as_bytes.result.now ++ (10 ∷ [])) c.in_ok-indent.ensures.shown
-    (both after-indent after-put new (c.as_bytes.result.now) (10 ∷ []) c.in_ok-put.ensures.shown k)))
-    c.end_line.ensures.shown
+    on_ok_weaker c.end_line.result (λ k. otherwise old new (replicate (2 * c.args.level) 32
+    ++ (c.as_bytes.result.now ++ (10 ∷ []))) (line c.args.level c.args.word.now) (ap
+    (λ (l : List ℕ). replicate (2 * c.args.level) 32 ++ (l ++ 10 ∷ [])) c.as_bytes.ensures.value ∙ lined c.args.level
+    c.args.word.now) (both old after-indent new (replicate (2 * c.args.level) 32) (c.as_bytes.result.now ++ (10 ∷ []))
+    c.in_ok-indent.ensures.shown (both after-indent after-put new (c.as_bytes.result.now) (10 ∷ [])
+    c.in_ok-put.ensures.shown k))) c.end_line.ensures.shown
 
 pub returns-clause-cut : goal.returns-clause-cut
 returns-clause-cut g c =
@@ -26,20 +25,19 @@ returns-clause-cut g c =
     let after-indent = outgoing g.W.Write.contents c.indent.new.writer c.indent.new.text.items in
     let after-put = outgoing g.W.Write.contents c.put.new.writer c.put.new.text.items in
     let new = outgoing g.W.Write.contents c.end_line.new.writer c.end_line.new.text.items in
-    IfErr-weaker c.end_line.result _ _
-    (λ e k. otherwise-broken old new e (replicate (2 * c.args.level) 32 ++ (c.as_bytes.result.now ++ (10 ∷ [])))
-    (line c.args.level c.args.word.now) (ap (λ (l : List ℕ). replicate (2 * c.args.level) 32 ++
-    (l ++ 10 ∷ [])) c.as_bytes.ensures.value ∙ lined c.args.level c.args.word.now)
-    (then-broken old after-indent new e (replicate (2 * c.args.level) 32) (c.as_bytes.result.now ++
-    (10 ∷ [])) c.in_ok-indent.ensures.shown (then-broken after-indent after-put new e (c.as_bytes.result.now)
-    (10 ∷ []) c.in_ok-put.ensures.shown k))) c.end_line.ensures.cut
+    IfErr-weaker c.end_line.result _ _ (λ e k. otherwise-broken old new e (replicate (2 * c.args.level) 32
+    ++ (c.as_bytes.result.now ++ (10 ∷ []))) (line c.args.level c.args.word.now) (ap
+    (λ (l : List ℕ). replicate (2 * c.args.level) 32 ++ (l ++ 10 ∷ [])) c.as_bytes.ensures.value ∙ lined c.args.level
+    c.args.word.now) (then-broken old after-indent new e (replicate (2 * c.args.level) 32)
+    (c.as_bytes.result.now ++ (10 ∷ [])) c.in_ok-indent.ensures.shown (then-broken after-indent after-put new e
+    (c.as_bytes.result.now) (10 ∷ []) c.in_ok-put.ensures.shown k))) c.end_line.ensures.cut
 
 pub returns-in_err-indent-clause-cut : goal.returns-in_err-indent-clause-cut
 returns-in_err-indent-clause-cut g c =
     let old = outgoing g.W.Write.contents c.args.writer.now c.args.text.now.items in
     let after-indent = outgoing g.W.Write.contents c.indent.new.writer c.indent.new.text.items in
-    passed c.from_residual.result c.in_err-indent.field-0.0 _ c.from_residual.ensures.1
-    (otherwise-broken old after-indent _ (replicate (2 * c.args.level) 32 ++ (c.args.word.now ++ (10 ∷ [])))
+    passed c.from_residual.result c.in_err-indent.field-0.0 _ c.from_residual.ensures.1 (otherwise-broken old
+    after-indent _ (replicate (2 * c.args.level) 32 ++ (c.args.word.now ++ (10 ∷ [])))
     (line c.args.level c.args.word.now) (lined c.args.level c.args.word.now) (broken-before old after-indent _
     (replicate (2 * c.args.level) 32) (c.args.word.now ++ (10 ∷ [])) c.in_err-indent.ensures.cut))
 
@@ -50,8 +48,7 @@ returns-in_err-put-clause-cut g c =
     let after-put = outgoing g.W.Write.contents c.put.new.writer c.put.new.text.items in
     passed c.from_residual-in_err-put.result c.in_err-put.field-0.0 _ c.from_residual-in_err-put.ensures.1
     (otherwise-broken old after-put _ (replicate (2 * c.args.level) 32 ++ (c.as_bytes.result.now ++ (10 ∷ [])))
-    (line c.args.level c.args.word.now) (ap (λ (l : List ℕ). replicate (2 * c.args.level) 32 ++
-    (l ++ 10 ∷ [])) c.as_bytes.ensures.value ∙ lined c.args.level c.args.word.now)
-    (then-broken old after-indent after-put _ (replicate (2 * c.args.level) 32) (c.as_bytes.result.now ++
-    (10 ∷ [])) c.in_ok-indent.ensures.shown (broken-before after-indent after-put _ (c.as_bytes.result.now)
-    (10 ∷ []) c.in_err-put.ensures.cut)))
+    (line c.args.level c.args.word.now) (ap (λ (l : List ℕ). replicate (2 * c.args.level) 32 ++ (l ++ 10 ∷ []))
+    c.as_bytes.ensures.value ∙ lined c.args.level c.args.word.now) (then-broken old after-indent after-put _
+    (replicate (2 * c.args.level) 32) (c.as_bytes.result.now ++ (10 ∷ [])) c.in_ok-indent.ensures.shown
+    (broken-before after-indent after-put _ (c.as_bytes.result.now) (10 ∷ []) c.in_err-put.ensures.cut)))

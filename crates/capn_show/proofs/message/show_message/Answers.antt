@@ -40,9 +40,7 @@ returns-in-Err-clause-refused g c =
     let f = c.in_ok-survey.ensures.found in
     unwritten (g.S.Space.message c.args.space.now) c.args.limits show_text
     (outgoing g.W.Write.contents c.args.writer.now c.args.text.now.items) (outgoing g.W.Write.contents
-    c.show_slot.new.writer c.show_slot.new.text.items) c.in-Err.broken
-    c.fault_of.result c.fault_of.ensures
-    (record {
+    c.show_slot.new.writer c.show_slot.new.text.items) c.in-Err.broken c.fault_of.result c.fault_of.ensures (record {
       value = f.value;
       is = f.is;
       text = otherwise-broken (outgoing g.W.Write.contents c.args.writer.now c.args.text.now.items)

@@ -10,7 +10,7 @@ use Rattle.capn_show.proofs.shared.Appended.{passed, same, otherwise, otherwise-
 use Rattle.capn_show.proofs.numbers.show_words.Goals as goal
 
 pub loop-i-init : goal.loop-i-init
-loop-i-init g c xs h n = same (outgoing g.W.Write.contents c.args.writer.now c.args.text.now.items)
+loop-i-init g c xs h n = same _
 
 pub loop-i-preserved : goal.loop-i-preserved
 loop-i-preserved g c xs h n =
@@ -20,13 +20,10 @@ loop-i-preserved g c xs h n =
     let byte = c.byte_of-first.ensures.is in
     let i = c.loop-i.i in
     let below : i < length xs = omega arith in
-    let p = (outgoing g.W.Write.contents c.args.writer.now c.args.text.now.items) in
-    let q = (outgoing g.W.Write.contents c.loop-i.writer c.loop-i.text.items) in
-    let r = (outgoing g.W.Write.contents c.put_item.new.writer c.put_item.new.text.items) in
     let word = λ (w : ℕ). rule.piece c.args.level (pieces.Word w) in
-    item-more (number_item rule 8 word (rule.piece c.args.level pieces.EndWords) path lies) 0 p q xs i r below
+    item-more (number_item rule 8 word (rule.piece c.args.level pieces.EndWords) path lies) 0 _ _ xs i _ below
     (c.loop-i.invariant xs h n)
-    (otherwise q r _ _ (ap₂ (λ (k x : ℕ). rule.mark i k path ++ word x)
+    (otherwise _ _ _ _ (ap₂ (λ (k x : ℕ). rule.mark i k path ++ word x)
     (omega arith) (c.word-word.ensures
     ∙ sym (get_or-drop c.args.start.word (segment_at (g.S.Space.message c.args.space.now) c.args.start.segment) i 0)
     ∙ h i below)) c.in_ok-put_item.ensures.shown)
@@ -36,16 +33,11 @@ returns-clause-shown g c =
     let rule = g.E.Emitter.rule c.args.emitter.now in
     let path = g.E.Emitter.path c.args.emitter.now in
     let lies = rule.lies (g.S.Space.message c.args.space.now) c.args.start in
-    let p = (outgoing g.W.Write.contents c.args.writer.now c.args.text.now.items) in
-    let q = (outgoing g.W.Write.contents c.loop-i.writer c.loop-i.text.items) in
-    let r = (outgoing g.W.Write.contents c.put_piece.new.writer c.put_piece.new.text.items) in
     let word = λ (w : ℕ). rule.piece c.args.level (pieces.Word w) in
     let end = rule.piece c.args.level pieces.EndWords in
-    on_ok_weaker c.put_piece.result
-    (λ k xs h n. otherwise p r _ _ (numbers-items rule 8 word end path lies xs)
-    (items-end (number_item rule 8 word end path lies) 0 p q xs c.loop-i.i r end
-    (omega arith) (c.loop-i.invariant xs h n) k))
-    c.put_piece.ensures.shown
+    on_ok_weaker c.put_piece.result (λ k xs h n. otherwise _ _ _ _ (numbers-items rule 8 word end path lies xs)
+    (items-end (number_item rule 8 word end path lies) 0 _ _ xs c.loop-i.i _ end (omega arith)
+    (c.loop-i.invariant xs h n) k)) c.put_piece.ensures.shown
 
 pub returns-clause-cut : goal.returns-clause-cut
 returns-clause-cut g c =
@@ -60,8 +52,7 @@ returns-clause-cut g c =
     IfErr-weaker c.put_piece.result _ _
     (λ e k xs h n. otherwise-broken p r e _ _ (numbers-items rule 8 word end path lies xs)
     (end-cut (number_item rule 8 word end path lies) 0 p q xs c.loop-i.i r e end
-    (omega arith) (c.loop-i.invariant xs h n) k))
-    c.put_piece.ensures.cut
+    (omega arith) (c.loop-i.invariant xs h n) k)) c.put_piece.ensures.cut
 
 pub returns-in_err-put_item-clause-cut : goal.returns-in_err-put_item-clause-cut
 returns-in_err-put_item-clause-cut g c =
@@ -78,9 +69,7 @@ returns-in_err-put_item-clause-cut g c =
     let q = (outgoing g.W.Write.contents c.loop-i.writer c.loop-i.text.items) in
     let r = (outgoing g.W.Write.contents c.put_item.new.writer c.put_item.new.text.items) in
     otherwise-broken p r _ _ _ (numbers-items rule 8 word end path lies xs)
-    (item-cut (number_item rule 8 word end path lies) 0 p q xs i r _ end below
-    (c.loop-i.invariant xs h n)
-    (otherwise-broken q r _ _ _ (ap₂ (λ (k x : ℕ). rule.mark i k path ++ word x)
-    (omega arith) (c.word-word.ensures
+    (item-cut (number_item rule 8 word end path lies) 0 p q xs i r _ end below (c.loop-i.invariant xs h n)
+    (otherwise-broken q r _ _ _ (ap₂ (λ (k x : ℕ). rule.mark i k path ++ word x) (omega arith) (c.word-word.ensures
     ∙ sym (get_or-drop c.args.start.word (segment_at (g.S.Space.message c.args.space.now) c.args.start.segment) i 0)
     ∙ h i below)) c.in_err-put_item.ensures.cut)))

@@ -10,8 +10,7 @@ returns-in-Ok-clause-cut g c =
     let old = outgoing g.W.Write.contents c.args.writer.now c.args.text.now.items in
     let more = outgoing g.W.Write.contents c.args.writer.now c.extend_from_slice.new.self.items in
     let new = outgoing g.W.Write.contents c.settle.new.writer c.settle.new.text.items in
-    IfErr-weaker c.settle.result _ _
-    (λ e. settled-broken old more new e c.args.bytes.now
+    IfErr-weaker c.settle.result _ _ (λ e. settled-broken old more new e c.args.bytes.now
     (kept-more old more c.args.bytes.now refl refl c.in-Ok.ensures.items)) c.settle.ensures.cut
 
 pub returns-in-Err-clause-cut : goal.returns-in-Err-clause-cut

@@ -1,5 +1,4 @@
 use Rattle.std.proofs.Common.{arith}
-use Rattle.capn_show.specs.Outgoing.{outgoing}
 use Rattle.capn_show.specs.Style.{styled}
 use Rattle.capn_show.proofs.shared.Ends.{unwritten}
 use Rattle.capn_show.proofs.part.show_part.Goals as goal
@@ -20,8 +19,6 @@ returns-in-Ok-clause-shown g c =
 pub returns-in-Err-clause-refused : goal.returns-in-Err-clause-refused
 returns-in-Err-clause-refused g c =
     let f = c.in_ok-survey.ensures.found in
-    unwritten (g.S.Space.message c.args.space.now) c.args.limits (styled c.args.style c.args.path.now)
-    (outgoing g.W.Write.contents c.args.writer.now c.args.text.now.items)
-    (outgoing g.W.Write.contents c.write_part.new.writer c.write_part.new.text.items) c.in-Err.broken
-    c.fault_of.result c.fault_of.ensures
-    (record { value = f.value; is = f.is; text = c.in-Err.ensures.cut f.value f.is.is })
+    unwritten (g.S.Space.message c.args.space.now) c.args.limits (styled c.args.style c.args.path.now) _ _
+    c.in-Err.broken c.fault_of.result c.fault_of.ensures (record
+    { value = f.value; is = f.is; text = c.in-Err.ensures.cut f.value f.is.is })

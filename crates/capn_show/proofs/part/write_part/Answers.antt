@@ -25,8 +25,7 @@ pub returns-in-Some-clause-shown : goal.returns-in-Some-clause-shown
 returns-in-Some-clause-shown g c =
     let old = outgoing g.W.Write.contents c.args.writer.now c.args.text.now.items in
     let new = outgoing g.W.Write.contents c.show_there.new.writer c.show_there.new.text.items in
-    on_ok_weaker c.show_there.result
-    (λ k v is. let x = c.in-Some.ensures.there v (c.named-found.ensures.shown v is) in
+    on_ok_weaker c.show_there.result (λ k v is. let x = c.in-Some.ensures.there v (c.named-found.ensures.shown v is) in
     subst (λ (o : Option Tree). Adds old new (part_in c.args.style o)) (sym x.is) (k x.value x.shown))
     c.show_there.ensures.shown
 
@@ -43,16 +42,13 @@ pub returns-in-None-clause-shown : goal.returns-in-None-clause-shown
 returns-in-None-clause-shown g c =
     let old = outgoing g.W.Write.contents c.args.writer.now c.args.text.now.items in
     let new = outgoing g.W.Write.contents c.show_nothing.new.writer c.show_nothing.new.text.items in
-    on_ok_weaker c.show_nothing.result
-    (λ k v is. subst (λ (o : Option Tree). Adds old new (part_in c.args.style o))
-    (sym (c.in-None.ensures.none v (c.named-found.ensures.shown v is))) k)
-    c.show_nothing.ensures.shown
+    on_ok_weaker c.show_nothing.result (λ k v is. subst (λ (o : Option Tree). Adds old new (part_in c.args.style o))
+    (sym (c.in-None.ensures.none v (c.named-found.ensures.shown v is))) k) c.show_nothing.ensures.shown
 
 pub returns-in-None-clause-cut : goal.returns-in-None-clause-cut
 returns-in-None-clause-cut g c =
     let old = outgoing g.W.Write.contents c.args.writer.now c.args.text.now.items in
     let new = outgoing g.W.Write.contents c.show_nothing.new.writer c.show_nothing.new.text.items in
-    IfErr-weaker c.show_nothing.result _ _
-    (λ e k v is. subst (λ (o : Option Tree). BreaksOff old new e (part_in c.args.style o))
-    (sym (c.in-None.ensures.none v (c.named-found.ensures.shown v is))) k)
-    c.show_nothing.ensures.cut
+    IfErr-weaker c.show_nothing.result _ _ (λ e k v is. subst
+    (λ (o : Option Tree). BreaksOff old new e (part_in c.args.style o))
+    (sym (c.in-None.ensures.none v (c.named-found.ensures.shown v is))) k) c.show_nothing.ensures.cut

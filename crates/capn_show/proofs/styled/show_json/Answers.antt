@@ -25,11 +25,8 @@ returns-clause-shown g c =
     let p = outgoing g.W.Write.contents c.args.writer.now c.args.text.now.items in
     let q = outgoing g.W.Write.contents c.show_found.new.writer c.show_found.new.text.items in
     let r = outgoing g.W.Write.contents c.end_line.new.writer c.end_line.new.text.items in
-    on_ok_weaker c.end_line.result
-    (λ k v h. otherwise p r _ _ (lined asked v)
-    (both p q r (json_by by v) (10 ∷ []) (otherwise p q _ _ (text v)
-    (c.in_ok-show_found.ensures.shown v h)) k))
-    c.end_line.ensures.shown
+    on_ok_weaker c.end_line.result (λ k v h. otherwise p r _ _ (lined asked v) (both p q r (json_by by v) (10 ∷ [])
+    (otherwise p q _ _ (text v) (c.in_ok-show_found.ensures.shown v h)) k)) c.end_line.ensures.shown
 
 pub returns-clause-cut : goal.returns-clause-cut
 returns-clause-cut g c =
@@ -40,10 +37,8 @@ returns-clause-cut g c =
     let p = outgoing g.W.Write.contents c.args.writer.now c.args.text.now.items in
     let q = outgoing g.W.Write.contents c.show_found.new.writer c.show_found.new.text.items in
     let r = outgoing g.W.Write.contents c.end_line.new.writer c.end_line.new.text.items in
-    IfErr-weaker c.end_line.result _ _
-    (λ e k v h. otherwise-broken p r e _ _ (lined asked v)
-    (then-broken p q r e (json_by by v) (10 ∷ []) (otherwise p q _ _ (text v)
-    (c.in_ok-show_found.ensures.shown v h)) k))
+    IfErr-weaker c.end_line.result _ _ (λ e k v h. otherwise-broken p r e _ _ (lined asked v) (then-broken p q r e
+    (json_by by v) (10 ∷ []) (otherwise p q _ _ (text v) (c.in_ok-show_found.ensures.shown v h)) k))
     c.end_line.ensures.cut
 
 pub returns-in_err-show_found-clause-cut : goal.returns-in_err-show_found-clause-cut
@@ -54,7 +49,6 @@ returns-in_err-show_found-clause-cut g c =
     let text = json-emitted asked m 0 [] c.args.found in
     let p = outgoing g.W.Write.contents c.args.writer.now c.args.text.now.items in
     let q = outgoing g.W.Write.contents c.show_found.new.writer c.show_found.new.text.items in
-    passed c.from_residual.result c.in_err-show_found.field-0.0 _ c.from_residual.ensures.1
-    (λ v h. otherwise-broken p q _ _ _ (lined asked v)
-    (broken-before p q _ (json_by by v) (10 ∷ []) (otherwise-broken p q _ _ _ (text v)
+    passed c.from_residual.result c.in_err-show_found.field-0.0 _ c.from_residual.ensures.1 (λ v h. otherwise-broken p q
+    _ _ _ (lined asked v) (broken-before p q _ (json_by by v) (10 ∷ []) (otherwise-broken p q _ _ _ (text v)
     (c.in_err-show_found.ensures.cut v h))))

@@ -23,8 +23,7 @@ returns-clause-shown g c =
     let q = outgoing g.W.Write.contents c.show_found.new.writer c.show_found.new.text.items in
     let asked = not (eqb g.row.QUOTED 0) in
     let text = bare asked (λ m at. 0) (λ path i. path) (λ byte path. []) (λ n path. refl) m 0 [] c.args.found in
-    on_ok_weaker c.show_found.result
-    (λ k v h. otherwise p q _ _ (text v ∙ lined asked v) (k v h))
+    on_ok_weaker c.show_found.result (λ k v h. otherwise p q _ _ (text v ∙ lined asked v) (k v h))
     c.show_found.ensures.shown
 
 pub returns-clause-cut : goal.returns-clause-cut
@@ -34,6 +33,5 @@ returns-clause-cut g c =
     let q = outgoing g.W.Write.contents c.show_found.new.writer c.show_found.new.text.items in
     let asked = not (eqb g.row.QUOTED 0) in
     let text = bare asked (λ m at. 0) (λ path i. path) (λ byte path. []) (λ n path. refl) m 0 [] c.args.found in
-    IfErr-weaker c.show_found.result _ _
-    (λ e k v h. otherwise-broken p q e _ _ (text v ∙ lined asked v) (k v h))
+    IfErr-weaker c.show_found.result _ _ (λ e k v h. otherwise-broken p q e _ _ (text v ∙ lined asked v) (k v h))
     c.show_found.ensures.cut
