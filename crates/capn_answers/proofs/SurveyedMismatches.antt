@@ -1,5 +1,4 @@
--- The mismatch and the survey of a message are also those of the bytes that are read as that message. (For
--- `mismatch_and_survey_in`.)
+-- Bytes that are read as a message have the mismatch and the survey of that message. (For `mismatch_and_survey_in`.)
 use Rattle.std.proofs.Common.{◌≡◌, ℕ, ◌*◌, ◌≤◌, inl, inr, List, length, subst, Result, Ok, Err, IfOk, IfErr}
 use Rattle.std.proofs.Common.{IsErrOf, MatchResult}
 use Rattle.std.specs.Bool.{⊤}

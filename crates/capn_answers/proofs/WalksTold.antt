@@ -1,4 +1,4 @@
--- The outcome of the walk of a message is also that of the bytes that are read as that message. (For `walk_in`.)
+-- If bytes are read as a message, the outcome of its walk is also the outcome for the bytes. (For `walk_in`.)
 use Rattle.std.proofs.Common.{◌≡◌, ℕ, ◌*◌, ◌≤◌, inl, inr, List, length, subst, arith, Result, Ok, Err}
 use Rattle.std.proofs.Common.{IfOk, IfErr, IsErrOf, MatchResult}
 use Rattle.capn_value.specs.Tree.{Tree}

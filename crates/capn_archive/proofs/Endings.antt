@@ -19,7 +19,7 @@ Served = Result (Unit {0}) RunFault
 abbrev pub Ending : Type 0
 Ending = Result (Unit {0}) ArchiveFault
 
--- The result `r` of the loop of a run, under a name that proofs can use.
+-- The result `r` of a loop over messages, unchanged. The call fixes the type of `r`.
 abbrev pub served : Served → Served
 served r = r
 

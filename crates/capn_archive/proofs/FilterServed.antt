@@ -22,7 +22,7 @@ abbrev state : FilterOrder → Option SkippedSoFar → Option Position → Filte
 state order skipped ended = record { order = order; skipped = skipped; ended = ended }
 
 module _ (s : FilterService) (at : Position) (frame : List ℕ) (message : List (List ℕ)) where
-  -- Case: the message is let through, and its frame was added.
+  -- Case: if the message is let through, `DoesService` holds after the call that adds its frame.
   pub let_through : Passes s.order.canonical message s.order.limits → (a b : Outgoing) (failed : Bool) (r : Ending)
       → AddsBytes frame a b failed r → DoesService serves refuses s at frame message a b failed r s
   let_through passes a b failed r adds =
@@ -33,14 +33,14 @@ module _ (s : FilterService) (at : Position) (frame : List ℕ) (message : List 
         → DoesService serves refuses s at frame message a a failed done t
     held_back t is = (([], is, added_none a, fine), λ h. h)
 
-    -- Case: the message was skipped.
+    -- Case: if the message was skipped, `DoesService` holds.
     pub skips : s.order.keep_going ≡ true → IsHeldBack s message → (more : SkippedSoFar) → more ≡ one_more s.skipped at
         → DoesService serves refuses s at frame message a a failed done (state s.order (Some more) s.ended)
     skips going held more one =
         held_back (state s.order (Some more) s.ended)
         (inr (inl (going, held, refl, ap (λ (k : SkippedSoFar). state s.order (Some k) s.ended) one)))
 
-    -- Case: the message ended the run.
+    -- Case: if the message ended the run because it is not canonical, `DoesService` holds.
     pub ends : s.order.keep_going ≡ false → IsUncanonical s.order.canonical message s.order.limits
         → DoesService serves refuses s at frame message a a failed done (state s.order s.skipped (Some at))
     ends stays other =

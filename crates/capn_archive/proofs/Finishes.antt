@@ -100,7 +100,7 @@ module _ {X : Type 0} (f : Fold X) (x : X) (finish : Finish X) (form : Form) whe
 
 module _ {X : Type 0} (f : Fold X) (x : X) (finish : Finish X) (form : Form) (a b c m : Option (List ℕ))
     (reader before : Bool) (y : X) (run : ServesMessages f x form a b c m reader before (Ok tt) y) where
-  -- Case: the complete closing text was written.
+  -- Case: if the complete closing text was written, `Finished` holds.
   pub finished_closed : (d : Option (List ℕ)) (after : Bool) → Appends m d (finish.closing y) → after ≡ false
       → (r : Result (Unit {0}) ArchiveFault) → r ≡ outcome f x finish y
       → Finished f x finish form a b c d reader after r
@@ -130,7 +130,7 @@ module _ {X : Type 0} (f : Fold X) (x : X) (finish : Finish X) (form : Form) (a 
   finished_done none =
       finished_closed m before (subst (Appends m m) (sym none) (Appends-nil m)) (writer_fine reader before run.io)
 
-  -- Case: an allocation was refused for the closing text.
+  -- Case: if an allocation was refused for the closing text, `Finished` holds for `Memory`.
   unclosed : (d : Option (List ℕ)) (after : Bool) → d ≡ m → after ≡ false → finish.closing y ≢ []
       → Finished f x finish form a b c d reader after (Err faults.Memory)
   unclosed d after same fine some = record {
@@ -150,7 +150,7 @@ module _ {X : Type 0} (f : Fold X) (x : X) (finish : Finish X) (form : Form) (a 
     memory = λ h. inr (has_closing f x finish form a b c m reader before y run some);
   }
 
-  -- Case: the writer failed within the closing text.
+  -- Case: if the writer failed within the closing text, `Finished` holds for `Io`.
   broken : (d : Option (List ℕ)) (after : Bool) → HasBegun m d (finish.closing y) → after ≡ true
       → Finished f x finish form a b c d reader after (Err faults.Io)
   broken d after begun failed = record {

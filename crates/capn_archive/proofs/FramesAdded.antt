@@ -33,7 +33,7 @@ text_added text a b failed (Err faults.Io) (breaks, broken) = (breaks, broken)
 text_added text a b failed (Err (faults.Refused r)) none = absurd none
 
 module _ (front back : List ℕ) where
-  -- Case: `front` was added, and then `back` or a prefix of `back`.
+  -- Case: if `front` was added, and then `back` or a prefix of `back`, `AddsText` holds for `front ++ back`.
   pub both_added : (a b c : Outgoing) (failed : Bool) (r : Ending) → Adds a b front → AddsBytes back b c failed r
       → AddsText (front ++ back) a c failed r
   both_added a b c failed (Ok u) first (second, short, fine) =
@@ -53,7 +53,7 @@ module _ (front back : List ℕ) where
       (broken_before a b front back count breaks, broken)
   front_stopped a b failed (faults.Refused r) none = absurd none
 
-  -- Case: `fault` ended the call before all of `front` was added.
+  -- Case: if `fault` ended the call before all of `front` was added, `AddsText` holds for `front ++ back`.
   pub none_added : (a b : Outgoing) (failed : Bool) (fault : ServeFault) (r : Ending) → IsErrAnd r (λ e. e ≡ fault)
       → AddsBytes front a b failed (stopped fault) → AddsText (front ++ back) a b failed r
   none_added a b failed fault (Ok u) is put = absurd is

@@ -63,7 +63,7 @@ module _ (s : UniqState) (frame : List ℕ) (message : List (List ℕ)) (a b : O
   kept_added t text is (Err faults.Io) ((count, breaks), broken) = ((text, t, count, is, breaks), broken)
   kept_added t text is (Err (faults.Refused r)) none = absurd none
 
-  -- Case: the message was not skipped. Serving it gave `Ok`, or a fault that ends the run.
+  -- Case: if the message was served, or a fault ends the run, `DoesService` holds.
   pub tried_does : (t : UniqState) (at : Position) (r : Ending) → TriesToDeduplicate s frame message a b failed r t
       → ((e : Refusal) → r ≡ stopped (faults.Refused e) → s.order.keep_going ≡ false)
       → DoesService serves refuses s at frame message a b failed r t
@@ -76,7 +76,7 @@ module _ (s : UniqState) (frame : List ℕ) (message : List (List ℕ)) (a b : O
   tried_does t at (Err (faults.Refused e)) (undigested, same, kept, fine) ends =
       ((ends e refl, undigested), subst (λ (x : Outgoing). Adds a x []) (sym same) (added_none a), fine)
 
-  -- Case: an allocation was refused, or the writer failed.
+  -- Case: if an allocation was refused, or the writer failed, `DoesService` holds.
   pub fault_does : (t : UniqState) (at : Position) (fault other : ServeFault) → fault ≡ other
       → TriesToDeduplicate s frame message a b failed (stopped fault) t
       → ((e : Refusal) → stopped other ≡ stopped (faults.Refused e) → s.order.keep_going ≡ false)
@@ -91,7 +91,7 @@ module _ (s : UniqState) (frame : List ℕ) (message : List (List ℕ)) (a b : O
   undigested t fault r same tried =
       subst (λ (e : ServeFault). TriesToDeduplicate s frame message a b failed (stopped e) t) same tried
 
-  -- Case: an allocation was refused before anything was added.
+  -- Case: if an allocation was refused before anything was added, `TriesToDeduplicate` holds.
   pub memory_refused : (t : UniqState) (fault : ServeFault) (r : Ending) → IsErrAnd r (λ e. e ≡ fault)
       → fault ≡ faults.Memory → Adds a b [] → failed ≡ false → TriesToDeduplicate s frame message a b failed r t
   memory_refused t fault (Ok u) told is none fine = absurd told

@@ -1,4 +1,4 @@
--- Lemmas for `with_commands`: the line of a program with one more subcommand.
+-- Lemmas for `with_commands`: the parser of a program with one more subcommand.
 use Rattle.std.proofs.Common.{◌≡◌, Result, IfOk, ap, ap₂, ◌∙◌}
 use Rattle.std.proofs.lemmas.Result.{IfOk-weaker}
 use Rattle.clap.specs.Words.{AddsSubcommand, App, Shape, app_of, with_subcommand}

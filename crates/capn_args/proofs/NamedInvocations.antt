@@ -1,5 +1,5 @@
 -- Lemmas for `command_line.rt`, `explain_options.rt`, `pick_options.rt` and `show_options.rt`: the meaning of each
--- subcommand that has several invocations, or one with a flag.
+-- subcommand that has several invocations, or one invocation with a flag.
 use Rattle.std.proofs.Common.{◌≡◌, ◌⊎◌, inl, inr, Bor, List, Bool, true, false, Option, Some, None, IsSome, codes, refl}
 use Rattle.clap.specs.Words.{Row, Text, first_of}
 use Rattle.capn_walk.specs.Limits.{Bounds}

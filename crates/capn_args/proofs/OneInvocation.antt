@@ -73,8 +73,7 @@ filter_one rows u v (f, l, k, c) (g, m, j, d) =
     let limits : u.limits ≡ v.limits = limits_one rows u.limits v.limits l m in
     let going : u.keep_going ≡ v.keep_going = flag_one rows (codes "keep-going") u.keep_going v.keep_going k j in
     let canonical : u.canonical ≡ v.canonical = flag_one rows (codes "canonical") u.canonical v.canonical c d in
-    λ i. invocations.Filter
-    (record { form = form i; limits = limits i; keep_going = going i; canonical = canonical i })
+    λ i. invocations.Filter (record { form = form i; limits = limits i; keep_going = going i; canonical = canonical i })
 
 pub make_one : (rows : List Row) (p q : Make) → MakeIs rows p → MakeIs rows q → invocations.Make p ≡ invocations.Make q
 make_one rows p q (f, b) (g, c) =
@@ -193,8 +192,8 @@ orders name one = record {
   one = λ rows o p is also. same_as is.2 also.2 (one rows is.0 also.0 is.1 also.1);
 }
 
--- `o` is a run over the archive `a` for a task of the subcommand `name`, and the options in `rows` have the values in
--- `a`.
+-- `o` is the run over an archive with the options `a`, whose task belongs to the subcommand `name`. The options in
+-- `rows` have the values in `a`.
 abbrev pub ArchiveIs : Text → List Row → Invocation → Type 0
 ArchiveIs name rows o = (a : ArchiveOrder) × TaskIs rows a.task × AreOptions rows a × (task_name a.task ≡ name)
     × (o ≡ invocations.Archive a)
@@ -313,8 +312,7 @@ kinds = (codes "show", either plain_shows shows not_plain)
     ∷ (codes "pick", either picks lists not_listed)
     ∷ (codes "pack", either (messages packs IsWhole) packing not_packing)
     ∷ (codes "unpack", either (messages unpacks IsWhole) unpacking not_unpacking)
-    ∷ (codes "make", orders (λ (m : Make). invocations.Make m) make_one)
-    ∷ []
+    ∷ (codes "make", orders (λ (m : Make). invocations.Make m) make_one) ∷ []
 
 sorted_archive : (rows : List Row) (a : ArchiveOrder) (t : Task) → a.task ≡ t → TaskIs rows a.task → AreOptions rows a
     → Named kinds archives (task_name t) rows (invocations.Archive a)

@@ -123,12 +123,8 @@ canonicals = record { Is = CanonicalIs; one = canonical_one }
 
 abbrev kinds : List (Text × Kind Equal)
 kinds = (codes "show", writes pieces.Text)
-    ∷ (codes "check", writes pieces.Price)
-    ∷ (codes "hash", writes pieces.Digest)
-    ∷ (codes "pack", packs)
-    ∷ (codes "unpack", unpacks)
-    ∷ (codes "canonical", canonicals)
-    ∷ []
+    ∷ (codes "check", writes pieces.Price) ∷ (codes "hash", writes pieces.Digest) ∷ (codes "pack", packs)
+    ∷ (codes "unpack", unpacks) ∷ (codes "canonical", canonicals) ∷ []
 
 sorted : (rows : List Row) (c : Command) → CommandIs rows c → Named kinds nothing (command_name c) rows c
 sorted rows (commands.Show f l) is = (f, l, false, is, refl)

@@ -1,7 +1,6 @@
 -- The index of a message has as many entries as its walk makes visits. (For `index_in` and `index_message`.)
-use Rattle.std.proofs.Common.{◌≡◌, ℕ, ◌*◌, ◌≤◌, List, length, map, Ok, ap, sym, subst, arith}
-use Rattle.std.proofs.lemmas.List.{length-map, take_all}
-use Rattle.capn_stream.specs.Frames.{Frames, StandsFirst}
+use Rattle.std.proofs.Common.{◌≡◌, ℕ, ◌*◌, List, length, map, Ok, ap, sym, subst, arith}
+use Rattle.std.proofs.lemmas.List.{length-map}
 use Rattle.capn_walk.specs.Accepted.{number_of_visits, visits_within}
 use Rattle.capn_walk.specs.Index.{IndexesFollowVisits, entry_target, index_of, kept_of, place_of}
 use Rattle.capn_walk.specs.Limits.{Bounds}
@@ -10,7 +9,6 @@ use Rattle.capn_target.specs.Target.{target}
 use Rattle.capn_walk.specs.Visits.{Visit}
 use Rattle.capn_walk.specs.declared.entry.Entry.{Entry}
 use Rattle.capn_walk.specs.declared.survey_answer.Surveyed.{Surveyed}
-use Rattle.capn_canon.specs.Reads.{IsFramed}
 use Rattle.capn_canon.specs.SurveyedBytes.{Surveys}
 use Rattle.capn_canon.specs.declared.form.Form.{Form}
 use Rattle.capn_abi.specs.StatusCodes.{answered}
@@ -44,10 +42,3 @@ pub entries_told : IndexesFollowVisits → (form : Form) (bs : List ℕ) (limits
     → HasEntries form bs limits r.visits
 entries_told law form bs limits s h r e =
     subst (λ (x : CapnReport). HasEntries form bs limits x.visits) (sym e) (entries_of_survey law form bs limits s h)
-
-pub framed_whole : (bs : List ℕ) (most : ℕ) (m : List (List ℕ)) (taken : ℕ) → StandsFirst bs most m taken
-    → length bs ≤ taken → IsFramed bs most m
-framed_whole bs most m taken s h = record {
-  frame = subst (λ (xs : List ℕ). Frames xs m) (take_all taken bs h) s.frame;
-  room = s.room;
-}

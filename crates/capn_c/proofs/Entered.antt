@@ -1,10 +1,8 @@
 -- Lemmas on entries that are written one after the other. (For `put_starts`.)
-use Rattle.std.proofs.Common.{◌≡◌, ℕ, zero, suc, ◌+◌, ◌<◌, ◌≤◌, List, [], ◌∷◌, ◌++◌, length, take, drop, map, set}
-use Rattle.std.proofs.Common.{get_or, refl, ap, ◌∙◌, arith}
+use Rattle.std.proofs.Common.{◌≡◌, ℕ, zero, suc, ◌+◌, ◌<◌, ◌≤◌, List, [], ◌∷◌, ◌++◌, length, take, drop, set, get_or}
+use Rattle.std.proofs.Common.{refl, ap, ◌∙◌, arith}
 use Rattle.std.specs.List.{sum_by}
-use Rattle.std.proofs.lemmas.List.{length-map, take_all, take_at}
 use Rattle.std.proofs.lemmas.List.Sums.{sum_by-cons}
-use Rattle.capn_walk.specs.Index.{filled}
 use Rattle.capn_c.specs.Entries.{starts_from}
 
 pub one_more : {A : Type 0} (xs old : List A) (i : ℕ) (none : A) → i < length xs → length xs ≤ length old
@@ -32,14 +30,3 @@ start_at n (suc i) (ws ∷ m) none h =
 pub starts_length : (n : ℕ) (m : List (List ℕ)) → length (starts_from n m) ≡ length m
 starts_length n [] = refl
 starts_length n (ws ∷ m) = ap suc (starts_length (n + length ws) m)
-
-pub starts_first : (m : List (List ℕ)) (rest : List ℕ)
-    → take (length m) (starts_from 0 m ++ rest) ≡ starts_from 0 m
-starts_first m rest = take_at (starts_from 0 m) rest (length m) (starts_length 0 m)
-
-pub filled_whole : {A B : Type 0} (f : A → B) (es : List A) (room : List B) → length es ≤ length room
-    → filled (map f es) room ≡ map f es ++ drop (length es) room
-filled_whole f es room h =
-    let many = length-map es f in
-    ap (λ ys. ys ++ drop (length (map f es)) room) (take_all (length room) (map f es) (omega (arith, h, many)))
-    ∙ ap (λ (n : ℕ). map f es ++ drop n room) many

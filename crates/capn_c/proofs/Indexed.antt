@@ -1,4 +1,4 @@
--- The index of a message is also that of the bytes that are read as that message. (For `message_index.rt`.)
+-- The index of a message is also the index of the bytes that are read as that message. (For `message_index.rt`.)
 use Rattle.std.proofs.Common.{◌≡◌, ◌<◌, ℕ, List, length, subst, arith}
 use Rattle.capn_stream.specs.FrameRefusal.{most_few}
 use Rattle.capn_walk.specs.Accepted.{IsValueOf}

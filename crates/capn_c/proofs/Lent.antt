@@ -219,8 +219,7 @@ module _ (decided : FormIsDecided) (most : ScratchIsBounded) (never : LackingIsN
       → IsFormPaidWithin limits.budget e → (status : ℕ) (report : CapnReport) → IsRefusalTold e status report
       → IsLent form bs limits scratch old new status report
   each (told.Bare e) h same within status report t =
-      of_bytes (told.Bare e) h same (λ n x. absurd cc) (refusals.Bare e) (λ x. absurd cc) h nothing_paid status report
-      t
+      of_bytes (told.Bare e) h same (λ n x. absurd cc) (refusals.Bare e) (λ x. absurd cc) h nothing_paid status report t
   each (told.Packed e) h same within status report t =
       of_bytes (told.Packed e) h same (λ n x. absurd cc) (refusals.Packed e) (λ x. absurd cc) h nothing_paid status
       report t

@@ -1,6 +1,6 @@
--- `is_status` is true of the status of each refusal. The status is 16 or more, unless the refusal is `Memory`. (For
--- `Lent`, `Reported`, `refusal_way` and `write_message`.)
-use Rattle.std.proofs.Common.{rules, ◌≡◌, ◌≢◌, ◌≤◌, ℕ, List, IsTrue, false, refl}
+-- `is_status` is true of the status of each refusal whose reason is true. The status of a refusal is 8 or at least 16.
+-- (For `Lent`, `Reported`, `refusal_way` and `write_message`.)
+use Rattle.std.proofs.Common.{rules, ◌≢◌, ◌≤◌, ℕ, List, IsTrue}
 use Rattle.capn_target.specs.declared.target.Fault.{Fault}
 use Rattle.capn_walk.specs.Limits.{Bounds}
 use Rattle.capn_canon.specs.declared.form.Form.{Form}
@@ -24,6 +24,3 @@ held_listed m l r h = search rules
 
 pub above : (r : Refusal) → code r ≢ 8 → 16 ≤ code r
 above r h = search rules
-
-never : (is_status 254 ≡ false) × (is_status 255 ≡ false)
-never = (refl, refl)

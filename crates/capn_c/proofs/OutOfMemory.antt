@@ -1,5 +1,5 @@
--- The status 8 is only that of `Memory`: no other refusal of bytes, or of a message, has that status. (For
--- `canonical_call.rt`, `canonical_fill.rt`, `canonical_segments_call.rt` and others.)
+-- Only `Memory` has the status 8: no other refusal of bytes or of a message has that status. (For `canonical_call.rt`,
+-- `canonical_fill.rt`, `canonical_segments_call.rt` and others.)
 use Rattle.std.proofs.Common.{rules, ◌≡◌, ◌⊎◌, inl, inr, ℕ, ◌+◌, ◌<◌, List, length, refl, arith}
 use Rattle.capn_words.specs.declared.bare.BareFault.{BareFault}
 use Rattle.capn_pack.specs.declared.fault.UnpackFault.{UnpackFault}

@@ -1,4 +1,4 @@
--- The statuses of refusals, and the report of a stopped walk, in which the length is set to that of a path. (For
+-- The statuses of refusals, and the report of a stopped walk, with the length of a path as its length. (For
 -- `refusal_way` and `tell_path`.)
 use Rattle.std.proofs.Common.{rules, ◌≡◌, ◌<◌, ◌≤◌, ℕ, List, refl, sym, subst, arith}
 use Rattle.capn_pack.specs.declared.fault.UnpackFault.{UnpackFault}
@@ -30,7 +30,7 @@ pub stop_status : (form : Form) (bs : List ℕ) (l : Bounds) (s : Stopped) (path
 stop_status form bs l s path h =
     fault_status s.fault (λ e. plain-refusal h.message l s.fault s.place s.paid s.visits h.at.refused e)
 
--- ---- the status of any other refusal is below 64
+-- ---- the status of a refusal of bytes that are not read is below 64
 
 bare_status : (e : BareFault) → bare_code e < 64
 bare_status e = search rules

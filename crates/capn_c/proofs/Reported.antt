@@ -102,8 +102,7 @@ module _ (form : Form) (bs : List ℕ) (limits : Bounds) {needed : Type 0} (stat
   pub unaccepted_done : {done : Type 0} → IsUnacceptedIn form bs limits e
       → IsDoneIn form bs limits done needed status report
   unaccepted_done h =
-      not_done status report e r limits.budget (unaccepted_bytes h)
-      (λ v d. not_unaccepted form bs limits v e d h)
+      not_done status report e r limits.budget (unaccepted_bytes h) (λ v d. not_unaccepted form bs limits v e d h)
 
   pub unaccepted_indexed : (old : List CapnEntry) → IsUnacceptedIn form bs limits e
       → IsIndexedIn form bs limits needed old old status report
@@ -114,8 +113,7 @@ module _ (form : Form) (bs : List ℕ) (limits : Bounds) {needed : Type 0} (stat
   pub refused_filled : (old : List ℕ) → IsRefused form bs limits e
       → IsFilledIn form bs limits needed old old status report
   refused_filled old h =
-      not_filled status report e r limits old old (refused_bytes h) refl
-      (λ v d n. not_refused form bs limits v e d n h)
+      not_filled status report e r limits old old (refused_bytes h) refl (λ v d n. not_refused form bs limits v e d n h)
 
 -- ---- segments that are not accepted
 

@@ -1,4 +1,4 @@
--- The number of bytes that were unpacked: 8 for each word, and at most the length of the buffer. (For
+-- The number of bytes that the groups unpack to: 8 for each word, and at most the length of the buffer. (For
 -- `capn_unpack_some`.)
 use Rattle.std.proofs.Common.{◌≡◌, ℕ, ◌*◌, ◌≤◌, List, [], length, ap, arith}
 use Rattle.capn_pack.specs.WholeGroups.{UnpacksSome}

@@ -1,4 +1,4 @@
--- Lemmas on objects that are where their layout has them.
+-- Lemmas on objects that are laid out canonically.
 pub mod Standing
 pub mod Compared
 pub mod ComparedList

@@ -5,4 +5,3 @@ pub mod OneReading
 pub mod NotRefused
 pub mod NotUnaccepted
 pub mod OneRefusal
-pub mod TaskRuns

@@ -1,4 +1,4 @@
--- Lemmas on canonical bytes as a canonical form of values, and worked messages.
+-- Lemmas on canonical bytes as a canonical form of values, and worked examples.
 pub mod CanonOfTrimmed
 pub mod CapOfTrimmed
 pub mod EqualExactlySame

@@ -1,15 +1,13 @@
 -- Lemmas for `compare`: a message that was compared has the effect that the fold states.
-use Rattle.std.proofs.Common.{◌≡◌, ◌≢◌, inl, inr, ℕ, List, [], Bool, true, false, Result, Ok, Err, refl, ap, subst}
-use Rattle.std.proofs.Common.{sym, ◌∙◌}
+use Rattle.std.proofs.Common.{◌≡◌, ◌≢◌, inl, inr, ℕ, List, [], Bool, true, false, Result, Ok, Err, refl, ap, subst, sym}
+use Rattle.std.proofs.Common.{◌∙◌}
 use Rattle.capn_walk.specs.Limits.{Bounds}
-use Rattle.capn_canon.specs.Denotes.{AnswersMessage}
 use Rattle.capn_serve.specs.declared.position.Position.{Position}
 use Rattle.capn_serve.specs.declared.fault.ServeFault.{ServeFault}
 use Rattle.capn_serve.specs.declared.fault.ServeFault.TheVariants as faults
 use Rattle.capn_serve.specs.Outgoing.{Outgoing, AddsBytes}
-use Rattle.capn_serve.specs.Service.{DoesService}
 use Rattle.capn_serve.proofs.shared.Adding.{added_none}
-use Rattle.capn_cmp.specs.CmpMessages.{CmpState, Compares, IsReport, TriesToCompare, refuses, serves}
+use Rattle.capn_cmp.specs.CmpMessages.{CmpState, Compares, IsReport, TriesToCompare}
 
 abbrev Ending : Type 0
 Ending = Result (Unit {0}) ServeFault
@@ -32,8 +30,7 @@ module _ (s : CmpState) (at : Position) (bytes : List ℕ) where
     pub keeps : at.index ≡ 0 → (first : List ℕ) → first ≡ bytes
         → TriesToCompare s at bytes a a failed done (state s.limits first s.differs)
     keeps zero first same =
-        silent (state s.limits first s.differs)
-        (inl (zero, refl, ap (λ (x : List ℕ). state s.limits x s.differs) same))
+        silent (state s.limits first s.differs) (inl (zero, refl, ap (λ (x : List ℕ). state s.limits x s.differs) same))
 
     pub agrees : at.index ≢ 0 → bytes ≡ s.first → TriesToCompare s at bytes a a failed done s
     agrees later same = silent s (inr (inl (later, same, refl, refl)))
@@ -55,18 +52,6 @@ module _ (s : CmpState) (at : Position) (bytes : List ℕ) where
   differs_with later other text report a b failed (Err faults.Io) ((count, breaks), broken) =
       ((text, state s.limits s.first true, count, inr (inr (later, other, report, refl)), breaks), broken)
   differs_with later other text report a b failed (Err (faults.Refused r)) none = absurd none
-
-pub tried_does : (s : CmpState) (at : Position) (frame : List ℕ) (message : List (List ℕ)) (bytes : List ℕ) (price : ℕ)
-    → AnswersMessage message s.limits bytes price → (a b : Outgoing) (failed : Bool) (r : Ending) (t : CmpState)
-    → TriesToCompare s at bytes a b failed r t → DoesService serves refuses s at frame message a b failed r t
-tried_does s at frame message bytes price is a b failed (Ok u) t (text, compares, adds, fine, short) =
-    ((text, (bytes, (price, is), compares), adds, fine), short)
-tried_does s at frame message bytes price is a b failed (Err faults.Memory) t (inl none, fine) = (inl none, fine)
-tried_does s at frame message bytes price is a b failed (Err faults.Memory) t
-    (inr (text, u, count, compares, adds), fine) = (inr (text, u, count, (bytes, (price, is), compares), adds), fine)
-tried_does s at frame message bytes price is a b failed (Err faults.Io) t ((text, u, count, compares, breaks), broken) =
-    ((text, u, count, (bytes, (price, is), compares), breaks), broken)
-tried_does s at frame message bytes price is a b failed (Err (faults.Refused r)) t none = absurd none
 
 -- ---- lemmas with the fields of a state as arguments
 

@@ -1,6 +1,6 @@
 -- Lemmas for `compare`, `lines_apart` and `split_line`: the lines of two texts, one after the other.
-use Rattle.std.proofs.Common.{◌≡◌, ◌≢◌, ◌↔◌, ℕ, suc, ◌+◌, ◌<◌, List, [], ◌∷◌, ◌++◌, length, take, refl, sym, ap}
-use Rattle.std.proofs.Common.{subst, ◌∙◌, slice_index_or, arith, Bool, true, false, not, nat_eq}
+use Rattle.std.proofs.Common.{◌≡◌, ◌≢◌, ◌↔◌, ℕ, suc, ◌+◌, ◌<◌, List, [], ◌∷◌, ◌++◌, length, take, refl, sym, ap, subst}
+use Rattle.std.proofs.Common.{◌∙◌, slice_index_or, arith, Bool, true, false, not, nat_eq}
 use Rattle.std.specs.Cmp.Lexicographic.{pointwise, pointwise_decides}
 use Rattle.std.proofs.lemmas.Bool.{eqb-true, eq-eqb}
 use Rattle.std.proofs.Math.Seq.{take-suc}
@@ -49,9 +49,6 @@ joined_more (l ∷ ls) line rest =
     ∙ ap (λ (x : List ℕ). l ++ 10 ∷ x) (joined_more ls line rest)
     ∙ sym (append_assoc l (10 ∷ joined (ls ++ line ∷ [])) rest)
 
-pub alike_none : (text other : List ℕ) → BeginAlike text other text other
-alike_none text other = record { lines = []; each = tt; text_is = refl; other_is = refl }
-
 pub alike_more : (text other rest left line more behind : List ℕ) → BeginAlike text other rest left
     → rest ≡ line ++ 10 ∷ more → left ≡ line ++ 10 ∷ behind → IsUnbroken line → BeginAlike text other more behind
 alike_more text other rest left line more behind h is also unbroken = record {
@@ -59,21 +56,6 @@ alike_more text other rest left line more behind h is also unbroken = record {
   each = lines_more h.lines line h.each unbroken;
   text_is = h.text_is ∙ ap (λ (x : List ℕ). joined h.lines ++ x) is ∙ joined_more h.lines line more;
   other_is = h.other_is ∙ ap (λ (x : List ℕ). joined h.lines ++ x) also ∙ joined_more h.lines line behind;
-}
-
-pub alike_apart : (text other rest left first second more behind : List ℕ) → BeginAlike text other rest left
-    → rest ≡ first ++ 10 ∷ more → left ≡ second ++ 10 ∷ behind → IsUnbroken first → IsUnbroken second
-    → first ≢ second → AreApart text other first second
-alike_apart text other rest left first second more behind h is also one two differ = record {
-  lines = h.lines;
-  each = h.each;
-  more = more;
-  left = behind;
-  text_is = h.text_is ∙ ap (λ (x : List ℕ). joined h.lines ++ x) is;
-  other_is = h.other_is ∙ ap (λ (x : List ℕ). joined h.lines ++ x) also;
-  first_line = one;
-  second_line = two;
-  differ = differ;
 }
 
 -- ---- texts with more bytes at the end

@@ -81,8 +81,7 @@ module _ (s : CmpState) (at : Position) (bytes : List ℕ) where
 module _ (s : CmpState) (at : Position) (frame : List ℕ) (m : List (List ℕ)) where
   one_step : (t u : List ℕ) (p q : CmpState) → serves s at frame m t p → serves s at frame m u q → (t ≡ u) × (p ≡ q)
   one_step t u p q (a, is, h) (b, also, k) =
-      one_compared s at b t u p q
-      (subst (λ (x : List ℕ). Compares s at x t p) (one_form m s.limits a b is also) h) k
+      one_compared s at b t u p q (subst (λ (x : List ℕ). Compares s at x t p) (one_form m s.limits a b is also) h) k
 
   not_both : (t : List ℕ) (p : CmpState) (r : Refusal) → serves s at frame m t p → refuses s at frame m r → ⊥
   not_both t p r (bytes, (price, is), compares) (h, other) = not_formed m s.limits bytes price r is h other

@@ -72,8 +72,7 @@ module _ (piece : MessageText) (limits : Bounds) (other : piece ≢ kinds.Price)
       → served.EndsBare (fold_of serves refuses most) x bytes fault
       → IsDueWhole one (taken_of bytes) (has_more bytes) [] (Err (unplaced fault))
   due_none bytes fault (inl (long, is)) =
-      subst (λ (more : Bool). IsDueWhole one (taken_of bytes) more [] (Err (unplaced fault)))
-      (sym (is_more bytes long))
+      subst (λ (more : Bool). IsDueWhole one (taken_of bytes) more [] (Err (unplaced fault))) (sym (is_more bytes long))
       (refl, ap (λ (f : RunFault). Err (unplaced f)) is)
   due_none bytes fault (inr (short, why)) =
       taken (λ (l : List ℕ) (more : Bool). IsDueWhole one l more [] (Err (unplaced fault))) bytes short
@@ -89,7 +88,7 @@ module _ (piece : MessageText) (limits : Bounds) (other : piece ≢ kinds.Price)
   ends_as y (Some input) c d (Err e) (inr (inl i)) = inr (inl (ap (λ (f : RunFault). Err (unplaced f)) i))
   ends_as y (Some input) c d (Err e) (inr (inr (why, wrote, leaves))) = inr (inr ([], due_none input e why, wrote))
 
-  -- ---- what it has written
+  -- ---- what the run has written
 
   written : (bytes : List ℕ) (c d : Option (List ℕ))
       → served.HasWritten (fold_of serves refuses most) x bytes c d

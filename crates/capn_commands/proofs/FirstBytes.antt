@@ -1,5 +1,5 @@
--- Lemmas that the first bytes of an input, at most one byte more than the longest frame, determine the result. (For
--- `one_message.rt` and `whole_input.rt`.)
+-- Lemmas for `one_message.rt` and `whole_input.rt`: the first bytes of an input, at most one byte more than the longest
+-- frame, determine the result.
 use Rattle.std.proofs.Common.{◌≡◌, ◌⊎◌, inl, inr, ℕ, ◌+◌, ◌*◌, ◌<◌, ◌≤◌, List, length, take, drop}
 use Rattle.std.proofs.Common.{subst, arith, length-take, take-append-drop, Result, Ok, Err, Vec}
 use Rattle.std.proofs.lemmas.Bool.{cases_lt}
@@ -43,7 +43,7 @@ cut_length bs most (inr (inr contents)) =
     omega (arith, padding_le (frames.announced_segments bs), contents.0.0.1, contents.1, contents.2)
 
 module _ (n most : ℕ) (bytes : List ℕ) (enough : 8 * (most + most_table_words) < n) where
-  -- If `n` is more than the length of the longest frame, and the first `n` bytes are one frame, they are all `bytes`.
+  -- If `n` is more than the length of the longest frame, and `take n bytes` is one frame, it is all of `bytes`.
   pub framed_first : (message : List (List ℕ)) → IsFramed (take n bytes) most message → take n bytes ≡ bytes
   framed_first message f =
       take_all n bytes (omega (arith, enough, length-take n bytes, framed_length (take n bytes) most message f))
@@ -113,7 +113,7 @@ module _ (n : ℕ) (limits : Bounds) (bytes : List ℕ) (enough : 8 * (limits.me
   gives_first (Err fault) (inl m) = inl m
   gives_first (Err fault) (inr (r, is, other, h)) = inr (r, is, other, refusal_first r h)
 
--- Cases: `bytes` pack `words`, which are no longer than the longest frame.
+-- Cases: `bytes` are a packed text of `words`, which are no longer than the longest frame.
 module _ (limits : Bounds) (bytes words : List ℕ) (packs : Packs bytes words)
     (room : length words ≤ 8 * (limits.message_words + most_table_words)) where
   refusal_packed : (r : Refusal) → IsRefused forms.Stream words limits r → IsRefused forms.Packed bytes limits r

@@ -10,7 +10,7 @@ use Rattle.capn_commands.specs.inner.ReadInput.{IsUntaken, TakesAll}
 use Rattle.capn_commands.specs.declared.fault.ToolFault.{ToolFault}
 use Rattle.capn_commands.specs.declared.fault.ToolFault.TheVariants as faults
 
--- A reader returned `taken` bytes `seen`, and `IsPending` holds for them. `len` is less than `most_group`.
+-- A reader returned `seen`, whose length is `taken`, and `IsPending` holds for `seen`. `len` is less than `most_group`.
 pub record Unpacked (old new : Option (List ℕ)) (failed : Bool) (most taken : ℕ) (words : List ℕ) (len : ℕ)
     (held : List ℕ) (at left : ℕ) (long : Bool) : Type 0 where
   pub seen : List ℕ

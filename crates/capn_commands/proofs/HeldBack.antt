@@ -1,10 +1,9 @@
--- Lemmas on the words that are not packed yet. (For `before_dense`, `settle` and `unpacked_part`.)
+-- Lemmas on the words that are not packed yet. (For the functions of `pack_run.rt`.)
 use Rattle.std.proofs.Common.{◌≡◌, ℕ, zero, suc, ◌+◌, ◌-◌, ◌*◌, ◌≤◌, List, [], ◌++◌, length, take, drop, replicate}
-use Rattle.std.proofs.Common.{refl, ap}
-use Rattle.std.proofs.Common.{sym, subst, ◌∙◌, arith, append-nil, append_assoc, drop-drop, length-drop, length-take}
-use Rattle.std.proofs.Common.{slice_range, take_all}
+use Rattle.std.proofs.Common.{refl, ap, sym, subst, ◌∙◌, arith, append-nil, append_assoc, drop-drop, length-drop}
+use Rattle.std.proofs.Common.{length-take, slice_range, take_all}
 use Rattle.std.proofs.Math.Seq.{drop-append_seam}
-use Rattle.std.proofs.lemmas.List.{drop-append-le, drop_all, take-append-le}
+use Rattle.std.proofs.lemmas.List.{drop-append-le, take-append-le}
 use Rattle.capn_pack.specs.Chosen.{AllDense, IsDense, zero_count}
 use Rattle.capn_commands.specs.PackRun.{AreOpen}
 
@@ -63,9 +62,6 @@ open_more a b n o more = record {
 }
 
 -- ---- the offset `cut` before dense words
-
-pub dense_end : (words : List ℕ) (cut : ℕ) → cut ≡ length words → (n : ℕ) × AllDense n (drop cut words)
-dense_end words cut all = (0, drop_all cut words (omega (arith, all)))
 
 -- If the word before `cut` and all words after `cut` are dense, all words after `cut - 8` are dense.
 pub dense_before : (words : List ℕ) (cut : ℕ) → 8 ≤ cut → cut ≤ length words

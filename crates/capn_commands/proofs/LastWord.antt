@@ -1,5 +1,5 @@
--- Lemmas for `settled_part` and `zeros_part`: the last word of `bs` tells the kind of the last group of `t`, the packed
--- text of `bs`.
+-- Lemmas for `settled_part`, `unpacked_part` and `zeros_part`: the last word of `bs` determines the kind of the last
+-- group of `t`, the packed text of `bs`.
 use Rattle.std.proofs.Common.{◌≡◌, ◌≢◌, ◌⊎◌, inl, inr, ℕ, zero, suc, ◌+◌, ◌-◌, ◌*◌, ◌/◌, ◌^◌, ◌<◌, ◌≤◌, List, [], ◌∷◌}
 use Rattle.std.proofs.Common.{◌++◌}
 use Rattle.std.proofs.Common.{length, take, drop, replicate, get_or, eqb, false, refl, ap, sym, subst, ◌∙◌, arith}
@@ -200,8 +200,7 @@ open_last t bs count taken known tag l is kind =
     let same : get_or (group_text l.last) 0 0 ≡ tag = ap (λ (x : List ℕ). get_or x 0 0) (sym l.behind)
     ∙ get_or-drop taken t 0 0 ∙ ap (λ (k : ℕ). get_or t k 0) at ∙ is in
     let group_is = row_after l.groups (l.last ∷ []) l.row in
-    open_group l.last [] group_is.0 group_is.1
-    (subst (λ (x : ℕ). (x ≡ 0) ⊎ (x ≡ 255)) (sym same) kind)
+    open_group l.last [] group_is.0 group_is.1 (subst (λ (x : ℕ). (x ≡ 0) ⊎ (x ≡ 255)) (sym same) kind)
 
 -- ---- the settled prefix of the packed text
 
@@ -226,8 +225,7 @@ module _ (t bs : List ℕ) (count taken known : ℕ) (l : Last t bs count taken 
 
   kind : EndsBy l.last (zero_count (last_word bs))
   kind =
-      subst (λ (w : List ℕ). EndsBy l.last (zero_count w)) (sym word_is)
-      (ends_by l.last [] group_is.0 group_is.1)
+      subst (λ (w : List ℕ). EndsBy l.last (zero_count w)) (sym word_is) (ends_by l.last [] group_is.0 group_is.1)
 
   -- Case: the last word is neither zero nor dense. All of `t` is settled.
   named_settled : Chosen t bs → 2 ≤ zero_count (last_word bs) → zero_count (last_word bs) < 8

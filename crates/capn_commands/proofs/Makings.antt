@@ -125,8 +125,7 @@ module _ {A : Type 0} (a b : Option (List ℕ)) (f : Bool) where
       → served.TakesAll (IsShortBare at) a b f (Ok input) → held ≡ input.items → Gives whole held r
       → TakesAll (Gives whole) a b f r
   made_bare at whole input held r (bytes, all, is) same gives =
-      takes_so (Gives whole) a b f r bytes all
-      (subst (λ (xs : List ℕ). Gives whole xs r) (same ∙ sym is) gives)
+      takes_so (Gives whole) a b f r bytes all (subst (λ (xs : List ℕ). Gives whole xs r) (same ∙ sym is) gives)
 
 -- Case: no frame was read, because of `fault`.
 pub unmade_framed : (A : Type 0) (a b : Option (List ℕ)) (f : Bool) (form : StreamForm) (limits : Bounds) (most : ℕ)

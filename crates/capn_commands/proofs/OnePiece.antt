@@ -51,7 +51,7 @@ reads_of streams.Stream most bytes frame message is framed =
 reads_of streams.Packed most bytes frame message unpacks framed = (frame, unpacks, framed)
 
 module _ (bytes : List ℕ) (limits : Bounds) where
-  -- `r`, which is not `Memory`, is the reason why `bytes` in `form` have no text of the given kind as one message.
+  -- `r` is not `Memory`, and is the reason why `bytes`, read as one message in `form`, have no text of the given kind.
   abbrev IsRefusal : MessageText → Form → Refusal → Type 0
   IsRefusal piece form r = (r ≢ refusals.Memory) × IsOneRefused piece form bytes limits r
 

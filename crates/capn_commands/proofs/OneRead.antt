@@ -93,8 +93,7 @@ module _ (frame : List ℕ) (most : ℕ) where
       absurd (let bad : refusals.Frame fault ≡ refusals.Memory = sym of ∙ is in cc)
   frame_refused writes refuses c failed fault r e fine why (inr (n, of)) (inr (other, also)) =
       subst (λ (x : ToolFault). ServesWhole writes (RefusesFrame refuses most frame) c c failed (stopped x))
-      (sym (also ∙ ap (λ (q : Refusal). faults.Refused q) of))
-      (inl (n, why), Appends-nil c, fine)
+      (sym (also ∙ ap (λ (q : Refusal). faults.Refused q) of)) (inl (n, why), Appends-nil c, fine)
 
 -- ---- a message that a service served
 
@@ -122,19 +121,6 @@ module _ {S : Type 0} (serves : S → Position → List ℕ → List (List ℕ) 
   joined : (w text : List ℕ) → w ++ kept ≡ none ++ text → w ++ kept ≡ text
   joined w text is = is ∙ ap (λ (l : List ℕ). l ++ text) empty
 
-  -- Case: the message was served, and the bytes `kept` were written too.
-  pub message_served : (d : Option (List ℕ)) (piece : List ℕ) (failed : Bool) → Does (Ok tt) → piece ≡ kept
-      → Appends m d piece → failed ≡ (fine || false) → Serves d failed (Ok tt)
-  message_served d piece failed ((text, is, (w, wrote, e), good), short) same more still = (
-    (
-      text,
-      (t, is),
-      subst (Appends c d) (joined w text e)
-          (Appends-trans c m d w kept wrote (subst (Appends m d) same more)),
-    ),
-    still ∙ ap (λ (x : Bool). x || false) good,
-  )
-
   -- Case: the message was served, and the writer failed while the bytes `kept` were written.
   pub message_broken : (d : Option (List ℕ)) (piece : List ℕ) (failed : Bool) → Does (Ok tt) → piece ≡ kept
       → HasBegun m d piece → failed ≡ (fine || true) → Serves d failed (Err faults.Io)
@@ -155,9 +141,6 @@ module _ {S : Type 0} (serves : S → Position → List ℕ → List (List ℕ) 
   unwritten (w, wrote, e) =
       subst (Appends c m) (written_front w kept [] (joined w [] e) ∙ take-nil (length w)) wrote
 
-  pub message_refused : (r : Refusal) → Does (Err (serve_faults.Refused r)) → Serves m fine (Err (faults.Refused r))
-  message_refused r (why, adds, good) = (why, unwritten adds, good)
-
   of_memory : Does (Err serve_faults.Memory) → Serves m fine (Err faults.Memory)
   of_memory (inl adds, good) = (inl (unwritten adds), good)
   of_memory (inr (text, y, count, is, (w, wrote, e)), good) =
@@ -169,14 +152,3 @@ module _ {S : Type 0} (serves : S → Position → List ℕ → List (List ℕ) 
   pub message_memory : (fault : ServeFault) → fault ≡ serve_faults.Memory → Does (ended fault)
       → Serves m fine (Err faults.Memory)
   message_memory fault is h = of_memory (subst (λ (x : ServeFault). Does (ended x)) is h)
-
-  pub message_io : Does (Err serve_faults.Io) → Serves m fine (Err faults.Io)
-  message_io ((text, y, count, is, wrote), broke) = (
-    (
-      text,
-      count,
-      (y, is),
-      subst (λ (l : List ℕ). Appends c m (take count (l ++ text))) empty wrote,
-    ),
-    broke,
-  )

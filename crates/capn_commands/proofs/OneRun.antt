@@ -50,8 +50,7 @@ all_kept : (P : List ℕ → Bool → Type 0) (a b : Option (List ℕ)) (kept by
 all_kept P None b kept bytes is_longer k h = tt
 all_kept P (Some all) b kept bytes is_longer k h =
     let same = kept_all (Some all) b kept bytes is_longer k in
-    subst (λ (more : Bool). P (taken_of all) more) (sym same.1)
-    (subst (λ (l : List ℕ). P l is_longer) (sym same.0) h)
+    subst (λ (more : Bool). P (taken_of all) more) (sym same.1) (subst (λ (l : List ℕ). P l is_longer) (sym same.0) h)
 
 -- ---- a run
 
@@ -80,8 +79,7 @@ module _ (makes : List ℕ → List ℕ → Type 0) (fails : List ℕ → ToolFa
         are = take_all (2 ^ 32) bytes all.within;
         more = is_all bytes all.within;
         ended = λ _. all.ended;
-      })
-      (inr (inr (text, due, wrote)))
+      }) (inr (inr (text, due, wrote)))
 
   ends_long : (bytes : List ℕ) (fault : ToolFault) → HasGiven a b r bytes → 2 ^ 32 < length bytes
       → fault ≡ faults.InputTooLong → Ends c (Err fault)
@@ -93,8 +91,7 @@ module _ (makes : List ℕ → List ℕ → Type 0) (fails : List ℕ → ToolFa
         are = refl;
         more = is_more bytes long;
         ended = λ e. absurd (cc);
-      })
-      (inr (inr ([], (refl, ap stopped is), Appends-nil c)))
+      }) (inr (inr ([], (refl, ap stopped is), Appends-nil c)))
 
   begins_none : (d : Option (List ℕ)) (bytes : List ℕ) → Consumes a b bytes → length bytes ≤ 2 ^ 32 + 1
       → Appends c d [] → WholeBegins makes fails a b c d

@@ -222,8 +222,7 @@ module _ (piece : MessageText) (limits : Bounds) (last : Option ToolFault) where
   one_behind rest r s (inr (m, taken, f, stands, why, a)) (inr (n, to, g, also, ought, b)) =
       let same = (one_frame rest limits.message_words limits.message_words m n taken to stands also).0 in
       let fault = one_no_piece n limits piece f g
-      (subst (λ (x : List (List ℕ)). IsNoMessageText piece x limits f) same why)
-      ought in
+      (subst (λ (x : List (List ℕ)). IsNoMessageText piece x limits f) same why) ought in
       a ∙ ap (λ (x : ToolFault). Err x) fault ∙ sym b
 
   part_first : (part : Part) (more : List ℕ) → IsPart piece limits part

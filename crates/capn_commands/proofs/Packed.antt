@@ -1,26 +1,16 @@
 -- Lemmas on the progress of packing. (For `pack_chunk`, `pack_last` and `pack_stream`.)
-use Rattle.std.proofs.Common.{◌≡◌, ◌⊎◌, ◌↔◌, inl, inr, ℕ, ◌+◌, ◌<◌, ◌≤◌, List, [], ◌++◌, length, take}
-use Rattle.std.proofs.Common.{if◌then◌else◌, ◌%◌, eqb}
-use Rattle.std.proofs.Common.{Bool, true, false, Option, Ok, Err, refl, ap, sym, subst, ◌∙◌, append-nil}
-use Rattle.std.proofs.Common.{append_assoc, arith, length-append}
-use Rattle.std.proofs.Math.Seq.{take-append-add, take-length}
+use Rattle.std.proofs.Common.{◌≡◌, inl, inr, ℕ, ◌+◌, ◌<◌, ◌≤◌, List, [], ◌++◌, length, take, Bool, true, false, Option}
+use Rattle.std.proofs.Common.{Err, refl, sym, subst, ◌∙◌, append-nil, append_assoc, arith}
+use Rattle.std.proofs.Math.Seq.{take-append-add}
 use Rattle.std.proofs.lemmas.List.{take-append-le}
 use Rattle.std.specs.Io.KnownBytes.{Appends}
 use Rattle.std.proofs.KnownBytes.{Appends-nil, Appends-trans}
 use Rattle.capn_pack.specs.Chosen.{Chosen}
-use Rattle.capn_words.specs.Watched.{HasBegun}
 use Rattle.capn_commands.specs.declared.flow_fault.FlowFault.{FlowFault}
 use Rattle.capn_commands.specs.declared.flow_fault.FlowFault.TheVariants as faults
 use Rattle.capn_commands.specs.Flow.{Ending, Ends, HasEnded, HasWritten, Stops}
-use Rattle.capn_commands.specs.PackRun.{IsFront, MayGoOn, PacksPart, Settles, most_held, ending_of, packing}
-use Rattle.capn_commands.specs.PackRun.{packing_last}
+use Rattle.capn_commands.specs.PackRun.{IsFront, MayGoOn, Settles, most_held, ending_of, packing, packing_last}
 use Rattle.capn_commands.specs.PackRun.{whole_of}
-
-abbrev stopped : FlowFault → Ending
-stopped fault = Err fault
-
-abbrev wrote : Unit {0} → Ending
-wrote u = Ok u
 
 pub settles_none : (bytes : List ℕ) → Settles bytes [] bytes
 settles_none bytes = record { settled = λ more t c. c }
@@ -112,13 +102,6 @@ holds_begins held bytes text h = inl (held, h.0)
 
 -- ---- a chunk
 
--- Case: `Settles` holds for `text`. The run stopped after a prefix of `text` was written.
-pub packs_broken : (bytes text rest : List ℕ) (count : ℕ) (c d : Option (List ℕ)) (failed : Bool) (fault : FlowFault)
-    → Settles bytes text rest → Appends c d (take count text) → (fault ≡ faults.Memory) ⊎ (fault ≡ faults.Io)
-    → (fault ≡ faults.Io) ↔ (failed ≡ true) → Stops packing bytes c d failed fault
-packs_broken bytes text rest count c d failed fault s done kind io =
-    record { kind = kind; io = io; written = (text, count, inl (rest, s), done) }
-
 -- Case: memory was refused before anything was written.
 pub packs_memory : (bytes : List ℕ) (c : Option (List ℕ)) (failed : Bool) → failed ≡ false
     → Stops packing bytes c c failed faults.Memory
@@ -128,84 +111,7 @@ packs_memory bytes c failed fine = record {
   written = ([], 0, inl (bytes, settles_none bytes), Appends-nil c);
 }
 
--- ---- the result of the write
-
-wrote_fine : (failed : Bool) (u : Unit {0}) → (wrote u ≡ Err faults.Io) ↔ (failed ≡ true) → failed ≡ false
-wrote_fine false u io = refl
-wrote_fine true u io = absurd (let e = io.1 refl in cc)
-
--- Case: `text`, for which `Settles` holds, was written, and `rest` is not packed yet.
-pub packs_part : (before bytes held text rest : List ℕ) (c d : Option (List ℕ)) (failed : Bool) (u v : Unit {0})
-    → held ≡ before ++ bytes → Settles held text rest → length rest < most_held → length rest ≤ length held
-    → MayGoOn rest → Appends c d text
-    → (wrote u ≡ Err faults.Io) ↔ (failed ≡ true) → PacksPart before bytes c d failed (Ok v) rest
-packs_part before bytes held text rest c d failed u v is s short few open_rest done io = (
-  text,
-  subst (λ (l : List ℕ). Settles l text rest) is s,
-  short,
-  done,
-  wrote_fine failed u io,
-  omega (arith, few, ap length is, length-append before bytes),
-  open_rest,
-)
-
--- Case: `Settles` holds for `text`. The writer failed after a prefix of `text` was written.
-pub packs_unwritten : (bytes held text rest : List ℕ) (c d : Option (List ℕ)) (failed : Bool) (fault : FlowFault)
-    → held ≡ bytes → Settles held text rest → HasBegun c d text
-    → (stopped fault ≡ Err faults.Io) ↔ (failed ≡ true) → fault ≡ faults.Io → Stops packing bytes c d failed fault
-packs_unwritten bytes held text rest c d failed fault is s (count, begun) io only =
-    packs_broken bytes text rest count c d failed fault (subst (λ (l : List ℕ). Settles l text rest) is s) begun
-    (inr only) (λ e. io.0 (ap stopped e), λ h. only)
-
 -- ---- the last words
-
-abbrev whole_or_not : Bool → ℕ → Ending
-whole_or_not is_whole count = if is_whole then Ok tt else Err (faults.NotWhole count)
-
-no_whole : (is_whole : Bool) (count : ℕ) → whole_or_not is_whole count ≡ Err faults.Io → ⊥
-no_whole true count e = cc
-no_whole false count e = cc
-
-no_memory_whole : (is_whole : Bool) (count : ℕ) → whole_or_not is_whole count ≡ Err faults.Memory → ⊥
-no_memory_whole true count e = cc
-no_memory_whole false count e = cc
-
-no_memory : (is_longer : Bool) (count : ℕ) → ending_of is_longer count ≡ Err faults.Memory → ⊥
-no_memory true count e = cc
-no_memory false count e = no_memory_whole (eqb (count % 8) 0) count e
-
-no_ending : (is_longer : Bool) (count : ℕ) → ending_of is_longer count ≡ Err faults.Io → ⊥
-no_ending true count e = cc
-no_ending false count e = no_whole (eqb (count % 8) 0) count e
-
--- Case: `text`, the packed text of the complete words of `held`, was written.
-pub last_packed : (held text : List ℕ) (count : ℕ) (is_longer : Bool) (c d : Option (List ℕ)) (failed : Bool)
-    (u : Unit {0}) (r : Ending) → Chosen text (whole_of held) → Appends c d text
-    → (wrote u ≡ Err faults.Io) ↔ (failed ≡ true) → r ≡ ending_of is_longer count
-    → Ends (packing_last count) held is_longer c d failed r
-last_packed held text count is_longer c d failed u r chosen done io is =
-    let fine = wrote_fine failed u io in
-    record {
-      exact = inr (inr (text, record { chosen = chosen; ends = is }, done));
-      io = (
-        λ h. absurd (no_ending is_longer count (sym is ∙ h)),
-        λ h. absurd (let bad : true ≡ false = sym h ∙ fine in cc),
-      );
-      written = (text, length text, inr chosen, subst (Appends c d) (sym (take-length text)) done);
-      memory = λ h. absurd (no_memory is_longer count (sym is ∙ h));
-    }
-
--- Case: the writer failed after a prefix of `text`, the packed text of the complete words of `held`.
-pub last_unwritten : (held text : List ℕ) (count : ℕ) (is_longer : Bool) (c d : Option (List ℕ)) (failed : Bool)
-    (fault : FlowFault) → Chosen text (whole_of held) → HasBegun c d text
-    → (stopped fault ≡ Err faults.Io) ↔ (failed ≡ true) → fault ≡ faults.Io
-    → Ends (packing_last count) held is_longer c d failed (Err fault)
-last_unwritten held text count is_longer c d failed fault chosen (n, begun) io only = record {
-  exact = inr (inl (ap stopped only));
-  io = (λ e. io.0 e, λ h. io.1 h);
-  written = (text, n, inr chosen, begun);
-  memory = λ h. absurd (let bad : stopped faults.Io ≡ stopped faults.Memory = sym (ap stopped only) ∙ h in cc);
-}
 
 -- Case: memory was refused for the packed text of `held`.
 pub last_memory : (held : List ℕ) (count : ℕ) (is_longer : Bool) (c : Option (List ℕ)) (failed : Bool)

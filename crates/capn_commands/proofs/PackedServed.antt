@@ -101,8 +101,7 @@ module _ (piece : MessageText) (limits : Bounds) (x : Run MessageTexts) (of : Is
         at = h.offset;
         split = split;
         due = subst (λ (last : Option ToolFault). IsDueEach piece limits h.stream last text (ending_of r))
-            (behind_same more y.at h.group h.offset)
-            (due piece limits x y h.stream text behind r of whole);
+            (behind_same more y.at h.group h.offset) (due piece limits x y h.stream text behind r of whole);
       }
 
   has_ended : (y : Run MessageTexts) (bytes : List ℕ) (more : Bool) (c d : Option (List ℕ)) (r : Ending)
@@ -171,8 +170,7 @@ module _ (piece : MessageText) (limits : Bounds) (x : Run MessageTexts) (of : Is
       (h.bytes, h.read, (before, piece, mid, more, is, short, all_written before c mid written, after))
 
   runs_packed : (a b c d : Option (List ℕ)) (reader_failed writer_failed : Bool) (r : Ending) (y : Run MessageTexts)
-      → served.RunsPacked (folded.texts piece limits) x most_input most_unpacked a b c d reader_failed
-      writer_failed r y
+      → served.RunsPacked (folded.texts piece limits) x most_input most_unpacked a b c d reader_failed writer_failed r y
       → Runs packed a b c d reader_failed writer_failed (ending_of r)
   runs_packed a b c d reader_failed writer_failed r y h = record {
     exact = ends_as y a c d r h.exact;

@@ -1,7 +1,7 @@
 -- Lemmas for `message_texts.rt` and `part_texts.rt`: the text of a value and the end of that text are added to the
 -- output.
-use Rattle.std.proofs.Common.{◌≡◌, inl, inr, ℕ, List, [], ◌++◌, false, Option, Result}
-use Rattle.std.proofs.Common.{Ok, Err, refl, sym, subst, ◌∙◌, append-nil, take, Bool, true, IsErrAnd}
+use Rattle.std.proofs.Common.{◌≡◌, inl, inr, ℕ, List, [], ◌++◌, false, Option, Result, Ok, Err, refl, sym, subst, ◌∙◌}
+use Rattle.std.proofs.Common.{append-nil, take, Bool, true}
 use Rattle.std.specs.Prelude.{if◌then◌else◌}
 use Rattle.std.specs.Io.KnownBytes.{Appends}
 use Rattle.capn_value.specs.Tree.{Tree}
@@ -67,14 +67,6 @@ module _ (m : List (List ℕ)) (limits : Bounds) (of : Tree → List ℕ) (line 
       (shown.value, shown.is, then-broken p q r broken.Io (of shown.value) line shown.text added)
   part_line p q r (Err (faults.Refused f)) shown added = absurd added
 
-  -- Case: memory is refused for `line`, the end of the text.
-  pub no_line : (p q : Outgoing) (end : Ending) (fault : ServeFault) → IsErrAnd end (λ e. e ≡ fault)
-      → fault ≡ faults.Memory → IsWritten m limits of p q → AddsPart m limits of line p q end
-  no_line p q (Ok u) fault told is shown = absurd told
-  no_line p q (Err e) fault told is shown =
-      subst (λ (f : ServeFault). AddsPart m limits of line p q (stopped f)) (sym (told ∙ is))
-      (part_line p q q (stopped faults.Memory) shown (0, same q))
-
   -- ---- a message that is refused, or whose text breaks off
 
   part_stop : (s : Stopped) (p q : Outgoing) (fault : ServeFault) → IsFaultOf (ends.Stopped s) fault
@@ -111,7 +103,7 @@ module _ (m : List (List ℕ)) (limits : Bounds) (of other : Tree → List ℕ) 
   pub without_marks : (b : Bool) → b ≡ false → AddsPart m limits other rest p q end → IsChosen b
   without_marks b is added = subst IsChosen (sym is) added
 
--- ---- the result as that of a service
+-- ---- the effect of a service
 
 -- A service that adds the text of a message's value and the end `line` of that text, and stays in the state `s`.
 module _ {X : Type 0} (serves : X → Position → List ℕ → List (List ℕ) → List ℕ → X → Type 0)

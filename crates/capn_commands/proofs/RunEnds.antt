@@ -160,8 +160,7 @@ module _ (f : Flow) where
           );
           begun = begins_with a b2 c e (h.bytes ++ take k buf) (h.bytes ++ take w buf) all
               (omega (arith, h.count, bound, length-append h.bytes (take k buf), length-take-le k buf within))
-              (ahead a b c d e taken k buf last h within small wrote) front
-              stop.written;
+              (ahead a b c d e taken k buf last h within small wrote) front stop.written;
           heard = λ e. absurd (not_read rf fine e);
           memory = λ e. (
             h.bytes ++ take k buf,

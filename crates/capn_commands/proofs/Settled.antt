@@ -1,4 +1,4 @@
--- Lemmas for `settle` and `unpacked_part`: the prefix of a packed text that no later word changes.
+-- Lemmas for `settle`, `settled_part` and `unpacked_part`: the prefix of a packed text that no later word changes.
 use Rattle.std.proofs.Common.{◌≡◌, inl, inr, ℕ, ◌+◌, ◌-◌, ◌*◌, ◌/◌, ◌<◌, ◌≤◌, List, [], ◌∷◌}
 use Rattle.std.proofs.Common.{◌++◌, length, take, drop, get_or, refl, ap, sym, subst, ◌∙◌, arith}
 use Rattle.std.proofs.Common.{append-nil, append_assoc, length-append, length-drop, length-take-le, take-append-drop}
@@ -284,8 +284,7 @@ pub settled_tag : (t bs : List ℕ) (count taken known tag : ℕ) → Last t bs 
 settled_tag t bs count taken known tag l c is closed =
     let at : taken + 0 ≡ taken = omega arith in
     let same : get_or (drop taken t) 0 0 ≡ tag = get_or-drop taken t 0 0 ∙ ap (λ (k : ℕ). get_or t k 0) at ∙ is in
-    settled_whole t bs count taken known l c
-    (λ less. subst (λ (x : ℕ). (0 < x) × (x < 255)) (sym same) (closed less))
+    settled_whole t bs count taken known l c (λ less. subst (λ (x : ℕ). (0 < x) × (x < 255)) (sym same) (closed less))
 
 -- If at most `length bs / 8 - 1` words may be unpacked from `t`, all groups of `t` but the last are unpacked.
 pub last_of : (t bs : List ℕ) (taken known : ℕ) (old new : List ℕ) (next : Next) → Chosen t bs → 8 ≤ length bs
@@ -302,8 +301,8 @@ dense_behind held cut whole before inside =
     ap (drop cut) (sym (take-append-drop whole held))
     ∙ drop-append-le cut (take whole held) (drop whole held) (omega (arith, before, length-take-le whole held inside))
 
--- The words of `held` before `cut` were packed to `t`. The settled prefix of `t` for these words is also settled for
--- all of `held`.
+-- If `take first t` is settled for the words `take cut held`, then `take first t` is also settled for all of `held`.
+-- `rest_of`, the bytes that are left, has fewer than `most_held` bytes, and `MayGoOn` holds for `rest_of`.
 pub settled_held : (held t first_of rest_of : List ℕ) (cut whole first at n : ℕ)
     → IsSettled t (take cut held) first at → length held < length (take cut held) + 2048 → first_of ≡ take first t
     → rest_of ≡ drop at held → cut ≤ whole → whole ≤ length held → length held < whole + 8

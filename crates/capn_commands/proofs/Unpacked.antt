@@ -29,10 +29,6 @@ stopped fault = Err fault
 
 -- ---- the first groups of some bytes
 
--- Case: no group was unpacked yet.
-pub row_none : (bytes : List ℕ) → TakesRow bytes 0 [] []
-row_none bytes = record { groups = []; each = tt; within = omega arith; text = refl; content = refl }
-
 row_some : (bytes words : List ℕ) (max taken count : ℕ) (next : Next)
     → UnpacksSome bytes max [] words taken count next → TakesRow bytes taken [] words
 row_some bytes words max taken count next u =

@@ -1,22 +1,17 @@
 -- Lemmas on a packed input that is unpacked while it is read. (For `end_pending`, `read_words` and `take_chunk`.)
-use Rattle.std.proofs.Common.{◌≡◌, ◌⊎◌, inl, inr, ℕ, ◌+◌, ◌*◌, ◌<◌, ◌≤◌, List, [], ◌∷◌, ◌++◌, length, take, drop}
-use Rattle.std.proofs.Common.{slice_index, refl, ap, sym, subst, ◌∙◌, arith, append_assoc, append-nil, length-append}
-use Rattle.std.proofs.Common.{take-append-drop, length-take, Bool, true, false, Ok, Err, Vec}
-use Rattle.std.specs.Prelude.{◌==◌, if◌then◌else◌}
+use Rattle.std.proofs.Common.{◌≡◌, ◌⊎◌, inl, inr, ℕ, ◌+◌, ◌*◌, ◌≤◌, List, [], ◌∷◌, ◌++◌, length, take, drop, refl, ap}
+use Rattle.std.proofs.Common.{sym, subst, ◌∙◌, arith, append_assoc, append-nil, length-append, take-append-drop}
+use Rattle.std.proofs.Common.{length-take, Bool, true, false, Ok, Vec}
 use Rattle.std.proofs.lemmas.Grind.{flat_map-append}
-use Rattle.std.proofs.lemmas.List.{get_or_append_left}
 use Rattle.capn_pack.specs.Packed.{Group, group_text, group_bytes, Packs, texts, contents}
-use Rattle.capn_pack.specs.UnpackRefusal.{HasHead, IsCut, IsTooLong, Stands, head_len, words_at}
-use Rattle.capn_pack.specs.WholeGroups.{StandsNext, UnpacksSome, most_group}
+use Rattle.capn_pack.specs.UnpackRefusal.{IsCut, IsTooLong, Stands}
+use Rattle.capn_pack.specs.WholeGroups.{StandsNext, UnpacksSome}
 use Rattle.capn_pack.proofs.shared.GroupLemmas.{count_append, each_append, length_contents}
 use Rattle.capn_pack.specs.declared.whole_groups.Next.{Next}
 use Rattle.capn_pack.specs.declared.whole_groups.Next.TheVariants as nexts
-use Rattle.capn_pack.specs.declared.fault.UnpackFault.TheVariants as unpack_faults
-use Rattle.capn_canon.specs.declared.refusal.Refusal.TheVariants as refusals
 use Rattle.capn_commands.specs.inner.Pending.{Holds, IsPending}
 use Rattle.capn_commands.specs.WholeInput.{Gives}
 use Rattle.capn_commands.specs.declared.plan.Whole.TheVariants as wholes
-use Rattle.capn_commands.specs.declared.fault.ToolFault.TheVariants as faults
 
 pub begins_pending : (most : ℕ) → Holds most [] [] [] 0 most
 begins_pending most = record {
@@ -27,48 +22,6 @@ begins_pending most = record {
   offset = refl;
   counted = omega arith;
   begun = inl refl;
-}
-
--- The number of words of a group that has the tag `tag`. `zeros` and `raw` are the bytes that count a run of zero words
--- and a run of raw words.
-abbrev announced : ℕ → ℕ → ℕ → ℕ
-announced tag zeros raw = if tag == 0 then 1 + zeros else (if tag == 255 then 1 + raw else 1)
-
-same_words : (z f : Bool) (a b c d : ℕ) → (z ≡ true → a ≡ b) → (z ≡ false → f ≡ true → c ≡ d)
-    → (if z then 1 + a else (if f then 1 + c else 1)) ≡ (if z then 1 + b else (if f then 1 + d else 1))
-same_words true f a b c d p q = ap (λ (n : ℕ). 1 + n) (p refl)
-same_words false true a b c d p q = ap (λ (n : ℕ). 1 + n) (q refl refl)
-same_words false false a b c d p q = refl
-
-head_stays : (rest more : List ℕ) → 0 < length rest → HasHead rest
-    → HasHead (rest ++ more) × (words_at (rest ++ more) ≡ words_at rest)
-head_stays rest more some head =
-    let tag : ℕ = slice_index rest 0 in
-    let at = λ (i : ℕ) (h : i < length rest). get_or_append_left rest more 0 i h in (
-      omega (arith, ap head_len (at 0 some), head, length-append rest more),
-      ap (λ (t : ℕ). announced t (slice_index (rest ++ more) 1) (slice_index (rest ++ more) 9)) (at 0 some)
-          ∙ same_words (tag == 0) (tag == 255) (slice_index (rest ++ more) 1) (slice_index rest 1)
-          (slice_index (rest ++ more) 9) (slice_index rest 9)
-          (λ z. at 1 (omega (arith, rw z at head)))
-          (λ z f. at 9 (omega (arith, rw (z, f) at head))),
-    )
-
-long_stays : (room : ℕ) (rest more : List ℕ) → IsTooLong room rest → IsTooLong room (rest ++ more)
-long_stays room rest more long =
-    let stays = head_stays rest more long.0 long.1 in
-    (omega (arith, long.0, length-append rest more), stays.0, omega (arith, long.2, stays.1))
-
-pub refused_stays : (most : ℕ) (seen more : List ℕ) (at : ℕ) → Stands IsTooLong seen most at
-    → Stands IsTooLong (seen ++ more) most at
-refused_stays most seen more at s = record {
-  groups = s.groups;
-  rest = s.rest ++ more;
-  each = s.each;
-  text = ap (λ (xs : List ℕ). xs ++ more) s.text ∙ append_assoc (texts s.groups) s.rest more;
-  offset = s.offset;
-  left = s.left;
-  counted = s.counted;
-  fault = long_stays s.left s.rest more s.fault;
 }
 
 module _ (most : ℕ) (seen words held piece : List ℕ) (at left : ℕ) (h : Holds most seen words held at left)
@@ -150,48 +103,6 @@ all_unpacked most seen words held at left h none = (
     nothing [] e = refl
     nothing (x ∷ xs) e = absurd (omega (arith, e))
 
--- Case: the input ends in an unfinished group.
-pub cut_pending : (most : ℕ) (seen words held : List ℕ) (at left : ℕ) → Holds most seen words held at left
-    → 0 < length held → Stands IsCut seen most at
-cut_pending most seen words held at left h some = record {
-  groups = h.groups;
-  rest = held;
-  each = h.each;
-  text = h.text;
-  offset = h.offset;
-  left = left;
-  counted = h.counted;
-  fault = elim h.begun [ inl none ↦ absurd (omega (arith, some, ap length none)) | inr cut ↦ cut ];
-}
-
-pub offset_within : (most : ℕ) (seen words held : List ℕ) (at left : ℕ) (long : Bool)
-    → IsPending most seen words held at left long → at ≤ length seen
-offset_within most seen words held at left false h =
-    omega (arith, h.offset, ap length h.text, length-append (texts h.groups) held)
-offset_within most seen words held at left true s =
-    omega (arith, s.offset, ap length s.text, length-append (texts s.groups) s.rest)
-
--- Case: a chunk is read after a group that has too many words.
-pub stays_long : (most : ℕ) (seen words held more : List ℕ) (at left : ℕ) (long : Bool) → long ≡ true
-    → IsPending most seen words held at left long → IsPending most (seen ++ more) words held at left long
-stays_long most seen words held more at left false e p = absurd (let bad : false ≡ true = e in cc)
-stays_long most seen words held more at left true e p = refused_stays most seen more at p
-
--- Case: the input has ended, and a group has too many words.
-pub ends_long : (A : Type 0) (most : ℕ) (seen words held : List ℕ) (at left : ℕ) (long : Bool) → long ≡ true
-    → IsPending most seen words held at left long
-    → Gives {A = A} (wholes.Unpacked most) seen (Err (faults.Refused (refusals.Packed (unpack_faults.TooLong at))))
-ends_long A most seen words held at left false e p = absurd (let bad : false ≡ true = e in cc)
-ends_long A most seen words held at left true e p =
-    inr (unpack_faults.TooLong at, refl, (λ same. cc), p)
-
-pub ends_cut : (A : Type 0) (most : ℕ) (seen words held : List ℕ) (at left : ℕ) (long : Bool) → long ≡ false
-    → 0 < length held → IsPending most seen words held at left long
-    → Gives {A = A} (wholes.Unpacked most) seen (Err (faults.Refused (refusals.Packed (unpack_faults.Cut at))))
-ends_cut A most seen words held at left true e some p = absurd (let bad : true ≡ false = e in cc)
-ends_cut A most seen words held at left false e some p =
-    inr (unpack_faults.Cut at, refl, (λ same. cc), cut_pending most seen words held at left p some)
-
 pub ends_whole : {A : Type 0} (most : ℕ) (seen held : List ℕ) (words : Vec ℕ A) (at left : ℕ) (long : Bool)
     → long ≡ false → length held ≡ 0 → IsPending most seen words.items held at left long
     → Gives (wholes.Unpacked most) seen (Ok words)
@@ -249,8 +160,3 @@ taken_long most seen words held piece at left true new taken count next rest to 
 taken_long most seen words held piece at left false new taken count next rest to room off u e further p =
     stops_long most seen words held piece at left p new taken count to
     (subst (λ (n : Next). UnpacksSome (held ++ piece) left words new taken count n) e u) further
-
-pub cut_short : (next : Next) (room : ℕ) (rest : List ℕ) → next ≡ nexts.Cut → StandsNext next room rest
-    → length rest < most_group
-cut_short next room rest e s =
-    (subst (λ (n : Next). StandsNext n room rest) e s).1

@@ -27,8 +27,8 @@ is_more bytes h = grind (arith, nat_tests)
 pub is_all : (bytes : List ℕ) → length bytes ≤ 2 ^ 32 → has_more bytes ≡ false
 is_all bytes h = grind (arith, nat_tests)
 
--- `fault` is the reason why an input was not read to its end, or why `whole` has no output for the input, or `fault` is
--- `Memory`.
+-- Either `fault` is the reason why an input was not read to its end, or the input was read to its end, and `fault` is
+-- `Memory` or the reason why `whole` has no output.
 abbrev Unmade : Whole → Option (List ℕ) → Option (List ℕ) → Bool → ToolFault → Type 0
 Unmade whole a b failed fault = IsUntaken a b failed fault
     ⊎ ((bytes : List ℕ) × HasGivenAll a b failed bytes × ((fault ≡ faults.Memory) ⊎ MakesNothing whole bytes fault))
@@ -49,8 +49,7 @@ module _ (whole : Whole) (a b c : Option (List ℕ)) where
           more = is_more bytes long;
           ended = λ e. absurd (cc);
         },
-      )
-      (inr (inr ([], (refl, refl), Appends-nil c)))
+      ) (inr (inr ([], (refl, refl), Appends-nil c)))
 
   -- Case: all of the input was read.
   ends_all : (failed : Bool) (bytes : List ℕ) (d : Option (List ℕ)) (r : Ending) → HasGivenAll a b failed bytes
@@ -65,8 +64,7 @@ module _ (whole : Whole) (a b c : Option (List ℕ)) where
           more = is_all bytes h.within;
           ended = λ e. h.ended;
         },
-      )
-      ended
+      ) ended
 
   pub unmade_ends : (failed : Bool) (fault : ToolFault)
       → Unmade whole a b failed fault
@@ -126,8 +124,7 @@ module _ (whole : Whole) (a b c : Option (List ℕ)) where
           more = is_all bytes all.within;
           ended = λ e. all.ended;
         },
-      )
-      (text.items, count, inr made, begun)
+      ) (text.items, count, inr made, begun)
 
 pub made_fine : {A : Type 0} (whole : Whole) (a b : Option (List ℕ)) (failed : Bool) (text : Vec ℕ A)
     → TakesAll {T = Vec ℕ A} (Gives whole) a b failed (Ok text) → failed ≡ false

@@ -1,4 +1,4 @@
--- Lemmas on faults that a called function returned. (For `bare_message.rt`, `command_run.rt` and `one_message.rt`.)
+-- Lemmas for `write_made`: the reason why there is no output is never `Io`.
 use Rattle.std.proofs.Common.{◌≡◌, inl, inr, ℕ, List}
 use Rattle.capn_commands.specs.MessageText.{IsNoMessageText}
 use Rattle.capn_commands.specs.WholeInput.{MakesNothing}
@@ -13,9 +13,6 @@ use Rattle.capn_commands.specs.declared.fault.ToolFault.TheVariants as faults
 
 pub record IsTold (fault : ToolFault) : Type 0 where
   pub no_io : fault ≡ faults.Io → ⊥
-
-pub told_memory : (fault : ToolFault) → fault ≡ faults.Memory → IsTold fault
-told_memory fault e = record { no_io = λ h. cc }
 
 pub told_refused : (fault : ToolFault) (r : Refusal) → fault ≡ faults.Refused r → IsTold fault
 told_refused fault r e = record { no_io = λ h. cc }

@@ -13,8 +13,7 @@ listed-first (n ∷ ns) h = refl
 pub listed-next : (done more ns : List ℕ) (i : ℕ) → i < length ns → more ≡ codes ", " ++ decimal (get_or ns i 0)
     → done ++ behind_commas (drop i ns) ≡ listed ns → (done ++ more) ++ behind_commas (drop (i + 1) ns) ≡ listed ns
 listed-next done more ns i h e before =
-    rw (append_assoc done more (behind_commas (drop (i + 1) ns)), e, add-one)
-    (rw (drop-cons ns i 0) at before)
+    rw (append_assoc done more (behind_commas (drop (i + 1) ns)), e, add-one) (rw (drop-cons ns i 0) at before)
 
 pub listed-end : (done ns : List ℕ) (i : ℕ) → length ns ≤ i → done ++ behind_commas (drop i ns) ≡ listed ns
     → done ≡ listed ns

@@ -13,8 +13,7 @@ path-first (n ∷ path) h = refl
 pub path-next : (done more path : List ℕ) (i : ℕ) → i < length path → more ≡ codes "." ++ decimal (get_or path i 0)
     → done ++ dotted (drop i path) ≡ path_text path → (done ++ more) ++ dotted (drop (i + 1) path) ≡ path_text path
 path-next done more path i h e before =
-    rw (append_assoc done more (dotted (drop (i + 1) path)), e, add-one)
-    (rw (drop-cons path i 0) at before)
+    rw (append_assoc done more (dotted (drop (i + 1) path)), e, add-one) (rw (drop-cons path i 0) at before)
 
 pub path-end : (done path : List ℕ) (i : ℕ) → length path ≤ i → done ++ dotted (drop i path) ≡ path_text path
     → done ≡ path_text path

@@ -20,7 +20,7 @@ use Rattle.capn_digests.specs.Tag.{tag}
 use Rattle.capn_digests.specs.Buckets.{IsMarked, IsHeld, IsHeldAt, IsOverflowed, IsFound}
 use Rattle.capn_digests.specs.Buckets.{slot_of, no_slot, no_head}
 
--- `heads` and `table` change only at index `at`, and the bucket at `at` still holds each slot that it held before
+-- only the bucket `at` changes: it keeps each slot whose tag belongs to it, and stays overflowed if it was overflowed
 pub record IsChangedAt (at : ℕ) (heads : List Head) (table : List (List Slot)) (new_heads : List Head)
     (new_table : List (List Slot)) : Type 0 where
   pub headed : length new_heads ≡ length heads
@@ -75,7 +75,7 @@ module _ (at : ℕ) (heads : List Head) (table : List (List Slot)) (new_heads : 
             (λ d. overflowed_at f.buckets (tag d)) rest f.others;
       }
 
--- after `d` is pushed to `list`, `IsFound` still holds, if the bucket of `d` holds the slot with the new index
+-- if the bucket of `d` holds the slot with the new index, `IsFound` still holds after `d` is pushed to `list`
 pub found_more : (list : List (List ℕ)) (heads : List Head) (table : List (List Slot)) (rest : List (List ℕ))
     (d : List ℕ) → IsFound list heads table rest → IsHeldAt (length heads) heads table (slot_of d (length list))
     → IsFound (list ++ d ∷ []) heads table rest
@@ -99,7 +99,7 @@ found_more list heads table rest d f held =
       others = f.others;
     }
 
--- after `d` is put into the tree, `IsFound` still holds, if the bucket of `d` has overflowed
+-- if the bucket of `d` has overflowed, `IsFound` still holds after `d` is put into the tree
 pub found_other : (list : List (List ℕ)) (heads : List Head) (table : List (List Slot)) (rest : List (List ℕ))
     (d : List ℕ) → IsFound list heads table rest → IsOverflowed (length heads) heads (tag d)
     → IsFound list heads table (insert_key (slice_cmp nat_cmp) rest d)
@@ -310,8 +310,7 @@ module _ (list : List (List ℕ)) (heads : List Head) (table : List (List Slot))
       (subst (λ (m : ℕ). IsHeldAt m (set heads (t % n) new) (set table (t % n) new_bucket) (slot_of d (length list)))
       (count ∙ sym (length-set heads (t % n) new))
       (subst (λ (x : ℕ). IsHeldAt n (set heads (t % n) new) (set table (t % n) new_bucket)
-      (record { tag = x; at = length list }))
-      tagged
+      (record { tag = x; at = length list })) tagged
       (subst (λ (x : ℕ). IsHeldAt n (set heads (t % n) new) (set table (t % n) new_bucket) (record { tag = t; at = x }))
       last at_home)))
 

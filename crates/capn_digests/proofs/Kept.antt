@@ -47,7 +47,7 @@ IsKept head bucket buckets at new kept k =
 
 module _ (head : Head) (bucket : List Slot) (buckets at j : ℕ) (new : Head) (kept : List Slot)
     (held : (k : ℕ) → k < j → IsKept head bucket buckets at new kept k) where
-  -- after slot `j` is put into the new bucket, `IsKept` holds of the slots up to `j`
+  -- after slot `j` is put into the new bucket, `IsKept` holds of the slots up to and including `j`
   pub kept_one : (more : Head) → IsOneMore new more → new.count < length kept
       → IsMarked more (get_or bucket j no_slot).tag → (k : ℕ) → k < j + 1
       → IsKept head bucket buckets at more (set kept new.count (get_or bucket j no_slot)) k
@@ -56,8 +56,8 @@ module _ (head : Head) (bucket : List Slot) (buckets at j : ℕ) (new : Head) (k
       (λ k below taken own. held_still new more kept (get_or bucket j no_slot) one (get_or bucket k no_slot)
       (held k below taken own)) (λ taken own. held_one new more kept (get_or bucket j no_slot) one within marked)
 
-  -- if slot `j` does not belong to the new bucket `kept`, the unchanged `kept` satisfies `IsKept` for the slots up to
-  -- `j`
+  -- if slot `j` is not taken or does not belong to the new bucket `kept`, the unchanged `kept` satisfies `IsKept` for
+  -- the slots up to and including `j`
   pub kept_none : (j < head.count → (get_or bucket j no_slot).tag % buckets ≡ at → ⊥) → (k : ℕ) → k < j + 1
       → IsKept head bucket buckets at new kept k
   kept_none not =

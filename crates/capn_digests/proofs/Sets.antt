@@ -122,7 +122,7 @@ has_not ds q none =
     ]
 
 module _ (list rest : List (List ℕ)) (q : List ℕ) where
-  -- `q` is not in the set if neither the list nor the tree has `q` at an index
+  -- `q` is not in the set if neither the list nor the tree has `q` at any index
   pub absent : ((i : ℕ) → i < length list → get_or list i [] ≡ q → ⊥)
       → ((i : ℕ) → i < length rest → get_or rest i [] ≡ q → ⊥) → set.contains (digests_of list rest) q ≡ false
   absent none other =

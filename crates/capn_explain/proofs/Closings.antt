@@ -1,7 +1,6 @@
 -- Lemmas for `run_explain` and `write_refusal`: the text that follows the loop over the messages.
-use Rattle.std.proofs.Common.{◌≡◌, ◌≢◌, ◌↔◌, ◌⊎◌, inl, inr, ℕ, List, [], ◌++◌, Bool, true, false, Option, None}
-use Rattle.std.proofs.Common.{Some, OnOk, IsErrOf, IsErrAnd, IsOkUnless, codes, length, arith}
-use Rattle.std.proofs.Common.{Result, Ok, Err, refl, ap, sym, subst, ◌∙◌}
+use Rattle.std.proofs.Common.{◌≡◌, ◌≢◌, ◌↔◌, ◌⊎◌, inl, inr, ℕ, List, [], Bool, true, false, Option, None, Some, OnOk}
+use Rattle.std.proofs.Common.{IsErrOf, IsErrAnd, IsOkUnless, length, arith, Result, Ok, Err, refl, ap, sym, subst, ◌∙◌}
 use Rattle.std.specs.Io.KnownBytes.{Appends}
 use Rattle.capn_words.specs.Watched.{HasBegun}
 use Rattle.capn_walk.specs.Limits.{Bounds}
@@ -10,7 +9,7 @@ use Rattle.capn_serve.specs.declared.fault.RunFault.{RunFault}
 use Rattle.capn_serve.specs.declared.fault.RunFault.TheVariants as faults
 use Rattle.capn_serve.specs.declared.position.Position.{Position}
 use Rattle.capn_serve.specs.WhatCame.{Came}
-use Rattle.capn_explain.specs.ExplainRun.{ending_by, rest_ending, told_at}
+use Rattle.capn_explain.specs.ExplainRun.{ending_by, rest_ending}
 use Rattle.capn_explain.specs.FaultLines.{fault_lines}
 use Rattle.capn_explain.specs.Reports.{First}
 use Rattle.capn_explain.specs.inner.Closing.{IsFineIfTold, PutsClosing, told_by}
@@ -35,7 +34,7 @@ no_failure : (failed : Bool) → ((ended (Ok tt) ≡ Err faults.Io) ↔ (failed 
 no_failure false io = refl
 no_failure true (to, from) = let k = from refl in absurd (cc)
 
--- Case: the text was written, or the writer failed.
+-- Case: if the text was written, or the writer failed, `PutsClosing` holds.
 pub closing_wrote : (text bytes : List ℕ) (old new : Option (List ℕ)) (before after : Bool) (r : Ending)
     → before ≡ false → text ≢ [] → bytes ≡ text → OnOk r (Appends old new bytes) → HasBegun old new bytes
     → (IsErrOf r faults.Io ↔ (after ≡ true)) → IsOkUnless r faults.Io → PutsClosing text old new before after r
@@ -44,7 +43,7 @@ closing_wrote text bytes old new before after (Ok u) fine some same ok begun io 
 closing_wrote text bytes old new before after (Err e) fine some same ok begun io only =
     (some, inr (only, subst (HasBegun old new) same begun, io.0 (ap stopped only)))
 
--- Case: an allocation was refused for the text.
+-- Case: if an allocation was refused for the text, `PutsClosing` holds.
 pub closing_refused : (text : List ℕ) (old new : Option (List ℕ)) (before after : Bool) (r : Ending) (fault : RunFault)
     → IsErrAnd r (λ e. e ≡ fault) → fault ≡ faults.Memory → new ≡ old → after ≡ before → text ≢ []
     → PutsClosing text old new before after r
@@ -54,16 +53,6 @@ closing_refused text old new before after (Err e) fault told is same fine some =
 fault_some : (limits : Bounds) (at : Position) (r : Refusal) (rest group : List ℕ)
     → fault_lines limits at r rest group ≢ []
 fault_some limits at r rest group = λ h. absurd (omega (arith, ap length h))
-
-pub told_without : (apart : Bool) (order : Explain) (at : Position) (r : Refusal) (came : Came) → apart ≡ false
-    → told_by apart order at r came ≡ told_at order at r came
-told_without false order at r came is = refl
-told_without true order at r came is = absurd (cc)
-
-pub told_with : (apart : Bool) (order : Explain) (at : Position) (r : Refusal) (came : Came) → apart ≡ true
-    → told_by apart order at r came ≡ told_at order at r came ++ codes "\n"
-told_with false order at r came is = absurd (cc)
-told_with true order at r came is = refl
 
 pub told_some : (apart : Bool) (order : Explain) (at : Position) (r : Refusal) (came : Came)
     → told_by apart order at r came ≢ []

@@ -37,8 +37,8 @@ tells_left f x forms.Bare input fault came z y (inr refuses) tells = tt
 abbrev pub answered : {E : Type 0} → E → Result (Unit {0}) E
 answered e = Err e
 
--- The result of a run is that for `Io` or `Memory` exactly if its ending is that fault, and these two results differ.
--- If `Leaves` holds for the states `z` and `y` and the fault `e`, both states give one result for `e`.
+-- The result of a run is the one for `Io` exactly if its ending is `Io`, and likewise for `Memory`. The two results
+-- differ. If `Leaves` holds for the states `z` and `y` and the fault `e`, both states give the same result for `e`.
 pub record IsFaithful {X E : Type 0} (f : Fold X) (answer : Answer X E) : Type 0 where
   pub io_by : (y : X) → answer.by y (stopped faults.Io) ≡ answered (answer.of faults.Io)
   pub memory_by : (y : X) → answer.by y (stopped faults.Memory) ≡ answered (answer.of faults.Memory)
@@ -237,7 +237,7 @@ module _ {X E : Type 0} (f : Fold X) (x : X) (finish : Finish X) (answer : Answe
         let e : true ≡ false = sym failed ∙ fine ∙ over.writer_fine in
         absurd (cc)
 
-    -- Case: `last`, the text after the messages, was written.
+    -- Case: if `last`, the text after the messages, was written, `Answered` holds.
     pub finished_written : (d : Option (List ℕ)) (after : Bool) → Appends m d last → after ≡ before
         → Answered f x finish answer form a b c d reader after ending
     finished_written d after wrote fine = record {
@@ -254,7 +254,7 @@ module _ {X E : Type 0} (f : Fold X) (x : X) (finish : Finish X) (answer : Answe
       memory = λ h. inr (inr (over.for_memory h));
     }
 
-    -- Case: an allocation was refused for `last`, the text after the messages.
+    -- Case: if an allocation was refused for `last`, the text after the messages, `Answered` holds for `Memory`.
     unclosed : (d : Option (List ℕ)) (after : Bool) → d ≡ m → after ≡ before → last ≢ []
         → Answered f x finish answer form a b c d reader after (answered (answer.of faults.Memory))
     unclosed d after same fine some = record {
@@ -271,7 +271,7 @@ module _ {X E : Type 0} (f : Fold X) (x : X) (finish : Finish X) (answer : Answe
       memory = λ h. inr (inl (closes_by a over.exact some));
     }
 
-    -- Case: the writer failed while `last`, the text after the messages, was written.
+    -- Case: if the writer failed while `last`, the text after the messages, was written, `Answered` holds for `Io`.
     broken : (d : Option (List ℕ)) (after : Bool) → HasBegun m d last → after ≡ true
         → Answered f x finish answer form a b c d reader after (answered (answer.of faults.Io))
     broken d after begun failed = record {
@@ -300,7 +300,7 @@ module _ {X E : Type 0} (f : Fold X) (x : X) (finish : Finish X) (answer : Answe
 
 module _ {X E : Type 0} (f : Fold X) (x : X) (finish : Finish X) (answer : Answer X E) (faithful : IsFaithful f answer)
     (form : Form) (a b c m : Option (List ℕ)) (reader before : Bool) (y : X) where
-  -- Case: all messages were served, and the closing text was written.
+  -- Case: if all messages were served, and the closing text was written, `Answered` holds.
   pub finished_closed : (d : Option (List ℕ)) (after : Bool) → (finish.ending y ≡ Err faults.Io → ⊥)
       → ServesMessages f x form a b c m reader before (Ok tt) y
       → PutsClosing (finish.closing y) m d before after (Ok tt)
@@ -331,7 +331,7 @@ module _ {X E : Type 0} (f : Fold X) (x : X) (finish : Finish X) (answer : Answe
         (answer.by y (stopped e))) (sym same)
         (finished_stopped f x finish answer faithful form a b c m reader before e y came none run tells))
 
-    -- Case: the fault `e` ended the loop over the messages, and its text, if it has one, was written.
+    -- Case: if the fault `e` ended the loop over the messages, and any text of `e` was written, `Answered` holds.
     pub finished_told : (d : Option (List ℕ)) (after : Bool) (e : RunFault)
         → ServesMessages f x form a b c m reader before (Err e) y
         → IfSome a (λ input. TellsEnd f x form input (Err e) came y)
@@ -347,7 +347,7 @@ module _ {X E : Type 0} (f : Fold X) (x : X) (finish : Finish X) (answer : Answe
     finished_told d after faults.InputTooLong run tells (done, same, fine) =
         still d after faults.InputTooLong refl same fine run tells
 
-    -- Case: the fault `e` ended the loop over the messages, and its text was not written, because of `fault`.
+    -- Case: if `e` ended the loop, and `fault` stopped the writing of the text of `e`, `Answered` holds.
     pub finished_untold : (d : Option (List ℕ)) (after : Bool) (e fault : RunFault)
         → ServesMessages f x form a b c m reader before (Err e) y
         → IfSome a (λ input. TellsEnd f x form input (Err e) came y)

@@ -75,7 +75,7 @@ closing_none outcomes.Accepted lines number first count is = absurd (cc)
 pub nothing_then : (c m d : Option (List ℕ)) → Appends c m [] → d ≡ m → Appends c d []
 nothing_then c m d wrote same = subst (λ (n : Option (List ℕ)). Appends c n []) (sym same) wrote
 
--- Case: all messages were served, the closing text was written, and the ending is `Memory`.
+-- Case: if all messages were served and the ending is `Memory`, the closing text is empty, so nothing was written.
 pub closed_none : (run : Run Reporting) (c m d : Option (List ℕ)) (before after : Bool) → Appends c m []
     → PutsClosing (closing_by run.service.outcome run.service.lines run.service.order.number run.service.first
     run.at.index) m d before after (Ok tt)
@@ -85,7 +85,7 @@ closed_none run c m d before after wrote (closed, fine) is =
     Appends-trans c m d [] [] wrote
     (subst (Appends m d) (closing_none s.outcome s.lines s.order.number s.first run.at.index is) closed)
 
--- Case: an allocation was refused for `text`, and `text` was not written.
+-- Case: if an allocation was refused for `text`, nothing was written.
 pub unclosed_none : (text : List ℕ) (c m d : Option (List ℕ)) (before after : Bool) (fault : RunFault) → Appends c m []
     → PutsClosing text m d before after (Err fault) → stopped fault ≡ Err faults.Memory → Appends c d []
 unclosed_none text c m d before after fault wrote (some, inl (memory, same, fine)) is = nothing_then c m d wrote same
@@ -93,7 +93,7 @@ unclosed_none text c m d before after fault wrote (some, inr (io, begun, failed)
     let k : stopped faults.Io ≡ Err faults.Memory = sym (ap stopped io) ∙ is in
     absurd (cc)
 
--- Case: `fault` ended the loop over the messages, and its text, if it has one, was written.
+-- Case: if the fault `Memory` ended the loop over the messages, nothing was written.
 pub told_none : (told : Position → Refusal → List ℕ) (c m d : Option (List ℕ)) (before after : Bool) (fault : RunFault)
     → Appends c m [] → PutsFault told fault m d before after (Ok tt) → stopped fault ≡ Err faults.Memory
     → Appends c d []
@@ -102,7 +102,7 @@ told_none told c m d before after faults.Memory wrote (done, same, fine) is = no
 told_none told c m d before after faults.Io wrote put is = absurd (cc)
 told_none told c m d before after faults.InputTooLong wrote put is = absurd (cc)
 
--- Case: the fault `ended` ended the loop over the messages, and an allocation was refused for the text of `ended`.
+-- Case: if `ended` ended the loop, and an allocation was refused for the text of this fault, nothing was written.
 pub untold_none : (told : Position → Refusal → List ℕ) (c m d : Option (List ℕ)) (before after : Bool)
     (ended fault : RunFault) → Appends c m [] → PutsFault told ended m d before after (Err fault)
     → stopped fault ≡ Err faults.Memory → Appends c d []

@@ -57,7 +57,7 @@ io_is_not_memory : ended run_faults.Io ≡ ended run_faults.Memory → ⊥
 io_is_not_memory is = absurd (cc)
 
 module _ (order : ExplainRefused) where
-  -- The states before and after a fault give one result, since no refused message ends the loop.
+  -- The states before and after a fault give the same result, since no refused message ends the loop.
   left : (z y : Run RefusedReporting) (e : RunFault) → Leaves (refused_fold order) z e y
       → refused_answer.by z (stopped e) ≡ refused_answer.by y (stopped e)
   left z y e (inl same) = ap (λ (w : Run RefusedReporting). refused_answer.by w (stopped e)) same

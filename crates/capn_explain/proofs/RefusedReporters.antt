@@ -23,7 +23,7 @@ puts_apart order at message stopped lines text old new (Err fault) told is put =
 abbrev pub state : Explain → Option SkippedSoFar → Option First → RefusedReporting
 state order skipped first = record { order = order; skipped = skipped; first = first }
 
--- Case: the message is accepted, and nothing is written.
+-- Case: if the message is accepted, and nothing is written, `Puts` holds.
 pub tells_none : (s t : RefusedReporting) (order : Explain) (skipped kept : Option SkippedSoFar)
     (before first : Option First) → state order skipped before ≡ s → (at : Position) (message : List (List ℕ))
     (old : List ℕ) → IsAccepted message order.limits → IsFirst order.form at message order.limits first

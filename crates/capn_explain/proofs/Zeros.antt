@@ -104,5 +104,4 @@ eight bs =
     (entries-suc 5 bs ∙ ap (λ (ns : List ℕ). ns ++ entry_number (drop 20 bs) ∷ [])
     (entries-suc 4 bs ∙ ap (λ (ns : List ℕ). ns ++ entry_number (drop 16 bs) ∷ [])
     (entries-suc 3 bs ∙ ap (λ (ns : List ℕ). ns ++ entry_number (drop 12 bs) ∷ [])
-    (entries-suc 2 bs ∙ ap (λ (ns : List ℕ). ns ++ entry_number (drop 8 bs) ∷ [])
-    (entries-suc 1 bs))))))
+    (entries-suc 2 bs ∙ ap (λ (ns : List ℕ). ns ++ entry_number (drop 8 bs) ∷ []) (entries-suc 1 bs))))))

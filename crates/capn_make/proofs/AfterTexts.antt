@@ -75,7 +75,7 @@ module _ (apart : TextsAreApart) (shows : FittingIsShowable) where
   pub unended_is_last : UnendedIsLast
   unended_is_last vs ws input rest left h k none = later vs ws input rest left h k (unended_stuck shows left none)
 
-  -- Case: form `Bare`. `vs` has at most one value.
+  -- Case: if `vs` has at most one value, as in form `Bare`, `line_after vs` is at most the line after the text of `v`.
   of_one : (vs : List Tree) (v : Tree) (input rest left : List ℕ) → length vs ≤ 1 → AreFirst vs input rest
       → AreFirst (v ∷ []) input left → line_after vs ≤ line_after (v ∷ [])
   of_one [] v input rest left few h k = lines_of_more [] (v ∷ [])
@@ -103,8 +103,7 @@ module _ (apart : TextsAreApart) (shows : FittingIsShowable) where
         from_less (line_after vs) (line_after []) fault (later vs [] input rest input h nothing stuck)
         (from_refused 1 input fault refused)
     after_one vs input rest fault h few (inr (inr more)) =
-        from_less (line_after vs) (line_after (more.0 ∷ [])) fault
-        (of_one vs more.0 input rest more.1 few h more.2)
+        from_less (line_after vs) (line_after (more.0 ∷ [])) fault (of_one vs more.0 input rest more.1 few h more.2)
         (from_following (line_after (more.0 ∷ [])) more.1 fault more.3)
 
     pub refused_after : RefusedAfter

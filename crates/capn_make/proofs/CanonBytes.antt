@@ -1,7 +1,5 @@
 -- Lemmas for `canonical`: the length of the canonical bytes of a value.
-use Rattle.std.proofs.Common.{◌≡◌, ℕ, ◌*◌, ◌/◌, ◌%◌, ◌^◌, ◌<◌, List, ◌++◌, length, replicate, arith, ap}
-use Rattle.std.proofs.Common.{length-append, refl}
-use Rattle.std.specs.Int.{to_le_bytes, w32}
+use Rattle.std.proofs.Common.{◌≡◌, ℕ, ◌*◌, ◌%◌, ◌^◌, ◌<◌, List, length, arith, ap}
 use Rattle.capn_words.specs.Message.{IsBare}
 use Rattle.capn_words.proofs.shared.Words.{length-bytes}
 use Rattle.capn_value.specs.Tree.{Tree}
@@ -12,7 +10,6 @@ use Rattle.capn_value.specs.declared.tariff.Tariff.TheVariants.{Plain}
 use Rattle.capn_walk.specs.Limits.{Bounds}
 use Rattle.capn_canon.specs.Layout.{canon}
 use Rattle.capn_canon.specs.Laws.{CanonIsForm}
-use Rattle.capn_make.specs.WrittenValue.{framed}
 
 limits_of : Tree → Bounds
 limits_of v = record { message_words = 1; budget = cost 0 v; depth = height v; tariff = Plain }
@@ -34,12 +31,3 @@ module _ (law : CanonIsForm) (v : Tree) (fits : Fits v) (range : InRange v) wher
 
   pub canon_whole : length (canon v) % 8 ≡ 0
   canon_whole = let e = canon_length in omega arith
-
-pub framed_whole : (bytes : List ℕ) → length bytes % 8 ≡ 0 → length (framed bytes) % 8 ≡ 0
-framed_whole bytes whole =
-    let head = to_le_bytes w32 (length bytes / 8) in
-    let size : length head ≡ 4 = refl in
-    let a = length-append (replicate 4 0) (head ++ bytes) in
-    let b = length-append head bytes in
-    let c : length {A = ℕ} (replicate 4 0) ≡ 4 = refl in
-    omega arith

@@ -30,12 +30,10 @@ module _ (apart : TextsAreApart) (shows : FittingIsShowable) (one_line : OneWron
     (high : DeepIsHigh) where
   each : (input : List ℕ) (r s : Result (Unit {0}) MakeFault) → EndsEach input r → EndsEach input s → r ≡ s
   each input r s h k =
-      let same = same_firsts apart shows h.0 k.0 h.1 k.1 h.2.each k.2.each
-      (stuck_after apart shows high h.0 h.1 r h.3)
+      let same = same_firsts apart shows h.0 k.0 h.1 k.1 h.2.each k.2.each (stuck_after apart shows high h.0 h.1 r h.3)
       (stuck_after apart shows high k.0 k.1 s k.3) (sym h.2.are ∙ k.2.are) in
       let again = subst (λ ws. EndsAfter ws k.1 s) (sym same.0) k.3 in
-      one_after apart shows one_line not_deep high h.0 h.1 r s h.3
-      (subst (λ t. EndsAfter h.0 t s) (sym same.1) again)
+      one_after apart shows one_line not_deep high h.0 h.1 r s h.3 (subst (λ t. EndsAfter h.0 t s) (sym same.1) again)
 
   only : (input : List ℕ) (r s : Result (Unit {0}) MakeFault) → EndsOnly input r → EndsOnly input s → r ≡ s
   only input r s h k =

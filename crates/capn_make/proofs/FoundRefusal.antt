@@ -254,8 +254,7 @@ module _ (one : OneEnding) (form : Form) where
         let whole : stream_text vs ++ (show_text o.4 ++ (end_line ++ [])) ≡ base ++ o.5 =
         ap (λ t. stream_text vs ++ (show_text o.4 ++ t)) (append-nil end_line)
         ∙ ap (λ t. stream_text vs ++ t) (sym o.9) ∙ sym (append_assoc (stream_text vs) o.0 o.5) in
-        other_end base o.1 o.5 input (faults.NotText n) is o.3 ends d.0
-        (subst (λ t. Ends form t d.0) whole d.1) (d.2 n)
+        other_end base o.1 o.5 input (faults.NotText n) is o.3 ends d.0 (subst (λ t. Ends form t d.0) whole d.1) (d.2 n)
 
     after_one : (n : ℕ) → HasMade form input place made → form ≡ forms.Bare → (place.line ≡ 1 → ⊥)
         → length place.rest ≤ few → Ends form input (Err (faults.NotText n)) → IsNotLost input
@@ -316,7 +315,7 @@ module _ (one : OneEnding) (form : Form) where
 
     module _ (fault : MakeFault) (cut : Bool) (other : fault ≡ faults.Memory → ⊥)
         (h : GoesOn form input place made (Err fault)) (tells : TellsCut form place cut fault) where
-      -- Case: the bytes at `place` that cause `fault` are complete. `input` is refused with `fault` whatever bytes
+      -- Case: if the bytes at `place` that cause `fault` are complete, `input` is refused with `fault` whatever bytes
       -- follow.
       pub found : FaultStays → IsWholeFrom place.line place.rest fault
           → TellsRefusal form input place made (Some fault)
@@ -326,11 +325,10 @@ module _ (one : OneEnding) (form : Form) where
             (subst (IsWhole input) (sym is) tt) so)
         | inr (inr m, so) ↦ (λ more. made_stays stays form input made more fault
             (whole_to m.values input place.rest fault m.first
-            (subst (λ n. IsWholeFrom n place.rest fault) m.line whole))
-            so)
+            (subst (λ n. IsWholeFrom n place.rest fault) m.line whole)) so)
       ]
 
-      -- Case: `is_lost fault cut` is true. `input` is refused with `fault` whatever bytes follow.
+      -- Case: if `is_lost fault cut` is true, `input` is refused with `fault` whatever bytes follow.
       pub found_lost : is_lost fault cut ≡ true → TellsRefusal form input place made (Some fault)
       found_lost final = elim h [
         | inl memory ↦ absurd (other memory)
@@ -338,8 +336,8 @@ module _ (one : OneEnding) (form : Form) where
         | inr (inr m, so) ↦ found_by fault cut m tells final
       ]
 
-      -- Case: the bytes that cause `fault` are not complete, and `is_lost fault cut` is false. `input` is not refused
-      -- yet.
+      -- Case: if the bytes that cause `fault` are not complete, and `is_lost fault cut` is false, `input` is not
+      -- refused yet.
       pub unfinished : (IsWholeFrom place.line place.rest fault → ⊥) → is_lost fault cut ≡ false
           → TellsRefusal form input place made None
       unfinished half final = elim h [

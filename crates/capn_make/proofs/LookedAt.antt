@@ -134,8 +134,8 @@ refused_begun forms.Bare input more made place c d None framed tells begun = abs
 
 module _ (form : Form) (input : List ℕ) (c d : Option (List ℕ)) (made rest : List ℕ) (line tested before : ℕ)
     (h : HasCome form input c d made rest line tested before) where
-  -- Case: the line `end` is not in the added bytes, and `rest` has at most 4 `tested` bytes. `rest` is not parsed
-  -- again.
+  -- Case: if no line `end` ends in the added bytes, and `rest` has at most four times `tested` bytes, `IsUnderWay`
+  -- holds.
   pub goes_on_at : HoldsNoEnd (drop (before - 3) rest) → length rest ≤ 4 * tested
       → IsUnderWay form input c d made rest line tested
   goes_on_at none few = record {
@@ -187,7 +187,7 @@ module _ (form : Form) (input : List ℕ) (c d : Option (List ℕ)) (made rest :
         → (r ≡ Err faults.Io → ⊥) → Writes faults.Io d e broken r
     made_writes u r w other = ((w.1, w.2), (λ is. absurd (other is), λ f. let fine = w.0 in absurd cc))
 
-    -- Case: the messages were written, and `input ++ more` is refused with `fault`.
+    -- Case: if the messages were written, and `input ++ more` is refused with `fault`, `GivesMade` holds.
     refused_so : (more : List ℕ) (fault : MakeFault) (u : Unit {0})
         → IsMadeSo form (input ++ more) (h.written ++ after) (Err fault) → WritesMade form d e broken after new (Ok u)
         → GivesMade form input more c e (Err fault) × Writes faults.Io d e broken (Err fault)
@@ -209,7 +209,7 @@ module _ (form : Form) (input : List ℕ) (c d : Option (List ℕ)) (made rest :
               (subst (λ f. Makes form all (h.written ++ text) (Err f)) (err_inj fault faults.Io is) makes)),
         )
 
-    -- Case: the messages were written, and `input` is refused with `fault` whatever bytes follow.
+    -- Case: if the messages were written, and `input` is refused with `fault` whatever follows, `GivesMade` holds.
     pub refuses_at : (fault : MakeFault) (u : Unit {0})
         → TellsRefusal form input place (h.written ++ after) (Some fault)
         → WritesMade form d e broken after new (Ok u)
@@ -229,7 +229,7 @@ module _ (form : Form) (input : List ℕ) (c d : Option (List ℕ)) (made rest :
         → GivesMade form input [] c e (Err fault) × Writes faults.Io d e broken (Err fault)
     ended_refused fault u other goes w = refused_so [] fault u (ended_so fault other goes) w
 
-    -- Case: the input has ended and is refused with `fault`, but the writer failed with `io`.
+    -- Case: if the input has ended and is refused, but the writer failed with `io`, `GivesMade` holds for `io`.
     pub ended_broken : (fault io : MakeFault) → (fault ≡ faults.Memory → ⊥)
         → GoesOn form input place (h.written ++ after) (Err fault) → WritesMade form d e broken after new (Err io)
         → GivesMade form input [] c e (Err io) × Writes faults.Io d e broken (Err io)
@@ -267,7 +267,7 @@ module _ (form : Form) (input : List ℕ) (c d : Option (List ℕ)) (made rest :
       ((take begun.0 after, begun.1), (λ is. failed, λ f. ap err_of only)),
     )
 
-    -- Case: the input has ended, and `GoesOn` holds with `Ok`. All messages were written, or the writer failed.
+    -- Case: if `GoesOn` holds with `Ok` at the end of the input, `GivesMade` holds, even if the writer failed.
     pub ended_as : (u : Unit {0}) (r : Result (Unit {0}) MakeFault)
         → GoesOn form input place (h.written ++ after) (Ok u)
         → OnOk r (Appends d e after) → HasBegun d e after → OnOk r (broken ≡ false) → OnErr r (broken ≡ true)

@@ -1,8 +1,7 @@
 -- Lemmas for `next_text.rt`, `progress.rt` and `whole_texts.rt`: the texts of an input are parsed one after the other.
 use Rattle.std.specs.Prelude.{IfErr}
-use Rattle.std.proofs.Common.{◌≡◌, ◌≢◌, ◌⊎◌, Bool, true, false, inl, inr}
-use Rattle.std.proofs.Common.{ℕ, ◌+◌, ◌≤◌, List, [], ◌∷◌, ◌++◌, length, drop}
-use Rattle.std.proofs.Common.{Some, Result, Ok, Err, refl, sym, ap, ap₂, subst, ◌∙◌, append_assoc, arith, Vec}
+use Rattle.std.proofs.Common.{◌≡◌, ◌≢◌, ◌⊎◌, Bool, true, false, inl, inr, ℕ, ◌+◌, ◌≤◌, List, [], ◌∷◌, ◌++◌, length}
+use Rattle.std.proofs.Common.{drop, Some, Result, Ok, Err, refl, sym, ap, ap₂, subst, ◌∙◌, append_assoc, arith, Vec}
 use Rattle.std.proofs.lemmas.List.{length-append}
 use Rattle.capn_value.specs.Tree.{Tree}
 use Rattle.capn_value.specs.Text.{show_text}
@@ -19,18 +18,14 @@ use Rattle.capn_text.specs.declared.fault.TextFault.TheVariants as texts
 use Rattle.capn_canon.specs.declared.form.Form.{Form}
 use Rattle.capn_canon.specs.declared.form.Form.TheVariants as forms
 use Rattle.capn_make.specs.MadeInput.{IsTextRefused, IsWrong, MakesEach}
-use Rattle.capn_make.specs.inner.RunParts.{HasMade, IsMadeSo, GoesOn, IsAfter}
-use Rattle.capn_make.specs.inner.RunParts.{MakesNext, HasCapability, TellsCut, TellsEnd, is_cut}
-use Rattle.capn_make.specs.inner.RunParts.{unread}
+use Rattle.capn_make.specs.inner.RunParts.{HasMade, IsMadeSo, GoesOn, IsAfter, MakesNext, HasCapability, TellsCut}
+use Rattle.capn_make.specs.inner.RunParts.{TellsEnd, is_cut, unread}
 use Rattle.capn_make.specs.declared.fault.MakeFault.{MakeFault}
 use Rattle.capn_make.specs.declared.fault.MakeFault.TheVariants as faults
 use Rattle.capn_make.proofs.FirstTexts.{lines_append, first_more, made_more}
 use Rattle.capn_make.proofs.OneRefusal.{nil_front}
 
 -- ---- places
-
-pub same_place : (place : Place) → IsAfter place place
-same_place place = ([], refl)
 
 pub place_after : (a b c : Place) → IsAfter a b → IsAfter b c → IsAfter a c
 place_after a b c h k = (h.0 ++ k.0, h.1 ∙ ap (λ x. h.0 ++ x) k.1 ∙ sym (append_assoc h.0 k.0 c.rest))

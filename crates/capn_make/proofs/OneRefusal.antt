@@ -1,4 +1,4 @@
--- Lemmas for `end_of_one`: the bytes after the texts at the front of an input are refused with one fault.
+-- Lemmas for `end_of_one`: the bytes after the texts at the front of an input are refused with at most one fault.
 use Rattle.std.proofs.Common.{◌≡◌, inl, inr, ℕ, ◌≤◌, List, [], ◌∷◌, ◌++◌, length}
 use Rattle.std.proofs.Common.{Some, Result, Ok, Err, refl, sym, ap, ap₂, subst}
 use Rattle.std.proofs.Common.{◌∙◌, arith}

@@ -67,7 +67,7 @@ module _ (input : List ℕ) (place : Place) (made : List ℕ) (h : HasMade forms
             ))),
       )
 
-  -- Case: the only text was parsed before. The bytes at `place`, which follow that text, decide the result `r`.
+  -- Case: if the only text was parsed before, the bytes at `place`, which follow that text, decide the result `r`.
   pub ends_so : (r : Result (Unit {0}) MakeFault) → (place.line ≡ 1 → ⊥) → EndsOne place r
       → GoesOn forms.Bare input place made r
   ends_so (Ok u) later over =
@@ -90,7 +90,7 @@ later_line v old new is counted first again =
     let one : ended_lines end_line ≡ 1 = refl in
     absurd (omega arith)
 
--- Case: the first text is parsed now. The bytes at `new`, which follow that text, decide the result `r`.
+-- Case: if the first text is parsed now, the bytes at `new`, which follow that text, decide the result `r`.
 pub first_made : (A : Type 0) (input : List ℕ) (old new : Place) (made after : List ℕ) (piece : Vec ℕ A)
     → HasMade forms.Bare input old made → old.line ≡ 1 → MakesNext {A = A} forms.Bare old new (Ok (Some piece))
     → after ≡ made ++ piece.items → (r : Result (Unit {0}) MakeFault) → EndsOne new r

@@ -59,7 +59,7 @@ no_digits : (b : Bool) (x : List ℕ) → x ≡ [] → cond b x x ≡ []
 no_digits true x e = e
 no_digits false x e = e
 
--- `HasSeen` stays true for a later line `at` if the converter forgets the lines of digits before `at`.
+-- `HasSeen` stays true for a later line `at` if the converter forgets only lines of digits at or before `at`.
 pub forgotten_on : (q r : Unquoting) (line at : ℕ) (bytes input : List ℕ) → line ≤ at → HasSeen q line bytes input
     → Forgets at q r → HasSeen r at bytes input
 forgotten_on q r line at bytes input further h f =
@@ -75,8 +75,7 @@ forgotten_on q r line at bytes input further h f =
       digits = λ more.
           h.digits more
           ∙ ap (λ (l : List ℕ). h.gone ++ (l ++ digits_on q more)) f.are
-          ∙ ap (λ (l : List ℕ). h.gone ++ l)
-          (append_assoc f.gone r.digits (digits_on q more))
+          ∙ ap (λ (l : List ℕ). h.gone ++ l) (append_assoc f.gone r.digits (digits_on q more))
           ∙ sym (append_assoc h.gone f.gone (r.digits ++ digits_on q more))
           ∙ ap (λ (l : List ℕ). (h.gone ++ f.gone) ++ (r.digits ++ l))
           (sym (same_digits q r more f.through f.at f.front));

@@ -1,14 +1,14 @@
 -- Lemmas for `run` and its callers: the run of a sink, between two chunks and at its end.
-use Rattle.std.proofs.Common.{◌≡◌, ◌≢◌, ◌⊎◌, ◌↔◌, inl, inr, ℕ, ◌+◌, ◌^◌, ◌≤◌, List, [], ◌∷◌, ◌++◌, length}
-use Rattle.std.proofs.Common.{take, Bool, true, false, Option, Some, None, IfSome, Result, Ok, Err}
-use Rattle.std.proofs.Common.{refl, sym, ap, subst, ◌∙◌, arith}
+use Rattle.std.proofs.Common.{◌≡◌, ◌≢◌, ◌⊎◌, ◌↔◌, inl, inr, ℕ, ◌+◌, ◌^◌, ◌≤◌, List, [], ◌∷◌, ◌++◌, length, take, Bool}
+use Rattle.std.proofs.Common.{true, false, Option, Some, None, IfSome, Result, Ok, Err, refl, sym, ap, subst, ◌∙◌}
+use Rattle.std.proofs.Common.{arith}
 use Rattle.std.proofs.lemmas.List.{append-nil, length-append}
 use Rattle.std.specs.Io.KnownBytes.{Appends, Consumes}
 use Rattle.std.proofs.KnownBytes.{Appends-nil, Consumes-trans, Consumes-whole}
 use Rattle.capn_make.specs.MakeRun.{IsAhead}
 use Rattle.capn_make.specs.inner.SinkRun.{Feeds, Giving, IsTakenAhead, ReadsPiece, Runs, Taking, Writes}
 
--- `bytes` are the bytes that were read, from `a` to `b`, and `taken` is their number. `Takes` holds for them.
+-- `bytes` were read, `taken` is their number, and `Takes` holds for them. `a` and `b` are the reader before and after.
 pub record HasTaken (Takes : Taking) (a b c d : Option (List ℕ)) (taken : ℕ) : Type 0 where
   pub bytes : List ℕ
   pub read : Consumes a b bytes
@@ -18,10 +18,6 @@ pub record HasTaken (Takes : Taking) (a b c d : Option (List ℕ)) (taken : ℕ)
 none_of : (xs : List ℕ) → length xs ≡ 0 → xs ≡ []
 none_of [] e = refl
 none_of (x ∷ xs) e = absurd (omega arith)
-
-nobody : (read wrote : Bool) → read ≡ false → wrote ≡ false → (read ≡ true) ⊎ (wrote ≡ true) → ⊥
-nobody read wrote fine kept (inl r) = absurd cc
-nobody read wrote fine kept (inr w) = absurd cc
 
 only_writer : (read wrote : Bool) → read ≡ false → (read ≡ true) ⊎ (wrote ≡ true) → wrote ≡ true
 only_writer read wrote fine (inl r) = absurd cc
@@ -119,7 +115,7 @@ module _ {S F : Type 0} (Takes : S → Taking) (Gives : Giving F) (io : F) (s : 
           takes = takes;
         }
 
--- ---- the promises of a run on an input
+-- ---- what holds after a run on an input
 
 known_whole : (a b : Option (List ℕ)) (bytes : List ℕ) (P : List ℕ → Type 0) → Consumes a b bytes
     → ((more : List ℕ) → P (bytes ++ more)) → IfSome a P

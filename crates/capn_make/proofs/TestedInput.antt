@@ -93,7 +93,7 @@ some_after xs ys some none =
 module _ (stays : RefusalStays) (form : Form) (tested : ℕ) (input made rest : List ℕ) (line : ℕ)
     (m : HasMade form input (record { rest = rest; line = line }) made) (h : HasTested form tested input rest)
     (short : length rest ≤ 4 * tested) where
-  -- If `rest` has at most 4 `tested` bytes, `AreInTime` holds for `input` and one more chunk `more`.
+  -- If `rest` has at most four times `tested` bytes, `AreInTime` holds for `input` and one more chunk `more`.
   pub in_time : (more : List ℕ) → length more ≤ 65536 → AreInTime form (input ++ more)
   in_time more small n =
       let cut = ap (λ t. t ++ more) h.are ∙ append_assoc h.front h.more more in

@@ -94,7 +94,7 @@ memory_of own (Ok u) e = absurd cc
 memory_of own (Err fault) e =
     let same : at_own own fault ≡ faults.Memory = cc in ap (λ x. Err x) (memory_back own fault same)
 
--- ---- the result of the plain form is that of the texts
+-- ---- from the result for the plain form to the result for the texts
 
 module _ (form : Form) (bytes more input rest : List ℕ) (whole : plain (bytes ++ more) ≡ input ++ rest)
     (own : ℕ → ℕ) (line : ℕ) (same : (n : ℕ) → line ≤ n → own n ≡ own_line bytes n)
@@ -178,7 +178,7 @@ module _ (form : Form) (bytes : List ℕ) (c d : Option (List ℕ)) (made rest :
       → GivesTexts form (bytes ++ piece) more c d (Err faults.Memory)
   unheld piece some more = (inl refl, begun_past piece more, λ e. some_after bytes piece some)
 
-  -- Case: the input has ended, and an allocation was refused for the unfinished line `q.front`.
+  -- Case: if memory was refused for `q.front`, the unfinished last line, `GivesTexts` holds for `Memory`.
   pub unheld_last : q.front ≢ [] → GivesTexts form bytes [] c d (Err faults.Memory)
   unheld_last some = (inl refl, begun_at [], λ e. some_seen q line bytes u.input u.seen some)
 

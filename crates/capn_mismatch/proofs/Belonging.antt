@@ -27,8 +27,7 @@ use Rattle.capn_mismatch.proofs.RowsTold.{tag-or-rows}
 use Rattle.capn_mismatch.proofs.NumbersTold.{numbers-told, words-told}
 
 module _ (ws cs : List ℕ) (base k : ℕ) (small : length cs ≤ 2 ^ 29)
-    (same : (j : ℕ) → j < k → slice_index ws j ≡ slice_index cs j)
-    (each : (j : ℕ) → slice_index ws j < 2 ^ 64) where
+    (same : (j : ℕ) → j < k → slice_index ws j ≡ slice_index cs j) (each : (j : ℕ) → slice_index ws j < 2 ^ 64) where
   abbrev pub n : List (List ℕ)
   n = ws ∷ []
 

@@ -1,6 +1,5 @@
 -- A message of one segment is canonical if and only if the survey of that segment says so. (For `is_canonical`.)
-use Rattle.std.proofs.Common.{◌≡◌, ◌↔◌, ℕ, List, [], ◌∷◌, length, Option, Some, None, IsSome, ap, sym, subst}
-use Rattle.std.proofs.Common.{◌∙◌}
+use Rattle.std.proofs.Common.{◌≡◌, ◌↔◌, ℕ, List, [], ◌∷◌, Option, Some, None, IsSome, ap, sym, subst, ◌∙◌}
 use Rattle.std.specs.Bool.{IsTrue}
 use Rattle.capn_words.specs.Message.{segment_at, bytes}
 use Rattle.capn_value.specs.Tree.{Tree}
@@ -16,9 +15,6 @@ use Rattle.capn_mismatch.proofs.Mismatching.{one-value}
 -- `v` has no capability, and the canonical bytes of `v` are the bytes of `ws`.
 abbrev Is : List ℕ → Tree → Type 0
 Is ws v = (first_cap v ≡ None) × (canon v ≡ bytes ws)
-
-pub several : (m : List (List ℕ)) (v : Tree) → (length m ≡ 1 → ⊥) → IsCanonicalOf m v → ⊥
-several m v not (words, e, free, same) = not (ap length e)
 
 missing : {A : Type 0} (r : Option A) → r ≡ None → IsSome r → ⊥
 missing (Some x) e s = absurd cc

@@ -33,8 +33,7 @@ use Rattle.capn_mismatch.proofs.Told.{same-word, Slot, Told, Same, decided}
 use Rattle.capn_mismatch.proofs.StructsTold.{Both, both-within}
 
 module _ (ws cs : List ℕ) (base k : ℕ) (small : length cs ≤ 2 ^ 29)
-    (same : (j : ℕ) → j < k → slice_index ws j ≡ slice_index cs j)
-    (each : (j : ℕ) → slice_index ws j < 2 ^ 64) where
+    (same : (j : ℕ) → j < k → slice_index ws j ≡ slice_index cs j) (each : (j : ℕ) → slice_index ws j < 2 ^ 64) where
   abbrev pub n : List (List ℕ)
   n = ws ∷ []
 
@@ -94,7 +93,7 @@ module _ (ws cs : List ℕ) (base k : ℕ) (small : length cs ≤ 2 ^ 29)
         let l = length-drop to ws in
         (list-of n (list_width a) (length xs) 0 to (plain a) below-64 (omega arith) (numbers a xs) numbers-inside).0 to
 
-    -- Case: all bits of word `k` are bits of elements.
+    -- Case: if all bits of word `k` are bits of elements, word `k` is the same in `ws` and `cs`.
     pub whole-word : k < to + bits / 64 → Same ws cs base k
     whole-word lt =
         let j = k - to in
@@ -113,14 +112,13 @@ module _ (ws cs : List ℕ) (base k : ℕ) (small : length cs ≤ 2 ^ 29)
         let z = get_or-drop to ws j 0 in
         ap (slice_index ws) (sym e) ∙ sym z ∙ sym y ∙ sym x ∙ sym c ∙ ap (slice_index cs) e
 
-    -- Case: the elements are small (`is_small`), and word `k` is the last word of the list.
+    -- Case: if the elements are small (`is_small`), and word `k` is the last word of the list, `Owned` holds.
     pub last-word : is_small (list_width a) ≡ true → k + 1 ≡ to + taken → Owned cs base k (visits m base d (here p))
     last-word small e =
         let s = h.starts in
         let q : (0 == 0) && (nat_lt 0 taken && (to + taken == k + 1)) ≡ true = grind (arith, nat_tests) in
         found-begins cs base k d (here p) finding.LastWord (not-there cs base k p (Ok (targets.Content 0 to
-        numbers-shape 0))
-        (Some finding.LastWord) h.before numbers-both.canonical
+        numbers-shape 0)) (Some finding.LastWord) h.before numbers-both.canonical
         (there (list_width a) (length xs) small q))
       where
         there : (w : Width) (c : ℕ) → is_small w ≡ true

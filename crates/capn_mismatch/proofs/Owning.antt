@@ -1,4 +1,4 @@
--- If a search finds a word, the path that it finds leads to the slot that owns the word. (For `owner`.)
+-- The path that a search for the owner of a word finds leads to the slot that owns the word. (For `owner`.)
 use Rattle.std.proofs.Common.{◌≡◌, ℕ, ◌+◌, ◌<◌, ◌≤◌, ◌==◌, ◌&&◌, nat_lt, Bool, true, false, List, [], ◌∷◌}
 use Rattle.std.proofs.Common.{Option, Some, None, Ok, Err, Result, refl, ap₂, arith, if◌then◌else◌}
 use Rattle.std.proofs.lemmas.Bool.{and_parts, eqb-true}
@@ -96,8 +96,7 @@ pub tells : (word : ℕ) (at : Place) (r : Result Target Fault) (x : WordKind) �
 tells word at r x =
     pick (λ (k : Option WordKind). k ≡ Some x → Tells word at r x) (is_at at.segment at.word (place word))
     (Some found.Pointer) (found_there (place word) r)
-    (λ t e. pointer x (at-place at word t) (let z : found.Pointer ≡ x = cc in z))
-    (λ t e. there word at r x e)
+    (λ t e. pointer x (at-place at word t) (let z : found.Pointer ≡ x = cc in z)) (λ t e. there word at r x e)
   where
     pointer : (x : WordKind) → at ≡ place word → found.Pointer ≡ x → Tells word at r x
     pointer found.Pointer a z = a

@@ -21,7 +21,7 @@ use Rattle.capn_mismatch.specs.inner.Search.{finds, owned, same}
 use Rattle.capn_mismatch.specs.inner.Reached.{rows_of, place_in, numbers, Reaches, ReachesBelow}
 use Rattle.capn_mismatch.proofs.Owned.{same-after}
 
--- `at` is the place of slot `number` of row `row` of the object of `shape` at word `start` of segment `s`.
+-- An object of `shape` begins at word `start` of segment `s`. Slot `number` in the object's row `row` is at `at`.
 pub record AreIn (s start : ℕ) (shape : Shape) (row number : ℕ) (at : Place) : Type 0 where
   pub before : List Place
   pub behind : List Place

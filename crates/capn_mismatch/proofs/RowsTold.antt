@@ -88,7 +88,7 @@ module _ (ws cs : List ℕ) (base k : ℕ) (small : length cs ≤ 2 ^ 29)
         let x = found n (here p) (rows bs) h.is in
         (had-room ws to (1 + span) tagged-there x.0 (sym rows-within ∙ x.1)).0
 
-    -- Case: word `k` is the tag.
+    -- Case: if word `k` is the tag, `Told` holds.
     pub tag-told : k ≤ to → Told ws cs base k (visits m base d (here p))
     tag-told le =
         let s = h.starts in
@@ -108,8 +108,7 @@ module _ (ws cs : List ℕ) (base k : ℕ) (small : length cs ≤ 2 ^ 29)
           let c = o.0 in
           rows-within ∙ has-room ws to (1 + span) tagged-there rows-room
           ∙ tag-named ws to (count_rows bs) ra rb span (slice_index ws to) (same to lt ∙ tag-there) (omega arith) o.1
-          o.2
-          (omega arith)
+          o.2 (omega arith)
 
       rows-are : RowsAt n ra rb 0 (to + 1) bs
       rows-are =
@@ -129,8 +128,7 @@ module _ (ws cs : List ℕ) (base k : ℕ) (small : length cs ≤ 2 ^ 29)
       rows-content =
           let u : suc to ≡ to + 1 = omega arith in
           let v : to + (1 + span) ≡ to + 1 + span = omega arith in
-          lies-as cs (to + 1) _ _
-          (ap₂ (λ (x y : ℕ). row_contents ra rb bs x y ++ lays_in_rows bs y) u v)
+          lies-as cs (to + 1) _ _ (ap₂ (λ (x y : ℕ). row_contents ra rb bs x y ++ lays_in_rows bs y) u v)
           (lies-back cs to 1 (word_of (Node (pos (count_rows bs)) ra rb) ∷ []) _ refl h.content)
 
       rows-length : length (row_contents ra rb bs (to + 1) next-free) ≡ span
@@ -154,8 +152,7 @@ module _ (ws cs : List ℕ) (base k : ℕ) (small : length cs ≤ 2 ^ 29)
           from (inl u) =
               rows-own-told u (rows-own ws cs base k ra rb bs (to + 1) next-free (d - 1) rows-are
               (lies-front cs (to + 1) (row_contents ra rb bs (to + 1) next-free) (lays_in_rows bs next-free)
-              rows-content)
-              (omega arith) u)
+              rows-content) (omega arith) u)
           from (inr u) =
               let o = h.sound in
               let r = h.room in

@@ -64,7 +64,7 @@ no_groups bytes at (Zeros more ∷ gs) within e none = absurd (omega (arith, non
 no_groups bytes at (Named tag word ∷ gs) within e none = absurd (omega (arith, none))
 no_groups bytes at (Raw word count more ∷ gs) within e none = absurd (omega (arith, none))
 
--- if a group of at most `room` words follows the groups in `bytes`, `bytes` begin with a group of at most `max` words
+-- if a group of at most `room` words follows the first `at` bytes, `bytes` begin with a group of at most `max` words
 pub unpacked_starts : (bytes : List ℕ) (at : ℕ) (out : List ℕ) (room max : ℕ) → Unpacked bytes at out room max
     → StartsWithin (slice_range bytes at (length bytes)) room → StartsWithin bytes max
 unpacked_starts bytes at out room max u s = elim (cases_lt 0 (length out)) [

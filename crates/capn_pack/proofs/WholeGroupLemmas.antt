@@ -51,11 +51,6 @@ appended_row bytes at old out room max taken count new u t size fits = record {
   counted = omega (arith, u.counted);
 }
 
-pub appended_room : (bytes : List ℕ) (at : ℕ) (old out : List ℕ) (room max : ℕ) → Appended bytes at old out room max
-    → room ≤ max
-appended_room bytes at old out room max u =
-    omega (arith, u.counted, ap length u.row.content, length-append old (contents u.row.groups))
-
 -- if `StandsNext` holds of the bytes after the groups, `UnpacksSome` holds
 pub some_next : (bytes : List ℕ) (at : ℕ) (old out : List ℕ) (room max taken words : ℕ) (next is : Next)
     → Appended bytes at old out room max → taken ≡ at → words + room ≡ max → next ≡ is
@@ -138,7 +133,7 @@ starts_from bytes at (g ∷ gs) room max each within e size s = record {
   fits = omega (arith, size);
 }
 
--- if a group of at most `room` words follows the groups in `bytes`, `bytes` begin with a group of at most `max` words
+-- if a group of at most `room` words follows the first `at` bytes, `bytes` begin with a group of at most `max` words
 pub some_starts : (bytes : List ℕ) (at : ℕ) (old out : List ℕ) (room max : ℕ) → Appended bytes at old out room max
     → StartsWithin (slice_range bytes at (length bytes)) room → StartsWithin bytes max
 some_starts bytes at old out room max u s =

@@ -1,6 +1,6 @@
 -- If a path leads to a slot, `follow` gives that slot. (For `followed`, `held`, `holder_of` and `holders`.)
-use Rattle.std.proofs.Common.{◌≡◌, ℕ, zero, suc, ◌+◌, ◌<◌, ◌≤◌, List, [], ◌∷◌, ◌++◌, length, Result, Ok, Err}
-use Rattle.std.proofs.Common.{refl, ap, sym, ◌∙◌, arith, append_assoc, length-append, Option, Some, None}
+use Rattle.std.proofs.Common.{◌≡◌, ℕ, zero, suc, ◌+◌, ◌<◌, ◌≤◌, List, [], ◌∷◌, ◌++◌, length, Result, Ok, Err, refl, ap}
+use Rattle.std.proofs.Common.{sym, ◌∙◌, arith, append_assoc, length-append, Option, Some, None}
 use Rattle.std.proofs.lemmas.List.{append-nil}
 use Rattle.std.specs.Prelude.{slice_index, IfSome, IfNone}
 use Rattle.capn_words.specs.Message.{segment_at}
@@ -72,17 +72,6 @@ module _ (m : List (List ℕ)) where
   one-more (suc n) x y [] rest r e k some is less = absurd (omega arith)
   one-more (suc n) x y (i ∷ path) rest r e k some is less =
       record { steps = n; enough = omega arith; same = sym (ap (onward (follow m n)) is) ∙ e }
-
-  pub no-more : (n : ℕ) (x : Spot) (path : List ℕ) (r : Option Spot) → follow m n x path ≡ r → length path ≤ n
-      → 0 < length path → step_by (target m x.place) path ≡ None → None ≡ r
-  no-more zero x path r e k some is = absurd (omega arith)
-  no-more (suc n) x [] r e k some is = absurd (omega arith)
-  no-more (suc n) x (i ∷ path) r e k some is = sym (ap (onward (follow m n)) is) ∙ e
-
-  pub all-done : (n : ℕ) (x : Spot) (path : List ℕ) (r : Option Spot) → follow m n x path ≡ r → length path ≡ 0
-      → Some x ≡ r
-  all-done n x [] r e z = sym (at-end n x) ∙ e
-  all-done n x (i ∷ path) r e z = absurd (omega arith)
 
   -- ---- if a path leads to a slot, `follow` gives that slot
 
@@ -158,7 +147,7 @@ module _ (m : List (List ℕ)) where
 
   module _ (at : Place) (s from pads : ℕ) (shape : Shape) (names : target m at ≡ Ok (targets.Content s from shape pads))
       (path : List ℕ) (x : Spot) (rest : List ℕ) (t : Taken s from shape pads path x rest) where
-    -- Case: the path has one step. The holder is that of this step.
+    -- Case: the path has one step. This step determines the holder.
     alone : rest ≡ [] → Holds m at path x.place t.holder
     alone e = record {
       base = 0;
@@ -178,7 +167,7 @@ module _ (m : List (List ℕ)) where
       held = t.held;
     }
 
-    -- Case: the path has more than one step. The holder is that of the later steps.
+    -- Case: the path has more than one step. The later steps determine the holder.
     before-others : (to : Place) (holder : Holder) → Holds m x.place rest to holder → Holds m at path to holder
     before-others to holder g =
         let between = 1 + length (visits_of m g.base g.depth t.before) + g.between in
@@ -315,15 +304,14 @@ module _ (m : List (List ℕ)) where
   no-root (i ∷ path) (suc n) e =
       ap (λ (found : Result Target Fault). holder_at (onward (follow m n) (step_by found (i ∷ path)))) e
 
-  -- at most one object holds the slot to which a path leads, and the path leads to one slot
+  -- at most one slot, and at most one holder of that slot, belong to `path` (`IsHolder`)
   pub one-holder : (path : List ℕ) (to at : Place) (holder other : Holder) → IsHolder m path to holder
       → IsHolder m path at other → (other ≡ holder) × (at ≡ to)
   one-holder path to at holder other h g =
       let k = length path in
       let same = some-one (spot holder to) (spot other at)
       (sym (holds-followed k start path to holder h (omega arith))
-      ∙ holds-followed k start path at other g (omega arith))
-      in
+      ∙ holds-followed k start path at other g (omega arith)) in
       let held = ap (λ (x : Spot). x.holder) same in
       (some-one other holder (sym held), ap (λ (x : Spot). x.place) (sym same))
 

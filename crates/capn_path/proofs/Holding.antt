@@ -124,7 +124,7 @@ among : (holder : Holder) (first : Place) (n i : ℕ) (rest : List ℕ) → i < 
     → step_among holder first n (i ∷ rest) ≡ Some (spot holder (place first.segment (first.word + i)), rest)
 among holder first n i rest h = if-yes _ _ _ (less-yes i n h)
 
--- `path` is a number below `n` and then `rest`, and `x` is the slot of `holder` with that number
+-- `path` is a number below `n` followed by `rest`, and `x` is the slot of `holder` with that number
 record Among (holder : Holder) (first : Place) (n : ℕ) (path : List ℕ) (x : Spot) (rest : List ℕ) : Type 0 where
   number : ℕ
   small : number < n
@@ -154,12 +154,11 @@ were-among holder first n (i ∷ path) x rest e =
       small = grind (arith, nat_tests);
       is = ap (λ (l : List ℕ). i ∷ l) p.1;
       held = sym p.0;
-    })
-    (λ t. λ f. absurd (cc)) e
+    }) (λ t. λ f. absurd (cc)) e
 
 -- ---- a step by the numbers of a slot
 
--- `numbers` are the numbers of `slot`, and a step by them leads to `slot` and its holder
+-- `numbers` is not empty, and a step by `numbers` leads to `slot`, which `holder` holds
 pub record Told (s start : ℕ) (shape : Shape) (pads : ℕ) (numbers : List ℕ) (slot : Place) : Type 0 where
   pub some : 0 < length numbers
   pub holder : Holder
@@ -298,10 +297,9 @@ taken s start pads (shapes.Rows n a b span) (row ∷ path) x rest e =
       holder = holder;
       held = refl;
       holds = ap (λ (y : Spot). y.holder) k.held;
-    })
-    (λ t. λ f. absurd (cc)) e
+    }) (λ t. λ f. absurd (cc)) e
 
--- ---- at most one object holds a slot
+-- ---- numbers lead to a slot of at most one holder
 
 pub held-one : (found : Target) (numbers : List ℕ) (x y : Holder) → IsHeldIn found numbers x
     → IsHeldIn found numbers y → x ≡ y

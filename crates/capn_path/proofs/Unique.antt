@@ -1,4 +1,4 @@
--- At most one path leads to the slot of a visit. (For `paths`.)
+-- A visit has at most one path. (For `paths`.)
 use Rattle.std.proofs.Common.{◌≡◌, ℕ, zero, suc, ◌+◌, ◌-◌, ◌*◌, ◌/◌, ◌<◌, List, [], ◌∷◌, ◌++◌, length, Ok}
 use Rattle.std.proofs.Common.{Result, refl, ap, ap₂, sym, ◌∙◌, arith, length-append}
 use Rattle.std.specs.List.{flat_map}
@@ -82,7 +82,7 @@ module _ (f : Place → List Visit) where
       let r = one-slot xs ys p q us vs i j t h k (omega arith) in
       record { front = ap₂ (λ (y : Place) (ys : List Place). y ∷ ys) z r.front; slot = r.slot; later = r.later }
 
--- ---- the path to a slot is unique
+-- ---- the path of a visit is unique
 
 module _ (m : List (List ℕ)) (b : ℕ) where
   here-shorter : (d : ℕ) (at : Place) (n : ℕ) → n ≡ 0 → n < length (visits m b d at)

@@ -1,5 +1,5 @@
--- The clauses of `canonical_into_form` allow one result and one content of the buffer. The number in `NoScratch` is at
--- most `most_scratch`. (For `decision` and `enough`.)
+-- The clauses of `canonical_into_form` allow only one result and one content of the buffer. The number in `NoScratch`
+-- is at most `most_scratch`. (For `decision` and `enough`.)
 use Rattle.std.proofs.Common.{◌≡◌, ◌⊎◌, inl, inr, ℕ, ◌+◌, ◌-◌, ◌*◌, ◌<◌, ◌≤◌, Bool, true, false, if◌then◌else◌}
 use Rattle.std.proofs.Common.{List, length}
 use Rattle.std.proofs.Common.{Result, Ok, Err, refl, ap, sym, subst, ◌∙◌, arith}
@@ -234,8 +234,7 @@ module _ (into : IntoIsDecided) (form : Form) (bs : List ℕ) (limits : Bounds) 
   one_written p q c d w x =
       let same = one_message form bs limits.message_words x.message w.message x.reads w.reads in
       let here = subst (λ (m : List (List ℕ)). WrittenInto m limits old q d) same x.written in
-      let r = into w.message limits old p q (Ok c) (Ok d)
-      (record { written = w.written; refused = tt; unchanged = tt })
+      let r = into w.message limits old p q (Ok c) (Ok d) (record { written = w.written; refused = tt; unchanged = tt })
       (record { written = here; refused = tt; unchanged = tt }) in
       let one : Ok c ≡ Ok d = r.0 in (cc, r.1)
 

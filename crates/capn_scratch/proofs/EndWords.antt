@@ -34,8 +34,7 @@ sizes_are bs count = ap (λ (xs : List ℕ). entries count xs) (take_rest bs 4)
 pub ends_are : (bs : List ℕ) (count : ℕ) (written : List ℕ) → count ≡ entry_number bs
     → written ≡ ends_from 0 (entries count (slice_range bs 4 (length bs))) → written ≡ announced_ends bs
 ends_are bs count written is h =
-    h ∙ ap (λ (ns : List ℕ). ends_from 0 ns)
-    (sizes_are bs count ∙ ap (λ (n : ℕ). entries n (drop 4 bs)) is)
+    h ∙ ap (λ (ns : List ℕ). ends_from 0 ns) (sizes_are bs count ∙ ap (λ (n : ℕ). entries n (drop 4 bs)) is)
 
 -- ---- the segments of a message that is cut at ends
 

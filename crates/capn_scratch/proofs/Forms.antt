@@ -1,15 +1,12 @@
 -- A result for a message is also a result for the bytes that are read as that message. (For `canonical_form.rt` and
 -- `framed.rt`.)
-use Rattle.std.proofs.Common.{◌≡◌, ℕ, ◌+◌, ◌-◌, ◌*◌, ◌<◌, ◌≤◌, inl}
-use Rattle.std.proofs.Common.{inr, List, length, take, refl, ap, sym}
-use Rattle.std.proofs.Common.{subst, ◌∙◌, arith, Result, Ok, Err, IsErrAnd, None, Some}
-use Rattle.std.proofs.Math.Seq.{take-length}
-use Rattle.std.proofs.lemmas.Bool.{le-ltb, lt-ltb}
+use Rattle.std.proofs.Common.{◌≡◌, ℕ, ◌+◌, ◌-◌, ◌*◌, ◌≤◌, inl, inr, List, length, take, refl, ap, sym, subst, ◌∙◌}
+use Rattle.std.proofs.Common.{arith, Result, Ok, Err, IsErrAnd, None, Some}
 use Rattle.std.proofs.lemmas.List.{length-take, take_all}
 use Rattle.capn_pack.specs.Packed.{Packs}
 use Rattle.capn_pack.proofs.shared.GroupLaws.{one_reading}
-use Rattle.capn_stream.specs.Frames.{Frames, StandsFirst, most_table_words}
-use Rattle.capn_stream.specs.FrameRefusal.{announced_segments, entry_number}
+use Rattle.capn_stream.specs.Frames.{most_table_words}
+use Rattle.capn_stream.specs.FrameRefusal.{announced_segments}
 use Rattle.capn_value.specs.Tree.{Tree}
 use Rattle.capn_value.specs.FirstCap.{first_cap}
 use Rattle.capn_walk.specs.Accepted.{IsValueOf, root}
@@ -24,7 +21,6 @@ use Rattle.capn_canon.specs.declared.message_refusal.IntoRefusal.TheVariants as 
 use Rattle.capn_canon.specs.declared.refusal.Refusal.TheVariants as refusals
 use Rattle.capn_canon.specs.Denotes.{Denotes}
 use Rattle.capn_canon.specs.MessageRefusal.{IsIntoPaidWithin}
-use Rattle.capn_canon.specs.Reads.{IsFramed, Reads}
 use Rattle.capn_canon.specs.Theorem.{RefusedInto}
 use Rattle.capn_canon.proofs.shared.NotRefused.{accepted-not_refused, read-not_misread}
 use Rattle.capn_canon.proofs.shared.OneReading.{one_message}
@@ -64,99 +60,7 @@ told_refused m limits old new (Err e) x is h same b = record {
   bounded = within_as limits.budget x e is b;
 }
 
--- ---- bytes that are read as a message
-
-read_refused : (form : Form) (bs : List ℕ) (limits : Bounds) (scratch room : ℕ) (m : List (List ℕ)) (e : FormRefusal)
-    → Reads form bs limits.message_words m → HasScratch form bs scratch → IsMessageRefused m limits room e
-    → IsFormRefused form bs limits scratch room e
-read_refused form bs limits scratch room m (told.Walk s) is has h = (m, is, has, h)
-read_refused form bs limits scratch room m (told.Capability k) is has h = (m, is, has, h)
-read_refused form bs limits scratch room m (told.NoRoom n p) is has h = (m, is, has, h)
-read_refused form bs limits scratch room m (told.Bare e) is has h = absurd h
-read_refused form bs limits scratch room m (told.Packed e) is has h = absurd h
-read_refused form bs limits scratch room m (told.Frame e) is has h = absurd h
-read_refused form bs limits scratch room m (told.Trailing at) is has h = absurd h
-read_refused form bs limits scratch room m (told.NoScratch n) is has h = absurd h
-
-pub read_told : (form : Form) (bs : List ℕ) (limits : Bounds) (scratch : ℕ) (m : List (List ℕ)) (old new : List ℕ)
-    (r : Result CanonicalLength FormRefusal) → Reads form bs limits.message_words m → HasScratch form bs scratch
-    → IsTold m limits old new r → IsFormTold form bs limits scratch old new r
-read_told form bs limits scratch m old new (Ok c) is has h = record {
-  written = record { message = m; reads = is; has = has; written = h.written };
-  refused = tt;
-  unchanged = tt;
-  bounded = h.bounded;
-}
-read_told form bs limits scratch m old new (Err e) is has h = record {
-  written = tt;
-  refused = read_refused form bs limits scratch (length old) m e is has h.refused;
-  unchanged = h.unchanged;
-  bounded = h.bounded;
-}
-
 -- ---- frames
-
--- If `bs` begin with a frame, and no byte follows the frame, `bs` are exactly that frame.
-pub frame_reads : (bs : List ℕ) (most : ℕ) (m : List (List ℕ)) (taken : ℕ) → StandsFirst bs most m taken
-    → length bs ≤ taken → IsFramed bs most m
-frame_reads bs most m taken h l =
-    let e : taken ≡ length bs = omega (arith, h.inside, l) in
-    let all : take taken bs ≡ bs = ap (λ (n : ℕ). take n bs) e ∙ take-length bs in
-    record { frame = subst (λ (xs : List ℕ). Frames xs m) all h.frame; room = h.room }
-
--- A frame of at most 64 segments needs no words of scratch.
-pub few_need : (count : ℕ) → count < 64 → table_need (count + 1) ≡ 0
-few_need count few = rw (le-ltb 64 (count + 1) (omega (arith, few))) refl
-
--- A frame of more than 64 segments needs a word of scratch for each segment but the last.
-pub many_need : (count : ℕ) → 64 ≤ count → table_need (count + 1) ≡ count
-many_need count many =
-    let less : count + 1 - 1 ≡ count = omega arith in
-    rw (lt-ltb 64 (count + 1) (omega (arith, many))) less
-
-pub has_few : (bs : List ℕ) (count scratch : ℕ) → count ≡ entry_number bs → count < 64
-    → HasScratch forms.Stream bs scratch
-has_few bs count scratch is few =
-    (0, sym (ap (λ (n : ℕ). table_need (n + 1)) (sym is) ∙ few_need count few), omega arith)
-
-pub has_many : (bs : List ℕ) (count scratch : ℕ) → count ≡ entry_number bs → 64 ≤ count → count ≤ scratch
-    → HasScratch forms.Stream bs scratch
-has_many bs count scratch is many fits =
-    (count, sym (ap (λ (n : ℕ). table_need (n + 1)) (sym is) ∙ many_need count many), fits)
-
-pub lacks_table : (bs : List ℕ) (most count scratch : ℕ) (m : List (List ℕ)) → IsFramed bs most m
-    → count ≡ entry_number bs → 64 ≤ count → scratch < count → LacksTable forms.Stream bs most scratch count
-lacks_table bs most count scratch m read is many short =
-    (m, read, tt, sym (ap (λ (n : ℕ). table_need (n + 1)) (sym is) ∙ many_need count many), short)
-
-after_refused : (before : ℕ) (bs : List ℕ) (limits : Bounds) (scratch room : ℕ) (m : List (List ℕ)) (e : FormRefusal)
-    → IsFramed bs limits.message_words m → HasScratch forms.Stream bs scratch → IsMessageRefused m limits room e
-    → IsFrameRefusedAfter before bs limits scratch room e
-after_refused before bs limits scratch room m (told.Walk s) is has h = (m, is, has, h)
-after_refused before bs limits scratch room m (told.Capability k) is has h = (m, is, has, h)
-after_refused before bs limits scratch room m (told.NoRoom n p) is has h = (m, is, has, h)
-after_refused before bs limits scratch room m (told.Bare e) is has h = absurd h
-after_refused before bs limits scratch room m (told.Packed e) is has h = absurd h
-after_refused before bs limits scratch room m (told.Frame e) is has h = absurd h
-after_refused before bs limits scratch room m (told.Trailing at) is has h = absurd h
-after_refused before bs limits scratch room m (told.NoScratch n) is has h = absurd h
-
--- If `bs` are the frame of `m` and need at most `scratch` words of scratch, a result for `m` is also a result for `bs`.
-pub frame_told : (before : ℕ) (bs : List ℕ) (limits : Bounds) (scratch : ℕ) (m : List (List ℕ)) (old new : List ℕ)
-    (r : Result CanonicalLength FormRefusal) → IsFramed bs limits.message_words m → HasScratch forms.Stream bs scratch
-    → IsTold m limits old new r → IsFrameTold before bs limits scratch old new r
-frame_told before bs limits scratch m old new (Ok c) is has h = record {
-  written = record { message = m; reads = is; has = has; written = h.written };
-  refused = tt;
-  unchanged = tt;
-  bounded = h.bounded;
-}
-frame_told before bs limits scratch m old new (Err e) is has h = record {
-  written = tt;
-  refused = after_refused before bs limits scratch (length old) m e is has h.refused;
-  unchanged = h.unchanged;
-  bounded = h.bounded;
-}
 
 stream_refused : (bs : List ℕ) (limits : Bounds) (scratch room : ℕ) (e : FormRefusal)
     → IsFrameRefusedAfter 0 bs limits scratch room e → IsFormRefused forms.Stream bs limits scratch room e

@@ -68,7 +68,7 @@ named_there rest old inside above below =
       },
     )
 
--- If the bytes `rest` are not empty, and are at least `len_at rest` bytes, they begin with a group.
+-- If `rest` has at least one byte and at least `len_at rest` bytes, `rest` begins with a complete group.
 pub group_there : (rest old : List ℕ) (taken count : ℕ) → ((i : ℕ) → get_or rest i 0 < 256) → taken ≡ len_at rest
     → count ≡ words_at rest → 0 < length rest → taken ≤ length rest → Has rest taken count old
 group_there rest old taken count below size many some inside =
@@ -79,8 +79,7 @@ group_there rest old taken count below size many some inside =
           size ∙ rw (eq-eqb tag 0 zero, ne_eqb tag 255 (λ e. absurd (omega (arith, e, zero)))) refl in
           let number : count ≡ 1 + get_or rest 1 0 = many ∙ rw (eq-eqb tag 0 zero) refl in
           let h = zeros_there rest old (omega (arith, bytes, inside)) zero (below 1) in
-          subst (λ (n : ℕ). Has rest n count old) (sym bytes)
-          (subst (λ (n : ℕ). Has rest 2 n old) (sym number) h))
+          subst (λ (n : ℕ). Has rest n count old) (sym bytes) (subst (λ (n : ℕ). Has rest 2 n old) (sym number) h))
       | inr other ↦
           elim (cases_eq tag 255) [
             | inl raw ↦

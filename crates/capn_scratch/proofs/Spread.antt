@@ -60,7 +60,7 @@ length_named (suc n) tag (x ∷ xs) long less =
       | inr odd ↦ omega (arith, odd, ap length (named_one tag x xs odd), ones_half tag, rest)
     ]
 
--- If the bytes that `tag` names in `word` are the first of `bytes`, there are `count_ones tag` of them.
+-- If the bytes that `tag` names in `word` are the first `next` of `bytes`, they are the first `count_ones tag` bytes.
 pub spread_all : (tag next : ℕ) (word bytes : List ℕ) → length word ≡ 8 → tag < 2 ^ 8 → next ≤ length bytes
     → named_bytes tag word ≡ take next bytes → named_bytes tag word ≡ take (count_ones tag) bytes
 spread_all tag next word bytes long small inside e =

@@ -43,5 +43,4 @@ module _ {S : Type 0} (serves : S → Position → List ℕ → List (List ℕ) 
       → AddsMessage (fold_until serves refuses done most) x frame message a b failed (stopped told) y
   added_stop fault told is served =
       subst (λ (g : RunFault). AddsMessage (fold_until serves refuses done most) x frame message a b failed (stopped g)
-      y)
-      (sym is) (stops fault served)
+      y) (sym is) (stops fault served)

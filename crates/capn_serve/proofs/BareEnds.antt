@@ -1,7 +1,7 @@
 -- Lemmas for `read_bare` and `run_bare`: the end of a run over a bare input, derived from what was read.
-use Rattle.std.proofs.Common.{◌≡◌, ◌⊎◌, ◌↔◌, inl, inr, ℕ, ◌<◌, ◌≤◌, List, [], ◌∷◌, ◌++◌, length, take, Bool, true}
-use Rattle.std.proofs.Common.{false, Option, None, Some, IfSome, Result, Ok, Err, Vec, OnOk, IsErrOf, IsOkUnless, refl}
-use Rattle.std.proofs.Common.{ap, sym, subst, ◌∙◌, append-nil, arith, length-append}
+use Rattle.std.proofs.Common.{◌≡◌, ◌⊎◌, ◌↔◌, inl, inr, ℕ, ◌≤◌, List, [], ◌∷◌, ◌++◌, length, take, Bool, true, false}
+use Rattle.std.proofs.Common.{Option, None, Some, IfSome, Result, Ok, Err, Vec, OnOk, IsErrOf, IsOkUnless, refl, ap}
+use Rattle.std.proofs.Common.{sym, subst, ◌∙◌, append-nil, arith}
 use Rattle.std.specs.Io.KnownBytes.{Appends}
 use Rattle.std.proofs.KnownBytes.{Appends-nil, Consumes-nil}
 use Rattle.std.proofs.Math.Seq.{take-nil, take_all}
@@ -15,10 +15,9 @@ use Rattle.capn_serve.specs.declared.fault.RunFault.{RunFault}
 use Rattle.capn_serve.specs.declared.fault.RunFault.TheVariants as faults
 use Rattle.capn_serve.specs.Fold.{Fold, IfGoing, Leaves}
 use Rattle.capn_serve.specs.Outgoing.{Adds, AddsBeginning, Breaks, outgoing, sent}
-use Rattle.capn_serve.specs.WholeInput.{HasGiven, HasGivenAll, IsBeginning, IsUntaken, TakesAll, most_input}
-use Rattle.capn_serve.specs.BareRun.{Begins, EndsAs, EndsBare, HasWritten, WritesBare, WritesBy}
-use Rattle.capn_serve.specs.BareRun.{IsShortBare, IsUnbare, RefusesBare, RunsBare}
-use Rattle.capn_serve.specs.BareRun.{ServesBare}
+use Rattle.capn_serve.specs.WholeInput.{HasGivenAll, IsBeginning, IsUntaken, TakesAll, most_input}
+use Rattle.capn_serve.specs.BareRun.{Begins, EndsAs, EndsBare, HasWritten, WritesBare, WritesBy, IsShortBare, IsUnbare}
+use Rattle.capn_serve.specs.BareRun.{RefusesBare, RunsBare, ServesBare}
 use Rattle.capn_serve.proofs.Sends.{adds_all, adds_begun, adds_sent, begun_less, breaks_rest}
 use Rattle.capn_serve.proofs.shared.Until.{if_going, not_both}
 
@@ -74,13 +73,6 @@ is_given (Some all) None failed bytes h = absurd h.given.read
 is_given (Some all) (Some rest) failed bytes h =
     sym (h.given.read ∙ ap (λ (r : List ℕ). bytes ++ r) h.ended ∙ append-nil bytes)
 
-is_longer : (a b : Option (List ℕ)) (failed : Bool) (bytes : List ℕ) → HasGiven a b failed bytes
-    → most_input < length bytes → IfSome a (λ all. most_input < length all)
-is_longer None b failed bytes h long = tt
-is_longer (Some all) None failed bytes h long = absurd h.read
-is_longer (Some all) (Some rest) failed bytes h long =
-    omega (arith, long, ap (λ (l : List ℕ). length l) h.read, length-append bytes rest)
-
 -- ---- how the run ends
 
 module _ {X : Type 0} (f : Fold X) (x y : X) (going : f.done x ≡ false) (a b c : Option (List ℕ)) where
@@ -105,23 +97,12 @@ module _ {X : Type 0} (f : Fold X) (x y : X) (going : f.done x ≡ false) (a b c
         ends_bare bytes fault (inr (all.within, why)),
         wrote,
         leaves,
-      ))))
-      (is_given a b failed bytes all)
+      )))) (is_given a b failed bytes all)
 
   ends_unread : (d : Option (List ℕ)) (fault : RunFault) → (fault ≡ faults.Memory) ⊎ (fault ≡ faults.Io)
       → IfSome a (EndsAs f x c d (Err fault) y)
   ends_unread d fault (inl memory) = some_all a (EndsAs f x c d (Err fault) y) (λ input. inl memory)
   ends_unread d fault (inr io) = some_all a (EndsAs f x c d (Err fault) y) (λ input. inr (inl io))
-
-  begins_none : (bytes : List ℕ) (failed : Bool) → HasGiven a b failed bytes → Begins f x a b c c
-  begins_none bytes failed h =
-      record {
-        bytes = bytes;
-        read = h.read;
-        bounded = h.bounded;
-        needed = none_needed bytes;
-        written = inl (Appends-nil c);
-      }
 
   heard_none : (d : Option (List ℕ)) → Appends c d [] → IfGoing (f.done x) (Appends c d [])
   heard_none d wrote = if_going (f.done x) (Appends c d []) going wrote
@@ -142,47 +123,6 @@ module _ {X : Type 0} (f : Fold X) (x y : X) (going : f.done x ≡ false) (a b c
       let bad : faults.Refused (f.place x) (refusals.Bare e) ≡ faults.Io = sym is ∙ io in cc
   known bytes fault (inr (words, r, bare, refuses, is)) io =
       let bad : faults.Refused (f.place x) r ≡ faults.Io = sym is ∙ io in cc
-
-  -- Case: the input was not read to its end, or is not one segment.
-  pub runs_unread : (r w : Bool) (fault : RunFault) → w ≡ false → Unread (f.place x) a b r fault → x ≡ y
-      → RunsBare f x a b c c r w (Err fault) y
-  runs_unread r w fault good (inl (bytes, inl (h, inl (memory, some)))) same = record {
-    exact = ends_unread c fault (inl memory);
-    io = io_none r w fault h.fine good (λ e. let bad : faults.Memory ≡ faults.Io = sym memory ∙ e in cc);
-    begun = begins_none bytes r h;
-    heard = λ e. heard_none c (Appends-nil c);
-    memory = λ e. inl (bytes, h.read, some);
-  }
-  runs_unread r w fault good (inl (bytes, inl (h, inr (is, long)))) same = record {
-    exact = some_so a (λ input. most_input < length input) (EndsAs f x c c (Err fault) y)
-        (λ input more. inr (inr (ends_bare input fault (inl (more, is)), Appends-nil c, inl same)))
-        (is_longer a b r bytes h long);
-    io = io_none r w fault h.fine good (λ e. let bad : faults.InputTooLong ≡ faults.Io = sym is ∙ e in cc);
-    begun = begins_none bytes r h;
-    heard = λ e. heard_none c (Appends-nil c);
-    memory = λ e. absurd (let bad : stopped faults.InputTooLong ≡ stopped faults.Memory = sym (ap stopped is)
-        ∙ e in cc);
-  }
-  runs_unread r w fault good (inl (bytes, inr (read, bounded, broken, is))) same = record {
-    exact = ends_unread c fault (inr is);
-    io = (λ h. inl broken, λ h. ap stopped is);
-    begun = record {
-      bytes = bytes;
-      read = read;
-      bounded = bounded;
-      needed = none_needed bytes;
-      written = inl (Appends-nil c);
-    };
-    heard = λ e. heard_none c (Appends-nil c);
-    memory = λ e. absurd (let bad : stopped faults.Io ≡ stopped faults.Memory = sym (ap stopped is) ∙ e in cc);
-  }
-  runs_unread r w fault good (inr (bytes, all, why)) same = record {
-    exact = ends_none c r bytes fault all (inl why) (Appends-nil c) (inl same);
-    io = io_none r w fault all.given.fine good (known bytes fault (inl why));
-    begun = begins_none bytes r all.given;
-    heard = λ e. heard_none c (Appends-nil c);
-    memory = λ e. inr all.ended;
-  }
 
   module _ {A : Type 0} (r w : Bool) (bytes : List ℕ) (input : Vec ℕ A)
       (takes : TakesAll {T = Vec ℕ A} (IsShortBare (f.place x)) a b r (Ok input)) (same : bytes ≡ input.items) where

@@ -46,7 +46,7 @@ module _ {X : Type 0} (f : Fold X) (x : X) where
       subst (λ (g : RunFault). Holds f x s g came y) (sym is) (holds_io s came y)
   holds_message s came y fault (inr (inr own)) = inl own
 
-  -- Case: a message was not served. So `fault` refuses no frame.
+  -- If `fault` is the reason why a message was not served, `IsOfMessage` holds for `fault`.
   pub adds_fault : (frame : List ℕ) (message : List (List ℕ)) (a b : Outgoing) (failed : Bool) (fault : RunFault)
       (y : X) → AddsMessage f x frame message a b failed (Err fault) y → IsOfMessage f fault
   adds_fault frame message a b failed faults.Memory y adds = inl refl
@@ -216,7 +216,7 @@ packed_holds_longer f x z p s bytes more came fault whole (inr (within, held)) =
       (stream, begins_longer p.group.rest s bytes more stream whole begins, table)),
 )
 
--- Case: the first `at` of the packed `bytes` were served, and the run stopped within the slice up to `end`.
+-- Case: the first `at` of the packed `bytes` were served, and the run stopped within the slice from `at` to `end`.
 pub packed_holds_slice : {X : Type 0} (f : Fold X) (x y z : X) (p q : Pending) (bytes came : List ℕ) (at end : ℕ)
     (a b : Outgoing) (fault : RunFault) → at ≤ end → TellsPacked f x p (take at bytes) q a b y
     → HoldsPacked f y q (take (end - at) (drop at bytes)) fault came z → HoldsPacked f x p bytes fault came z

@@ -166,16 +166,14 @@ module _ {I X : Type 0} (takes : Taking I X) (gives : Giving I X) (done : X → 
     pub run_long : (u : Unit {0}) → done z ≡ false → w < k → Fed (Ok u)
         → Reads takes gives done limit last z a b2 c e rf wf (Err faults.InputTooLong)
     run_long u on past fed =
-        run_over (Ok u) (Err faults.InputTooLong) fed
-        (λ i. absurd (cc), λ i. absurd (let bad = fed.broken.1 i in cc))
+        run_over (Ok u) (Err faults.InputTooLong) fed (λ i. absurd (cc), λ i. absurd (let bad = fed.broken.1 i in cc))
         (λ more. (let whole : taken_of limit (all ++ more) ≡ h.bytes ++ take w (buf ++ tail) =
         take-append-le limit all more (omega (arith, size, past, least, short))
         ∙ front
         ∙ ap (λ (p : List ℕ). h.bytes ++ p) (sym piece) in
         let longer : has_more limit (all ++ more) ≡ true =
         is_below limit (length (all ++ more)) (omega (arith, size, past, least, short, length-append all more)) in
-        subst (λ (p : List ℕ). gives last z p (has_more limit (all ++ more)) c e (Err faults.InputTooLong))
-        (sym whole)
+        subst (λ (p : List ℕ). gives last z p (has_more limit (all ++ more)) c e (Err faults.InputTooLong)) (sym whole)
         (subst (λ (m : Bool). gives last z (h.bytes ++ take w (buf ++ tail)) m c e (Err faults.InputTooLong))
         (sym longer) (fed.fed.0 on).1)))
 
@@ -203,8 +201,7 @@ any_known None P h = tt
 any_known (Some input) P h = h input
 
 module _ {I X : Type 0} (takes : Taking I X) (gives : Giving I X) (done : X → Bool) (limit : ℕ) (s : I) (y : X)
-    (a b c d : Option (List ℕ)) (rf wf : Bool) (r : Ending)
-    (h : Reads takes gives done limit s y a b c d rf wf r) where
+    (a b c d : Option (List ℕ)) (rf wf : Bool) (r : Ending) (h : Reads takes gives done limit s y a b c d rf wf r) where
   pub exact_of : (P : List ℕ → Bool → Type 0) → (r ≡ Err faults.Io → (bytes : List ℕ) (longer : Bool) → P bytes longer)
       → ((bytes : List ℕ) (longer : Bool) → gives s y bytes longer c d r → P bytes longer)
       → IfSome a (λ input. P (taken_of limit input) (has_more limit input))

@@ -1,4 +1,4 @@
--- Lemmas for the calls of `stream.rt`: bytes up to the end of a message, and complete messages within the bytes.
+-- Lemmas for the functions of `stream.rt`, which serve one message or all complete messages at the start of some bytes.
 use Rattle.std.proofs.Common.{◌≡◌, ◌≢◌, ◌⊎◌, inl, inr, ℕ, zero, suc, ◌+◌, ◌-◌, ◌<◌, ◌≤◌, List, [], ◌∷◌, ◌++◌, length}
 use Rattle.std.proofs.Common.{take, drop, Bool, true, false, Option, None, Some, Result, Ok, Err, refl, ap, sym, subst}
 use Rattle.std.proofs.Common.{◌∙◌, append-nil, append_assoc, arith, length-append}
@@ -21,8 +21,7 @@ use Rattle.capn_serve.specs.declared.fault.RunFault.TheVariants as faults
 use Rattle.capn_serve.specs.Fold.{Fold, Part, AreParts, AreServed, after, fold_until, frames_of, texts_of}
 use Rattle.capn_serve.specs.Outgoing.{Outgoing, Adds, SendsRest, outgoing, sent}
 use Rattle.capn_serve.specs.ChunkRun.{AddsMessage, HasRoom, IsDueSo, IsListening, Passes, Serves, ServesHeld}
-use Rattle.capn_serve.specs.ChunkRun.{ServesNext}
-use Rattle.capn_serve.specs.ChunkRun.{ServesWhole, Stops, Tells, TellsBegun, fault_at}
+use Rattle.capn_serve.specs.ChunkRun.{ServesNext, ServesWhole, Stops, Tells, TellsBegun, fault_at}
 use Rattle.capn_serve.proofs.Sends.{adds_all, breaks_less, breaks_rest}
 use Rattle.capn_serve.proofs.More.{tells_begun, tells_more, tells_none, tells_one, stops_framed, stops_memory}
 use Rattle.capn_serve.proofs.More.{stops_message, stops_more}
@@ -45,8 +44,7 @@ module _ {S : Type 0} (serves : S → Position → List ℕ → List (List ℕ) 
   room_after : (x y : Run S) (ps : List Part) (k : ℕ) → AreServed f x ps y
       → HasRoom x.at (length (frames_of ps) + k) → HasRoom y.at k
   room_after x y [] k is room =
-      subst (λ (r : Run S). HasRoom r.at k) is
-      (record { offset = omega (arith, room.offset); index = room.index })
+      subst (λ (r : Run S). HasRoom r.at k) is (record { offset = omega (arith, room.offset); index = room.index })
   room_after x y (p ∷ ps) k (mid, part, step, rest) room =
       let size = length-append p.frame (frames_of ps) in
       let some = frame_some p.frame p.message most part.frame part.room in
@@ -248,9 +246,6 @@ module _ {X : Type 0} (f : Fold X) (x y : X) (bytes : List ℕ) (at : ℕ) (a b 
   front_room : total message ≤ f.most
   front_room = omega (arith, first.room, same)
 
-  pub whole_some : 4 ≤ length front
-  whole_some = frame_some front message f.most first.frame front_room
-
   pub whole_more : (z : X) (c : Outgoing) (text : List ℕ) → f.step y front message text z → Adds b c text
       → Tells f x (take (at + taken) bytes) [] a c z
   whole_more z c text step adds =
@@ -401,25 +396,20 @@ module _ {X : Type 0} (f : Fold X) (x : X) where
   serves_sent y before after bytes c d e text true failed (Ok u) result s r =
       absurd (let bad : true ≡ false = s.3 in cc)
   serves_sent y before after bytes c d e text true failed (Err fault) result s (same, broken, is) =
-      subst (λ (r : Result (Unit {0}) RunFault). Serves f x before bytes (sent c) (sent e) failed r after y)
-      (sym is)
+      subst (λ (r : Result (Unit {0}) RunFault). Serves f x before bytes (sent c) (sent e) failed r after y) (sym is)
       (subst (λ (b : Bool). Stops f x (before.rest ++ bytes) (sent c) (sent e) b fault y) (sym broken)
       (stops_kept f x c d e text (before.rest ++ bytes) fault same s))
   serves_sent y before after bytes c d e text false false (Ok u) result s (wrote, is) =
-      subst (λ (r : Result (Unit {0}) RunFault). Serves f x before bytes (sent c) (sent e) false r after y)
-      (sym is)
+      subst (λ (r : Result (Unit {0}) RunFault). Serves f x before bytes (sent c) (sent e) false r after y) (sym is)
       (s.0, tells_sent f x c d e text y (before.rest ++ bytes) s.0 s.1 wrote, s.2, refl)
   serves_sent y before after bytes c d e text false false (Err fault) result s (wrote, is) =
-      subst (λ (r : Result (Unit {0}) RunFault). Serves f x before bytes (sent c) (sent e) false r after y)
-      (sym is)
+      subst (λ (r : Result (Unit {0}) RunFault). Serves f x before bytes (sent c) (sent e) false r after y) (sym is)
       (stops_sent f x c d e text (before.rest ++ bytes) fault s wrote)
   serves_sent y before after bytes c d e text false true (Ok u) result s (wrote, is) =
-      subst (λ (r : Result (Unit {0}) RunFault). Serves f x before bytes (sent c) (sent e) true r after y)
-      (sym is)
+      subst (λ (r : Result (Unit {0}) RunFault). Serves f x before bytes (sent c) (sent e) true r after y) (sym is)
       (tells_broken f x c d e text y (before.rest ++ bytes) s.0 s.1 wrote)
   serves_sent y before after bytes c d e text false true (Err fault) result s (wrote, is) =
-      subst (λ (r : Result (Unit {0}) RunFault). Serves f x before bytes (sent c) (sent e) true r after y)
-      (sym is)
+      subst (λ (r : Result (Unit {0}) RunFault). Serves f x before bytes (sent c) (sent e) true r after y) (sym is)
       (stops_broken f x c d e text (before.rest ++ bytes) fault s wrote)
 
   pub serves_chunk : (y : X) (before after : Framing) (bytes : List ℕ) (c d e : Option (List ℕ))

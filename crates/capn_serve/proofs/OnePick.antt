@@ -1,7 +1,6 @@
 -- Lemmas for the law `picking`: a stream determines what is picked from it.
-use Rattle.std.proofs.Common.{◌≡◌, inl, inr, ℕ, ◌<◌, ◌≤◌}
-use Rattle.std.proofs.Common.{List, [], ◌∷◌, ◌++◌, Bool, Option}
-use Rattle.std.proofs.Common.{refl, ap, sym, subst, ◌∙◌, append_assoc, arith}
+use Rattle.std.proofs.Common.{◌≡◌, inl, inr, ℕ, ◌<◌, ◌≤◌, List, [], ◌∷◌, ◌++◌, Bool, Option, refl, ap, sym, subst, ◌∙◌}
+use Rattle.std.proofs.Common.{append_assoc, arith}
 use Rattle.capn_serve.specs.declared.fault.RunFault.{RunFault}
 use Rattle.capn_serve.specs.declared.pick.Range.{Range}
 use Rattle.capn_serve.specs.declared.position.Position.{Position}
@@ -34,10 +33,6 @@ module _ (most : ℕ) where
       omega (arith, next, ap (λ (at : Position). at.index) step.1)
 
   module _ (ranges : List Range) where
-    stays : (x y : Picking) (ps : List Part) → AreServed f x ps y → x.service ≡ ranges → y.service ≡ ranges
-    stays x y [] is same = subst (λ (r : Picking). r.service ≡ ranges) is same
-    stays x y (q ∷ ps) (mid, part, step, more) same = stays mid y ps more (step.0.1 ∙ same)
-
     -- Messages after the last number of the ranges write nothing.
     beyond : (x y : Picking) (ps : List Part) → AreServed f x ps y → x.service ≡ ranges → last_of ranges ≤ x.at.index
         → texts_of ps ≡ []

@@ -1,5 +1,5 @@
--- Lemmas for `packed_into` and the intake of a packed stream: the served messages, the end of a run, and the bytes that
--- the intake then holds.
+-- Lemmas for `packed_into` and the `Intake` of a packed stream: the served messages, the end of a run, and the bytes
+-- that the framer and the unpacker then hold.
 use Rattle.std.proofs.Common.{◌≡◌, ◌≢◌, inl, inr, ℕ, ◌-◌, ◌^◌, ◌<◌, ◌≤◌, List, [], ◌∷◌, ◌++◌, length}
 use Rattle.std.proofs.Common.{take, Bool, true, false, Option, IfErr, IfSome}
 use Rattle.std.proofs.Common.{Result, Ok, Err, refl, ap, sym, subst, ◌∙◌}

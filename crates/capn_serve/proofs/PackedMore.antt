@@ -44,7 +44,7 @@ Ending = Result (Unit {0}) RunFault
 abbrev stopped : RunFault → Ending
 stopped fault = Err fault
 
--- ---- a stop that does not depend on the reason why no more bytes follow
+-- ---- a run whose end does not depend on the fault that comes after its bytes
 
 other_than : (fault : RunFault) → (other : RunFault) × (fault ≡ other → ⊥)
 other_than faults.Memory = (faults.Io, λ e. cc)
@@ -449,7 +449,7 @@ module _ {X : Type 0} (f : Fold X) (x : X) (held next : Held) (before : Framing)
   served_slice y after room a b failed (Err fault) last same halt =
       (new, begins_all (held.rest ++ bytes) next.rest new fed.len split, halt)
 
--- Cases of `serve_slices`: the first `at` bytes were served, and then the slice up to `end`.
+-- Cases of `serve_slices`: the first `at` bytes were served, and the slice from `at` to `end` comes next.
 module _ {X : Type 0} (f : Fold X) (x y : X) (p q : Pending) (bytes : List ℕ) (at end : ℕ) (forward : at ≤ end)
     (a b : Outgoing) (told : TellsPacked f x p (take at bytes) q a b y) where
   joined : take at bytes ++ take (end - at) (drop at bytes) ≡ take end bytes
@@ -572,8 +572,7 @@ module _ {X : Type 0} (f : Fold X) (x y : X) (p : Pending) (next : Held) (after 
   packed_chunk start kept broken failed served result none is s r =
       packed_sent broken failed served result
       (subst (λ (l : List ℕ). ServesPacked f x p bytes (outgoing c l) (outgoing d text) broken served next after
-      room y) none s)
-      (subst (λ (l : List ℕ). SendsRest served l d e broken failed result) is r)
+      room y) none s) (subst (λ (l : List ℕ). SendsRest served l d e broken failed result) is r)
 
 pub packed_room : {S : Type 0} (serves : S → Position → List ℕ → List (List ℕ) → List ℕ → S → Type 0)
     (refuses : S → Position → List ℕ → List (List ℕ) → Refusal → Type 0) (done : S → Position → Bool) (most : ℕ)

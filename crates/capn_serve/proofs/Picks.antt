@@ -53,8 +53,7 @@ module _ (most : ℕ) (ranges : List Range) (p : Picker) (same : p.rest.now ≡ 
     goes_on : (w y : Run Picker) (q : Part) → IsOn w → until.step w q.frame q.message q.text y → IsOn y
     goes_on w y q on (served, at) =
         subst (λ (a : Position). Follows ranges a.index y.service.rest.now) (sym at)
-        (subst (Follows ranges (w.at.index + 1)) (sym served.1)
-        (follows_next ranges w.service.rest.now w.at.index on))
+        (subst (Follows ranges (w.at.index + 1)) (sym served.1) (follows_next ranges w.service.rest.now w.at.index on))
 
     on : (w y : Run Picker) (ps : List Part) → AreServed until w ps y → IsOn w → IsOn y
     on w y [] is h = subst IsOn is h

@@ -17,9 +17,6 @@ le_is a b h = grind (arith, nat_tests)
 gt_is : (a b : ℕ) → b < a → nat_le a b ≡ false
 gt_is a b h = grind (arith, nat_tests)
 
-lt_is : (a b : ℕ) → a < b → nat_lt a b ≡ true
-lt_is a b h = grind (arith, nat_tests)
-
 ge_is : (a b : ℕ) → b ≤ a → nat_lt a b ≡ false
 ge_is a b h = grind (arith, nat_tests)
 

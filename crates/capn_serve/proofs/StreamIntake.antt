@@ -1,5 +1,5 @@
--- Lemmas for `stream_into` and the intake of a stream: the served messages, the end of a run, and the bytes that the
--- intake then holds.
+-- Lemmas for `stream_into` and the `Intake` of a stream: the served messages, the end of a run, and the bytes that the
+-- framer then holds.
 use Rattle.std.proofs.Common.{◌≡◌, ◌≢◌, inl, inr, ℕ, ◌+◌, ◌<◌, ◌^◌, List, [], ◌++◌, length, take, Bool}
 use Rattle.std.proofs.Common.{true, false, Option, None, Some, IfErr, IfSome, Result, Ok, Err, refl, ap, sym, subst}
 use Rattle.std.proofs.Common.{◌∙◌, append-nil, arith}

@@ -93,5 +93,4 @@ pub ended : (first last line : List ℕ) (start new : Option (List ℕ)) (old fa
 ended first last line start new old failed none empty fine said =
     let at_once = subst (λ (held : List ℕ). Says line (way held start old) (way last new failed)) none said in
     let all = subst (λ (held : List ℕ). Says line (way [] start old) (way held new failed)) empty at_once in
-    written_line start new line failed
-    (subst (λ (f : Bool). Says line (way [] start f) (way [] new failed)) fine all)
+    written_line start new line failed (subst (λ (f : Bool). Says line (way [] start f) (way [] new failed)) fine all)

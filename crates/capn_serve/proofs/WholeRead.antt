@@ -1,14 +1,12 @@
 -- Lemmas for `read_all`: the bytes that a reader has returned, read by read.
-use Rattle.std.proofs.Common.{◌≡◌, inl, inr, ℕ, ◌+◌, ◌-◌, ◌≤◌, ◌<◌, ◌^◌, List, ◌++◌, length, take, refl, sym, ap}
-use Rattle.std.proofs.Common.{◌∙◌, arith, length-take, append-nil, Option, Bool, true}
-use Rattle.std.proofs.Common.{Result, Ok, Err}
+use Rattle.std.proofs.Common.{◌≡◌, inl, inr, ℕ, ◌+◌, ◌-◌, ◌≤◌, ◌<◌, ◌^◌, List, ◌++◌, length, take, refl, sym, ap, ◌∙◌}
+use Rattle.std.proofs.Common.{arith, length-take, append-nil, Option, Bool, true}
 use Rattle.std.specs.Prelude.{min}
 use Rattle.std.proofs.Math.Seq.{take-append-add, take_all}
 use Rattle.std.proofs.lemmas.Bool.{cases_lt}
 use Rattle.std.proofs.lemmas.List.{take-take, take-append-le}
 use Rattle.std.specs.Io.KnownBytes.{Consumes}
-use Rattle.capn_serve.specs.WholeInput.{HasGiven, HasGivenAll, IsUntaken, TakesAll}
-use Rattle.capn_serve.specs.declared.fault.RunFault.{RunFault}
+use Rattle.capn_serve.specs.WholeInput.{HasGiven, IsUntaken}
 use Rattle.capn_serve.specs.declared.fault.RunFault.TheVariants as faults
 
 -- A reader has returned the `len` bytes `seen`, and `kept` are the first `most` bytes of `seen`.
@@ -64,8 +62,3 @@ first_more most seen buf tail kept new n k first within least is = elim (cases_l
           ∙ sym (take-append-le n buf tail within)
           ∙ ap (λ (i : ℕ). take i (buf ++ tail)) (sym (omega (arith, size, all)))
     ]
-
-pub takes_so : {T : Type 0} (P : List ℕ → Result T RunFault → Type 0) (a b : Option (List ℕ)) (f : Bool)
-    (r : Result T RunFault) (bytes : List ℕ) → HasGivenAll a b f bytes → P bytes r → TakesAll P a b f r
-takes_so P a b f (Ok x) bytes all p = (bytes, all, p)
-takes_so P a b f (Err fault) bytes all p = inr (bytes, all, p)

@@ -12,7 +12,7 @@ Lacked first old piece = (0 < length piece) × (length old < need first)
 abbrev pub Came : Stage → Stage → List ℕ → List ℕ → List ℕ → Type 0
 Came first stage old bytes piece = ((stage ≡ first) × (bytes ≡ old)) ⊎ Lacked first old piece
 
--- if `bytes` has fewer bytes than `stage` needs, and `piece` has bytes from index `at` on, `Lacked` holds of `first`
+-- if `Came` holds, `bytes` has fewer bytes than `stage` needs, and `piece` has bytes from index `at` on, `Lacked` holds
 pub lacked_now : (first stage : Stage) (old bytes piece : List ℕ) (at end : ℕ) → end ≡ need stage
     → Came first stage old bytes piece
     → (0 < length (take (length piece - at) (drop at piece))) × (length bytes < end) → Lacked first old piece
@@ -22,7 +22,7 @@ lacked_now first stage old bytes piece at end is (inl (same, text)) (some, short
 )
 lacked_now first stage old bytes piece at end is (inr lacked) wanted = lacked
 
--- if `bytes` are not the complete frame, and `new` has all of the part that `stage` receives, `Lacked` holds of `first`
+-- if `Rests` and `Came` hold, `bytes` are not the complete frame, and `new` has all that `stage` needs, `Lacked` holds
 pub lacked_whole : (first stage : Stage) (old bytes piece new : List ℕ) (at n end : ℕ) → end ≡ need stage
     → Rests first old → Came first stage old bytes piece
     → Extends bytes (take (length piece - at) (drop at piece)) end n new → end ≤ length new

@@ -1,4 +1,4 @@
--- Lemmas for `bytes_of`: the joined bytes of words of 8 bytes each.
+-- Lemmas for `bytes_of`: the joined bytes of 8-byte words.
 use Rattle.std.proofs.Common.{◌≡◌, ℕ, zero, suc, ◌*◌, ◌<◌, List, [], ◌∷◌, ◌++◌, length}
 use Rattle.std.proofs.Common.{slice_index_or, All, refl, arith, length-append}
 use Rattle.capn_words.specs.Message.{AreBytes}

@@ -12,7 +12,7 @@ one_size bs one =
     let P : ℕ → ℕ = λ n. sum (entries (n + 1) (drop 4 bs)) in
     omega (arith, ap P one)
 
--- `bs` have the complete frame of one segment of `n` words
+-- `bs` have the complete frame of one segment of `n` words, and `n` is at most `most`
 pub record HasOne (bs : List ℕ) (most n : ℕ) : Type 0 where
   pub table : 8 ≤ length bs
   pub one : entry_number bs ≡ 0

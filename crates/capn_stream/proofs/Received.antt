@@ -14,7 +14,7 @@ use Rattle.capn_stream.specs.declared.fault.ReadFault.{ReadFault}
 use Rattle.capn_stream.specs.declared.fault.ReadFault.TheVariants as faults
 use Rattle.capn_stream.proofs.shared.Wanting.{many_segments_end, many_words_end, taken_whole, unfinished_within}
 
--- if a frame needs all bytes of `piece`, the framer receives all of them, and `TakesIn` holds of the result
+-- if no frame can end before the end of `piece`, the framer receives all of `piece`, and `TakesIn` holds of the result
 pub takes_in : (before : Framing) (piece : List ℕ) (n : ℕ) (mid : Framing) (r : Option (List (List ℕ)))
     (after : Framing) → Feeds before piece n mid
     → ((more : List ℕ) → IsFrame (before.rest ++ more) before.most → length piece ≤ length more)

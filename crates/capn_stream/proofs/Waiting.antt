@@ -71,7 +71,7 @@ frame_done (stages.Contents start end) bs most ends small is done = (
   waiting_room bs most start end ends small is done,
 )
 
--- empty bytes are unfinished, so it suffices to prove that bytes that are not empty are unfinished
+-- in a proof that `bs` are unfinished, `bs` may be assumed not to be empty, since empty bytes are unfinished
 cut_or_empty : (bs : List ℕ) (most : ℕ) → (0 < length bs → IsUnfinished bs most) → IsUnfinished bs most
 cut_or_empty [] most h = inl refl
 cut_or_empty (b ∷ bs) most h = h (omega arith)

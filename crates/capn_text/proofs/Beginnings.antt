@@ -80,8 +80,7 @@ begun : (level : ℕ) (front rest t : List ℕ) → front ++ rest ≡ spaces lev
 begun zero front rest t e h = named front rest t e h
 begun (suc level) front rest t e h =
     indented front rest (spaces level ++ (codes "bytes " ++ t))
-    (e ∙ ap (λ (l : List ℕ). l ++ (codes "bytes " ++ t)) (two_more level))
-    (λ cs below. begun level cs rest t below h)
+    (e ∙ ap (λ (l : List ℕ). l ++ (codes "bytes " ++ t)) (two_more level)) (λ cs below. begun level cs rest t below h)
 
 abbrev pub Never : List ℕ → Type 0
 Never front = (rest : List ℕ) → quoted_at (front ++ rest) ≡ None

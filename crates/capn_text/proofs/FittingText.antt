@@ -7,7 +7,6 @@ use Rattle.capn_value.specs.Fits.{Fits, misfit}
 use Rattle.capn_value.specs.declared.misfit.Misfit.{Misfit}
 use Rattle.capn_value.specs.Text.{show_text}
 use Rattle.capn_value.specs.Cost.{height, most_height}
-use Rattle.capn_text.specs.declared.fault.TextFault.{TextFault}
 use Rattle.capn_text.specs.declared.fault.TextFault.TheVariants as faults
 use Rattle.capn_text.specs.inner.Values.{tree_at}
 use Rattle.capn_text.specs.Showable.{IsShowable}
@@ -20,9 +19,6 @@ fits_not t v m same f e = let h = sym f ∙ ap misfit (sym same) ∙ e in absurd
 
 pub misfit_is : (m n : Misfit) → faults.Misfit m ≡ faults.Misfit n → m ≡ n
 misfit_is m n e = cc
-
-pub line_or_memory : (e : TextFault) (n : ℕ) → e ≡ faults.Line n → e ≡ faults.Memory → ⊥
-line_or_memory e n a b = let k = sym a ∙ b in absurd cc
 
 pub all_of : (t : List ℕ) (v : Tree) → t ≡ show_text v → t ≡ show_text v ++ []
 all_of t v e = e ∙ sym (append-nil (show_text v))

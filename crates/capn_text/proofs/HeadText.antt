@@ -98,8 +98,7 @@ name_takes t x e =
     (named_front t (names.Leaf leaves.Pairs) _ x (strip (codes "u16 ") t) (λ r. strip_takes (codes "u16 ") t r)
     (named_front t (names.Leaf leaves.Quads) _ x (strip (codes "u32 ") t) (λ r. strip_takes (codes "u32 ") t r)
     (named_front t (names.Leaf leaves.Octs) _ x (strip (codes "u64 ") t) (λ r. strip_takes (codes "u64 ") t r)
-    (named_front t names.Cap None x (strip (codes "capability ") t)
-    (λ r. strip_takes (codes "capability ") t r)
+    (named_front t names.Cap None x (strip (codes "capability ") t) (λ r. strip_takes (codes "capability ") t r)
     (λ (h : None ≡ Some x). absurd cc))))))))) e
 
 -- ---- lines

@@ -110,8 +110,7 @@ module _ (room : ℕ) (low : (level : ℕ) (t : List ℕ) (v : Tree) (rest : Lis
       let under = each_low (level + 1) n t b.0.0 b.0.1 b.1 in
       subst (Within (suc room)) (some_is (links (trees b.0.0), b.0.1) x b.2) (omega arith)
   content_low (heads.Named names.Rows n) level t x e =
-      let b = bind_some (many (row_at (tree_at room) (level + 1)) n t)
-      (λ cs. Some (rows (rows_from cs.0), cs.1)) x e in
+      let b = bind_some (many (row_at (tree_at room) (level + 1)) n t) (λ cs. Some (rows (rows_from cs.0), cs.1)) x e in
       let under = rows_low room b.0.0 (many_all (row_at (tree_at room) (level + 1)) (λ c. greatest c.1 ≤ room)
       (row_low (level + 1)) n t b.0.0 b.0.1 b.1) in
       subst (Within (suc room)) (some_is (rows (rows_from b.0.0), b.0.1) x b.2) (omega arith)

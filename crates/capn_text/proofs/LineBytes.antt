@@ -1,8 +1,7 @@
 -- Lemmas for `LineStops`, `OwnLines` and `PartStops`: a line that is written has only one newline, which is its last
 -- byte.
-use Rattle.std.proofs.Common.{◌≡◌, ◌+◌, ◌/◌, ◌%◌, ◌^◌, ◌<◌, ◌==◌, ℕ, suc, Bool, true, false, cond}
-use Rattle.std.proofs.Common.{List, [], ◌∷◌}
-use Rattle.std.proofs.Common.{◌++◌, length, codes, refl, ap, ap₂, ◌∙◌, arith}
+use Rattle.std.proofs.Common.{◌≡◌, ◌+◌, ◌/◌, ◌%◌, ◌^◌, ◌<◌, ◌==◌, ℕ, suc, Bool, true, false, cond, List, [], ◌∷◌, ◌++◌}
+use Rattle.std.proofs.Common.{length, codes, refl, ap, ap₂, ◌∙◌, arith}
 use Rattle.std.specs.List.{AllByRecursion}
 use Rattle.std.specs.Fmt.{decimal}
 use Rattle.std.specs.Int.{to_be_bytes, w64}
@@ -27,9 +26,6 @@ use Rattle.capn_text.proofs.WholeLines.{are_none, line_is_one}
 -- No line ends in the bytes `x`.
 abbrev pub IsQuiet : List ℕ → Type 0
 IsQuiet x = ended_lines x ≡ 0
-
-abbrev IsOne : List ℕ → Type 0
-IsOne x = AreLines x × (ended_lines x ≡ 1)
 
 quiet_both : (x y : List ℕ) → IsQuiet x → IsQuiet y → IsQuiet (x ++ y)
 quiet_both x y p q = let h = lines_append x y in omega arith

@@ -1,6 +1,6 @@
 -- Lemmas for `leaves.rt`: the stop if one line is not read.
-use Rattle.std.proofs.Common.{◌≡◌, ◌^◌, ◌<◌, ℕ, zero, suc, Bool, true, List, [], ◌∷◌, ◌++◌, length}
-use Rattle.std.proofs.Common.{Option, Some, None, refl, sym, ap, subst, arith}
+use Rattle.std.proofs.Common.{◌≡◌, ◌^◌, ◌<◌, ℕ, zero, suc, true, List, [], ◌∷◌, ◌++◌, length, Option, Some, None, refl}
+use Rattle.std.proofs.Common.{sym, ap, subst, arith}
 use Rattle.std.specs.Prelude.{⊤}
 use Rattle.std.specs.List.{AllByRecursion}
 use Rattle.hex.specs.Hex.{encode_lower}
@@ -19,7 +19,7 @@ use Rattle.capn_text.proofs.LineBytes.{head_is_line, word_is_line, number_is_lin
 use Rattle.capn_text.proofs.LineBytes.{bytes_are_lines, bytes_are_line}
 use Rattle.capn_text.proofs.StopLaws.{Local, Full, local_lines, full_line, line_stops}
 
--- Let `read` read one line. It does not depend on the height, so its stop is the same stop at any height `room`.
+-- Let `read` read one line. As `read` does not depend on the height, it stops at the same place at any height `room`.
 module _ {X : Type 0} (read : List ℕ → Option (X × List ℕ)) (room : ℕ)
     (stop : (t : List ℕ) → read t ≡ None → Stops (λ r. read) room t (length t)) where
   pub line_fails : (e : Stop) (t : List ℕ) → LineFails e read t → FailsAt (λ r. read) room e t
@@ -38,8 +38,7 @@ module _ (level : ℕ) where
   pub word_local : (room : ℕ) → Local (λ r. word_line_at level) room
   word_local room =
       local_lines (word_line_at level) (word_text level) (λ w. w < 2 ^ 64) (word_line_takes level)
-      (word_line_again level)
-      (λ w p. (word_is_line level w p).0) room
+      (word_line_again level) (λ w p. (word_is_line level w p).0) room
 
   pub word_full : Full (λ r. word_line_at level)
   word_full =
@@ -51,8 +50,7 @@ module _ (level : ℕ) where
   word_fails room =
       line_fails (word_line_at level) room
       (line_stops (word_line_at level) (word_text level) (λ w. w < 2 ^ 64) (word_line_takes level)
-      (word_line_again level)
-      (word_is_line level) 0 (omega arith) room)
+      (word_line_again level) (word_is_line level) 0 (omega arith) room)
 
   module _ (greatest : ℕ) (top : greatest < 2 ^ 64) where
     number_lines : (n : ℕ) → n < suc greatest → AreLines (number_text level n) × (ended_lines (number_text level n) ≡ 1)
@@ -129,10 +127,6 @@ module _ {X : Type 0} (one : List ℕ → Option (X × List ℕ)) (show : X → 
   pub row_fails : (n room : ℕ) (e : Stop) (t : List ℕ) → LineFails e (row_line_at one level n) t
       → FailsAt (λ r. row_line_at one level n) room e t
   row_fails n room = line_fails (row_line_at one level n) room (row_stops n room)
-
-every : (xs : List Bool) → AllByRecursion (λ _. ⊤) xs
-every [] = tt
-every (x ∷ xs) = (tt, every xs)
 
 module _ (level n : ℕ) where
   pub bits_local : (room : ℕ) → Local (λ r. row_line_at bit_at level n) room

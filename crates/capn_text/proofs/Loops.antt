@@ -1,7 +1,6 @@
 -- Lemmas for `contents.rt`, `leaves.rt` and `tokens.rt`: loops that read one item after another.
 use Rattle.std.proofs.Common.{◌≡◌, ℕ, suc, ◌-◌, ◌+◌, ◌≤◌, ◌<◌, List, [], ◌∷◌, ◌++◌, Option, Some, None, refl, sym, ap}
-use Rattle.std.proofs.Common.{◌∙◌}
-use Rattle.std.proofs.Common.{append_assoc, arith, codes}
+use Rattle.std.proofs.Common.{◌∙◌, append_assoc, arith, codes}
 use Rattle.std.proofs.lemmas.List.{append-nil}
 use Rattle.capn_text.specs.declared.fault.Stop.{Stop}
 use Rattle.capn_text.specs.declared.fault.Stop.TheVariants as stops
@@ -53,10 +52,6 @@ module _ {X : Type 0} (one : List ℕ → Option (X × List ℕ)) (front : List 
       let next : with_front front (many one (count - i) text) ≡ Some (front, text) =
       rw k (ap (λ xs. Some (xs, text)) (append-nil front)) in
       sym so_far ∙ next
-
-pub starts : {X : Type 0} (read : Option (List X × List ℕ)) → with_front [] read ≡ read
-starts (Some xs) = refl
-starts None = refl
 
 pub indent_more : (level i : ℕ) (t after : List ℕ) (total : Option (List ℕ)) → i < level
     → strip (codes "  ") t ≡ Some after → indent_at (level - i) t ≡ total → indent_at (level - (i + 1)) after ≡ total

@@ -141,8 +141,7 @@ module _ {X : Type 0} (one : List ℕ → Option (X × List ℕ)) (show : X → 
   unfolding row_line_at
   row_takes takes zero t xs rest e =
       subst (λ (y : List X × List ℕ). (t ≡ one_line level (length y.0) (text y.0) ++ y.1) ×
-      (length y.0 ≡ 0) × AllByRecursion P y.0)
-      (some_is ([], t) (xs, rest) e) (refl, refl, tt)
+      (length y.0 ≡ 0) × AllByRecursion P y.0) (some_is ([], t) (xs, rest) e) (refl, refl, tt)
   row_takes takes (suc n) t xs rest e =
       let a = bind_some (indent_at level t) (λ l. many one (suc n) l >>= λ ys. strip (10 ∷ []) ys.1
       >>= λ r. Some (ys.0, r)) (xs, rest) (sym (row_line-some n t) ∙ e) in

@@ -62,10 +62,8 @@ digits_split n before (c ∷ cs) after quiet =
           absurd (omega arith)
       split-by false e below =
           let zero_lines : ◌≡◌ {A = ℕ} (cond (c == 10) 1 0) 0 = ap (λ (b : Bool). cond {A = ℕ} b 1 0) e in
-          ap (λ b. cond b
-          (digits_of n before ++ digits_after (n + lines_of before) [] (cs ++ 10 ∷ after))
-          (digits_after n (before ++ c ∷ []) (cs ++ 10 ∷ after)))
-          e
+          ap (λ b. cond b (digits_of n before ++ digits_after (n + lines_of before) [] (cs ++ 10 ∷ after))
+          (digits_after n (before ++ c ∷ []) (cs ++ 10 ∷ after))) e
           ∙ below (omega arith)
           ∙ ap (λ (l : List ℕ). digits_of n l ++ digits_after (n + lines_of l) [] after)
           (append_assoc before (c ∷ []) cs)
@@ -202,8 +200,7 @@ own_by (front ∷ fronts) text form l i fits (quiet, first, after, rest, is, one
 
       lines : ended_lines first ≡ lines_of front
       lines =
-          first_lines_of front first (omega (arith, size)) quiet
-          (plain_is_line front first (omega (arith, size)) one)
+          first_lines_of front first (omega (arith, size)) quiet (plain_is_line front first (omega (arith, size)) one)
 
       here : digits_after l [] text ≡ digits_of l front ++ digits_after (l + lines_of front) [] after
       here = ap (digits_after l []) is ∙ digits_split l [] front after quiet

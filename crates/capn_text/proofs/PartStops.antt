@@ -1,5 +1,5 @@
--- Lemmas for the cycle `value_at`, `first_value` and `leaf_at`: the stops in structs, lists and rows, as the code reads
--- them.
+-- Lemmas for the cycle `value_at`, `first_value` and `leaf_at`: the stops of the code that reads structs, lists and
+-- rows.
 use Rattle.std.proofs.Common.{◌≡◌, ◌+◌, ◌-◌, ◌^◌, ◌<◌, ◌≤◌, ℕ, zero, suc, List, [], ◌++◌, length, Option}
 use Rattle.std.proofs.Common.{Some, None, Bool, true, false, cond, append_assoc}
 use Rattle.std.specs.Prelude.{nat_lt}
@@ -91,15 +91,13 @@ module _ (room level : ℕ) (e : Stop) (t : List ℕ) where
       second_fails (all (words_by (level + 1)) w) (slots_by level s) room
       (local_all (words_by (level + 1)) room (word_local (level + 1) room) w) t ws after is e
       (first_fails (all (tree_by (level + 1)) s) (λ ss. given (ws, trees ss)) room
-      (λ r. local_all (tree_by (level + 1)) r (tree_local r (level + 1)) s)
-      (λ ss. full_given (ws, trees ss)) e after h)
+      (λ r. local_all (tree_by (level + 1)) r (tree_local r (level + 1)) s) (λ ss. full_given (ws, trees ss)) e after h)
 
   pub struct_fails : (h : Head) (w s : ℕ) → h ≡ heads.Struct w s → FailsAt (body_by level w s) room e t
       → FailsAt (content_by level h) room e t
   struct_fails h w s is f =
       subst (λ k. FailsAt (content_by level k) room e t) (sym is)
-      (first_fails (body_by level w s) (λ b. given (node b.0 b.1)) room
-      (λ r. body_local r (tree_local r) level w s)
+      (first_fails (body_by level w s) (λ b. given (node b.0 b.1)) room (λ r. body_local r (tree_local r) level w s)
       (λ b. full_given (node b.0 b.1)) e t f)
 
   pub links_fail : (h : Head) (n : ℕ) → h ≡ heads.Named names.Links n → FailsAt (all (tree_by (level + 1)) n) room e t
@@ -107,8 +105,7 @@ module _ (room level : ℕ) (e : Stop) (t : List ℕ) where
   links_fail h n is f =
       subst (λ k. FailsAt (content_by level k) room e t) (sym is)
       (first_fails (all (tree_by (level + 1)) n) (λ ts. given (links (trees ts))) room
-      (λ r. local_all (tree_by (level + 1)) r (tree_local r (level + 1)) n)
-      (λ ts. full_given (links (trees ts))) e t f)
+      (λ r. local_all (tree_by (level + 1)) r (tree_local r (level + 1)) n) (λ ts. full_given (links (trees ts))) e t f)
 
   pub rows_fail : (h : Head) (n : ℕ) → h ≡ heads.Named names.Rows n → FailsAt (all (row_by (level + 1)) n) room e t
       → FailsAt (content_by level h) room e t
@@ -191,7 +188,7 @@ module _ (level : ℕ) where
       not_read (head_at level) (λ h. line level (head_text h)) Holds (head_takes level) (head_again level) t z
       (head_is_line level) none same (head_at level z) refl
 
--- If no first line is read from `t`, reading a value from `t` stops at that line.
+-- If no first line is read from `t`, reading a value from `t` stops at the first line of `t`.
 pub tree_line_fails : (room level : ℕ) (t : List ℕ) → head_at level t ≡ None → Stops (tree_by level) room t (length t)
 tree_line_fails room level t none =
     let w = tree_full level in (
@@ -326,8 +323,7 @@ module _ (level : ℕ) where
       (subst (λ k. FailsAt (λ r. row_of (tree_at r) level k) room stop after) (sym is) f)
 
 pub row_gives : {X : Type 0} (view : X → (List ℕ × Trees) × List ℕ) (result : Result X Stop) (room level : ℕ)
-    (t after : List ℕ)
-    (h : Head) (w s : ℕ) → h ≡ heads.Struct w s → head_at level t ≡ Some (h, after)
+    (t after : List ℕ) (h : Head) (w s : ℕ) → h ≡ heads.Struct w s → head_at level t ≡ Some (h, after)
     → GivesAt view result (body_by level w s) room after → GivesAt view result (row_by level) room t
 unfolding row_at
 row_gives view (Ok x) room level t after h w s is e g =

@@ -40,7 +40,7 @@ bytes_lines o level (x ∷ xs) some =
           → (((((o ++ a) ++ b) ++ c) ++ d) ++ e) ++ f ≡ o ++ ((a ++ (b ++ c)) ++ (d ++ (e ++ f)))
       joined o a b c d e f = simp append_assoc refl
 
--- If byte `i` is not a newline and no line ends before it, no line ends in the first `i + 1` bytes.
+-- If no line ends in the first `i` bytes, and byte `i` is not a newline, no line ends in the first `i + 1` bytes.
 pub quiet_more : (t : List ℕ) (i : ℕ) → i < length t → (slice_index t i ≡ 10 → ⊥) → ended_lines (take i t) ≡ 0
     → ended_lines (take (i + 1) t) ≡ 0
 quiet_more t i below other so_far =

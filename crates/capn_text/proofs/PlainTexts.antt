@@ -57,8 +57,7 @@ plain_split before (c ∷ cs) after quiet =
       split-by false e below =
           let zero_lines : ◌≡◌ {A = ℕ} (cond (c == 10) 1 0) 0 = ap (λ (b : Bool). cond {A = ℕ} b 1 0) e in
           ap (λ b. cond b (plain_line before ++ plain (cs ++ 10 ∷ after))
-          (plain_after (before ++ c ∷ []) (cs ++ 10 ∷ after)))
-          e
+          (plain_after (before ++ c ∷ []) (cs ++ 10 ∷ after))) e
           ∙ below (omega arith)
           ∙ ap (λ (l : List ℕ). plain_line l ++ plain after) (append_assoc before (c ∷ []) cs)
 
@@ -109,8 +108,7 @@ plain_is before (c ∷ cs) quiet fits =
       is-by true e anew on =
           plain_more (before ++ c ∷ cs) (plain_after before (c ∷ cs)) before cs (plain_line before) quiet
           (ap (λ (k : ℕ). before ++ k ∷ cs) (eqb-true c 10 e)) (line_is_plain before (omega arith)) (plain cs)
-          (ap (λ b. cond b (plain_line before ++ plain cs) (plain_after (before ++ c ∷ []) cs)) e)
-          (anew (omega arith))
+          (ap (λ b. cond b (plain_line before ++ plain cs) (plain_after (before ++ c ∷ []) cs)) e) (anew (omega arith))
       is-by false e anew on =
           let zero_lines : ◌≡◌ {A = ℕ} (cond (c == 10) 1 0) 0 = ap (λ (b : Bool). cond {A = ℕ} b 1 0) e in
           let lines = lines_append before (c ∷ []) in

@@ -1,5 +1,5 @@
--- Lemmas for `Beginnings`, `OwnLines`, `PlainTexts` and `ShownPlain`: a line with bytes between quotes is read as it is
--- written.
+-- Lemmas for `Beginnings`, `OwnLines`, `PlainTexts` and `ShownPlain`: which lines `quoted_at` reads, and the bytes that
+-- it gives for them (`IsQuoted`).
 use Rattle.std.proofs.Common.{◌≡◌, ℕ, zero, suc, ◌+◌, ◌*◌, ◌^◌, ◌%◌, ◌≤◌, ◌<◌, ◌==◌, ◌&&◌, ◌||◌, ◌⊎◌}
 use Rattle.std.proofs.Common.{Bool, true, false, cond}
 use Rattle.std.proofs.Common.{List, [], ◌∷◌, ◌++◌, length, codes, Option}
@@ -91,8 +91,7 @@ counted_after n = strip (codes " \"") n.1 >>= λ rest. text_in rest >>= λ xs. c
 count_again : (xs : List ℕ) → length xs < 2 ^ 64 → is_text xs ≡ true
     → counted_text (with_count (length xs) (inside xs)) ≡ Some xs
 count_again xs fits p =
-    ap (λ (r : Option (ℕ × List ℕ)). r >>= counted_after)
-    (decimal_again (length xs) 32 (34 ∷ inside xs) fits refl)
+    ap (λ (r : Option (ℕ × List ℕ)). r >>= counted_after) (decimal_again (length xs) 32 (34 ∷ inside xs) fits refl)
     ∙ ap (λ (r : Option (List ℕ)). r >>= λ ys. cond (length ys == length xs) (Some ys) None) (in_again xs p)
     ∙ ap (λ b. cond b (Some xs) None) (eq-eqb (length xs) (length xs) refl)
 

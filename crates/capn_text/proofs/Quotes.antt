@@ -1,8 +1,6 @@
 -- Lemmas for `levels_at` and `unquoted`: bytes between quotes are read as they are written.
-use Rattle.std.proofs.Common.{◌≡◌, drop, take, ◌-◌, ℕ, suc, ◌+◌}
-use Rattle.std.proofs.Common.{◌≤◌, ◌==◌, ◌⊎◌, ◌&&◌, ◌||◌, Bool, true, false, cond}
-use Rattle.std.proofs.Common.{List, [], ◌∷◌, ◌++◌, length, codes, Option}
-use Rattle.std.proofs.Common.{Some, None, refl, sym, ap, ap₂, ◌∙◌}
+use Rattle.std.proofs.Common.{◌≡◌, drop, take, ◌-◌, ℕ, suc, ◌+◌, ◌≤◌, ◌==◌, ◌⊎◌, ◌&&◌, ◌||◌, Bool, true, false, cond}
+use Rattle.std.proofs.Common.{List, [], ◌∷◌, ◌++◌, length, codes, Option, Some, None, refl, sym, ap, ap₂, ◌∙◌}
 use Rattle.std.proofs.Common.{append_assoc, arith, inl, inr}
 use Rattle.std.proofs.lemmas.Bool.{eqb-true, ne_eqb, and_parts, and_from}
 use Rattle.std.proofs.lemmas.List.{take_all}
@@ -98,28 +96,6 @@ level_more n (c ∷ d ∷ cs) after total e so_far =
     ∙ ap (λ (r : List ℕ). (suc (levels_at r).0, (levels_at r).1)) (some_is cs after h.1) in
     let count : n + 1 + (levels_at after).0 ≡ n + suc (levels_at after).0 = omega arith in
     ap (λ (k : ℕ). (k, (levels_at after).1)) count ∙ sym (ap (added n) here) ∙ so_far
-
-abbrev none : List ℕ
-none = []
-
-unindented : (x y : Bool) (cs : List ℕ) (p q : ℕ × List ℕ) → cond x (cond y (some cs) None) None ≡ None
-    → cond (x && y) p q ≡ q
-unindented true true cs p q e = absurd cc
-unindented true false cs p q e = refl
-unindented false y cs p q e = refl
-
-pub level_last : (n : ℕ) (t : List ℕ) (total : ℕ × List ℕ) → strip (codes "  ") t ≡ None
-    → added n (levels_at t) ≡ total → (n, t) ≡ total
-level_last n [] total e so_far =
-    let same : n ≡ n + 0 = omega arith in
-    ap (λ (k : ℕ). (k, none)) same ∙ so_far
-level_last n (c ∷ []) total e so_far =
-    let same : n ≡ n + 0 = omega arith in
-    ap (λ (k : ℕ). (k, c ∷ [])) same ∙ so_far
-level_last n (c ∷ d ∷ cs) total e so_far =
-    let here = unindented (32 == c) (32 == d) cs (suc (levels_at cs).0, (levels_at cs).1) (0, c ∷ d ∷ cs) e in
-    let same : n ≡ n + 0 = omega arith in
-    ap (λ (k : ℕ). (k, c ∷ d ∷ cs)) same ∙ sym (ap (added n) here) ∙ so_far
 
 -- ---- the bytes that are written are read
 

@@ -1,4 +1,4 @@
--- Lemmas for `plain_forms`: the plain form of a text shown with lists between quotes is the text shown without them.
+-- Lemmas for `plain_forms`: the plain form of a text with lists of bytes between quotes is the text without quotes.
 use Rattle.std.proofs.Common.{◌≡◌, ◌+◌, ◌*◌, ◌/◌, ◌%◌, ◌^◌, ◌<◌, ◌≤◌, ◌==◌, ◌&&◌, ◌||◌, ℕ, zero, suc}
 use Rattle.std.proofs.Common.{Bool, true, false}
 use Rattle.std.proofs.Common.{cond, not, List, [], ◌∷◌, ◌++◌, length, codes}
@@ -119,7 +119,7 @@ kept_both : (x y u v : List ℕ) → Keeps x y → Keeps u v → Keeps (x ++ u) 
 kept_both x y u v first second rest form h =
     rw (append_assoc x u rest, append_assoc y v form) (first (u ++ rest) (v ++ form) (second rest form h))
 
--- A line of clean bytes `x` is its own plain form.
+-- A line of bytes `x` without newlines and quotes is its own plain form.
 kept_line : (level : ℕ) (x : List ℕ) → IsClean x → Keeps (line level x) (line level x)
 unfolding line
 kept_line level x p rest form (fronts, h) =
@@ -256,8 +256,7 @@ mutual
   kept_tree level (node ws ss) s =
       kept_both (body_line level (length ws) (count ss)) (body_line level (length ws) (count ss))
       (word_lines (level + 1) ws ++ shown_each_by quoted_bytes (level + 1) ss)
-      (word_lines (level + 1) ws ++ shown_each (level + 1) ss)
-      (kept_body level (length ws) (count ss) s.0 s.1)
+      (word_lines (level + 1) ws ++ shown_each (level + 1) ss) (kept_body level (length ws) (count ss) s.0 s.1)
       (kept_both (word_lines (level + 1) ws) (word_lines (level + 1) ws)
       (shown_each_by quoted_bytes (level + 1) ss) (shown_each (level + 1) ss)
       (kept_words (level + 1) ws) (kept_each (level + 1) ss s.3))
@@ -307,8 +306,7 @@ mutual
       (kept_body level (length ws) (count ss) s.0 s.1)
       (kept_both (word_lines (level + 1) ws) (word_lines (level + 1) ws)
       (shown_each_by quoted_bytes (level + 1) ss ++ shown_rows_by quoted_bytes level bs)
-      (shown_each (level + 1) ss ++ shown_rows level bs)
-      (kept_words (level + 1) ws)
+      (shown_each (level + 1) ss ++ shown_rows level bs) (kept_words (level + 1) ws)
       (kept_both (shown_each_by quoted_bytes (level + 1) ss) (shown_each (level + 1) ss)
       (shown_rows_by quoted_bytes level bs) (shown_rows level bs)
       (kept_each (level + 1) ss s.3) (kept_rows level bs s.4)))

@@ -11,12 +11,12 @@ use Rattle.capn_text.specs.inner.Stops.{AreLines, GoesOn, Stops, IsLost, IsOpen,
 use Rattle.capn_text.proofs.Steps.{bind_some, some_is, then}
 use Rattle.capn_text.proofs.WholeLines.{are_none, are_both, first_front}
 
--- A reader: from a height and bytes, it gives an item and the bytes after it, or `None`.
+-- A reader, which takes a height and bytes, and gives an item and the bytes after the item, or `None`.
 abbrev pub Reads : Type 0 → Type 0
 Reads X = ℕ → List ℕ → Option (X × List ℕ)
 
--- If `read room` reads `x` from `t`, the bytes `c` that it reads are complete lines. It also reads `x` from `c`
--- followed by any bytes `z`, and at any greater height `r`.
+-- If `read room` reads `x` from `t`, the bytes `c` that are read are complete lines. At each height `r` of at least
+-- `room`, `read r` reads `x` from `c` followed by any bytes `z`.
 abbrev pub Local : {X : Type 0} → Reads X → ℕ → Type 0
 Local {X} read room = (t : List ℕ) (x : X) (after : List ℕ) → read room t ≡ Some (x, after)
     → (c : List ℕ) × (t ≡ c ++ after) × AreLines c

@@ -1,7 +1,6 @@
 -- Lemmas for `first_value`, `read`, `read_next` and `streams`: the text at the front of an input, and its line `end`.
-use Rattle.std.proofs.Common.{◌≡◌, ◌≤◌, ◌<◌, ◌+◌, ◌-◌, ℕ, zero, suc, List, [], ◌∷◌, ◌++◌}
-use Rattle.std.proofs.Common.{length, take, Some, None}
-use Rattle.std.proofs.Common.{refl, sym, ap, ap₂, ◌∙◌, append_assoc, arith}
+use Rattle.std.proofs.Common.{◌≡◌, ◌≤◌, ◌+◌, ◌-◌, ℕ, suc, List, [], ◌∷◌, ◌++◌, length, take, Some, None, refl, sym, ap}
+use Rattle.std.proofs.Common.{ap₂, ◌∙◌, append_assoc, arith}
 use Rattle.std.specs.List.{AllByRecursion}
 use Rattle.std.proofs.lemmas.List.{length-append}
 use Rattle.capn_value.specs.Tree.{Tree}
@@ -24,10 +23,6 @@ line_number m n e = cc
 one_end : (rest : List ℕ) → ended_lines (end_line ++ rest) ≡ 1 + ended_lines rest
 one_end rest = lines_append end_line rest
 
-pub later : (a n b : ℕ) → a ≡ b → (faults.Line (a + n) ≡ faults.Line b → ⊥) → 0 < n
-later a zero b same other = absurd (other (ap (λ k. faults.Line k) (omega arith)))
-later a (suc n) b same other = omega arith
-
 -- Let `t` be the text of `w`, and then the bytes `after`.
 module _ (t : List ℕ) (w : Tree) (after : List ℕ) (front : t ≡ show_text w ++ after) where
   pub lines_of_front : ended_lines t ≡ ended_lines (show_text w) + ended_lines after
@@ -38,9 +33,6 @@ module _ (t : List ℕ) (w : Tree) (after : List ℕ) (front : t ≡ show_text w
 
   -- Let `after` be the line `end`, and then the bytes `rest`.
   module _ (rest : List ℕ) (end : strip end_line after ≡ Some rest) where
-    pub with_end : t ≡ show_text w ++ (end_line ++ rest)
-    with_end = front ∙ ap (λ x. show_text w ++ x) (strip_takes end_line after rest end)
-
     pub lines_with_end : (line : ℕ) → line + ended_lines (show_text w) + 1 + ended_lines rest ≡ line + ended_lines t
     lines_with_end line =
         let a = lines_of_front in

@@ -73,17 +73,14 @@ leaf_takes leaves.Voids level n t t2 x few front e =
     subst (Spelled level t) (some_is (voids n, t2) x e) (front, omega arith)
 leaf_takes leaves.Bits level n t t2 x few front e =
     list_take (λ _. ⊤) (λ xs. numbers bit (map from_bool xs)) (λ xs. one_line (level + 1) (length xs) (digits_of xs))
-    (names.Leaf leaves.Bits) level n t t2
-    (row_line_at bit_at (level + 1) n t2) x (λ xs. sym (bits_text level xs))
+    (names.Leaf leaves.Bits) level n t t2 (row_line_at bit_at (level + 1) n t2) x (λ xs. sym (bits_text level xs))
     (λ y. row_takes bit_at one_digit digits_of (λ _. ⊤) refl (λ b bs. refl) (level + 1) bit_takes n t2 y.0 y.1)
     (λ xs few h. (omega (arith, length-map xs from_bool), bits_below xs)) (omega arith) front e
 leaf_takes leaves.Bytes level n t t2 x few front e =
     list_take (λ k. k < 2 ^ 8) (numbers byte) (λ xs. one_line (level + 1) (length xs) (encode_lower xs))
-    (names.Leaf leaves.Bytes) level n t t2
-    (row_line_at byte_at (level + 1) n t2) x (λ xs. refl)
+    (names.Leaf leaves.Bytes) level n t t2 (row_line_at byte_at (level + 1) n t2) x (λ xs. refl)
     (λ y. row_takes byte_at one_byte encode_lower (λ b. b < 2 ^ 8) encode_none encode_more
-    (level + 1) byte_takes n t2 y.0 y.1)
-    (λ xs few h. (few, h)) (omega arith) front e
+    (level + 1) byte_takes n t2 y.0 y.1) (λ xs few h. (few, h)) (omega arith) front e
 leaf_takes leaves.Pairs level n t t2 x few front e =
     list_take (λ k. k < 2 ^ 16) (numbers pair) (number_lines (level + 1)) (names.Leaf leaves.Pairs) level n t t2
     (many (number_line_at 65535 (level + 1)) n t2) x (λ xs. refl) (numbers_take 65535 (level + 1) n t2)
@@ -129,8 +126,7 @@ module _ (room : ℕ) (takes : Takes room) where
       >>= λ us. Some ((xs.0, trees us.0), us.1)) x e in
       let b = bind_some (many (tree_at room (level + 1)) s a.0.1) (λ us. Some ((a.0.0, trees us.0), us.1)) x a.2 in
       let m = many_takes (word_line_at (level + 1)) (word_text (level + 1)) (word_lines (level + 1))
-      (λ w. w < 2 ^ 64) refl
-      (λ y ys. refl) (word_line_takes (level + 1)) w t a.0.0 a.0.1 a.1 in
+      (λ w. w < 2 ^ 64) refl (λ y ys. refl) (word_line_takes (level + 1)) w t a.0.0 a.0.1 a.1 in
       let n = each_takes (level + 1) s a.0.1 b.0.0 b.0.1 b.1 in
       subst (Bodied level w s t) (some_is ((a.0.0, trees b.0.0), b.0.1) x b.2) (
         then t (word_lines (level + 1) a.0.0) (each_text (level + 1) b.0.0) a.0.1 b.0.1 m.0 n.0,

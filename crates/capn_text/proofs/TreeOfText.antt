@@ -217,8 +217,7 @@ tree_again (suc room) level (numbers bit xs) rest low s =
     ∙ ap (λ ys. Some (numbers bit ys, rest)) (bits_back xs s.1)
 tree_again (suc room) level (numbers byte xs) rest low s =
     step room level (heads.Named (names.Leaf leaves.Bytes) (length xs))
-    (one_line (level + 1) (length xs) (encode_lower xs))
-    rest (omega (arith, s.0))
+    (one_line (level + 1) (length xs) (encode_lower xs)) rest (omega (arith, s.0))
     ∙ ap (λ (r : Option (List ℕ × List ℕ)). r >>= λ x. Some (numbers byte x.0, x.1))
     (row_again byte_at one_byte encode_lower (λ b. b < 2 ^ 8) encode_none encode_more
     (level + 1) byte_again xs rest s.1)

@@ -63,8 +63,7 @@ leaf_local level leaves.Bits n room =
     (λ xs. local_given (numbers bit (map from_bool xs)) room)
 leaf_local level leaves.Bytes n room =
     local_both (λ r. row_line_at byte_at (level + 1) n)
-    (λ xs. given (numbers byte xs)) room (bytes_local (level + 1) n room)
-    (λ xs. local_given (numbers byte xs) room)
+    (λ xs. given (numbers byte xs)) room (bytes_local (level + 1) n room) (λ xs. local_given (numbers byte xs) room)
 leaf_local level leaves.Pairs n room = numbers_local 65535 (level + 1) n room (numbers pair) (omega arith)
 leaf_local level leaves.Quads n room = numbers_local 4294967295 (level + 1) n room (numbers quad) (omega arith)
 leaf_local level leaves.Octs n room = numbers_local 18446744073709551615 (level + 1) n room (numbers oct) (omega arith)

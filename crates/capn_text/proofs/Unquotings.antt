@@ -1,10 +1,10 @@
 -- Lemmas for `unquoter.rt`: the plain form of a text that arrives in chunks.
-use Rattle.std.proofs.Common.{◌≡◌, ℕ, suc, ◌+◌, ◌-◌, ◌<◌, ◌≤◌, ◌==◌, Bool, true, false, cond, nat_le}
-use Rattle.std.proofs.Common.{List, [], ◌∷◌, ◌++◌, length, take, drop, get_or, refl, sym, ap, ap₂, ◌∙◌}
-use Rattle.std.proofs.Common.{if◌then◌else◌, append_assoc, arith, subst}
+use Rattle.std.proofs.Common.{◌≡◌, ℕ, ◌+◌, ◌-◌, ◌<◌, ◌≤◌, ◌==◌, Bool, true, false, cond, nat_le, List, [], ◌∷◌, ◌++◌}
+use Rattle.std.proofs.Common.{length, take, drop, get_or, refl, sym, ap, ap₂, ◌∙◌, if◌then◌else◌, append_assoc, arith}
+use Rattle.std.proofs.Common.{subst}
 use Rattle.std.specs.Prelude.{slice_index}
 use Rattle.std.proofs.lemmas.Bool.{le-leb}
-use Rattle.std.proofs.lemmas.List.{append-nil, length-append, take_more, take-append-drop, length-take-le}
+use Rattle.std.proofs.lemmas.List.{append-nil, take_more, take-append-drop, length-take-le}
 use Rattle.std.proofs.Math.Seq.{drop-cons, drop-length}
 use Rattle.capn_text.specs.Streams.{ended_lines}
 use Rattle.capn_text.specs.Beginnings.{looked_at, may_begin}
@@ -105,48 +105,6 @@ both_pieces u v w a b x y first next = record {
 abbrev pub Adds : Unquoting → Unquoting → List ℕ → List ℕ → List ℕ → Type 0
 Adds u v bytes old new = (added : List ℕ) × (new ≡ old ++ added) × Unquotes u v bytes added
 
--- Case: a newline ends a line, none of whose bytes are in the output yet.
-pub line_kept : (u v : Unquoting) (old new : List ℕ) → u.through ≡ false → v.through ≡ u.through → v.front ≡ []
-    → v.line ≡ u.line + lines_of u.front → v.digits ≡ u.digits ++ digits_of u.line u.front → v.passed ≡ u.passed
-    → new ≡ old ++ plain_line u.front → Adds u v (10 ∷ []) old new
-line_kept u v old new kept same front line digits passed is =
-    let held = same ∙ kept in (
-      plain_line u.front,
-      is,
-      record {
-        plain = λ more.
-            on_kept u (10 ∷ more) kept
-            ∙ ap (λ (l : List ℕ). plain_line u.front ++ plain_after l more) (sym front)
-            ∙ ap (λ (l : List ℕ). plain_line u.front ++ l) (sym (on_kept v more held));
-        digits = λ more.
-            ap (λ (l : List ℕ). u.digits ++ l) (digits_kept u (10 ∷ more) kept)
-            ∙ sym (append_assoc u.digits (digits_of u.line u.front)
-            (digits_after (u.line + lines_of u.front) [] more))
-            ∙ sym (rw (front, line, digits) refl)
-            ∙ ap (λ (l : List ℕ). v.digits ++ l) (sym (digits_kept v more held));
-        passed = passed;
-      },
-    )
-
--- Case: a newline ends a line whose front is already in the output.
-pub line_given : (u v : Unquoting) (old new : List ℕ) → u.through ≡ true → v.through ≡ false → v.front ≡ []
-    → v.line ≡ u.line + 1 → v.digits ≡ u.digits → v.passed ≡ u.passed → new ≡ old ++ 10 ∷ []
-    → Adds u v (10 ∷ []) old new
-line_given u v old new given held front line digits passed is = (
-  10 ∷ [],
-  is,
-  record {
-    plain = λ more.
-        on_given u (10 ∷ more) given ∙ ap (λ (l : List ℕ). 10 ∷ plain_after l more) (sym front)
-        ∙ ap (λ (l : List ℕ). 10 ∷ l) (sym (on_kept v more held));
-    digits = λ more.
-        ap (λ (l : List ℕ). u.digits ++ l) (digits_given u (10 ∷ more) given)
-        ∙ sym (rw (front, line, digits) refl)
-        ∙ ap (λ (l : List ℕ). v.digits ++ l) (sym (digits_kept v more held));
-    passed = passed;
-  },
-)
-
 -- Case: the bytes `text`, which have no newline, are appended to the stored `front` of their line.
 pub part_kept : (u v : Unquoting) (text old : List ℕ) → ended_lines text ≡ 0 → u.through ≡ false
     → v.through ≡ u.through → v.front ≡ u.front ++ text → v.line ≡ u.line → v.digits ≡ u.digits
@@ -214,22 +172,6 @@ given_front front cleared digits old new line passed through kept other is =
     front_given (record { front = front; line = line; digits = digits; passed = passed; through = through })
     (record { front = cleared; line = line; digits = digits; passed = passed; through = true }) old new kept refl other
     refl refl refl is
-
--- Case: the stored `front` of a line is cleared, since these bytes are already in the output.
-pub front_cleared : (u v : Unquoting) (old : List ℕ) → u.through ≡ true → v.through ≡ u.through → v.line ≡ u.line
-    → v.digits ≡ u.digits → v.passed ≡ u.passed → Adds u v [] old old
-front_cleared u v old given same line digits passed = (
-  [],
-  sym (append-nil old),
-  record {
-    plain = λ more. on_given u more given ∙ sym (on_given v more (same ∙ given));
-    digits = λ more.
-        ap (λ (l : List ℕ). u.digits ++ l) (digits_given u more given)
-        ∙ ap₂ (λ (l : List ℕ) (n : ℕ). l ++ digits_through n more) (sym digits) (sym line)
-        ∙ ap (λ (l : List ℕ). v.digits ++ l) (sym (digits_given v more (same ∙ given)));
-    passed = passed;
-  },
-)
 
 pub nothing_given : (u : Unquoting) (old : List ℕ) → Adds u u [] old old
 nothing_given u old = ([], sym (append-nil old), no_piece u)

@@ -55,8 +55,7 @@ pub beyond : (n : ℕ) (x y : List ℕ) → ended_lines x < n → (z : List ℕ)
 beyond n [] y more = (first_lines n y, refl)
 beyond zero (c ∷ cs) y more = absurd (omega arith)
 beyond (suc n) (c ∷ cs) y more =
-    let p = by_rest (c == 10) n (ended_lines cs) (λ a. first_lines a (cs ++ y)) cs more
-    (λ a few. beyond a cs y few) in
+    let p = by_rest (c == 10) n (ended_lines cs) (λ a. first_lines a (cs ++ y)) cs more (λ a few. beyond a cs y few) in
     (p.0, ap (λ t. c ∷ t) p.1)
 
 count_by : (k : Bool) (n m : ℕ) (x : ℕ → List ℕ) → suc n ≤ cond k 1 0 + m

@@ -40,7 +40,7 @@ ended name io Runs text exit {words} {order} {a} {b} {c} {m} {d} {unread} {faile
       is = end.is;
     }
 
--- Case: a comparison was carried out, and the program ended as `EndsFound` states.
+-- Case: if a comparison was carried out, and the program ended as `EndsFound` states, `EndsCmp` holds.
 pub ended_found : (order : CmpOrder) {words : List Text} {a b c m d : Option (List ℕ)}
     {unread failed is_failed : Bool} {found : Result Comparison CmpFault} {errors : Course} {status : ℕ}
     → MeansInvocation (subcommand_of program_line words) (invocations.Cmp order)

@@ -20,7 +20,7 @@ done = Ok tt
 abbrev stopped : ToolFault → Ending
 stopped fault = Err fault
 
--- Case: the writer failed within the help text.
+-- Case: if the writer failed within the help text, `ShowsHelp` holds.
 pub help_not_shown : (c d : Option (List ℕ)) (failed : Bool) (text : List ℕ) (fault : ToolFault) (r : Ending)
     → IsHelp text → HasBegun c d text → (IsErrOf (stopped fault) faults.Io ↔ (failed ≡ true)) → fault ≡ faults.Io
     → IsErr r × IsErrAnd r (λ e. e ≡ fault) → ShowsHelp (course c d failed) r
@@ -28,7 +28,7 @@ help_not_shown c d failed text fault (Ok u) help begun io is (is_err, same) = ab
 help_not_shown c d failed text fault (Err e) help begun io is (is_err, same) =
     rw (same ∙ is) (text, help, begun, io.0 (ap stopped is))
 
--- Case: the help text was written, and the writer was flushed.
+-- Case: if the help text was written, and the writer was flushed, `ShowsHelp` holds.
 pub help_shown : (c m d : Option (List ℕ)) (old new : Bool) (text : List ℕ) (r : Ending) → IsHelp text
     → Appends c m text → (IsErrOf done faults.Io ↔ (old ≡ true)) → Keeps m d
     → EndsFlushed faults.Io done old new r → ShowsHelp (course c d new) r
@@ -37,14 +37,14 @@ help_shown c m d old new text r help written io k (inl (is, same)) =
 help_shown c m d old new text r help written io k (inr (is, failed)) =
     rw is (text, help, begun_all c d text (kept c m d text k written), failed)
 
--- Case: the writer failed within the version line.
+-- Case: if the writer failed within the version line, `ShowsVersion` holds.
 pub version_not_shown : (c d : Option (List ℕ)) (failed : Bool) (fault : ToolFault) (r : Ending)
     → HasBegun c d version_line → (IsErrOf (stopped fault) faults.Io ↔ (failed ≡ true)) → fault ≡ faults.Io
     → IsErr r × IsErrAnd r (λ e. e ≡ fault) → ShowsVersion (course c d failed) r
 version_not_shown c d failed fault (Ok u) begun io is (is_err, same) = absurd same
 version_not_shown c d failed fault (Err e) begun io is (is_err, same) = rw (same ∙ is) (begun, io.0 (ap stopped is))
 
--- Case: the version line was written, and the writer was flushed.
+-- Case: if the version line was written, and the writer was flushed, `ShowsVersion` holds.
 pub version_shown : (c m d : Option (List ℕ)) (old new : Bool) (r : Ending) → Appends c m version_line
     → (IsErrOf done faults.Io ↔ (old ≡ true)) → Keeps m d → EndsFlushed faults.Io done old new r
     → ShowsVersion (course c d new) r

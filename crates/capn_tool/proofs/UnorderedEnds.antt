@@ -40,7 +40,7 @@ module _ (kind : ErrorKind) (output errors : Course) where
     mistake = λ _ _ no. absurd (no is);
   }
 
-  -- Case: `kind` is none of `OutOfMemory`, `DisplayHelp` and `DisplayVersion`, so the words are a mistake.
+  -- Case: if `kind` is none of `OutOfMemory`, `DisplayHelp` and `DisplayVersion`, the program ends with the status 2.
   pub ends_mistake : (memory help version : Bool) → (kind ≡ kinds.OutOfMemory → memory ≡ true) → memory ≡ false
       → (kind ≡ kinds.DisplayHelp → help ≡ true) → help ≡ false
       → (kind ≡ kinds.DisplayVersion → version ≡ true) → version ≡ false → IsUntouched output → WritesText errors

@@ -139,8 +139,7 @@ module _ {A B : Type 0} (v : Value A) (w : Value B) where
       → t ≡ ys → r ≡ test_each (trees_of s) (trees_of t) → r ≡ test (tree_of v) (tree_of w)
   both_links xs s ys t e f g h tested =
       seen (links (trees_of xs)) (links (trees_of ys)) (ap tree_of e ∙ tree_of-Links xs)
-      (ap tree_of f ∙ tree_of-Links ys)
-      (tested ∙ ap₂ (λ us vs. test_each (trees_of us) (trees_of vs)) g h)
+      (ap tree_of f ∙ tree_of-Links ys) (tested ∙ ap₂ (λ us vs. test_each (trees_of us) (trees_of vs)) g h)
 
   pub both_rows : (xs s : List (Body A)) (ys t : List (Body B)) {r : Bool} → v ≡ Rows xs → w ≡ Rows ys → s ≡ xs
       → t ≡ ys → r ≡ test_rows (rows_of s) (rows_of t) → r ≡ test (tree_of v) (tree_of w)
@@ -193,8 +192,8 @@ module _ {A B : Type 0} (v : Value A) (w : Value B) where
 pub ruleset apart =
     (views, not_null, test_each-uneven, test_rows-uneven, test_slots-past_left, test_slots-past_right)
 
--- once the slots up to the end of the shorter list are equal, the test is whether all later slots of either list are
--- null
+-- if the slots up to the end of the shorter list are equal, `test_slots` is true exactly if all later slots of both
+-- lists are null
 pub test_slots-past_shared : {A B : Type 0} (a : List (Value A)) (b : List (Value B)) (i s : ℕ)
     → s ≡ min (length a) (length b) → i ≡ s →
     test_slots (trees_of (drop i a)) (trees_of (drop i b)) ≡ test_slots (trees_of a) (trees_of b) →

@@ -150,8 +150,7 @@ module _ {A : Type 0} where
         let size : p ≡ min (length b.words + count (trees_of b.slots)) cap =
         j ∙ ap₂ (λ x y. min (x + y) cap) (e ∙ ap length f) (ap length g ∙ sym (count-trees_of b.slots)) in
         added sum n (length b.words + count (trees_of b.slots)) p _ (row_words (rows_of (drop (i + 1) bodies))) cap all
-        so_far
-        (ap (λ bs. row_words (rows_of bs)) (drop-next bodies i b h at)) size l
+        so_far (ap (λ bs. row_words (rows_of bs)) (drop-next bodies i b h at)) size l
 
     pub all_sized : sum ≤ cap → i ≡ length bodies → sum ≡ all
     all_sized h e = all_added sum _ cap all h (ap (λ bs. row_words (rows_of bs)) (drop-past bodies i e)) so_far

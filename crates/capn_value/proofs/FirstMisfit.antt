@@ -1,4 +1,4 @@
--- Lemmas for `trimming`: the misfit of a value is the first of the six that the value has.
+-- Lemmas for `trimming`: the misfit of a value is the first misfit that the value has, in the order of the six tests.
 use Rattle.std.proofs.Common.{◌≡◌, ◌↔◌, Bool, true, false, cond, nat_lt, refl, Option, Some, None}
 use Rattle.capn_value.specs.Tree.{Tree}
 use Rattle.capn_value.specs.Cost.{height, base, cost, most_cost, most_height}
@@ -7,8 +7,8 @@ use Rattle.capn_value.specs.declared.tariff.Tariff.TheVariants.{Plain}
 use Rattle.capn_value.specs.declared.misfit.Misfit.{Misfit}
 use Rattle.capn_value.specs.declared.misfit.Misfit.TheVariants.{Wide, Long, Ragged, Costly, Tall, BadRoot}
 
--- The misfit of the first of the tests `a` to `e` that is true. If none of these is true: `BadRoot` if `f` is false,
--- otherwise `None`.
+-- The misfit of the first true test among `a` to `e`. If all five are false, `BadRoot` if `f` is false, and otherwise
+-- `None`.
 abbrev choice : (a b c d e f : Bool) → Option Misfit
 choice a b c d e f =
     cond a (Some Wide)

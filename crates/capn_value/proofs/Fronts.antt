@@ -154,7 +154,7 @@ all_slots : {A : Type 0} (kept : Option (ℕ × ℕ)) (a b : ℕ) (vs : List (Va
 all_slots (Some k) a b vs e = refl
 all_slots None a b vs e = ap (λ n. front n (trees_of vs)) e ∙ front-length vs
 
--- this block shows that the words and slots of a copied body are `words_anew kept` and `slots_anew kept` of its parts
+-- this block shows that a copied body has the words `words_anew kept` and the slots `slots_anew kept` of the original
 module _ (kept : Option (ℕ × ℕ)) {p : ℕ × ℕ} (a b : ℕ) (chosen : p ≡ unwrap_or kept (a, b)) where
   pub words_made : {xs s w : List ℕ} {m : ℕ} → s ≡ xs → a ≡ length xs → m ≡ min p.0 (length s) → w ≡ take m s
       → w ≡ words_anew kept xs

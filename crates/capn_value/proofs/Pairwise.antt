@@ -41,8 +41,7 @@ module _ {ws ys w v : List ℕ} (e : w ≡ ws) (f : v ≡ ys) {r : Bool} (same :
 module _ {A B : Type 0} (a : List (Value A)) (b : List (Value B)) (i : ℕ) {all : Bool} where
   module _ (so_far : test_each (trees_of (drop i a)) (trees_of (drop i b)) ≡ all) where
     module _ (x : Value A) (y : Value B) (h : i < length a) (k : i < length b) (e : x ≡ get_or a i x)
-        (f : y ≡ get_or b i y)
-        {r : Bool} (tested : r ≡ test (tree_of x) (tree_of y)) where
+        (f : y ≡ get_or b i y) {r : Bool} (tested : r ≡ test (tree_of x) (tree_of y)) where
       each_next : (test (tree_of x) (tree_of y) && test_each (trees_of (drop (i + 1) a)) (trees_of (drop (i + 1) b)))
           ≡ all
       each_next = sym (ap₂ (λ us vs. test_each (trees_of us) (trees_of vs)) (drop-next a i x h e) (drop-next b i y k f))

@@ -45,8 +45,7 @@ module _ {A : Type 0} (level : ℕ) (v : Value A) where
       ++ (word_lines (level + 1) b.words ++ shown_each (level + 1) (trees_of b.slots)) ≡ shown level (tree_of v)
   node_shown b e =
       ap (λ k. body_line level (length b.words) k
-      ++ (word_lines (level + 1) b.words ++ shown_each (level + 1) (trees_of b.slots)))
-      (sym (count-trees_of b.slots))
+      ++ (word_lines (level + 1) b.words ++ shown_each (level + 1) (trees_of b.slots))) (sym (count-trees_of b.slots))
       ∙ sym (ap (shown level) (ap tree_of e ∙ tree_of-Node b))
 
   pub links_shown : {vs s : List (Value A)} → v ≡ Links vs → s ≡ vs →

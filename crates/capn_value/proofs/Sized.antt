@@ -34,7 +34,7 @@ counted_more words w s n m part rest cap all e f g so_far = omega arith
 none_more : (words rest : ℕ) → rest ≡ 0 → words ≡ words + rest
 none_more words rest e = omega arith
 
--- if `m` and `n` are equal once capped, and `most` is below `cap`, `m` is above `most` exactly if `n` is
+-- if `m` and `n` are equal once capped, and `most` is below `cap`, then `m` is above `most` exactly if `n` is
 pub above : (m n cap most : ℕ) → most < cap → min m cap ≡ min n cap → nat_lt most m ≡ nat_lt most n
 above m n cap most h e = grind (arith, nat_tests)
 
@@ -87,8 +87,7 @@ module _ {A : Type 0} (rows : List (Body A)) (i : ℕ) where
         counted_more words w s n m (row_words (rows_of (drop i rows))) (row_words (rows_of (drop (i + 1) rows))) cap all
         p q
         (ap (λ bs. row_words (rows_of bs)) (drop-next rows i b h at)
-        ∙ ap₂ (λ x y. x + y + row_words (rows_of (drop (i + 1) rows))) (sym e) (count-trees_of b.slots ∙ sym f))
-        so_far
+        ∙ ap₂ (λ x y. x + y + row_words (rows_of (drop (i + 1) rows))) (sym e) (count-trees_of b.slots ∙ sym f)) so_far
 
     pub rows_counted : i ≡ length rows → min words cap ≡ all
     rows_counted e =

@@ -39,11 +39,11 @@ a_capability_in_a_row = refl
 past_the_end_of_null : (get worked (to_pointer 9 ∷ to_pointer 9 ∷ [])).kind ≡ null
 past_the_end_of_null = refl
 
--- along paths that begin with pointer 0, the getters agree on a struct of one zero word and on an empty struct
+-- along paths that begin with pointer 0, getters return the same for a struct of one zero word and for an empty struct
 longer : (p : List Step) → get (node (0 ∷ []) no_trees) (to_pointer 0 ∷ p) ≡ get (node [] no_trees) (to_pointer 0 ∷ p)
 longer p = refl
 
--- data word 0 of element `i`, for a reader by a later schema that also reads a list of numbers as a list of structs
+-- data word 0 of element `i`, for a reader with a later schema, which also reads a list of numbers as a list of structs
 abbrev first_words : (List Step → Answer) → ℕ → ℕ
 first_words told i = (told (to_element i ∷ [])).word 0 + (told []).number i
 
@@ -63,7 +63,7 @@ first_words_alike v w h i = same_to_reader (λ g. first_words g i) v w h
 abbrev but_kind : Answer → Answer
 but_kind a = record a { kind = null }
 
--- along every path the getters agree on null and an empty struct, except for the kind
+-- along every path, getters return the same for null and for an empty struct, except for the kind
 pub null_or_empty : (p : List Step) → but_kind (get nil p) ≡ but_kind (get (node [] no_trees) p)
 null_or_empty [] = refl
 null_or_empty (to_pointer j ∷ p) = refl
@@ -72,7 +72,7 @@ null_or_empty (to_element i ∷ p) = refl
 null_is_not_empty : Same nil (node [] no_trees) → ⊥
 null_is_not_empty h = h
 
--- along every path the getters agree on an empty list of bytes and an empty list of structs, except for the kind
+-- along every path, getters return the same for empty lists of bytes and of structs, except for the kind
 bytes_or_structs : (p : List Step) → but_kind (get (numbers byte []) p) ≡ but_kind (get (rows no_bodies) p)
 bytes_or_structs [] = refl
 bytes_or_structs (to_pointer j ∷ p) = refl
@@ -81,8 +81,8 @@ bytes_or_structs (to_element i ∷ p) = refl
 bytes_are_no_structs : Same (numbers byte []) (rows no_bodies) → ⊥
 bytes_are_no_structs h = h
 
--- along every path the getters agree on a list of two structs without words and a list of two voids, except for the
--- kind
+-- along every path, getters return the same for a list of two structs without words and for a list of two voids, except
+-- for the kind
 structs_or_voids : (p : List Step)
     → but_kind (get (rows (body [] no_trees (body [] no_trees no_bodies))) p) ≡ but_kind (get (voids 2) p)
 structs_or_voids [] = refl

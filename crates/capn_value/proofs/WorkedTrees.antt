@@ -44,7 +44,7 @@ rows_cut : rows_anew (Some (1, 0)) (body (1 ∷ 2 ∷ []) (tree nil no_trees) (b
     ≡ body (1 ∷ []) no_trees (body [] no_trees no_bodies)
 rows_cut = refl
 
--- a struct of one word and one slot with three bytes costs 5: 1 and 2 for the struct, 1 and 1 for the bytes
+-- a struct of a word and a slot with three bytes costs 5 if the base is 1: 1 + 2 for the struct, 1 + 1 for the bytes
 struct_costs : cost 1 (node (5 ∷ []) (tree (numbers byte (1 ∷ 2 ∷ 3 ∷ [])) no_trees)) ≡ 5
 struct_costs = refl
 
@@ -52,7 +52,7 @@ struct_costs = refl
 voids_cost : cost 1 (voids 7) ≡ 8
 voids_cost = refl
 
--- rows without words cost one each, in addition to the list and its tag
+-- rows without words and slots cost one each, in addition to the list and its tag
 rows_cost : cost 1 (rows (body [] no_trees (body [] no_trees no_bodies))) ≡ 4
 unfolding rows_price
 rows_cost = refl

@@ -30,8 +30,7 @@ module _ (m : List (List ℕ)) (base : ℕ) where
 pub readable : AcceptedAreReadable
 readable m limits h =
     let (v, is) =
-    exists-at m (base limits.tariff) limits.depth root
-    (all-at_root m (base limits.tariff) limits.depth h.within.all) in
+    exists-at m (base limits.tariff) limits.depth root (all-at_root m (base limits.tariff) limits.depth h.within.all) in
     (v, record { accepted = h; is = is })
 
 pub fits : ValuesFit

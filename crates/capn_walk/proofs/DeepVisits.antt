@@ -58,7 +58,7 @@ module _ (m : List (List ℕ)) (at : Place) where
 
 -- ---- levels, counted from the first object of a survey
 
--- the level of the lowest of `n` objects on a path that begins below `k` levels, or 0 if `n` is 0
+-- the level of the deepest of `n` objects on a path that begins below `k` levels, or 0 if `n` is 0
 abbrev pub raised : ℕ → ℕ → ℕ
 raised k zero = 0
 raised k (suc n) = k + suc n
@@ -69,10 +69,6 @@ raised-max k (suc a) zero = let e : max (suc a) zero ≡ suc a = omega arith in 
 raised-max k (suc a) (suc b) =
     let e : max (suc a) (suc b) ≡ suc (max a b) = omega arith in
     rw e (omega arith)
-
-raised-none : (k n : ℕ) → k ≡ 0 → raised k n ≡ n
-raised-none k zero e = refl
-raised-none k (suc n) e = omega arith
 
 raised-more : (limit d n : ℕ) → 0 < d → d ≤ limit
     → raised (limit - d) (1 + n) ≡ max (limit + 1 - d) (raised (limit - (d - 1)) n)
@@ -106,11 +102,11 @@ module _ (m : List (List ℕ)) (base limit : ℕ) where
         ≡ max (levels_at limit d k) (raised (limit - (d - 1)) (reach_of m (d - 1) ps))
     visited t c b = by-target (target m at) refl t c b
 
-  -- the level of the lowest object below the remaining slots `f`, if `d` levels remain
+  -- the level of the deepest object below the remaining slots `f`, if `d` levels remain
   abbrev pub lowest : ℕ → SlotsLeft → ℕ
   lowest d f = raised (limit - d) (reach_of m d (places_of f))
 
-  -- the level of the lowest object below the remaining slots of the objects of a stack
+  -- the level of the deepest object below the remaining slots of the objects of a stack
   abbrev pub lowest_waiting : List Waiting → ℕ
   lowest_waiting [] = 0
   lowest_waiting (w ∷ ws) = max (lowest w.depth w.frame) (lowest_waiting ws)
@@ -130,7 +126,7 @@ module _ (m : List (List ℕ)) (base limit : ℕ) where
       ∙ raised-max (limit - d) (reach m d at) (reach_of m d (places_of rest))
 
   module _ (n : ℕ) where
-    -- `n` is the greater of two numbers: the number of levels found so far, and the level of the lowest object below
+    -- `n` is the greater of two numbers: the number of levels found so far, and the level of the deepest object below
     -- the remaining slots
     pub record IsDeep (least d : ℕ) (ws : List Waiting) (f : SlotsLeft) : Type 0 where
       pub is : n ≡ max (limit + 1 - least) (max (lowest d f) (lowest_waiting ws))
@@ -197,10 +193,3 @@ module _ (m : List (List ℕ)) (base limit : ℕ) where
         let b = ap lowest_waiting e in
         let c = lowest-done d f h z in
         omega arith
-
-  -- Case: the survey has visited no slot.
-  pub deep-start : (f : SlotsLeft) → IsDeep (reach_of m limit (places_of f)) (limit + 1) limit [] f
-  deep-start f =
-      let z : limit - limit ≡ 0 = omega arith in
-      let a = raised-none (limit - limit) (reach_of m limit (places_of f)) z in
-      record { is = omega arith }

@@ -17,7 +17,7 @@ use Rattle.capn_walk.specs.inner.Verdict.{Gives, Refuses, accepted, refused, aft
 use Rattle.capn_walk.specs.View.{slots_below}
 use Rattle.capn_walk.specs.Index.{entry_of, entered, entries_by, entries, entries_of}
 use Rattle.capn_walk.specs.inner.IndexRoom.{laid, IsLaid}
-use Rattle.capn_walk.proofs.shared.Judge.{judge-more, judge-stops, judge-pays, after-after, after-none}
+use Rattle.capn_walk.proofs.shared.Judge.{judge-more, judge-stops, judge-pays, after-after}
 
 -- ---- a room
 
@@ -120,16 +120,6 @@ module _ (left : ℕ) (vs : List Visit) (n : ℕ) where
     pub within : paid ≤ left
     pub few : visits + owed ≤ paid + n
 
-  pub way-ends : (o p k : ℕ) → IsOnWay [] o p k → Gives left vs n p k
-  way-ends o p k u =
-      let a : p + 0 ≡ p = omega arith in
-      let b : k + 0 ≡ k = omega arith in
-      record {
-        is = u.is ∙ ap₂ accepted a b;
-        within = u.within;
-        few = let h = u.few in omega arith;
-      }
-
   way-next : (here rest : List Visit) (o p k q j : ℕ) → IsOnWay (here ++ rest) (o + 1) p k
       → Gives (left - p) here 1 q j → IsOnWay rest o (p + q) (k + j)
   way-next here rest o p k q j u g =
@@ -167,15 +157,6 @@ module _ (left : ℕ) (vs : List Visit) (n : ℕ) where
   way-refuses whole here rest owes o p k t e f u r =
       let v = rw (e, f) at u in
       way-stops here rest o p k t v r
-
-pub way-begins : (left : ℕ) (vs : List Visit) (n : ℕ) → IsOnWay left vs n vs n 0 0
-way-begins left vs n =
-    let z : left - 0 ≡ left = omega arith in
-    record {
-      is = sym (after-none (judge left vs)) ∙ ap (λ (c : ℕ). after 0 0 (judge c vs)) (sym z);
-      within = omega arith;
-      few = omega arith;
-    }
 
 -- ---- an object
 
@@ -225,8 +206,8 @@ module _ {A : Type 0} (f : Entry → A) (whole here rest : List Entry) (e : whol
       let n = ap length e ∙ length-append here rest in
       omega arith
 
--- if an object's entry is written, then the entries `below`, and then the span of the object's entry is set, the
--- entries `es` are written
+-- once an object's entry and the entries `below` are written, and the span of the object's entry is set, the entries
+-- `es` are written
 module _ {A : Type 0} (f : Entry → A) (es : List Entry) (t : Target) (below : List Entry) (e : es ≡ entered t below)
     (i j : ℕ) (old first mid new : List A) (q : first ≡ set old i (f (entry_of t 1)))
     (h : IsLaid f below (i + 1) first mid j)

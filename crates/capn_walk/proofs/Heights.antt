@@ -123,6 +123,5 @@ pub depths-heights : DepthsAreHeights
 depths-heights m limits v depth is deep =
     let r = root-of m limits is.accepted (target m root) refl in
     let all = rw (from-root m (base limits.tariff) limits.depth r.found r.is r.kind) at is.accepted.within.all in
-    one-depth m limits depth (reach m limits.depth root) deep
-    (is-depth m limits r.found r.is r.kind is.accepted)
+    one-depth m limits depth (reach m limits.depth root) deep (is-depth m limits r.found r.is r.kind is.accepted)
     ∙ reach-at m (base limits.tariff) v root limits.depth is.is all

@@ -190,7 +190,7 @@ module _ (m : List (List ℕ)) where
     paid-here : (d : ℕ) → AllPay (visits m base d at) → Paid d
     paid-here d h = paid-by d (target m at) refl h
 
-  -- ---- entries that stand in the index `all` from index `i` on
+  -- ---- entries of the message's index `all`, from entry `i` on
 
   module _ (all : List Entry) where
     abbrev Stands : ℕ → List Entry → Type 0
@@ -207,8 +207,8 @@ module _ (m : List (List ℕ)) where
         let e : i + length xs + k ≡ i + (length xs + k) = omega arith in
         ap (entry_at all) e ∙ h (length xs + k) (omega arith) ∙ get_or-append-add xs ys k _
 
-    -- `IsReadable` is true of the entry at index `i`, which has the target `t` and the span `n`, if the index ends at
-    -- `end`
+    -- `IsReadable` is true of entry `i` of `all`, which has the target `t` and the span `n`, if `all` ends after `end`
+    -- entries
     record ReadsBy (t : Target) (n end i : ℕ) : Type 0 where
       inside : IsInMessage m t
       below : (j : ℕ) → j < length (slots_below t) → (beside all (i + 1) j < i + n)
@@ -228,14 +228,14 @@ module _ (m : List (List ℕ)) where
       within = let w = r.within in omega arith;
     }
 
-    -- the `n` entries from index `i` on are those of the slot at `at` and of all slots below it
+    -- the `n` entries from index `i` on are the entries of the slot at `at` and of all slots below it
     record Slot (at : Place) (i n : ℕ) : Type 0 where
       is : kept_of (target m at) ≡ Ok (entry_target (entry_at all i))
       span : (entry_at all i).span ≡ n
       some : 0 < n
       each : (k : ℕ) → k < n → Reads (i + n) (i + k)
 
-    -- the `n` entries from index `i` on are those of the slots at `ps` and of all slots below them
+    -- the `n` entries from index `i` on are the entries of the slots at `ps` and of all slots below them
     record Slots (ps : List Place) (i n : ℕ) : Type 0 where
       below : (j : ℕ) → j < length ps → (beside all i j < i + n)
           × (kept_of (target m (get_or ps j root)) ≡ Ok (entry_target (entry_at all (beside all i j))))
@@ -296,7 +296,7 @@ module _ (m : List (List ℕ)) where
               → ((k : ℕ) → k < b → Reads (i + a + b) (i + a + k)) → (k : ℕ) → k < n → Reads (i + n) (i + k)
           each-by i a n b e one more k l = each-or i a n b e one more k l (below-or k a)
 
-    -- Case: entry `i` has the target `t`, and then come the entries of the slots below `t`.
+    -- Case: entry `i` has the target `t`, and the entries of the slots below `t` follow.
     module _ (i n : ℕ) (t : Target) (is : entry_at all i ≡ entry_of t (1 + n)) (inside : IsInMessage m t)
         (s : Slots (slots_below t) (i + 1) n) where
       reads-here : Reads (i + suc n) i
@@ -320,8 +320,7 @@ module _ (m : List (List ℕ)) where
       reads-each (suc k) l =
           let x : i + 1 + k ≡ i + suc k = omega arith in
           let y : i + 1 + n ≡ i + suc n = omega arith in
-          subst (λ (z : ℕ). Reads z (i + suc k)) y
-          (subst (λ (z : ℕ). Reads (i + 1 + n) z) x (s.each k (omega arith)))
+          subst (λ (z : ℕ). Reads z (i + suc k)) y (subst (λ (z : ℕ). Reads (i + 1 + n) z) x (s.each k (omega arith)))
 
       slot-of : (at : Place) (N : ℕ) → target m at ≡ Ok t → N ≡ suc n → Slot at i N
       slot-of at N e z = record {
@@ -408,8 +407,7 @@ module _ (m : List (List ℕ)) (b : ℕ) where
   in-order-slots d h [] a = refl
   in-order-slots d h (p ∷ ps) a =
       map-append (λ (e : Entry). Ok (entry_target e)) (entries m d p) (entries_of m d ps)
-      ∙ ap₂ (λ (x y : List (Result Target Fault)). x ++ y)
-      (h p (all-front (visits m b d p) (visits_of m b d ps) a))
+      ∙ ap₂ (λ (x y : List (Result Target Fault)). x ++ y) (h p (all-front (visits m b d p) (visits_of m b d ps) a))
       (in-order-slots d h ps (all-back (visits m b d p) (visits_of m b d ps) a))
       ∙ sym (map-append (λ (v : Visit). kept_of (target m (place_of v))) (visits m b d p) (visits_of m b d ps))
 

@@ -55,8 +55,7 @@ module _ (m : List (List ℕ)) (base : ℕ) where
         )
 
 module _ (m : List (List ℕ)) (limits : Bounds) (some : 0 < length (segment_at m 0)) (t : Target)
-    (e : target m root ≡ Ok t)
-    (kind : may_be_root t ≡ true) where
+    (e : target m root ≡ Ok t) (kind : may_be_root t ≡ true) where
   pub surveyed : (s : Measured)
       → SurveysAs m limits.budget 1 (visits m (base limits.tariff) limits.depth root) (Ok s)
       → IsSurvey m limits s.survey

@@ -38,7 +38,7 @@ stops-at-once b at e vs h = record {
 }
 
 module _ (m : List (List ℕ)) where
-  -- if the root's target `t` is one that a root may have, the visits of the walk are those of the root's slot and of
+  -- if `may_be_root` is true of the root's target `t`, the visits of the walk are the visits of the root's slot and of
   -- all slots below the root
   pub from-root : (base d : ℕ) (t : Target) → target m root ≡ Ok t → may_be_root t ≡ true
       → root_visits m base d ≡ visits m base d root

@@ -70,8 +70,7 @@ module _ (m : List (List ℕ)) where
       rw (← same-found at found (targets.Content i.segment i.start (shapes.Many W0 n) i.pads) e i.is) (refl, refl)
   shows at found (numbers a xs) e i =
       rw (← same-found at found (targets.Content i.segment i.start (shapes.Many (list_width a) (length xs)) i.pads) e
-      i.is)
-      (of-numbers a i.segment i.start i.pads xs i.inside)
+      i.is) (of-numbers a i.segment i.start i.pads xs i.inside)
   shows at found (links ts) e i =
       rw (← same-found at found (targets.Content i.segment i.start (shapes.Many Link (count ts)) i.pads) e i.is)
       (record { kind = refl; len = refl; links = refl; slot = λ j h. slot-at ts i.segment i.start j i.inside h })

@@ -67,27 +67,22 @@ pub stepped-memory : (base depth budget : ℕ) (t : Target) → stepped base dep
 stepped-memory base depth budget targets.Nil e = absurd cc
 stepped-memory base depth budget (targets.Cap k) e = absurd cc
 stepped-memory base depth budget (targets.Content s start shape pads) e =
-    pick (λ (r : Result Target Fault). r ≡ Err faults.Memory → ⊥) (depth == 0) _ _
-    (λ z f. absurd cc)
+    pick (λ (r : Result Target Fault). r ≡ Err faults.Memory → ⊥) (depth == 0) _ _ (λ z f. absurd cc)
     (λ z. pick (λ (r : Result Target Fault). r ≡ Err faults.Memory → ⊥) (nat_lt budget (price base shape + pads)) _ _
-    (λ over f. absurd cc)
-    (λ within f. absurd cc)) e
+    (λ over f. absurd cc) (λ within f. absurd cc)) e
 
--- if a step to content gives that content, `depth` is above 0, and the price is at most `budget`
+-- if a step to content gives that content, then `depth` is above 0, and the price is at most `budget`
 pub content-taken : (base depth budget s start pads : ℕ) (shape : Shape) →
     stepped base depth budget (Ok (targets.Content s start shape pads)) ≡ Ok (targets.Content s start shape pads) →
     (0 < depth) × (price base shape + pads ≤ budget)
 content-taken base depth budget s start pads shape =
     pick (λ (r : Result Target Fault). r ≡ Ok (targets.Content s start shape pads) → (0 < depth)
-    × (price base shape + pads ≤ budget)) (depth == 0) _ _
-    (λ z e. absurd cc)
+    × (price base shape + pads ≤ budget)) (depth == 0) _ _ (λ z e. absurd cc)
     (λ z. pick (λ (r : Result Target Fault). r ≡ Ok (targets.Content s start shape pads) → (0 < depth)
-    × (price base shape + pads ≤ budget))
-    (nat_lt budget (price base shape + pads)) _ _
-    (λ over e. absurd cc)
+    × (price base shape + pads ≤ budget)) (nat_lt budget (price base shape + pads)) _ _ (λ over e. absurd cc)
     (λ within e. (grind (arith, nat_tests), grind (arith, nat_tests))))
 
--- if a step to the slot's target gives the fault `e`, the visits of the slot are refused with `e`
+-- if a step to the slot's target gives the fault `e`, then the visits of the slot are refused with `e`
 pub step-refuses : (m : List (List ℕ)) (base : ℕ) (at : Place) (depth budget : ℕ) (t : Target) (e : Fault) (s : Stopped)
     → target m at ≡ Ok t
     → stepped base depth budget (Ok t) ≡ Err e → s ≡ record { fault = e; place = at; paid = 0; visits = 1 }
@@ -98,7 +93,7 @@ step-refuses m base at depth budget t e s is h k = rw k (record {
   few = omega arith;
 })
 
--- if segment 0 has a word, and the root's target `t` is one that a root may have, a step to `t` gives the same result
+-- if segment 0 has a word, and `may_be_root` is true of the root's target `t`, then a step to `t` gives the same result
 -- as a step to the root
 pub step-to-root : (m : List (List ℕ)) (base depth budget : ℕ) (t : Target) → 0 < length (segment_at m 0)
     → target m root ≡ Ok t → may_be_root t ≡ true
@@ -106,8 +101,7 @@ pub step-to-root : (m : List (List ℕ)) (base depth budget : ℕ) (t : Target) 
 step-to-root m base depth budget t some is kind =
     let r : rooted (target m root) ≡ Ok t = rw (is, kind) refl in
     pick (λ (r : Result Target Fault). stepped base depth budget (Ok t) ≡ r) (length (segment_at m 0) == 0) _ _
-    (λ z. absurd (grind (arith, nat_tests)))
-    (λ z. ap (stepped base depth budget) (sym r))
+    (λ z. absurd (grind (arith, nat_tests))) (λ z. ap (stepped base depth budget) (sym r))
 
 pub entered-root : (m : List (List ℕ)) (b d l base depth budget : ℕ) (t : Target) → b ≡ base → d ≡ depth → l ≡ budget
     → 0 < length (segment_at m 0) → target m root ≡ Ok t → may_be_root t ≡ true

@@ -284,8 +284,7 @@ module _ (m : List (List ℕ)) (base : ℕ) where
             let u = rw (coming-stop d ws f rest at next) at s.under in
             record {
               is = inr (stops m budget vs n (visits m base d at) (coming d ws rest) (owed f + owed_by ws) paid made cap
-                  e
-                  at u h);
+                  e at u h);
               within = u.within;
               few = let w = u.few in omega arith;
             }

@@ -27,7 +27,7 @@ use Rattle.capn_target.proofs.shared.Inside.{found-inside}
 
 -- ---- a target, given the target that its entry describes (`kept`)
 
--- `kept t` is content at word `start` of segment `s`, with the shape `shape` or any shape of rows
+-- `kept t` is content at word `start` of segment `s`, with the shape `shape` or with some shape of rows
 abbrev KeptAs : Target → ℕ → ℕ → Shape → Type 0
 KeptAs t s start shape = (kept t ≡ targets.Content s start shape 0)
     ⊎ ((c a b span : ℕ) × (kept t ≡ targets.Content s start (shapes.Rows c a b span) 0))

@@ -60,8 +60,7 @@ text_value = record {
 -- words.
 two_rows : index_of
     ((0x1000000000000 ∷ 0x2700000001 ∷ 0x1000100000008 ∷ 7 ∷ 0 ∷ 8 ∷ 0xfffffffc ∷ []) ∷ []) usual
-    ≡ struct 1 0 1 4
-    ∷ record { start = 2; segment = 0; count = 2; span = 3; words = 1; slots = 1; kind = kinds.Rows }
+    ≡ struct 1 0 1 4 ∷ record { start = 2; segment = 0; count = 2; span = 3; words = 1; slots = 1; kind = kinds.Rows }
     ∷ null ∷ struct 6 0 0 1 ∷ []
 unfolding entries target pointer_of
 two_rows = refl

@@ -8,7 +8,7 @@ use Rattle.capn_walk.specs.declared.kind.Kind.{Kind}
 use Rattle.capn_walk.specs.declared.kind.Kind.TheVariants as kinds
 use Rattle.capn_walk.specs.View.{kind_of, len_of, numbers_in}
 
--- The number of those elements of a list that are not numbers.
+-- `others k n`: the number of elements that are not numbers, in a list of `n` elements whose view has the kind `k`.
 abbrev pub others : Kind → ℕ → ℕ
 others kinds.Voids n = n
 others kinds.Links n = n

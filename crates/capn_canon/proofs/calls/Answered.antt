@@ -50,5 +50,4 @@ module _ (form : Form) (bs : List ℕ) (limits : Bounds) (out : List ℕ) (n : �
     pub answers_form : (v : Tree) → Denotes form bs limits v → IsCanonicalForm out limits v
     answers_form v k =
         answer_form h.message limits out n h.answer (is_message form bs limits.message_words h.message few h.reads)
-        small shallow v
-        (denoted_here form bs limits h.message v h.reads k)
+        small shallow v (denoted_here form bs limits h.message v h.reads k)

@@ -1,6 +1,5 @@
 -- Lemmas on the comparison of two messages. (For `comparison.rt`.)
-use Rattle.std.proofs.Common.{◌≡◌, ◌↔◌, ◌^◌, ◌≤◌, ℕ, List, Bool, IsTrue, Result, Ok, Err, IfOk, IfErr}
-use Rattle.std.proofs.Common.{IsOk, None, Some}
+use Rattle.std.proofs.Common.{◌≡◌, ◌↔◌, ◌^◌, ◌≤◌, ℕ, List, Bool, IsTrue, Result, Ok, Err, IfOk, IfErr, IsOk, None, Some}
 use Rattle.std.proofs.Common.{ap, sym, subst, ◌∙◌, refl}
 use Rattle.capn_words.specs.Message.{IsMessage}
 use Rattle.capn_value.specs.Tree.{Tree}
@@ -8,56 +7,18 @@ use Rattle.capn_value.specs.FirstCap.{first_cap}
 use Rattle.capn_value.specs.Same.{Same}
 use Rattle.capn_walk.specs.Accepted.{IsValueOf, root}
 use Rattle.capn_walk.specs.Limits.{Bounds}
-use Rattle.capn_walk.specs.ValueAt.{IsAt}
 use Rattle.capn_walk.proofs.shared.Unique.{unique}
 use Rattle.capn_layout.specs.Layout.{canon}
-use Rattle.capn_canon.specs.declared.message_refusal.MessageRefusal.{MessageRefusal}
-use Rattle.capn_canon.specs.declared.message_refusal.MessageRefusal.TheVariants as messages
 use Rattle.capn_canon.specs.declared.refusal.Refusal.{Refusal}
 use Rattle.capn_canon.specs.declared.refusal.Refusal.TheVariants as refusals
 use Rattle.capn_canon.specs.declared.same_refusal.SameRefusal.{SameRefusal}
 use Rattle.capn_canon.specs.declared.same_refusal.Side.{Side}
 use Rattle.capn_canon.specs.declared.same_refusal.Side.TheVariants.{First, Second}
 use Rattle.capn_canon.specs.CanonicalLength.{HasBytes}
-use Rattle.capn_canon.specs.MessageRefusal.{HasNoBytes, IsMessagePaidWithin}
-use Rattle.capn_canon.specs.Refusal.{IsPaidWithin}
-use Rattle.capn_canon.specs.RefusalOf.{IsOfMessage}
 use Rattle.capn_canon.specs.SameMessages.{SaysSame, IsUnfit, IsRefusedOn, IsNotCompared}
 use Rattle.capn_canon.proofs.shared.NotRefused.{accepted-not_refused}
 use Rattle.capn_canon.proofs.theorem.EqualExactlySame.{equal_exactly_same}
 use Rattle.capn_canon.proofs.theorem.Headline.{denoted_fits, denoted_in_range}
-
-pub unfit : (m : List (List ℕ)) (limits : Bounds) (r : MessageRefusal) (e : Refusal) → HasNoBytes m limits r
-    → IsOfMessage r e → IsUnfit m limits e
-unfit m limits (messages.Walk s) e h o =
-    subst (λ (x : Refusal). IsUnfit m limits x) (sym o) (h, λ q. cc)
-unfit m limits (messages.Capability k) e h o =
-    subst (λ (x : Refusal). IsUnfit m limits x) (sym o) (h, λ q. cc)
-
-pub unfit-paid : (budget : ℕ) (r : MessageRefusal) (e : Refusal) → IsMessagePaidWithin budget r → IsOfMessage r e
-    → IsPaidWithin budget e
-unfit-paid budget (messages.Walk s) e h o = subst (λ (x : Refusal). IsPaidWithin budget x) (sym o) h
-unfit-paid budget (messages.Capability k) e h o = subst (λ (x : Refusal). IsPaidWithin budget x) (sym o) tt
-
-pub first-refused : (a b : List (List ℕ)) (limits : Bounds) (e : SameRefusal) → e.side ≡ First
-    → IsUnfit a limits e.refusal → IsNotCompared a b limits e
-first-refused a b limits e s u = subst (λ (x : Side). IsRefusedOn a b limits x e.refusal) (sym s) u
-
-pub second-refused : (a b : List (List ℕ)) (limits : Bounds) (e : SameRefusal) → HasBytes a limits
-    → e.side ≡ Second → IsUnfit b limits e.refusal → IsNotCompared a b limits e
-second-refused a b limits e h s u = subst (λ (x : Side). IsRefusedOn a b limits x e.refusal) (sym s) (h, u)
-
-pub says-same : (a b : List (List ℕ)) (limits : Bounds) (same : Bool) → HasBytes a limits → HasBytes b limits
-    → ((v w : Tree) → IsAt a root v → IsAt b root w → IsTrue same ↔ Same v w) → SaysSame a b limits same
-says-same a b limits same h g s = record {
-  one = h.0;
-  two = g.0;
-  first = h.1;
-  second = g.1;
-  first_free = h.2;
-  second_free = g.2;
-  answer = s h.0 g.0 h.1.is g.1.is;
-}
 
 module _ (a b : List (List ℕ)) (limits : Bounds) (ia : IsMessage a) (ib : IsMessage b) (small : limits.budget ≤ 2 ^ 28)
     (shallow : limits.depth ≤ 256) where

@@ -64,7 +64,7 @@ pub found_short : {T : Type 0} (r : Result T Refusal) (bytes_of : T → List ℕ
 found_short r bytes_of price_of form bs limits few small shallow =
     IfOk-weaker r _ _ (λ c h. answers_length form bs limits (bytes_of c) (price_of c) h few small shallow)
 
--- A property `Q` that follows from `IsCanonicalForm` holds of an `Ok` result and any value that `bs` denote.
+-- A property `Q` that follows from `IsCanonicalForm` holds of an `Ok` result and every value that `bs` denote.
 pub found_form : {T : Type 0} (r : Result T Refusal) (bytes_of : T → List ℕ) (price_of : T
     → ℕ) (form : Form) (bs : List ℕ) (limits : Bounds) (Q : T → Tree → Type 0) →
     ((c : T) (v : Tree) → IsCanonicalForm (bytes_of c) limits v → Q c v) →

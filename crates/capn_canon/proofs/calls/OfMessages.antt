@@ -27,7 +27,7 @@ pub answered_short : {T E : Type 0} (r : Result T E) (bytes_of : T → List ℕ)
 answered_short r bytes_of price_of m limits is small shallow =
     IfOk-weaker r _ _ (λ c h. answer_length m limits (bytes_of c) (price_of c) h is small shallow)
 
--- A property `Q` that follows from `IsCanonicalForm` holds of an `Ok` result and any value of `m`.
+-- A property `Q` that follows from `IsCanonicalForm` holds of an `Ok` result and every value of `m`.
 pub answered_form : {T E : Type 0} (r : Result T E) (bytes_of : T → List ℕ) (price_of : T
     → ℕ) (m : List (List ℕ)) (limits : Bounds)
     (Q : T → Tree → Type 0) → ((c : T) (v : Tree) → IsCanonicalForm (bytes_of c) limits v → Q c v)

@@ -56,11 +56,6 @@ own_answer bs ws vs bare same limits c told so =
       priced = here.pays;
     }
 
-pub own_message : (m : List (List ℕ)) (bs : List ℕ) (price : ℕ) (limits : Bounds) (only : IsOnlySegment m bs)
-    (own : List ℕ) → AnswersMessage (only.0 ∷ []) limits own price → AnswersMessage m limits own price
-own_message m bs price limits only own answer =
-    subst (λ (n : List (List ℕ)). AnswersMessage n limits own price) (sym only.1) answer
-
 pub own_short : (bs ws : List ℕ) → IsBare bs ws → length bs < 2 ^ 34
 own_short bs ws bare =
     let l = length-bytes ws in let e = ap length bare.same in let r = bare.room in omega arith

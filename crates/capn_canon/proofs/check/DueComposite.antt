@@ -25,8 +25,8 @@ use Rattle.capn_canon.proofs.check.DueWords.{rows-of, same-number}
 use Rattle.capn_canon.proofs.reading.LaidPointers.{rows-names}
 use Rattle.capn_canon.proofs.reading.OneSegment.{here}
 
--- A tag word is laid out at the next free word `to`, and `n` rows of `a` words and `b` slots follow the tag word. Their
--- price can be paid, and values are due at their slots.
+-- A tag word is laid out at the next free word `to`, and `n` rows of `a` words and `b` slots follow the tag word. The
+-- price of the list can be paid, and the pass must find values at the slots of the rows.
 pub record DueTagged (all : List ℕ) (base from to d left span : ℕ) : Type 0 where
   pub n : ℕ
   pub a : ℕ

@@ -68,8 +68,8 @@ module _ (all : List ℕ) (base from to d left : ℕ) (h : DueValue all base fro
           (due-price all base from to d left h to (shapes.Many width n)
           (list-names all small from to n width (plain-too width plain) order (omega arith) few word) deep).0
 
--- A list of `n` pointers is laid out at the next free word `to`. Its price can be paid, and values are due at its
--- elements.
+-- A list of `n` pointers is laid out at the next free word `to`. Its price can be paid, and the pass must find
+-- values at its elements.
 pub record DueLinks (all : List ℕ) (base to n d left : ℕ) : Type 0 where
   pub room : to + n ≤ length all
   pub cheap : base + n ≤ left

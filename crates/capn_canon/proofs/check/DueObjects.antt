@@ -56,8 +56,8 @@ module _ (all : List ℕ) (base from to d left : ℕ) (h : DueValue all base fro
 
 -- ---- a struct
 
--- A struct of `a` words and `b` slots is laid out at the next free word `to`. Its price can be paid, and values are due
--- at its slots.
+-- A struct of `a` words and `b` slots is laid out at the next free word `to`. Its price can be paid, and the pass
+-- must find values at its slots.
 pub record DueStruct (all : List ℕ) (base from to d left : ℕ) : Type 0 where
   pub a : ℕ
   pub b : ℕ

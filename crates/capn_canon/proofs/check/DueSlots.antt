@@ -1,5 +1,5 @@
--- If values are due at slots, a value is due at the first slot. Once the pass finds that value, the other values are
--- due after it. (For the cycle `pass`, `open_composite`, `open_pointers` and `open_struct`.)
+-- If the pass must find values at slots, it must find a value at the first slot, and then the other values. (For the
+-- cycle `pass`, `open_composite`, `open_pointers` and `open_struct`.)
 use Rattle.std.proofs.Common.{◌≡◌, ℕ, suc, ◌+◌, ◌-◌, ◌<◌, Bool, List, [], ◌∷◌, ◌++◌, length, Option}
 use Rattle.std.proofs.Common.{Some, None, refl, ap, sym, subst, ◌∙◌, arith}
 use Rattle.std.specs.Option.{option_or}
@@ -100,7 +100,7 @@ module _ (all : List ℕ) (base : ℕ) where
       due = first-due p.from p.next p.depth p.left parts.0 parts.1 inside whole;
     }
 
-    -- If the pass finds a value at the first slot of `p`, values are due at the slots after it (`behind`).
+    -- If the pass `p` finds a value at its first slot, it must find values at the slots after the first (`behind`).
     pub due-behind : {deep : Bool} {least low : ℕ} (g : Progress) → FindsFirst all base deep p least g low
         → Due all base (behind p g)
     due-behind g f =
@@ -184,7 +184,7 @@ module _ (all : List ℕ) (base : ℕ) where
           };
         }
 
-    -- If the pass finds values at the slots of the first row, the other `n - 1` rows are due after them.
+    -- If the pass finds values at the slots of the first row, it must then find the other `n - 1` rows.
     pub rows-due : {deep : Bool} {least low : ℕ} (met : ℕ) (g : Progress)
         → FindsSlots all base deep (from + a) b to d left met least g low
         → DueRows all base a b (from + a + b) (n - 1) g.next d g.left

@@ -1,4 +1,4 @@
--- The kind of the value that a word of a layout points to, by the word's lowest bits, and the fields of the word. (For
+-- The lowest bits and the fields of a pointer word in a layout decide the kind of the value that it points to. (For
 -- `DueComposite`, `DueLists` and `DueObjects`.)
 use Rattle.std.proofs.Common.{◌≡◌, ◌≢◌, ◌⊎◌, inl, inr, ℕ, zero, suc, ◌+◌, ◌-◌, ◌*◌, ◌%◌, ◌^◌, ◌<◌, ◌≤◌, ◌==◌, ◌&&◌}
 use Rattle.std.proofs.Common.{Bool, true, false, if◌then◌else◌, List, length, None, Ok, pos, negsuc, refl, ap, sym}
@@ -32,13 +32,13 @@ low-struct : (b : Bool) (n x y : ℕ) → n < 2 ^ 29
 low-struct true n x y h = inl (omega arith)
 low-struct false n x y h = inr (omega arith)
 
--- The word `x` is the pointer to an empty struct, or its low half is that of the pointer to a struct or a list with the
--- offset `n`. (Our own.)
+-- The word `x` is the pointer to an empty struct, or the low half of `x` is that of a pointer with the offset `n` to a
+-- struct or a list. (Our own.)
 abbrev pub IsNear : ℕ → ℕ → Type 0
 IsNear x n = (x ≡ 0xffff_fffc) ⊎ ((x % 2 ^ 32 ≡ 4 * n) ⊎ (x % 2 ^ 32 ≡ 4 * n + 1))
 
 module _ (from to : ℕ) (order : from < to) (room : to ≤ 2 ^ 29) where
-  -- If the pointer of `v` is not null, it points to an empty struct, or to a struct or a list at the word `to`.
+  -- If `v` has no capability and its pointer is not null, that pointer leads to an empty struct or to `to` (`IsNear`).
   pub near-word : (v : Tree) → first_cap v ≡ None → point v from to ≢ 0 → IsNear (point v from to) (to - from - 1)
   unfolding point
   near-word nil e z = absurd (z refl)

@@ -169,8 +169,7 @@ module _ (all : List ℕ) (base : ℕ) (deep : Bool) where
               f.values f.price f.below number below;
           comes = record {
             next_is = yn ∙ subst (λ (k : ℕ). k + sizes f.values
-                ≡ p.next + size (node (take a (drop p.next all)) f.values))
-                (sym gn) ends;
+                ≡ p.next + size (node (take a (drop p.next all)) f.values)) (sym gn) ends;
             left_is = omega arith;
             visits_are = omega arith;
             fits = y.fits;

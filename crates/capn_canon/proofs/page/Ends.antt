@@ -134,6 +134,5 @@ module _ (all : List ℕ) where
               (stand-cons all (to + n / 64) (slice_index (drop (n / 64) (drop to all)) 0 % 2 ^ (n % 64)) []
               (omega arith)
               (sym (mod-eq_of_lt {n = slice_index (drop (n / 64) (drop to all)) 0} {m = 2 ^ (n % 64)} (omega arith)
-              ∙ at))
-              (stand-none all (suc (to + n / 64))))
+              ∙ at)) (stand-none all (suc (to + n / 64))))
         ]))

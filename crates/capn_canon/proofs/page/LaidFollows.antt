@@ -1,7 +1,7 @@
--- If values are at the places of their layout, their pointers follow the rules of the page. (For `ThePage`.)
-use Rattle.std.proofs.Common.{◌≡◌, ◌⊎◌, inl, inr, ℕ, zero, suc, ◌+◌, ◌*◌, ◌^◌, ◌<◌, ◌≤◌, List, [], ◌∷◌, ◌++◌}
-use Rattle.std.proofs.Common.{length, take, drop, slice_index, Option, Some, None, Ok, refl, ap, ap₂, sym, subst, ◌∙◌}
-use Rattle.std.proofs.Common.{arith, append_assoc}
+-- If values are laid out canonically, their pointers follow the rules of the page. (For `ThePage`.)
+use Rattle.std.proofs.Common.{◌≡◌, ◌⊎◌, inl, inr, ℕ, zero, suc, ◌+◌, ◌*◌, ◌^◌, ◌<◌, ◌≤◌, List, [], ◌∷◌, ◌++◌, length}
+use Rattle.std.proofs.Common.{take, drop, slice_index, Option, Some, None, Ok, refl, ap, ap₂, sym, subst, ◌∙◌, arith}
+use Rattle.std.proofs.Common.{append_assoc}
 use Rattle.std.specs.Prelude.{pos}
 use Rattle.std.specs.Option.{option_or}
 use Rattle.capn_words.specs.Message.{IsMessage, segment_at}
@@ -10,8 +10,8 @@ use Rattle.capn_words.specs.declared.space.Place.{Place}
 use Rattle.capn_words.specs.declared.pointer.Pointer.TheVariants.{Node}
 use Rattle.capn_words.specs.declared.pointer.Width.{Width}
 use Rattle.capn_words.specs.declared.pointer.Width.TheVariants.{W0, Link, Rows}
-use Rattle.capn_value.specs.Tree.{Tree, nil, node, voids, numbers, links, rows, cap, Trees, no_trees, tree}
-use Rattle.capn_value.specs.Tree.{Bodies, no_bodies, body, count, count_rows}
+use Rattle.capn_value.specs.Tree.{Tree, nil, node, voids, numbers, links, rows, cap, Trees, no_trees, tree, Bodies}
+use Rattle.capn_value.specs.Tree.{no_bodies, body, count, count_rows}
 use Rattle.capn_value.specs.FirstCap.{first_cap, first_in, first_in_rows}
 use Rattle.capn_value.specs.Trim.{kept_words}
 use Rattle.capn_target.specs.declared.target.Target.TheVariants as targets
@@ -31,9 +31,8 @@ use Rattle.capn_layout.proofs.shared.FirstBits.{plain-words}
 use Rattle.capn_canon.specs.PageForm.{Met, null, object, IsEmpty}
 use Rattle.capn_canon.specs.inner.WordsOfLayout.{IsLaidAt, AreLaidAt, RowsLaidAt}
 use Rattle.capn_canon.proofs.places.Compared.{laid-room, slots-first, slots-others, struct-is, struct-passes}
-use Rattle.capn_canon.proofs.places.Compared.{slots-here}
-use Rattle.capn_canon.proofs.places.Compared.{struct-to-slots, struct-size, links-is, links-passes, links-here}
-use Rattle.capn_canon.proofs.places.Compared.{links-to-slots}
+use Rattle.capn_canon.proofs.places.Compared.{slots-here, struct-to-slots, struct-size, links-is, links-passes}
+use Rattle.capn_canon.proofs.places.Compared.{links-here, links-to-slots}
 use Rattle.capn_canon.proofs.places.ComparedList.{list-size, list-passes, list-bits, plain-too}
 use Rattle.capn_canon.proofs.places.ComparedRows.{row-first, row-others, rows-is, rows-passes, rows-here, rows-to-slots}
 use Rattle.capn_canon.proofs.places.ComparedRows.{rows-size, kw, ks}
@@ -54,12 +53,8 @@ module _ (all : List ℕ) (message : IsMessage (all ∷ [])) where
   few-words : length all ≤ 2 ^ 29
   few-words = small all message
 
-  -- The visited pointers at and below the places `todo` follow the rules, if `to` is the next free word.
-  abbrev pub Goes : ℕ → ℕ → List Place → Type 0
-  Goes to end todo = (met : List Met) × Follows all to todo met
-
-  -- Case: an object at the slot `from` follows the rules, and the pointers of its slots and of `others` follow them
-  -- too.
+  -- Case: the object that the slot `from` points to follows the rules, and so do the pointers at and below its slots
+  -- and `others`.
   meets : (from to start : ℕ) (shape : Shape) (others : List Place)
       → target only (here from) ≡ Ok (targets.Content 0 start shape 0) → IsRight all to from start shape
       → (met : List Met) × Follows all (to + extent shape) (slots 0 start shape ++ others) met

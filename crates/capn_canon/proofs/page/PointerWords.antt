@@ -32,8 +32,7 @@ IsWordOf w _ = Unit {0}
 
 field-signed : (n : ℕ) → n < 2 ^ 30 → offset_field (signed n) ≡ n
 field-signed n h =
-    pick (λ o. offset_field o ≡ n) (nat_lt n (2 ^ 29)) (pos n) (negsuc (2 ^ 30 - suc n)) (λ e. refl)
-    (λ e. omega arith)
+    pick (λ o. offset_field o ≡ n) (nat_lt n (2 ^ 29)) (pos n) (negsuc (2 ^ 30 - suc n)) (λ e. refl) (λ e. omega arith)
 
 code-width : (c : ℕ) → c < 8 → width_code (width_of c) ≡ c
 code-width zero h = refl
@@ -94,7 +93,7 @@ itself from (negsuc n) e = back (nat_lt from n) refl e
 
 -- ---- pointers by their own offset
 
--- The pointer `p` is `made` with an offset that leads from `from` to `start`.
+-- For some offset `o` that leads from the word `from` to the word `start`, the pointer `p` is `made o`.
 abbrev Leads : ℕ → ℕ → (ℤ → Pointer) → Pointer → Type 0
 Leads from start made p = (o : ℤ) × (p ≡ made o) × (content_start from o ≡ Ok start)
 

@@ -1,4 +1,4 @@
--- If the pointers follow the rules of the page, values are at the places of their layout. (For `LaidFollows` and
+-- If pointers follow the rules of the page, the values are laid out canonically. (For `LaidFollows` and
 -- `ThePage`.)
 use Rattle.std.proofs.Common.{◌≡◌, ◌⊎◌, inl, inr, ℕ, zero, suc, ◌+◌, ◌*◌, ◌/◌, ◌^◌, ◌<◌, ◌≤◌, List, [], ◌∷◌, ◌++◌}
 use Rattle.std.proofs.Common.{length, take, drop, slice_index, Option, None, Ok, refl, ap, sym, subst, ◌∙◌, arith}
@@ -331,8 +331,7 @@ module _ (all : List ℕ) (message : IsMessage (all ∷ [])) where
       follows = subst (λ (m : ℕ). Follows all m others k.rest)
           (ap (λ (x : Bodies). to + 1 + n * (a + b) + sizes_in_rows x) (sym rows-same)
           ∙ rows-size all n a b span 0 start from to 0 h.named small rows-lies order (rows bs) rows-it o fits rows-ka
-          rows-kb rows-word rows-room rows-words.1)
-          k.follows;
+          rows-kb rows-word rows-room rows-words.1) k.follows;
     }
 
   -- ---- every value

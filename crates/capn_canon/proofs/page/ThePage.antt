@@ -122,8 +122,8 @@ module _ (bs ws : List ℕ) (limits : Bounds) (v : Tree) (are : AreLimits limits
   accepted-by-page = canonical_exactly_by_page bs ws v bare h.is
       (denoted_fits (ws ∷ []) limits v (bare_message ws bare.each bare.room) are.small_budget are.small_depth h)
 
--- If `told` says whether `bs` are canonical (`SaysCanonical`), it is true if and only if `bs` are words that follow the
--- rules.
+-- If `told` says whether `bs` are canonical (`SaysCanonical`), `told` is true if and only if `bs` are the bytes of
+-- words that follow the rules.
 pub check_is_of_the_page : (bs : List ℕ) (limits : Bounds) (told : Bool)
     → AreLimits limits.message_words limits.budget limits.depth → SaysCanonical bs limits told
     → IsTrue told ↔ ((ws : List ℕ) × IsBare bs ws × IsPageForm ws)

@@ -1,4 +1,4 @@
--- Words are canonical if and only if the value at the root is where its layout has it, and no word follows that layout.
+-- Words are canonical if and only if the value at the root is laid out canonically, and no word follows the layout.
 -- (For `CanonicalSurvey`, `DueRoot` and `ThePage`.)
 use Rattle.std.proofs.Common.{◌≡◌, ◌↔◌, ℕ, ◌+◌, ◌<◌, ◌≤◌, List, ◌∷◌, length}
 use Rattle.std.proofs.Common.{ap, sym, subst, ◌∙◌, arith}

@@ -1,5 +1,5 @@
--- An object is where its layout has it if and only if its own words pass the tests that the one pass makes, and each
--- object below it is where its layout has it. (For `check_numbers`, `open_composite`, `open_struct` and
+-- An object is laid out canonically if and only if its own words pass the tests that the one pass makes, and each
+-- object below is laid out canonically. (For `check_numbers`, `open_composite`, `open_struct` and
 -- `survey_bare_counted`.)
 use Rattle.std.proofs.Common.{◌≡◌, ◌⊎◌, inl, inr, ℕ, zero, suc, ◌+◌, ◌^◌, ◌<◌, ◌≤◌, List, [], ◌∷◌, ◌++◌}
 use Rattle.std.proofs.Common.{length, take, slice_index, Ok, refl, ap, ap₂, sym, subst, ◌∙◌, arith}
@@ -105,7 +105,7 @@ module _ (all : List ℕ) (a b s w from to pads : ℕ)
   narrow = let x = struct-sound.0 in let y = struct-sound.1 in let c = struct-is.count in let d = struct-is.number in
       (omega arith, omega arith)
 
-  -- If the struct is where its layout has it, trimming keeps all its words and slots, and the word of its pointer is
+  -- If the struct is laid out canonically, trimming keeps all its words and slots, and the word of its pointer is
   -- `struct_to`.
   pub struct-passes : IsLaidAt all v from to →
       (kept_words (take a (words_from (all ∷ []) s w)) ≡ a)

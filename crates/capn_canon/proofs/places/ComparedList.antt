@@ -1,4 +1,4 @@
--- A list without pointers is where its layout has it if and only if its pointer leads to the next free word, and no bit
+-- A list without pointers is laid out canonically if and only if its pointer leads to the next free word, and no bit
 -- is set past the end of the list. (For `DueLists`, `LaidFollows`, `NumbersInPlace` and `Stands`.)
 use Rattle.std.proofs.Common.{◌≡◌, ℕ, zero, suc, ◌+◌, ◌*◌, ◌/◌, ◌%◌, ◌^◌, ◌<◌, ◌≤◌, List, [], ◌∷◌}
 use Rattle.std.proofs.Common.{length, take, drop, slice_index, Ok, ap, ap₂, sym, subst, ◌∙◌, arith}

@@ -1,5 +1,5 @@
--- Rows are where their layout has them if and only if three conditions hold. Trimming keeps all words and slots of the
--- rows, the rows begin at the next free word, and each object below them is where its layout has it. (For
+-- Rows are laid out canonically if and only if three conditions hold. Trimming keeps all words and slots of the rows,
+-- the rows begin at the next free word, and each object below the rows is laid out canonically. (For
 -- `DueComposite`, `DueSlots`, `InPlace` and others.)
 use Rattle.std.proofs.Common.{◌≡◌, ℕ, suc, ◌+◌, ◌*◌, ◌^◌, ◌<◌, ◌≤◌, List, [], ◌∷◌, ◌++◌}
 use Rattle.std.proofs.Common.{length, slice_index, Ok, refl, ap, ap₂, sym, subst, ◌∙◌, arith}
@@ -125,8 +125,7 @@ module _ (all : List ℕ) (n a b span s w from to pads : ℕ)
       let body_is = subst (Stand all to) (ap (λ (t : Tree). lay t to) rows-is.is) h.content in
       let t : slice_index all to ≡ word_of (Node (pos n) x y) =
       stand-head all to (word_of (Node (pos (count_rows bs)) x y))
-      (row_contents x y bs (suc to) (to + own (rows bs)) ++ lays_in_rows bs (to + own (rows bs))) (omega arith)
-      body_is
+      (row_contents x y bs (suc to) (to + own (rows bs)) ++ lays_in_rows bs (to + own (rows bs))) (omega arith) body_is
       ∙ ap (λ (k : ℕ). word_of (Node (pos k) x y)) rows-is.count in
       let d = rows-sound.3 in
       let f = rows-names all small from to n x y order (omega arith) rows-few rows-sound.1 rows-sound.2 (omega arith) p

@@ -139,8 +139,7 @@ module _ (all : List ℕ) (base from to d : ℕ) (width : Width) (n : ℕ) (mess
         sound = listed-numbers.sound;
         free = listed-numbers.free;
         pays = pays-as _ (price base (shapes.Many width n) + 0) (price base (shapes.Many width n)) 1 1 (omega arith)
-            refl
-            (pays-object all base from d to 0 0 (shapes.Many width n) named deep (rw e pays-none));
+            refl (pays-object all base from d to 0 0 (shapes.Many width n) named deep (rw e pays-none));
         few = omega arith;
       }
 

@@ -1,5 +1,5 @@
--- Canonical words have the trimmed value at the root when they are read. The walk of canonical words pays exactly the
--- cost of that value. (For `EqualExactlySame`, `ReadBare` and `ThePage`.)
+-- The canonical words of a value have the trimmed value at the root. Their walk pays exactly the cost of the trimmed
+-- value. (For `EqualExactlySame`, `ReadBare` and `ThePage`.)
 use Rattle.std.proofs.Common.{◌≡◌, ℕ, zero, suc, ◌+◌, ◌*◌, ◌^◌, ◌<◌, ◌≤◌, List, [], ◌∷◌, ◌++◌}
 use Rattle.std.proofs.Common.{length, take, slice_index, Ok, pos, refl, ap, sym, subst, ◌∙◌, arith}
 use Rattle.std.proofs.lemmas.List.{length-take-le, append-nil}
@@ -178,8 +178,7 @@ module _ (all : List ℕ) (small : length all ≤ 2 ^ 29) where
         let k2 = shifted (to + length (lays ss to)) (to + sizes ss) (lays_in_rows bs (to + sizes ss)) (omega arith)
         (has-back all to (lays ss to) (lays_in_rows bs (to + sizes ss)) kids) in
         row-at a b from (take a ws) (front b (trimmed_each ss)) (trimmed_rows a b bs) lx lc
-        (has-words all from (take a ws) h1)
-        (reads-slots ss b (from + a) to h.0 (omega arith) h3 k1)
+        (has-words all from (take a ws) h1) (reads-slots ss b (from + a) to h.0 (omega arith) h3 k1)
         (reads-rows bs a b (from + a + b) (to + sizes ss) h.1 wide.2 (omega arith) h4 k2)
 
 -- The canonical words of `v`, read as a message of one segment, have the trimmed value at the root. There are no

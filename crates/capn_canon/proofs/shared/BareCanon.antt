@@ -114,8 +114,7 @@ mutual
       (below-take (2 ^ 64) (kept_words ws) ws r.0)
       (below-append (2 ^ 64) (take (kept_slots ss) (points ss (at + kept_words ws) to)) (lays ss to)
       (below-take (2 ^ 64) (kept_slots ss) (points ss (at + kept_words ws) to)
-      (points-below ss (at + kept_words ws) to h.2 (omega arith)))
-      (lays-below ss to h.2 r.1 (omega arith)))
+      (points-below ss (at + kept_words ws) to h.2 (omega arith))) (lays-below ss to h.2 r.1 (omega arith)))
   lay-below (voids n) at h r l = tt
   lay-below (numbers oct xs) at h r l = r
   lay-below (numbers a xs) at h r l =
@@ -149,7 +148,7 @@ mutual
       below-append (2 ^ 64) (lays ss at) (lays_in_rows bs (at + sizes ss)) (lays-below ss at h.0 r.1 (omega arith))
       (lays_in_rows-below bs (at + sizes ss) h.1 r.2 (omega arith))
 
--- ---- the laws
+-- ---- canonical words and bytes
 
 -- If `v` fits and is in range, each of its canonical words is below 2^64.
 pub words_are_words : (v : Tree) → Fits v → InRange v → AreWords (words v)

@@ -39,7 +39,7 @@ framed-message bs most m l h =
     let r = h.room in
     record { some = f.some; few = f.few; room = omega arith; each = f.each }
 
--- A message that `bs` are read as is within the bounds of messages (`IsMessage`), if `most` is a valid limit.
+-- If `most` is a valid limit and `bs` are read as `m`, then `m` is within the bounds of messages (`IsMessage`).
 pub is_message : (form : Form) (bs : List ℕ) (most : ℕ) (m : List (List ℕ)) → most ≤ most_message_words
     → Reads form bs most m → IsMessage m
 is_message forms.Bare bs most m l (ws, h, e) = subst IsMessage (sym e) (bare_message ws h.each h.room)

@@ -1,4 +1,4 @@
--- The canonical words of a trimmed value are those of the untrimmed value. (For `EqualExactlySame`.)
+-- A value and its trimmed value have the same canonical words. (For `EqualExactlySame`.)
 use Rattle.std.proofs.Common.{◌≡◌, ℕ, zero, suc, ◌+◌, ◌*◌, ◌≤◌, ◌==◌, max, Bool, true, false, List, [], ◌∷◌, ◌++◌, take}
 use Rattle.std.proofs.Common.{refl, ap, ap₂, sym, ◌∙◌, arith}
 use Rattle.std.proofs.lemmas.Bool.Decides.{nat_tests}
@@ -230,7 +230,7 @@ mutual
       (ap (λ (n : ℕ). lays_in_rows (trimmed_rows a b bs) (at + n)) (sizes-cut b ss (omega arith))
       ∙ lays-rows a b bs (at + sizes ss) (omega arith))
 
--- The canonical words of a trimmed value are those of the untrimmed value.
+-- The value `v` and its trimmed value have the same canonical words.
 pub words-trimmed : (v : Tree) → words (trimmed v) ≡ words v
 unfolding words
 words-trimmed v = ap₂ (λ (x : ℕ) (r : List ℕ). x ∷ r) (point-trimmed v 0 1) (lay-trimmed v 1)

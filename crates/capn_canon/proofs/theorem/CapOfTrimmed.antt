@@ -1,4 +1,4 @@
--- The first capability of a trimmed value is that of the untrimmed value, since trimming removes only null slots. (For
+-- A value and its trimmed value have the same first capability, since trimming removes no slots but null ones. (For
 -- `ThePage` and `TheTheorem`.)
 use Rattle.std.proofs.Common.{◌≡◌, ℕ, zero, suc, ◌≤◌, None, refl, ap, ap₂, sym, ◌∙◌, arith}
 use Rattle.std.specs.Option.{option_or}

@@ -95,7 +95,7 @@ two_rows = record {
 
 -- ---- words that break a rule
 
--- The object at the slot `at` follows the rules, and the pointers after that slot follow the rules.
+-- The object of the slot `at` follows the rules, and so do the pointers at and below its slots and `others`.
 record AtSlot (ws : List ℕ) (next : ℕ) (at : Place) (others : List Place) (start : ℕ) (shape : Shape) : Type 0 where
   pub right : IsRight ws next at.word start shape
   pub rest : List Met

@@ -1,5 +1,5 @@
--- Lemmas that a run over exactly one message has one text and one result, if its service does one thing with each
--- message. (For capn_tool.)
+-- Lemmas for capn_tool: a run over exactly one message has one text and one result, if the service does one thing with
+-- each message (`DoesOneThing`).
 use Rattle.std.proofs.Common.{◌≡◌, inl, inr, ℕ, List, Bool, true, false, Result, Ok, Err, refl, ap, sym, subst, ◌∙◌}
 use Rattle.capn_pack.proofs.shared.GroupLaws.{one_reading}
 use Rattle.capn_walk.specs.Limits.{Bounds}
@@ -20,8 +20,8 @@ use Rattle.capn_commands.specs.declared.fault.ToolFault.{ToolFault}
 use Rattle.capn_commands.specs.declared.fault.ToolFault.TheVariants as faults
 use Rattle.capn_commands.proofs.OnePiece.{misread_known, reads_of}
 
--- In the state `s` the service writes one text for the first message of an input, or refuses it for one reason, and not
--- both.
+-- In the state `s` the service writes at most one text for the first message of an input, refuses that message for at
+-- most one reason, and never does both.
 pub record DoesOneThing {S : Type 0} (serves : S → Position → List ℕ → List (List ℕ) → List ℕ → S → Type 0)
     (refuses : S → Position → List ℕ → List (List ℕ) → Refusal → Type 0) (s : S) : Type 0 where
   pub texts : (frame : List ℕ) (m : List (List ℕ)) (t u : List ℕ) (x y : S) → serves s start frame m t x

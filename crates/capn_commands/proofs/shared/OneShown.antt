@@ -1,4 +1,4 @@
--- Lemmas that the text shown for an input is unique. (For capn_tool.)
+-- Lemmas for capn_tool: the text shown for an input is unique.
 use Rattle.std.proofs.Common.{◌≡◌, ◌⊎◌, inl, inr, ℕ, Bool, List, [], ◌∷◌, ◌++◌, Option, Ok, Err, refl, ap, sym}
 use Rattle.std.proofs.Common.{subst, ◌∙◌}
 use Rattle.std.specs.Prelude.{◌||◌, if◌then◌else◌}

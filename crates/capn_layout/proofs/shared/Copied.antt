@@ -36,14 +36,6 @@ copied-words m s w n is h =
     let k : length (bytes_at m (record { segment = s; word = w }) (8 * n)) / 8 ≡ length ws = omega arith in
     ap₂ words_in k e ∙ words_of_bytes ws (below-take n (drop w seg) (below-drop w seg (is.each s)))
 
--- Let `bs` be the bytes of `n` words of `m`. Appending the words of `bs` to `p` appends these `n` words.
-pub copy-of : (m : List (List ℕ)) (s w n : ℕ) (p q : List ℕ) (bs : List ℕ) → IsMessage m
-    → w + n ≤ length (segment_at m s) → bs ≡ bytes_at m (record { segment = s; word = w }) (8 * n) →
-    q ≡ p ++ words_in (length bs / 8) bs → q ≡ p ++ take n (words_from m s w)
-copy-of m s w n p q bs is h eb eq =
-    eq ∙ ap (λ (xs : List ℕ). p ++ words_in (length xs / 8) xs) eb
-    ∙ ap (λ (xs : List ℕ). p ++ xs) (copied-words m s w n is h)
-
 -- Each word of segment `s` from word `w` on is below 2^64.
 pub part-below : (m : List (List ℕ)) (s w : ℕ) → IsMessage m → (i : ℕ) → slice_index (words_from m s w) i < 2 ^ 64
 part-below m s w is = below-drop w (segment_at m s) (is.each s)

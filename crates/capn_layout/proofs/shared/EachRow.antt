@@ -160,8 +160,7 @@ cells-whole m s w a b (suc n) =
     ap (λ (x : List ℕ). own ++ (slots ++ x)) (cells-whole m s (w + step) a b n)
     ∙ sym (append_assoc own slots (take (n * step) (words_from m s (w + step))))
     ∙ ap (λ (xs : List ℕ). xs ++ take (n * step) (words_from m s (w + step))) both
-    ∙ ap (λ (xs : List ℕ). take step (words_from m s w) ++ take (n * step) xs)
-    (sym (drop-drop step w (segment_at m s)))
+    ∙ ap (λ (xs : List ℕ). take step (words_from m s w) ++ take (n * step) xs) (sym (drop-drop step w (segment_at m s)))
     ∙ sym (take-plus step (n * step) (words_from m s w))
     ∙ ap (λ (k : ℕ). take k (words_from m s w)) z
 

@@ -29,7 +29,7 @@ pow-positive base (suc n) h = let e = pow-succ' base n in let k = pow-positive b
     positive zero b h k = absurd (omega arith)
     positive (suc a) b h k = let e : suc a * b ≡ b + a * b = omega arith in omega arith
 
--- If `xs` are the lowest digits of `w` in base `base`, `number base xs` is the remainder of `w` by `base ^ length xs`.
+-- If `xs` are the lowest digits of `w` in base `base`, `number base xs` is `w` modulo `base ^ length xs`.
 pub digits : (base : ℕ) → 0 < base → (xs : List ℕ) (w : ℕ)
     → ((i : ℕ) → i < length xs → slice_index xs i ≡ w / base ^ i % base) → number base xs ≡ w % base ^ length xs
 digits base p [] w h = let e = pow-zero base in rw e (omega arith)

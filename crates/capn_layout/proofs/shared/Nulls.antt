@@ -1,4 +1,4 @@
--- A slot is null exactly if its word is zero. (For `EachRow` and capn_canon.)
+-- A slot is null if and only if its word is zero. (For `EachRow` and capn_canon.)
 use Rattle.std.proofs.Common.{◌≡◌, ◌≢◌, ◌⊎◌, inl, inr, ℕ, suc, ◌+◌, ◌%◌, ◌≤◌, ◌==◌, true, false}
 use Rattle.std.proofs.Common.{List, length, take, Ok, refl, ap, ap₂, sym, subst}
 use Rattle.std.proofs.Common.{◌∙◌, arith}

@@ -52,8 +52,8 @@ unfolding words
 length_words v h = let a = length-lay v 1 h in let c : length (point v 0 1 ∷ lay v 1) ≡ suc (length (lay v 1)) = refl in
     omega arith
 
--- The number of canonical words of a value that fits is `1 + size v`, and at most 2^28 + 1. The size is at most the
--- value's cost, for any `base`.
+-- If `v` fits and is in range, the number of its canonical words is `1 + size v`, and at most 2^28 + 1. The size of
+-- `v` is at most the cost of `v`, for any `base`.
 pub room : (v : Tree) → Fits v → InRange v → (length (words v) ≡ 1 + size v) × ((base : ℕ) → size v ≤ cost base v)
     × (length (words v) ≤ 2 ^ 28 + 1)
 room v f r =

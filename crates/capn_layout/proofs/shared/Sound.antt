@@ -81,7 +81,7 @@ wide-words a b (body ws ss bs) h =
     let m : suc (count_rows bs) * (a + b) ≡ a + b + count_rows bs * (a + b) = omega arith in
     omega arith
 
--- ---- the law
+-- ---- values
 
 short-list : (t : Tree) → is_long t ≡ false → (elements t < 2 ^ 29) × (words_in_rows t < 2 ^ 29)
 short-list t h =

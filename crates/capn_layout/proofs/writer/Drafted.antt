@@ -1,12 +1,10 @@
 -- The first words of a slice of bytes, after some of its bytes are written. (For `bits.rt`, `draft.rt`,
 -- `number_list_words.rt` and others.)
-use Rattle.std.proofs.Common.{◌≡◌, ℕ, zero, suc, ◌+◌, ◌-◌, ◌*◌, ◌^◌, ◌<◌, ◌≤◌, List, [], ◌∷◌, ◌++◌, length, take}
-use Rattle.std.proofs.Common.{drop, set, replicate}
-use Rattle.std.proofs.Common.{refl, ap, ap₂, sym, subst, ◌∙◌, arith, append_assoc, append-nil, length-append}
-use Rattle.std.proofs.Common.{length-drop}
+use Rattle.std.proofs.Common.{◌≡◌, ℕ, zero, suc, ◌+◌, ◌-◌, ◌*◌, ◌^◌, ◌<◌, ◌≤◌, List, [], ◌∷◌, ◌++◌, length, take, drop}
+use Rattle.std.proofs.Common.{set, replicate, refl, ap, ap₂, sym, subst, ◌∙◌, arith, append_assoc, append-nil}
+use Rattle.std.proofs.Common.{length-append, length-drop}
 use Rattle.std.proofs.lemmas.List.{length-take-le, take-append-drop, take_at, drop_at, drop-drop, take-append-le}
-use Rattle.std.proofs.lemmas.List.{drop-append-le}
-use Rattle.std.proofs.lemmas.List.{drop-replicate, length-replicate}
+use Rattle.std.proofs.lemmas.List.{drop-append-le, drop-replicate, length-replicate}
 use Rattle.capn_words.specs.Message.{AreBytes, word_bytes, word_number, bytes, words_in}
 use Rattle.capn_words.proofs.shared.Words.{length-word_bytes, length-words_in, number-word_bytes, bytes_of_words}
 use Rattle.capn_layout.specs.Layout.{number, packed}
@@ -51,8 +49,7 @@ words-joined : (n k : ℕ) (xs ys : List ℕ) → length xs ≡ 8 * n
     → words_in (n + k) (xs ++ ys) ≡ words_in n xs ++ words_in k ys
 words-joined n k xs ys l =
     words-split n k (xs ++ ys)
-    ∙ ap₂ (λ (x y : List ℕ). x ++ y) (words-front n xs ys (omega arith))
-    (ap (words_in k) (drop_at xs ys (8 * n) l))
+    ∙ ap₂ (λ (x y : List ℕ). x ++ y) (words-front n xs ys (omega arith)) (ap (words_in k) (drop_at xs ys (8 * n) l))
 
 words-begin : (n : ℕ) (bs : List ℕ) → 8 * n ≤ length bs → words_in n (take (8 * n) bs) ≡ words_in n bs
 words-begin n bs h =
@@ -118,8 +115,7 @@ put-is n at w p q lt room fits h =
     let vs = words_in k after in
     let before : words_in n p ≡ us ++ (word_number old ∷ vs) =
     ap (λ (j : ℕ). words_in j p) e ∙ words-split at (suc k) p
-    ∙ ap (λ (x : List ℕ). us ++ x)
-    (words-next k old ∙ ap (λ (x : List ℕ). word_number old ∷ words_in k x) here) in
+    ∙ ap (λ (x : List ℕ). us ++ x) (words-next k old ∙ ap (λ (x : List ℕ). word_number old ∷ words_in k x) here) in
     let now : words_in n q ≡ us ++ (w ∷ vs) =
     ap₂ words_in e h ∙ words-joined at (suc k) (take (8 * at) p) (word_bytes w ++ after) t
     ∙ ap₂ (λ (x y : List ℕ). x ++ y) (words-begin at p (omega arith))
@@ -147,8 +143,7 @@ pushed n m w xs p q room fits em ex h =
     ∙ ap₂ (λ (x : ℕ) (y : List ℕ). x ∷ y)
     (ap word_number (sym (append-nil (word_bytes w))) ∙ number-word_bytes w [] fits) (words-none (drop 8 (word_bytes
     w))) in
-    subst (λ (x : List ℕ). Appends n m x p q) one
-    (appended n 1 m (word_bytes w) p q (omega arith) (omega arith) em g)
+    subst (λ (x : List ℕ). Appends n m x p q) one (appended n 1 m (word_bytes w) p q (omega arith) (omega arith) em g)
 
 pub first-bytes : (n : ℕ) (bs : List ℕ) → AreBytes bs → 8 * n ≤ length bs
     → bs ≡ bytes (words_in n bs) ++ drop (8 * n) bs
@@ -183,12 +178,6 @@ appends-then n m o vs ws p q r a b = record {
       kept-then m o p q r (omega arith) a.kept b.kept;
 }
 
-pub appends-none : (n : ℕ) (p : List ℕ) → Appends n n [] p p
-appends-none n p = record {
-  words = sym (append-nil (words_in n p));
-  kept = record { same = refl; rest = refl };
-}
-
 -- ---- bytes are written over zeros
 
 pub written-over : (at : ℕ) (zs xs p q r : List ℕ) → at + length zs ≤ length p → length xs ≤ length zs
@@ -200,8 +189,7 @@ written-over at zs xs p q r room le h k =
     let both = length-append xs (drop (length xs) zs) in
     let z : at + length zs ≡ at + length (xs ++ drop (length xs) zs) = omega arith in
     k
-    ∙ ap₂ (λ (x y : List ℕ). x ++ (xs ++ y))
-    (ap (take at) h ∙ take_at (take at p) (zs ++ after) at t)
+    ∙ ap₂ (λ (x y : List ℕ). x ++ (xs ++ y)) (ap (take at) h ∙ take_at (take at p) (zs ++ after) at t)
     (sym (drop-drop (length xs) at q)
     ∙ ap (drop (length xs)) (ap (drop at) h ∙ drop_at (take at p) (zs ++ after) at t)
     ∙ drop-append-le (length xs) zs after le)
@@ -219,8 +207,7 @@ words-zeros (suc n) =
     let e : 8 * suc n ≡ 8 + 8 * n = omega arith in
     ap (λ (j : ℕ). words_in (suc n) (replicate j 0)) e
     ∙ words-next n (replicate (8 + 8 * n) 0)
-    ∙ ap₂ (λ (x : ℕ) (y : List ℕ). x ∷ y)
-    (little-zeros (8 + 8 * n))
+    ∙ ap₂ (λ (x : ℕ) (y : List ℕ). x ∷ y) (little-zeros (8 + 8 * n))
     (ap (words_in n) (drop-replicate 8 (8 + 8 * n) 0
     ∙ (let z : 8 + 8 * n - 8 ≡ 8 * n = omega arith in ap (λ (j : ℕ). replicate {A = ℕ} j 0) z)) ∙ words-zeros n)
 

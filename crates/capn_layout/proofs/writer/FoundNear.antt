@@ -1,7 +1,7 @@
 -- The target of a pointer that is known to have one, if the pointer is near or its landing pad has one word. (For
 -- `known_target`.)
-use Rattle.std.proofs.Common.{◌≡◌, ℕ, ◌+◌, ◌<◌, ◌≤◌, nat_lt, ℤ, Bool, true, false, List, [], length}
-use Rattle.std.proofs.Common.{slice_index, Result, Ok, Err, refl, ap, sym, ◌∙◌, arith, if◌then◌else◌}
+use Rattle.std.proofs.Common.{◌≡◌, ℕ, ◌+◌, ◌<◌, ◌≤◌, nat_lt, ℤ, Bool, true, false, List, [], length, slice_index}
+use Rattle.std.proofs.Common.{Result, Ok, Err, refl, ap, sym, ◌∙◌, arith, if◌then◌else◌}
 use Rattle.std.specs.Bool.{⊤}
 use Rattle.std.proofs.lemmas.Bool.Decides.{nat_tests}
 use Rattle.std.proofs.Math.ListN.{get_or-eq_default}
@@ -16,8 +16,8 @@ use Rattle.capn_target.specs.declared.target.Shape.{Shape}
 use Rattle.capn_target.specs.declared.target.Shape.TheVariants as shapes
 use Rattle.capn_target.specs.declared.target.Fault.{Fault}
 use Rattle.capn_target.specs.declared.target.Fault.TheVariants as faults
-use Rattle.capn_target.specs.Target.{content_words, content_start, if_inside, struct_from, list_from, pointer_in}
-use Rattle.capn_target.specs.Target.{list, tagged, landing, target_from, two_pads, target_of_pointer, target}
+use Rattle.capn_target.specs.Target.{content_words, content_start, if_inside, struct_from, list_from, pointer_in, list}
+use Rattle.capn_target.specs.Target.{tagged, landing, target_from, two_pads, target_of_pointer, target}
 
 abbrev pub IsComposite : Width → Type 0
 IsComposite Rows = ⊤
@@ -105,26 +105,6 @@ module _ (m : List (List ℕ)) where
   pub rows-near : (s w pads : ℕ) (o : ℤ) (n : ℕ) (t : Target) → target_from m s w pads (Many o Rows n) ≡ Ok t
       → (start : ℕ) × (content_start w o ≡ Ok start) × (start < length (segment_at m s))
   rows-near s w pads o n t e = rows-from (content_start w o) s pads n t e
-
-  pub landing-found : (s w n : ℕ) (found : Result Target Fault) (t : Target) → landing m s w n found ≡ Ok t
-      → (w + n ≤ length (segment_at m s)) × (landing m s w n found ≡ found)
-  landing-found s w n found t e = by_segment (nat_lt s (length m)) refl e
-    where
-      inside : Result Target Fault
-      inside = if nat_lt (length (segment_at m s)) (w + n) then Err faults.PadRange else found
-
-      by_range : (b : Bool) → nat_lt (length (segment_at m s)) (w + n) ≡ b
-          → (if b then Err faults.PadRange else found) ≡ Ok t → (w + n ≤ length (segment_at m s)) × (inside ≡ found)
-      by_range true q f = absurd (cc)
-      by_range false q f =
-          (grind (arith, nat_tests), ap (λ (b : Bool). if b then Err faults.PadRange else found) q)
-
-      by_segment : (b : Bool) → nat_lt s (length m) ≡ b → (if b then inside else Err faults.NoSegment) ≡ Ok t
-          → (w + n ≤ length (segment_at m s)) × (landing m s w n found ≡ found)
-      by_segment true q f =
-          let r = by_range (nat_lt (length (segment_at m s)) (w + n)) refl f in
-          (r.0, ap (λ (b : Bool). if b then inside else Err faults.NoSegment) q ∙ r.1)
-      by_segment false q f = absurd (cc)
 
   module _ (at : Place) (t : Target) (e : target m at ≡ Ok t) where
     pub near-any : (o : ℤ) (width : Width) (n : ℕ) → pointer_in m at.segment at.word ≡ Many o width n

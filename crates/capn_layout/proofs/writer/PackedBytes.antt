@@ -9,11 +9,9 @@ use Rattle.std.proofs.lemmas.List.{drop-replicate, get_or-drop, length-replicate
 use Rattle.std.specs.List.{flat_map}
 use Rattle.byteorder.specs.Endian.{little_from, little_bytes}
 use Rattle.byteorder.specs.Numbers.{little_from-cons, little_number-reads_back, length-bytes_low_first}
-use Rattle.capn_words.specs.Message.{word_number, words_in, AreBytes}
+use Rattle.capn_words.specs.Message.{word_number, words_in}
 use Rattle.capn_layout.specs.Layout.{number, packed}
 use Rattle.capn_layout.specs.Patch.{cells, whole}
-use Rattle.capn_words.proofs.shared.Words.{AreBytes-append}
-use Rattle.capn_layout.proofs.writer.Bytes.{low_first-bytes}
 
 -- ---- a word is the number that the word's bytes represent
 
@@ -106,11 +104,6 @@ length-numbers w (x ∷ xs) =
     let d = length-numbers w xs in
     omega arith
 
-pub AreBytes-numbers : (w : ℕ) (xs : List ℕ) → AreBytes (flat_map (little_bytes w) xs)
-AreBytes-numbers w [] i = omega arith
-AreBytes-numbers w (x ∷ xs) i =
-    AreBytes-append (little_bytes w x) (flat_map (little_bytes w) xs) (low_first-bytes 0 w x) (AreBytes-numbers w xs) i
-
 -- 0 and each number of `xs` are below `base`.
 abbrev pub AreAllBelow : ℕ → List ℕ → Type 0
 AreAllBelow base xs = (i : ℕ) → slice_index xs i < base
@@ -187,8 +180,7 @@ written_over old items held ys start size p n ei eh es ly en =
     let whole_of : take start held ++ (ys ++ drop (start + size - start) (drop start held)) ≡ r =
     ap₂ (λ (s : ℕ) (q : List ℕ). take s q ++ (ys ++ drop (s + size - s) (drop s q))) es (eh ∙ ei)
     ∙ ap₂ (λ (x y : List ℕ). x ++ (ys ++ drop (length old + size - length old) y))
-    (take_at old (replicate (size + p) 0) (length old) refl)
-    (drop_at old (replicate (size + p) 0) (length old) refl)
+    (take_at old (replicate (size + p) 0) (length old) refl) (drop_at old (replicate (size + p) 0) (length old) refl)
     ∙ ap (λ (j : ℕ). old ++ (ys ++ drop j (replicate (size + p) 0))) z
     ∙ ap (λ (x : List ℕ). old ++ (ys ++ x)) (drop-replicate size (size + p) 0 ∙ ap (λ (j : ℕ). replicate j 0) d) in
     let a = ap length ei in

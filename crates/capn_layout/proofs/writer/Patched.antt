@@ -101,8 +101,7 @@ patched-open ms ns bs at others here =
 
 -- In this block the bytes of `w` are written over word `at`, and the mark of that word is cleared.
 module _ (ms ns bs cs : List ℕ) (at w : ℕ) (is : IsPatched ms bs) (lt : at < length bs / 8) (fits : w < 2 ^ 64)
-    (len : length ns ≡ length ms)
-    (written : cs ≡ take (8 * at) bs ++ (word_bytes w ++ drop (8 * at + 8) bs))
+    (len : length ns ≡ length ms) (written : cs ≡ take (8 * at) bs ++ (word_bytes w ++ drop (8 * at + 8) bs))
     (here : is_marked ns at ≡ false) (others : (i : ℕ) → i ≢ at → is_marked ns i ≡ is_marked ms i) where
   same-length : length cs ≡ length bs
   same-length = ap length written ∙ written-length (8 * at) w bs (let e = is.even in omega arith)

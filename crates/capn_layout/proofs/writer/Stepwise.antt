@@ -1,11 +1,10 @@
 -- The steps by which slots and rows are laid out, one after the other. (For the cycle `objects` and `lay_root`.)
-use Rattle.std.proofs.Common.{◌≡◌, ℕ, zero, suc, ◌+◌, ◌-◌, ◌*◌, ◌<◌, ◌≤◌, List, [], ◌∷◌, ◌++◌, length, set, refl}
-use Rattle.std.proofs.Common.{ap, sym, subst, ◌∙◌, arith, append-nil}
+use Rattle.std.proofs.Common.{◌≡◌, ℕ, zero, suc, ◌+◌, ◌-◌, ◌*◌, ◌<◌, ◌≤◌, List, [], ◌∷◌, ◌++◌, length, set, refl, ap}
+use Rattle.std.proofs.Common.{sym, subst, ◌∙◌, arith, append-nil}
 use Rattle.std.proofs.lemmas.List.{length-set}
 use Rattle.capn_words.specs.Pointers.{word_of}
 use Rattle.capn_words.specs.declared.pointer.Pointer.TheVariants.{Cap}
-use Rattle.capn_value.specs.Tree.{Tree, nil, cap, Trees, tree_at, count, Bodies, no_bodies, body}
-use Rattle.capn_value.specs.Tree.{count_rows}
+use Rattle.capn_value.specs.Tree.{Tree, nil, cap, Trees, tree_at, count, Bodies, no_bodies, body, count_rows}
 use Rattle.capn_layout.specs.Layout.{size, sizes, sizes_in_rows, point, lay, words}
 use Rattle.capn_layout.specs.LayoutSteps.{laid, laid_slots, laid_rows, past, rows_past, slots_at}
 use Rattle.capn_layout.specs.Ready.{IsReadyIn, AreReady, IsLaid, AreLaid, RowsReady}
@@ -38,9 +37,6 @@ module _ {S : Type 0} (has : S → ℕ → Tree → Type 0) (source : S) (n dept
         let k = length-set p (first + i) (point t (first + i) (length p)) in
         ap length (h t (r.are i lt)) ∙ omega arith
 
-    pub then-inside : (most : ℕ) → most ≤ length p → most ≤ length q
-    then-inside most le = let e = grown in omega arith
-
     pub then-ready : AreReady has source (i + 1) n depth (length q) most
     then-ready = record {
       values = r.values;
@@ -72,13 +68,6 @@ module _ {S : Type 0} (has : S → ℕ → Tree → Type 0) (source : S) (n dept
         ∙ sym (slots-next (n - (i + 1)) t (past (suc i) ts) (first + i) p)
         ∙ ap (λ (x : Trees). laid_slots (suc (n - (i + 1))) x (first + i) p) (sym (past-next i ts (omega arith)))
         ∙ ap (λ (j : ℕ). laid_slots j (past i ts) (first + i) p) (sym a)
-
-pub slots-start : (n : ℕ) (ts : Trees) (first : ℕ) (p : List ℕ)
-    → laid_slots (n - 0) ts (first + 0) p ≡ laid_slots n ts first p
-slots-start n ts first p =
-    let a : n - 0 ≡ n = omega arith in
-    let b : first + 0 ≡ first = omega arith in
-    ap (λ (j : ℕ). laid_slots j ts (first + 0) p) a ∙ ap (λ (j : ℕ). laid_slots n ts j p) b
 
 pub slots-end : (n i : ℕ) (ts : Trees) (first : ℕ) (p : List ℕ) → n ≤ i
     → laid_slots (n - i) (past i ts) (first + i) p ≡ p

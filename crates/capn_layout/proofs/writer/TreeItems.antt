@@ -215,8 +215,7 @@ module _ {B : Type 0} where
       let r = some-row bs i k lt in
       has-slot vs (slots_at bs i) k
       (ap (λ (x : Bodies). slots_at x i) e ∙ sym (slots-of rs i row (omega arith))
-      ∙ ap trees_of (sym ev))
-      (sound-row bs i s) lt
+      ∙ ap trees_of (sym ev)) (sound-row bs i s) lt
 
   pub row-slots : (ws : List ℕ) (ts vs : List (Value B)) (bs : Bodies) (i k : ℕ) → bs ≡ body ws (trees_of ts) no_bodies
       → SoundRows bs → vs ≡ ts → k < count (slots_at bs i) → HasValue vs k (tree_at (slots_at bs i) k)

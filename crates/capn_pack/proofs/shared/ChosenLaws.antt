@@ -1,4 +1,4 @@
--- Lemmas for `pack` and capn_commands: the packer has exactly one text for given words.
+-- Lemmas for `pack` and capn_commands: the packer has at most one text for given words.
 use Rattle.std.proofs.Common.{◌≡◌, ◌↔◌, ◌%◌, ℕ, zero, suc, ◌+◌, ◌-◌, ◌*◌, ◌<◌, ◌≤◌, inl, inr, List, [], ◌∷◌, ◌++◌}
 use Rattle.std.proofs.Common.{length, take, drop, replicate, refl, sym, ap, ◌∙◌, subst, arith, append_assoc}
 use Rattle.std.proofs.Common.{length-append, take_all, take-append-drop, drop-drop, length-drop, length-take}
@@ -23,8 +23,8 @@ dense_at (suc n) (suc m) bs h long less =
     let there : drop (8 * m) (drop 8 bs) ≡ drop (8 * suc m) bs = drop-drop (8 * m) 8 bs ∙ ap (λ k. drop k bs) at in
     subst (λ l. IsDense (take 8 l) × (8 ≤ length l)) there rest
 
--- a run of `1 + m` zero words that the packer chooses is not shorter than a run of `1 + n` zero words at the front of
--- the same bytes
+-- if the packer chooses a run of `1 + m` zero words, a run of `1 + n` zero words at the front of the same bytes is not
+-- longer
 not_shorter : (m n : ℕ) (a b : List ℕ) → n < 256 → (m < 255 → take 8 a ≡ replicate 8 0 → ⊥)
     → replicate (8 * (1 + m)) 0 ++ a ≡ replicate (8 * (1 + n)) 0 ++ b → m < n → ⊥
 not_shorter m n a b top last e less =
@@ -40,8 +40,7 @@ not_shorter m n a b top last e less =
     ∙ append_assoc (replicate 8 0) (replicate (8 * k) 0) b in
     last (omega arith) (ap (take 8) (tail ∙ two))
 
--- a run of `m` dense words that the packer chooses is not shorter than a run of `n` dense words at the front of the
--- same bytes
+-- if the packer chooses a run of `m` dense words, a run of `n` dense words at the front of the same bytes is not longer
 raw_not_shorter : (m n : ℕ) (f g a b : List ℕ) → n < 256 → length f ≡ 8 * m → length g ≡ 8 * n → AllDense n g
     → (m < 255 → IsDense (take 8 a) → ⊥) → f ++ a ≡ g ++ b → m < n → ⊥
 raw_not_shorter m n f g a b top lf lg dense last e less =

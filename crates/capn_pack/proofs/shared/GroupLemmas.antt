@@ -52,7 +52,7 @@ resized xs l n e =
     let size : (l + n) - l ≡ n = omega arith in
     rw (take_all (l + n) xs (omega arith), size) refl
 
--- the sizes of a raw group with `m` words after its first word are those that `IsGroup` requires
+-- the parts of a raw group with `m` words after its first word have the sizes that `IsGroup` requires
 pub raw_is_group : (xs : List ℕ) (m : ℕ) → 10 + 8 * m ≤ length xs → m < 256 → (length (slice_range xs 1 9) ≡ 8)
     × (m < 256) × (length (slice_range xs 10 (10 + 8 * m)) ≡ 8 * m)
 raw_is_group xs m h small = (

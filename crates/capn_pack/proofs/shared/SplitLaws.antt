@@ -17,7 +17,7 @@ use Rattle.capn_pack.proofs.shared.StreamLemmas.{nothing_first, splits_open}
 
 -- ---- a word with given named bytes
 
--- `word` has `n` bytes, and the bytes named by `tag` are the first of `xs`
+-- `word` has `n` bytes. The bytes that `tag` names are the first bytes of `xs`, and all other bytes are zero.
 record Word (n tag : ℕ) (xs : List ℕ) : Type 0 where
   word : List ℕ
   size : length word ≡ n
@@ -157,7 +157,7 @@ pub record Split (bs old : List ℕ) : Type 0 where
   pub len : ℕ
   pub splits : Splits bs rest old new len
 
--- if `more` splits, so do the bytes `bs`, which are the text of the group `g` and then `more`
+-- if the bytes `bs` are the text of the group `g` and then `more`, and `more` splits, then `bs` split
 split_more : (bs old : List ℕ) (g : Group) (more : List ℕ) → IsGroup g → bs ≡ group_text g ++ more
     → Split more (old ++ group_bytes g) → Split bs old
 split_more bs old g more is e s = record {

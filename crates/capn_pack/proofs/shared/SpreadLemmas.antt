@@ -21,11 +21,11 @@ ones_half n =
     ones_below (suc zero) h = refl
     ones_below (suc (suc r)) h = absurd (omega arith)
 
--- if the lowest bit of the tag `left` is set, `left` names the first byte `b`
+-- if the lowest bit of the tag `left` is set, `left` names the byte `b`, and the bytes of `ws` that `left / 2` names
 pub named_one : (left b : ℕ) (ws : List ℕ) → left % 2 ≡ 1 → named_bytes left (b ∷ ws) ≡ b ∷ named_bytes (left / 2) ws
 named_one left b ws e = grind (arith, nat_tests)
 
--- if the lowest bit of the tag `left` is not set, `left` does not name the first byte `b`
+-- if the lowest bit of the tag `left` is not set, `left` names only the bytes of `ws` that `left / 2` names
 pub named_none : (left b : ℕ) (ws : List ℕ) → left % 2 ≡ 0 → named_bytes left (b ∷ ws) ≡ named_bytes (left / 2) ws
 named_none left b ws e = grind (arith, nat_tests)
 

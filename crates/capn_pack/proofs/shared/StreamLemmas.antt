@@ -82,8 +82,8 @@ past_rest rest piece joined more room taken count old new e none t =
       | inr le ↦ le
     ]
 
--- if `joined` is the first `len` bytes of `held` and then bytes of `piece`, and those `len` bytes begin with no
--- complete group, a group at the front of `joined` has at least `len` bytes
+-- suppose that `joined` is the first `len` bytes of `held`, which begin with no complete group, and then bytes of
+-- `piece`: a group at the front of `joined` has at least `len` bytes
 pub join_past : (held piece joined : List ℕ) (len more room taken count : ℕ) (old new : List ℕ) → len ≤ length held
     → joined ≡ take len held ++ take more piece → NoGroupFirst (take len held) → Takes joined room taken count old new
     → len ≤ taken

@@ -12,14 +12,14 @@ use Rattle.capn_walk.proofs.shared.Walks.{visits-null, visits-cap, visits-fault,
 use Rattle.capn_path.specs.Finds.{IsPassed}
 
 module _ {G F : Type 0} (m : List (List ℕ)) (finds : G → Place → Result Target Fault → Option F) (next : G → G) where
-  -- if nothing is found at the visits `xs`, and then nothing at the visits `ys`, nothing is found at `xs ++ ys`
+  -- if a search finds nothing at the visits `xs`, nor after these at the visits `ys`, it finds nothing at `xs ++ ys`
   pub passed-append : (aim between after : G) (xs ys : List Visit) → IsPassed m finds next aim xs between
       → IsPassed m finds next between ys after → IsPassed m finds next aim (xs ++ ys) after
   passed-append aim between after [] ys h g = rw (← h) g
   passed-append aim between after (v ∷ xs) ys h g =
       (h.0, passed-append (next aim) between after xs ys h.1 g)
 
-  -- nothing is found at the visits `xs`, and then nothing at the visits `ys`
+  -- a search finds nothing at the visits `xs`, nor after these at the visits `ys`
   pub record Both (aim after : G) (xs ys : List Visit) : Type 0 where
     pub between : G
     pub front : IsPassed m finds next aim xs between
@@ -32,7 +32,7 @@ module _ {G F : Type 0} (m : List (List ℕ)) (finds : G → Place → Result Ta
       let r = passed-both (next aim) after xs ys h.1 in
       record { between = r.between; front = (h.0, r.front); back = r.back }
 
-  -- if `vs` has only the visit `v`, and nothing is found at the slot of `v`, a search finds nothing at `vs`
+  -- if `vs` has only the visit `v`, and nothing is found at the slot of `v`, then a search finds nothing at `vs`
   pub passed-alone : (aim after : G) (vs : List Visit) (v : Visit) (at : Place) → vs ≡ v ∷ [] → place_of v ≡ at
       → finds aim at (target m at) ≡ None → after ≡ next aim → IsPassed m finds next aim vs after
   passed-alone aim after vs v at e p none z =

@@ -50,14 +50,14 @@ module _ (m : List (List ℕ)) (base : ℕ) where
   stays zero at = (refl, refl)
   stays (suc left) at = (refl, refl)
 
-  -- if `path` is not empty, and `Descends` is true of it, `Leads` is true of `path` with one more level of depth
+  -- if `path` is not empty, and `Descends` is true of `path`, then `Leads` is true of `path` with one level more
   pub goes : (left : ℕ) (at : Place) (path : List ℕ) (to : Place) (n : ℕ) → 0 < length path
       → Descends m base left (Leads m base left) at path to n → Leads m base (suc left) at path to n
   goes left at [] to n h g = absurd (omega arith)
   goes left at (i ∷ path) to n h g = g
 
-  -- if `d` is above 0, and `DescendsTo` is true of `path` and the slots of an object, `Leads` is true of `path` from
-  -- the slot at `at` that names the object
+  -- if the slot at `at` names an object, `d` is above 0, and `DescendsTo` is true of `path` and the object's slots,
+  -- then `Leads` is true of `path` from the slot at `at`
   pub goes-down : (d : ℕ) (at : Place) (s start pads : ℕ) (shape : Shape) (path : List ℕ) (to : Place) (n : ℕ)
       → target m at ≡ Ok (targets.Content s start shape pads) → 0 < d
       → DescendsTo m base (d - 1) (slots s start shape) (AreNumbersIn shape) path to n

@@ -1,7 +1,6 @@
 -- Conditions under which the contents of two slots are the same, or are not the same. (For `objects.rt`.)
-use Rattle.std.proofs.Common.{◌≡◌, ◌↔◌, ℕ, ◌+◌, ◌-◌, ◌*◌, ◌<◌, ◌≤◌, ◌^◌, ◌%◌, ◌==◌, Bool, true, false}
-use Rattle.std.proofs.Common.{IsTrue}
-use Rattle.std.proofs.Common.{List, length, take, Ok, refl, ap, ap₂, sym, subst, ◌∙◌, arith, length-drop}
+use Rattle.std.proofs.Common.{◌≡◌, ◌↔◌, ℕ, ◌+◌, ◌-◌, ◌*◌, ◌≤◌, ◌^◌, ◌%◌, ◌==◌, Bool, false, IsTrue, List, length, Ok}
+use Rattle.std.proofs.Common.{refl, ap, ap₂, sym, subst, ◌∙◌, arith, length-drop}
 use Rattle.std.proofs.lemmas.Bool.{false≢true, eqb-true, eq-eqb}
 use Rattle.std.proofs.lemmas.List.{get_or-drop}
 use Rattle.capn_words.specs.Message.{segment_at}
@@ -9,26 +8,22 @@ use Rattle.capn_words.specs.declared.space.Place.{Place}
 use Rattle.capn_words.specs.declared.pointer.Width.{Width}
 use Rattle.capn_words.specs.declared.pointer.Width.TheVariants.{W0, W1, W8, W16, W32, W64, Link, Rows}
 use Rattle.capn_value.specs.Tree.{Tree, nil, node, voids, numbers, links, rows, cap}
-use Rattle.capn_value.specs.Tree.{row_words}
-use Rattle.capn_value.specs.Same.{Same, SameWords, SameSlots, SameRows}
-use Rattle.capn_value.specs.Cost.{height}
-use Rattle.capn_target.specs.declared.target.Target.{Target}
+use Rattle.capn_value.specs.Same.{Same, SameSlots, SameRows}
 use Rattle.capn_target.specs.declared.target.Target.TheVariants as targets
 use Rattle.capn_target.specs.declared.target.Shape.{Shape}
 use Rattle.capn_target.specs.declared.target.Shape.TheVariants as shapes
 use Rattle.capn_target.specs.Target.{target, words_for, content_words, list_width}
-use Rattle.capn_target.specs.Shapes.{IsContent, IsPlain, RowsFit}
+use Rattle.capn_target.specs.Shapes.{IsPlain, RowsFit}
 use Rattle.capn_target.proofs.shared.Inside.{inside}
 use Rattle.capn_target.proofs.shared.Present.{present}
-use Rattle.capn_walk.specs.ValueAt.{IsAt, IsInside, words_from}
+use Rattle.capn_walk.specs.ValueAt.{IsInside}
 use Rattle.capn_layout.specs.FirstBits.{element_bits}
-use Rattle.capn_layout.specs.Weight.{weight, weights, weights_in_rows}
-use Rattle.capn_layout.proofs.shared.Shaped.{inside-of, as-node, as-links, as-rows}
+use Rattle.capn_layout.specs.Weight.{weight}
+use Rattle.capn_layout.proofs.shared.Shaped.{inside-of, as-links, as-rows}
 use Rattle.capn_layout.proofs.shared.FirstBits.{plain-words}
 use Rattle.capn_same.specs.inner.Runs.{AreZeros}
-use Rattle.capn_same.specs.inner.Held.{HasValue, AreIn, HasValues, IsRow, HasRow, AreRowsIn, HasRows, HasContent}
-use Rattle.capn_same.proofs.stepwise.Kinds.{target_mark, shape_mark, shape_count, at-mark, inside-mark, inside-count}
-use Rattle.capn_same.proofs.stepwise.Kinds.{same-mark, same-count}
+use Rattle.capn_same.specs.inner.Held.{HasValue, AreIn, AreRowsIn, HasContent}
+use Rattle.capn_same.proofs.stepwise.Kinds.{shape_count, inside-count, same-count}
 use Rattle.capn_same.proofs.stepwise.Numbers.{IsList}
 use Rattle.capn_same.proofs.stepwise.Slots.{slots-each}
 
@@ -48,45 +43,11 @@ last-test x y mask w v k ex ey em =
       (λ e. eq-eqb (x % mask) (y % mask) (left ∙ e ∙ sym right)),
     )
 
-pub both-nil : (v w : Tree) → v ≡ nil → w ≡ nil → IsTrue true ↔ Same v w
-both-nil v w e f =
-    subst (λ (t : Tree). IsTrue true ↔ Same v t) (sym f)
-    (subst (λ (t : Tree). IsTrue true ↔ Same t nil) (sym e) ((λ h. tt), (λ h. refl)))
-
-pub both-cap : (j k : ℕ) (v w : Tree) → v ≡ cap j → w ≡ cap k → IsTrue (j == k) ↔ Same v w
-both-cap j k v w e f =
-    subst (λ (t : Tree). IsTrue (j == k) ↔ Same v t) (sym f)
-    (subst (λ (t : Tree). IsTrue (j == k) ↔ Same t (cap k)) (sym e) (eqb-true j k, eq-eqb j k))
-
 module _ (m k : List (List ℕ)) where
-  -- if the marks of the targets `t` and `u` differ, their values `v` and `w` are not the same
-  pub slots-apart : (at beside : Place) (t u : Target) (v w : Tree) → target m at ≡ Ok t → target k beside ≡ Ok u
-      → IsAt m at v → IsAt k beside w → (target_mark t ≡ target_mark u → ⊥) → IsTrue false ↔ Same v w
-  slots-apart at beside t u v w e f h g n =
-      no (λ s. n (at-mark m at t v e h ∙ same-mark v w s ∙ sym (at-mark k beside u w f g)))
-
-  -- if the marks of the shapes `x` and `y` differ, contents `v` and `z` of these shapes are not the same
-  pub contents-apart : (x y : Shape) (s w t u : ℕ) (v z : Tree) → IsInside m x s w v → IsInside k y t u z
-      → (shape_mark x ≡ shape_mark y → ⊥) → IsTrue false ↔ Same v z
-  contents-apart x y s w t u v z h g n =
-      no (λ e. n (inside-mark m x s w v h ∙ same-mark v z e ∙ sym (inside-mark k y t u z g)))
-
   pub lengths-apart : (x y : Shape) (s w t u : ℕ) (v z : Tree) → IsInside m x s w v → IsInside k y t u z
       → (shape_count x ≡ shape_count y → ⊥) → IsTrue false ↔ Same v z
   lengths-apart x y s w t u v z h g n =
       no (λ e. n (inside-count m x s w v h ∙ same-count v z e ∙ sym (inside-count k y t u z g)))
-
-  -- if `r` tells whether the words and the slots of the structs `v` and `z` are the same, `r` tells whether `v` and `z`
-  -- are the same
-  pub same-node : (a b c d s w t u : ℕ) (v z : Tree) (h : IsInside m (shapes.Node a b) s w v)
-      (g : IsInside k (shapes.Node c d) t u z) (r : Bool)
-      → (IsTrue r ↔ (SameWords (as-node m a b s w v h).words (as-node k c d t u z g).words
-      × SameSlots (as-node m a b s w v h).slots (as-node k c d t u z g).slots)) → IsTrue r ↔ Same v z
-  same-node a b c d s w t u v z h g r q =
-      let x = as-node m a b s w v h in
-      let y = as-node k c d t u z g in
-      subst (λ (p : Tree). IsTrue r ↔ Same v p) (sym y.is)
-      (subst (λ (p : Tree). IsTrue r ↔ Same p (node y.words y.slots)) (sym x.is) q)
 
   -- if `r` tells whether the slots of the lists `v` and `z` of `n` pointers are the same, `r` tells whether `v` and `z`
   -- are the same
@@ -98,8 +59,7 @@ module _ (m k : List (List ℕ)) where
       let y = as-links k n t u z g in
       let e = slots-each x.slots y.slots (x.count ∙ sym y.count) in
       subst (λ (p : Tree). IsTrue r ↔ Same v p) (sym y.is)
-      (subst (λ (p : Tree). IsTrue r ↔ Same p (links y.slots)) (sym x.is)
-      ((λ b. e.0 (q.0 b)), (λ o. q.1 (e.1 o))))
+      (subst (λ (p : Tree). IsTrue r ↔ Same p (links y.slots)) (sym x.is) ((λ b. e.0 (q.0 b)), (λ o. q.1 (e.1 o))))
 
   -- if `r` tells whether the rows of the lists `v` and `z` of `n` structs are the same, `r` tells whether `v` and `z`
   -- are the same
@@ -123,35 +83,6 @@ plain-width W64 n h r = tt
 plain-width Link n h r = h refl
 plain-width Rows n h r = r
 
-pub few-bits : (width : Width) → element_bits width ≤ 64
-few-bits W0 = omega arith
-few-bits W1 = omega arith
-few-bits W8 = omega arith
-few-bits W16 = omega arith
-few-bits W32 = omega arith
-few-bits W64 = omega arith
-few-bits Link = omega arith
-few-bits Rows = omega arith
-
-pub bits-below : (width : Width) (n : ℕ) → n < 2 ^ 32 → element_bits width * n < 2 ^ 38
-bits-below W0 n h = omega arith
-bits-below W1 n h = omega arith
-bits-below W8 n h = omega arith
-bits-below W16 n h = omega arith
-bits-below W32 n h = omega arith
-bits-below W64 n h = omega arith
-bits-below Link n h = omega arith
-bits-below Rows n h = omega arith
-
-pub inside-deep : (m : List (List ℕ)) (shape : Shape) (s w : ℕ) (v : Tree) → IsInside m shape s w v → 1 ≤ height v
-inside-deep m shape s w (node ws ss) h = omega arith
-inside-deep m shape s w (voids n) h = omega arith
-inside-deep m shape s w (numbers a xs) h = omega arith
-inside-deep m shape s w (links ts) h = omega arith
-inside-deep m shape s w (rows bs) h = omega arith
-inside-deep m shape s w nil h = absurd h
-inside-deep m shape s w (cap k) h = absurd h
-
 module _ (m : List (List ℕ)) where
   pub has-content : (at : Place) (depth s start pads : ℕ) (shape : Shape) → HasValue m at depth
       → target m at ≡ Ok (targets.Content s start shape pads)
@@ -167,56 +98,12 @@ module _ (m : List (List ℕ)) where
         low = r.low;
       }
 
-  pub deep : (shape : Shape) (at : Place) (depth : ℕ) → HasContent m shape at depth → 1 ≤ depth
-  deep shape at depth r =
-      let h = inside-deep m shape at.segment at.word r.value r.is in let l = r.low in omega arith
-
-  pub is-row : (a b depth : ℕ) (at : Place) (v : Tree) → HasContent m (shapes.Node a b) at depth
-      → (h : IsInside m (shapes.Node a b) at.segment at.word v)
-      → IsRow m at a b (as-node m a b at.segment at.word v h).words (as-node m a b at.segment at.word v h).slots
-  is-row a b depth at v r h =
-      let x = as-node m a b at.segment at.word v h in
-      record {
-        message = r.message;
-        content = r.content;
-        long = x.number;
-        number = x.count;
-        own = ap (λ (n : ℕ). take n (words_from m at.segment at.word)) x.number ∙ x.own;
-        below = x.below;
-      }
-
-  pub has-row : (a b depth : ℕ) (at : Place) → HasContent m (shapes.Node a b) at depth → HasRow m at a b (depth - 1)
-  has-row a b depth at r =
-      let x = as-node m a b at.segment at.word r.value r.is in
-      let l = r.low in
-      let e = ap height x.is in
-      record { words = x.words; slots = x.slots; is = is-row a b depth at r.value r r.is; low = omega arith }
-
-  pub node-weighs : (a b s w : ℕ) (v : Tree) (h : IsInside m (shapes.Node a b) s w v)
-      → 2 * a + 12 * b + 20 * weights (as-node m a b s w v h).slots ≤ 20 * weight v
-  node-weighs a b s w v h =
-      let x = as-node m a b s w v h in
-      let e = ap weight x.is in let n = x.number in let c = x.count in omega arith
-
   pub are-in : (n depth : ℕ) (at : Place) (v : Tree) → HasContent m (shapes.Many Link n) at depth
       → (h : IsInside m (shapes.Many Link n) at.segment at.word v)
       → AreIn m at n (as-links m n at.segment at.word v h).slots
   are-in n depth at v r h =
       let x = as-links m n at.segment at.word v h in
       record { message = r.message; content = r.content; number = x.count; are = x.below }
-
-  pub has-values : (n depth : ℕ) (at : Place) → HasContent m (shapes.Many Link n) at depth
-      → HasValues m at n (depth - 1)
-  has-values n depth at r =
-      let x = as-links m n at.segment at.word r.value r.is in
-      let l = r.low in
-      let e = ap height x.is in
-      record { values = x.slots; are = are-in n depth at r.value r r.is; low = omega arith }
-
-  pub links-weigh : (n s w : ℕ) (v : Tree) (h : IsInside m (shapes.Many Link n) s w v)
-      → 12 * n + 20 * weights (as-links m n s w v h).slots ≤ 20 * weight v
-  links-weigh n s w v h =
-      let x = as-links m n s w v h in let e = ap weight x.is in let c = x.count in omega arith
 
   pub are-rows : (n a b span depth : ℕ) (at : Place) (v : Tree) → HasContent m (shapes.Rows n a b span) at depth
       → (h : IsInside m (shapes.Rows n a b span) at.segment at.word v)
@@ -232,20 +119,6 @@ module _ (m : List (List ℕ)) where
         number = x.count;
         rows = x.below;
       }
-
-  pub has-rows : (n a b span depth : ℕ) (at : Place) → HasContent m (shapes.Rows n a b span) at depth
-      → HasRows m (record { segment = at.segment; word = at.word + 1 }) n a b (depth - 1)
-  has-rows n a b span depth at r =
-      let x = as-rows m n a b span at.segment at.word r.value r.is in
-      let l = r.low in
-      let e = ap height x.is in
-      record { bodies = x.bodies; are = are-rows n a b span depth at r.value r r.is; low = omega arith }
-
-  pub rows-weigh : (n a b span s w : ℕ) (v : Tree) (h : IsInside m (shapes.Rows n a b span) s w v)
-      → n + 12 * row_words (as-rows m n a b span s w v h).bodies
-      + 20 * weights_in_rows (as-rows m n a b span s w v h).bodies ≤ 20 * weight v
-  rows-weigh n a b span s w v h =
-      let x = as-rows m n a b span s w v h in let e = ap weight x.is in let c = x.count in omega arith
 
   pub is-list : (width : Width) (n depth : ℕ) (at : Place) (v : Tree) → IsPlain width
       → HasContent m (shapes.Many width n) at depth → IsInside m (shapes.Many width n) at.segment at.word v
@@ -264,13 +137,6 @@ module _ (m : List (List ℕ)) where
   pub is-plain : (width : Width) (n depth : ℕ) (at : Place) → (width ≡ Link → ⊥)
       → HasContent m (shapes.Many width n) at depth → IsPlain width
   is-plain width n depth at ne r = plain-width width n ne r.fits
-
-  pub list-content : (width : Width) (n depth : ℕ) (at : Place) → IsPlain width
-      → HasContent m (shapes.Many width n) at depth → IsContent m at (words_for (element_bits width * n))
-  list-content width n depth at plain r =
-      let w = r.content.within in
-      let k = plain-words width n plain in
-      record { exists = r.content.exists; within = omega arith }
 
   pub list-weighs : (width : Width) (n s w : ℕ) (v : Tree) → IsPlain width → IsInside m (shapes.Many width n) s w v
       → words_for (element_bits width * n) ≤ weight v

@@ -118,8 +118,7 @@ module _ {X : Type 0} (f : Fold X) (one : IsOneWay f) (last : X → Option RunFa
   no_open y z rest frame more text message r framed room step is (inr (a, x, m, p, also, fits, few, why, e)) =
       let same = one_front f.most a frame x more m message fits few framed room (sym also ∙ is) in
       let first = subst (λ (l : List ℕ). f.refuses y l m p) same.1.0 why in
-      one.never_both y frame message text z p step
-      (subst (λ (l : List (List ℕ)). f.refuses y frame l p) same.0 first)
+      one.never_both y frame message text z p step (subst (λ (l : List (List ℕ)). f.refuses y frame l p) same.0 first)
 
   -- If a message is served in the state `y`, no run ends in `y` before that message.
   pub no_end : (y z : X) (rest frame more text : List ℕ) (message : List (List ℕ)) (r : Ending) → Frames frame message
@@ -141,12 +140,10 @@ module _ {X : Type 0} (f : Fold X) (one : IsOneWay f) (last : X → Option RunFa
         ),
       )
   one_row x y z [] (q ∷ qs) rest other r s h (mid, part, step, more) e a b =
-      absurd (no_end x mid rest q.frame (frames_of qs ++ other) q.text q.message r part.frame part.room part.going
-      step
+      absurd (no_end x mid rest q.frame (frames_of qs ++ other) q.text q.message r part.frame part.room part.going step
       (e ∙ append_assoc q.frame (frames_of qs) other) (subst (λ (w : X). Behind w rest r) (sym h) a))
   one_row x y z (p ∷ ps) [] rest other r s (mid, part, step, more) k e a b =
-      absurd (no_end x mid other p.frame (frames_of ps ++ rest) p.text p.message s part.frame part.room part.going
-      step
+      absurd (no_end x mid other p.frame (frames_of ps ++ rest) p.text p.message s part.frame part.room part.going step
       (sym e ∙ append_assoc p.frame (frames_of ps) rest) (subst (λ (w : X). Behind w other s) (sym k) b))
   one_row x y z (p ∷ ps) (q ∷ qs) rest other r s (mid, part, step, more) (mean, also, move, last_ones) e a b =
       let joined : p.frame ++ (frames_of ps ++ rest) ≡ q.frame ++ (frames_of qs ++ other) =
@@ -224,8 +221,7 @@ module _ {X : Type 0} (f : Fold X) (one : IsOneWay f) (x : X) where
       bare_not_refused bytes ws e bare why
   bare_apart false bytes t y g (short, (ws, bare, step)) (inr (few, inr (vs, r, also, refuses, a))) =
       let words : vs ≡ ws = one_bare bytes vs ws also bare in
-      one.never_both x bytes (ws ∷ []) t y r step
-      (subst (λ (l : List ℕ). f.refuses x bytes (l ∷ []) r) words refuses)
+      one.never_both x bytes (ws ∷ []) t y r step (subst (λ (l : List ℕ). f.refuses x bytes (l ∷ []) r) words refuses)
 
   -- The messages of one `input` have one text and one ending, and lead to one state.
   pub one_serving : (form : Form) (input t u : List ℕ) (r s : Ending) (y z : X) → AreMessages f x form input t r y

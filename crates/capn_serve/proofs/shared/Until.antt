@@ -1,12 +1,10 @@
 -- Lemmas on a fold that ends once its service is `done`.
-use Rattle.std.proofs.Common.{◌≡◌, ◌⊎◌, inl, inr, ℕ, List, [], ◌∷◌, Bool, true, false, Option, Result, Ok, refl}
-use Rattle.std.proofs.Common.{sym, subst}
+use Rattle.std.proofs.Common.{◌≡◌, ◌⊎◌, inl, inr, ℕ, List, Bool, true, false, Option, Result, Ok, refl, sym, subst}
 use Rattle.capn_canon.specs.declared.refusal.Refusal.{Refusal}
 use Rattle.capn_serve.specs.declared.position.Position.{Position}
 use Rattle.capn_serve.specs.declared.service.Run.{Run}
 use Rattle.capn_serve.specs.declared.fault.RunFault.{RunFault}
-use Rattle.capn_serve.specs.Fold.{AreParts, AreServed, EndsBy, EndsRefused, EndsUnframed, Fold, IfGoing, IsFolded}
-use Rattle.capn_serve.specs.Fold.{Part, fold_of, fold_until}
+use Rattle.capn_serve.specs.Fold.{EndsBy, EndsRefused, EndsUnframed, Fold, IfGoing, fold_until}
 
 abbrev Ending : Type 0
 Ending = Result (Unit {0}) RunFault
@@ -27,7 +25,7 @@ going_of true P none = absurd none
 going_of false P holds = (refl, holds)
 
 module _ {X : Type 0} (f : Fold X) (y : X) (rest : List ℕ) (behind : Option RunFault) (ending : Ending) where
-  -- If the state `y` is not `done`, `rest` decides how a run ends in `y`.
+  -- If the state `y` is not `done`, `EndsBy` follows from `EndsUnframed` or from `EndsRefused`.
   pub ends_going : f.done y ≡ false → EndsUnframed f y rest behind ending ⊎ EndsRefused f y rest ending
       → EndsBy f (f.done y) y rest behind ending
   ends_going going h = subst (λ (b : Bool). EndsBy f b y rest behind ending) (sym going) h
@@ -49,27 +47,3 @@ module _ {S : Type 0} (serves : S → Position → List ℕ → List (List ℕ) 
     (refuses : S → Position → List ℕ → List (List ℕ) → Refusal → Type 0) (done : S → Position → Bool) (most : ℕ) where
   abbrev f : Fold (Run S)
   f = fold_until serves refuses done most
-
-  abbrev all : Fold (Run S)
-  all = fold_of serves refuses most
-
-  served_of : (x y : Run S) (ps : List Part) → AreServed f x ps y → AreServed all x ps y
-  served_of x y [] is = is
-  served_of x y (p ∷ ps) (mid, part, step, more) =
-      (mid, record { frame = part.frame; room = part.room; going = refl }, step, served_of mid y ps more)
-
-  pub parts_of : (x y : Run S) (bytes rest : List ℕ) (ps : List Part) → AreParts f x bytes ps rest y
-      → AreParts all x bytes ps rest y
-  parts_of x y bytes rest ps are = record { each = served_of x y ps are.each; is = are.is }
-
-  -- If a run ends in the state `y`, and `y` is not `done`, the run ends in the same way with a service that is never
-  -- `done`.
-  pub folded_of : (x y : Run S) (bytes text : List ℕ) (behind : Option RunFault) (ending : Ending)
-      → IsFolded f x bytes behind text ending y → f.done y ≡ false → IsFolded all x bytes behind text ending y
-  folded_of x y bytes text behind ending due going = record {
-    parts = due.parts;
-    rest = due.rest;
-    are = parts_of x y bytes due.rest due.parts due.are;
-    joined = due.joined;
-    ends = ends_open f y due.rest behind ending going due.ends;
-  }

@@ -70,7 +70,7 @@ contents-cut from (end ∷ ends) ws r =
 abbrev pub joined : List (List ℕ) → List ℕ
 joined message = flat_map (λ ws. ws) message
 
--- `before ++ joined message`, cut from the end of `before` on at the ends of the segments of `message`, is `message`
+-- if `before ++ joined message` is cut after `before`, at the ends that `sizes` give, the result is `message`
 pub cut-joined : (message : List (List ℕ)) (sizes : List ℕ) (last from : ℕ) (before : List ℕ)
     → map length message ≡ sizes ++ last ∷ [] → length before ≡ from
     → cut from (ends_from from sizes) (before ++ joined message) ≡ message

@@ -1,14 +1,12 @@
 -- Lemmas for `first`, `first_bare`, `framing`, capn_c, capn_canon and other crates: frames and the numbers that their
 -- tables announce.
 use Rattle.std.proofs.Common.{◌≡◌, ℕ, zero, suc, ◌+◌, ◌-◌, ◌*◌, ◌^◌, ◌<◌, ◌≤◌, List, [], ◌∷◌, ◌++◌, length, take, drop}
-use Rattle.std.proofs.Common.{sum, map, replicate, slice_index, refl, ap, sym, subst, ◌∙◌, arith, append_assoc}
-use Rattle.std.proofs.Common.{length-append}
+use Rattle.std.proofs.Common.{sum, map, slice_index, refl, ap, sym, subst, ◌∙◌, arith, append_assoc, length-append}
 use Rattle.std.specs.List.{flat_map}
 use Rattle.std.proofs.lemmas.Grind.{flat_map-append}
-use Rattle.std.proofs.lemmas.List.{drop_at, length-map, length-take-le, take-append-drop, take_all}
-use Rattle.std.proofs.lemmas.List.{take_at}
+use Rattle.std.proofs.lemmas.List.{drop_at, length-map, length-take-le, take-append-drop, take_all, take_at}
 use Rattle.std.proofs.lemmas.List.Sums.{sum-map, sum_by-cons}
-use Rattle.capn_words.specs.Message.{bytes, segment_at, total, IsMessage, word_bytes, AreBytes, AreWords}
+use Rattle.capn_words.specs.Message.{bytes, segment_at, total, IsMessage, word_bytes, AreWords}
 use Rattle.capn_words.proofs.shared.Words.{bytes-injective, length-bytes}
 use Rattle.capn_stream.specs.Cuts.{cut, ends_from}
 use Rattle.capn_stream.specs.Frames.{FitsTable, Frames, StandsFirst, segment_bytes, entry, padding}
@@ -243,11 +241,6 @@ one_frame bs most limit m n taken length f g =
     )
 
 -- ---- the frames that are written
-
-zeros_below : (n : ℕ) → AreBytes (replicate n 0)
-zeros_below zero i = omega arith
-zeros_below (suc n) zero = omega arith
-zeros_below (suc n) (suc i) = zeros_below n i
 
 -- if `bs` are a frame of at most `most` words, they begin with that frame
 pub stands_alone : (bs : List ℕ) (most : ℕ) (message : List (List ℕ)) → Frames bs message → total message ≤ most

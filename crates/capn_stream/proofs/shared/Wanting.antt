@@ -97,7 +97,7 @@ many_words_end bs most n (inl count) refused = absurd (omega (arith, count, refu
 many_words_end bs most n (inr (inl table)) refused = omega (arith, table.1, refused.0.1)
 many_words_end bs most n (inr (inr contents)) refused = absurd (omega (arith, contents.1, refused.1, refused.2))
 
--- if a frame needs all bytes of `piece`, the framer receives all of them
+-- if no frame can end before the end of `piece`, the framer receives all of `piece`
 pub taken_whole : (before : Framing) (piece : List ℕ) (n : ℕ) (after : Framing) → Feeds before piece n after
     → ((more : List ℕ) → IsFrame (before.rest ++ more) before.most → length piece ≤ length more)
     → after.rest ≡ before.rest ++ piece

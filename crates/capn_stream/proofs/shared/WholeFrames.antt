@@ -100,8 +100,7 @@ module _ (bs : List ℕ) (most : ℕ) (ws : List ℕ) (small : most ≤ 2 ^ 28) 
           fits = FitsTable-message here (message-cut (ends_from 0 (sizes_before bs)) ws ends_are);
           gap = gap;
           gap_bytes = below-take 256 (padding (announced_segments bs)) (drop (4 + 4 * announced_segments bs) bs)
-              (omega arith)
-              (below-drop 256 (4 + 4 * announced_segments bs) bs below);
+              (omega arith) (below-drop 256 (4 + 4 * announced_segments bs) bs below);
           gap_length = length-take-le (padding (announced_segments bs)) (drop (4 + 4 * announced_segments bs) bs) space
               ∙ sym pad;
           text = sym all ∙ append_assoc (table here) gap (segment_bytes here);
@@ -124,8 +123,7 @@ sum-sizes_read bs segments count =
 
 -- each lemma of this block is about the segments of a frame whose table was read
 module _ (bs : List ℕ) (most segments words start : ℕ) (ends ws : List ℕ) (small : most ≤ 2 ^ 28) (below : AreBytes bs)
-    (whole : IsWhole bs most)
-    (count : segments ≡ announced_segments bs) (all : words ≡ announced_words bs)
+    (whole : IsWhole bs most) (count : segments ≡ announced_segments bs) (all : words ≡ announced_words bs)
     (begins : start ≡ head_length segments)
     (ends_is : ends ≡ ends_from 0 (entries (segments - 1) (take (length bs - 4) (drop 4 bs))))
     (bare : IsBare (take (start + 8 * words - start) (drop start bs)) ws) where

@@ -54,7 +54,7 @@ found-inside m at (targets.Content s start shape pads) h e =
     let i = inside m at s start pads shape e in
     (record { exists = present m at s start pads shape h e; within = i.0 }, i.1)
 
--- `found-inside` for the result `r` of `target` at the place `at`, which may also be a fault
+-- if the place `at` is in range, and the result `r` of `target` at `at` is `Ok t`, `IsInMessage` holds of `t`
 pub answer-inside : (m : List (List ℕ)) (at : Place) (r : Result Target Fault)
     → at.word < length (segment_at m at.segment) → target m at ≡ r
     → IfOk r (IsInMessage m)

@@ -38,8 +38,7 @@ module _ (m : List (List ℕ)) where
       let t : ℕ = slice_index (segment_at m s) start in
       there-within s start _ _
       (pick IsThere (field 0 2 t == 0) _ _
-      (λ e. pick IsThere (nat_lt n (field 2 30 t * (field 32 16 t + field 48 16 t))) _ _ (λ f. tt) (λ f. tt))
-      (λ e. tt))
+      (λ e. pick IsThere (nat_lt n (field 2 30 t * (field 32 16 t + field 48 16 t))) _ _ (λ f. tt) (λ f. tt)) (λ e. tt))
 
   there-struct_from : (s : ℕ) (r : Result ℕ Fault) (pads a b : ℕ) → IsThere (struct_from m s r pads a b)
   there-struct_from s (Ok start) pads a b = there-within s start (a + b) _ tt
@@ -69,8 +68,7 @@ module _ (m : List (List ℕ)) where
   there-two_pads : (p q : Pointer) → IsThere (two_pads m p q)
   there-two_pads (Far false w s) q =
       pick IsThere (is_second_pad m q) _ _
-      (λ e. pick IsThere (nat_lt s (length m)) _ _ (λ f. there-second_pad s w q) (λ f. tt))
-      (λ e. tt)
+      (λ e. pick IsThere (nat_lt s (length m)) _ _ (λ f. there-second_pad s w q) (λ f. tt)) (λ e. tt)
   there-two_pads (Far true w s) q = tt
   there-two_pads Nil q = tt
   there-two_pads (Node o a b) q = tt
@@ -81,8 +79,7 @@ module _ (m : List (List ℕ)) where
   there-landing : (s w n : ℕ) (r : Result Target Fault) → IsThere r → IsThere (landing m s w n r)
   there-landing s w n r h =
       pick IsThere (nat_lt s (length m)) _ _
-      (λ e. pick IsThere (nat_lt (length (segment_at m s)) (w + n)) _ _ (λ f. tt) (λ f. h))
-      (λ e. tt)
+      (λ e. pick IsThere (nat_lt (length (segment_at m s)) (w + n)) _ _ (λ f. tt) (λ f. h)) (λ e. tt)
 
   pub there-named : (s w : ℕ) (p : Pointer) → (p ≡ Nil → ⊥) → IsThere (target_of_pointer m s w p)
   there-named s w Nil h = absurd (h refl)

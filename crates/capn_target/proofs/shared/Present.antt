@@ -29,7 +29,7 @@ module _ (m : List (List ℕ)) where
   there at s start pads shape h (inr (inl n)) = n.pad.0
   there at s start pads shape h (inr (inr n)) = n.there
 
-  -- if the place `at` is in range and its pointer leads to content, the segment of the content exists
+  -- if the place `at` is in range, and the pointer at `at` leads to content, the segment of the content exists
   pub present : (at : Place) (s start pads : ℕ) (shape : Shape) → at.word < length (segment_at m at.segment) →
       target m at ≡ Ok (targets.Content s start shape pads) → s < length m
   present at s start pads shape h e = there at s start pads shape h (one-of-three m at s start pads shape e)

@@ -10,19 +10,15 @@ use Rattle.capn_words.proofs.shared.Choices.{pick}
 pub length_of_none : (m : List (List ℕ)) (s : ℕ) → words_of m s ≡ None → length (segment_at m s) ≡ 0
 length_of_none m s h =
     pick (λ (o : Option ℕ). o ≡ None
-    → length (segment_at m s) ≡ 0) (nat_lt s (length m)) (Some (length (segment_at m s))) None
-    (λ e. λ n. cc)
-    (λ e. λ n. let past : length m ≤ s = grind (arith, nat_tests) in ap length (get_or-eq_default m [] past))
-    h
+    → length (segment_at m s) ≡ 0) (nat_lt s (length m)) (Some (length (segment_at m s))) None (λ e. λ n. cc)
+    (λ e. λ n. let past : length m ≤ s = grind (arith, nat_tests) in ap length (get_or-eq_default m [] past)) h
 
 -- if `words_of` gives `n` for segment `s`, the segment has `n` words
 pub length_of_some : (m : List (List ℕ)) (s n : ℕ) → words_of m s ≡ Some n → length (segment_at m s) ≡ n
 length_of_some m s n h =
     pick (λ (o : Option ℕ). o ≡ Some n
-    → length (segment_at m s) ≡ n) (nat_lt s (length m)) (Some (length (segment_at m s))) None
-    (λ e. λ k. cc)
-    (λ e. λ k. cc)
-    h
+    → length (segment_at m s) ≡ n) (nat_lt s (length m)) (Some (length (segment_at m s))) None (λ e. λ k. cc)
+    (λ e. λ k. cc) h
 
 -- a segment `s` of the message `m` has at most `most_words` words
 pub segment-room : (m : List (List ℕ)) (s : ℕ) → IsMessage m → s < length m → length (segment_at m s) ≤ most_words

@@ -1,5 +1,5 @@
--- Lemmas for `Inside`, `Present`, `Ranges`, capn_canon and capn_walk: a pointer leads to content in one of three ways,
--- or is itself a capability. No pointer is refused with `Memory`.
+-- Lemmas for `Inside`, `Present`, `Ranges`, capn_canon and capn_walk: a pointer to content leads there in one of three
+-- ways, and a target is a capability only if the pointer is. No pointer is refused with `Memory`.
 use Rattle.std.proofs.Common.{◌≡◌, ◌≢◌, inl, inr, ℕ, ◌+◌, ◌*◌, ◌<◌, ◌==◌, nat_lt, ℤ, pos, negsuc, true, false, List}
 use Rattle.std.proofs.Common.{length, slice_index, Result, Ok, Err, refl, arith}
 use Rattle.std.specs.Bool.{⊤}
@@ -34,8 +34,8 @@ plain-moved w (pos n) = tt
 plain-moved w (negsuc n) = pick IsPlain (nat_lt w n) _ _ (λ e f. absurd cc) (λ e. tt)
 
 module _ (m : List (List ℕ)) where
-  -- If a pointer leads to content, `P` holds of the content. If it is a capability, `Q` holds of the index. If it is
-  -- refused, the fault is not `Memory`.
+  -- If the target is content, `P` holds of the content. If the target is a capability, `Q` holds of the index. If there
+  -- is a fault, the fault is not `Memory`.
   module _ (P : ℕ → ℕ → Shape → ℕ → Type 0) (Q : ℕ → Type 0) where
     abbrev pub Told : Result Target Fault → Type 0
     Told (Ok (targets.Content s start shape pads)) = P s start shape pads
@@ -65,11 +65,9 @@ module _ (m : List (List ℕ)) where
     told-list s start pads Link n o h = told-within s start _ _ (λ l. h _ (refl, l))
     told-list s start pads Rows n o h =
         let t : ℕ = slice_index (segment_at m s) start in
-        told-within s start _ _ (λ l.
-        pick Told (field 0 2 t == 0) _ _
+        told-within s start _ _ (λ l. pick Told (field 0 2 t == 0) _ _
         (λ e. pick Told (nat_lt n (field 2 30 t * (field 32 16 t + field 48 16 t))) _ _ (λ f g. absurd cc)
-        (λ f. h _ (l, (grind (arith, nat_tests), refl, grind (arith, nat_tests)))))
-        (λ e f. absurd cc))
+        (λ f. h _ (l, (grind (arith, nat_tests), refl, grind (arith, nat_tests))))) (λ e f. absurd cc))
 
     told-struct_from : (s : ℕ) (r : Result ℕ Fault) (pads a b : ℕ) → IsPlain r
         → ((start : ℕ) → r ≡ Ok start → Told (struct m s start pads a b)) → Told (struct_from m s r pads a b)
@@ -124,8 +122,7 @@ module _ (m : List (List ℕ)) where
     told-landing s w n r h =
         pick Told (nat_lt s (length m)) _ _
         (λ e. pick Told (nat_lt (length (segment_at m s)) (w + n)) _ _ (λ f g. absurd cc)
-        (λ f. h (grind (arith, nat_tests), grind (arith, nat_tests))))
-        (λ e f. absurd cc)
+        (λ f. h (grind (arith, nat_tests), grind (arith, nat_tests)))) (λ e f. absurd cc)
 
   -- `Told`, where `P` says that the pointer at the place leads to the content in one of the three ways, and `Q` says
   -- that the pointer is itself the capability

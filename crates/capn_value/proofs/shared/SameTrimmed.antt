@@ -5,8 +5,8 @@ use Rattle.std.proofs.Common.{sym, ap, ap₂, ◌∙◌, arith, subst, ◌↔◌
 use Rattle.std.specs.Prelude.{◌==◌, slice_index}
 use Rattle.std.proofs.lemmas.Bool.{or_parts, and_parts, eqb-true, not-false}
 use Rattle.std.proofs.lemmas.Bool.Decides.{nat_tests}
-use Rattle.capn_value.specs.Tree.{Tree, nil, node, voids, numbers, links, rows, cap, Trees}
-use Rattle.capn_value.specs.Tree.{no_trees, tree, Bodies, no_bodies, body, front, count, tree_at, is_null}
+use Rattle.capn_value.specs.Tree.{Tree, nil, node, voids, numbers, links, rows, cap, Trees, no_trees, tree, Bodies}
+use Rattle.capn_value.specs.Tree.{no_bodies, body, front, count, tree_at, is_null}
 use Rattle.capn_value.specs.Same.{SameWords, AllNull, Same, SameSlots, SameEach, SameRows}
 use Rattle.capn_value.specs.Trim.{kept_behind, kept_words, kept_slots, kept_words_of_rows, kept_slots_of_rows, trimmed}
 use Rattle.capn_value.specs.Trim.{trimmed_each, trimmed_rows}
@@ -44,8 +44,7 @@ mutual
   same_from_trimmed (links ss) (links ts) e = same_each_from ss ts (cc)
   same_from_trimmed (rows bs) (rows cs) e =
       same_rows_from (kept_words_of_rows bs) (kept_slots_of_rows bs) (kept_words_of_rows cs) (kept_slots_of_rows cs) bs
-      cs
-      (omega arith) (omega arith) (omega arith) (omega arith) (cc)
+      cs (omega arith) (omega arith) (omega arith) (omega arith) (cc)
   same_from_trimmed (cap j) (cap k) e = cc
   same_from_trimmed _ _ e = absurd (cc)
 
@@ -163,10 +162,6 @@ at_least_kept (body ws ss bs) h =
           e w s,
     )
 
--- no list of rows in the value `t` is ragged
-abbrev IsEven : Tree → Type 0
-IsEven t = anywhere is_ragged t ≡ false
-
 mutual
   pub trimmed_same : (t u : Tree) → anywhere is_ragged t ≡ false → anywhere is_ragged u ≡ false → Same t u
       → trimmed t ≡ trimmed u
@@ -174,8 +169,7 @@ mutual
   trimmed_same (node ws ss) (node vs ts) p q h =
       let a = kept_same ws vs h.0 in
       let b = kept_slots_same ss ts h.1 in
-      ap₂ node
-      (ap (λ n. take n ws) a ∙ take_same (kept_words vs) ws vs h.0 (omega (arith, a, kept-le ws)) (kept-le vs))
+      ap₂ node (ap (λ n. take n ws) a ∙ take_same (kept_words vs) ws vs h.0 (omega (arith, a, kept-le ws)) (kept-le vs))
       (ap (λ n. front n (trimmed_each ss)) b ∙
       front_same (kept_slots ts) ss ts (or_parts (is_ragged (node ws ss)) (anywhere_in is_ragged ss) p).1
       (or_parts (is_ragged (node vs ts)) (anywhere_in is_ragged ts) q).1

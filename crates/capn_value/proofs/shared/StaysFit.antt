@@ -66,8 +66,7 @@ cut_body : (w s : ℕ) (ws : List ℕ) (ss : Trees) → is_wide_body ws ss ≡ f
     → is_wide_body (take w ws) (front s (trimmed_each ss)) ≡ false
 cut_body w s ws ss h =
     both_below 65535 (length ws) (count ss) (length (take w ws)) (count (front s (trimmed_each ss)))
-    (omega (arith, length-take w ws))
-    (omega (arith, count-front s (trimmed_each ss), count-trimmed_each ss)) h
+    (omega (arith, length-take w ws)) (omega (arith, count-front s (trimmed_each ss), count-trimmed_each ss)) h
 
 wide_rows : (w s : ℕ) (bs : Bodies) → has_wide_row bs ≡ false → has_wide_row (trimmed_rows w s bs) ≡ false
 wide_rows w s no_bodies h = refl
@@ -89,8 +88,7 @@ keeps_short (node ws ss) h = h
 keeps_short (rows bs) h =
     let w = kept_words_of_rows bs in let s = kept_slots_of_rows bs in
     both_below 536870911 (count_rows bs) (row_words bs) (count_rows (trimmed_rows w s bs))
-    (row_words (trimmed_rows w s bs))
-    (omega (arith, count-trimmed_rows w s bs)) (row_words-trimmed w s bs) h
+    (row_words (trimmed_rows w s bs)) (omega (arith, count-trimmed_rows w s bs)) (row_words-trimmed w s bs) h
 keeps_short (links ts) h =
     both_below 536870911 (count ts) 0 (count (trimmed_each ts)) 0 (omega (arith, count-trimmed_each ts)) (omega arith) h
 keeps_short nil h = h

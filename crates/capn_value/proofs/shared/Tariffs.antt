@@ -37,7 +37,7 @@ module _ (less more : ℕ) (le : less ≤ more) where
 doubled : (n : ℕ) → 1 + n ≤ 2 * (0 + n) + 1
 doubled n = omega arith
 
--- The strict cost is at most twice the plain cost plus 1. Each content except the root's has a slot, and each slot
+-- The strict cost is at most 1 more than twice the plain cost. Each content except the root's has a slot, and each slot
 -- costs a word.
 mutual
   pub cost-doubled : (t : Tree) → cost 1 t ≤ 2 * cost 0 t + 1

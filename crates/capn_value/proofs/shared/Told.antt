@@ -101,9 +101,9 @@ pub same_got : (p : List Step) (t u : Tree) → Same t u → get t p ≡ get u p
 same_got [] t u h = same_told t u h
 same_got (s ∷ p) t u h = same_got p (next t s) (next u s) (same_next t u h s)
 
--- ---- if the getters agree on values, these are the same
+-- ---- if the getters agree on two values, the values are the same
 
--- the getters agree on both values along every path
+-- along every path, the getters return the same for both values
 abbrev pub Alike : Tree → Tree → Type 0
 Alike t u = (p : List Step) → get t p ≡ get u p
 

@@ -85,7 +85,7 @@ bit-in_word w p d i hp hd e =
     ∙ ap (λ (x : ℕ). x % 2) (div-div-eq-div-mul w (256 ^ p) (2 ^ d)
     ∙ ap (λ (x : ℕ). w / x) (bytes-and-bits p d hp ∙ ap (λ (x : ℕ). 2 ^ x) (sym e)))
 
--- ---- the words that bytes are read as
+-- ---- the words that are read from bytes
 
 eight-bytes : (w : ℕ) → w < 2 ^ 64 →
     w / 256 ^ 0 % 256 + 256 * (w / 256 ^ 1 % 256 + 256 * (w / 256 ^ 2 % 256 + 256 * (w / 256 ^ 3 % 256
@@ -97,8 +97,8 @@ eight-bytes w h = omega arith
 abbrev pub first_bits : ℕ → ℕ → List ℕ
 first_bits count x = map (λ k. x / 2 ^ k % 2) (range_with_len 0 count)
 
--- if `xs` is `zs` and then the first `i` bits of `x`, and `b` is bit `i` of `x`, then `xs ++ b ∷ []` is `zs` and then
--- the first `i + 1` bits of `x`
+-- if `xs` is `zs` followed by the first `i` bits of `x`, `b` is bit `i` of `x`, and `ys` is `xs ++ b ∷ []`, then `ys`
+-- is `zs` followed by the first `i + 1` bits of `x`
 pub first_bits-more : (i x : ℕ) (zs xs ys : List Bool) (b : Bool) → ys ≡ xs ++ b ∷ []
     → map from_bool xs ≡ map from_bool zs ++ first_bits i x → from_bool b ≡ x / 2 ^ i % 2
     → map from_bool ys ≡ map from_bool zs ++ first_bits (i + 1) x

@@ -19,20 +19,20 @@ pub after-none : (r : Verdict) → after 0 0 r ≡ r
 after-none (accepted x y) = let a : 0 + x ≡ x = omega arith in let b : 0 + y ≡ y = omega arith in cc
 after-none (refused e at x y) = let a : 0 + x ≡ x = omega arith in let b : 0 + y ≡ y = omega arith in cc
 
--- if `after n m r` is `accepted p k`, `r` is `accepted` with `n` fewer words paid and `m` fewer visits
+-- if `after n m r` is `accepted p k`, then `r` is `accepted` with `n` fewer words paid and `m` fewer visits
 pub after-accepted : (n m p k : ℕ) (r : Verdict) → after n m r ≡ accepted p k → (q j : ℕ) × (r ≡ accepted q j)
     × (p ≡ n + q) × (k ≡ m + j)
 after-accepted n m p k (accepted q j) h = (q, j, refl, cc, cc)
 after-accepted n m p k (refused e at q j) h = absurd cc
 
--- if `after n m r` is `refused e at p k`, `r` is `refused e at` with `n` fewer words paid and `m` fewer visits
+-- if `after n m r` is `refused e at p k`, then `r` is `refused e at` with `n` fewer words paid and `m` fewer visits
 pub after-refused : (n m : ℕ) (e : Fault) (at : Place) (p k : ℕ) (r : Verdict) → after n m r ≡ refused e at p k
     → (q j : ℕ) × (r ≡ refused e at q j) × (p ≡ n + q) × (k ≡ m + j)
 after-refused n m e at p k (accepted q j) h = absurd cc
 after-refused n m e at p k (refused f x q j) h = (q, j, cc, cc, cc)
 
--- if a visit costs at most `b` words, the verdict on that visit and `vs` is the verdict on `vs`, with that visit added.
--- For the verdict on `vs`, `b - n` words are left to pay.
+-- if a visit costs `n` words, at most `b`, then the verdict on the visit and `vs` is the verdict on `vs`, with the
+-- visit added. For the verdict on `vs`, `b - n` words are left to pay.
 pub judge-pays : (b n : ℕ) (at : Place) (vs : List Visit) → n ≤ b
     → judge b (pays at n ∷ vs) ≡ after n 1 (judge (b - n) vs)
 judge-pays b n at vs h =
@@ -52,8 +52,8 @@ judge-fits b n at vs p k =
     pick (λ (r : Verdict). r ≡ accepted p k
     → n ≤ b) (nat_lt b n) _ _ (λ e. λ h. absurd cc) (λ e. λ h. grind (arith, nat_tests))
 
--- if the visits `xs` are accepted, the verdict on `xs ++ ys` is the verdict on `ys`, with the visits `xs` added. For
--- the verdict on `ys`, `b - p` words are left to pay.
+-- if the visits `xs` are accepted and pay `p` words, then the verdict on `xs ++ ys` is the verdict on `ys`, with the
+-- visits `xs` added. For the verdict on `ys`, `b - p` words are left to pay.
 pub judge-more : (b : ℕ) (xs ys : List Visit) (p k : ℕ) → judge b xs ≡ accepted p k
     → judge b (xs ++ ys) ≡ after p k (judge (b - p) ys)
 judge-more b [] ys p k h =

@@ -10,7 +10,7 @@ use Rattle.capn_target.specs.declared.target.Shape.TheVariants as shapes
 use Rattle.capn_target.specs.Target.{list_width, content_words}
 use Rattle.capn_walk.specs.Visits.{slots, price}
 
--- the width of numbers for the given width in a pointer to a list, or `None` if the elements are no numbers
+-- the `NumberWidth` of a list with the given `Width`, or `None` if the elements are not numbers
 abbrev pub number_width : Width → Option NumberWidth
 number_width W1 = Some bit
 number_width W8 = Some byte

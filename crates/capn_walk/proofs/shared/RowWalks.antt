@@ -133,6 +133,5 @@ module _ (m : List (List ℕ)) where
   rows_at-step a b s w next n bs c h l e la ws lb ss =
       let p : next ≡ w + count_rows (rows_of bs) * (a + b) = e ∙ ap (λ (k : ℕ). w + k * (a + b)) (sym l) in
       let words : AreWordsAt m s next c.words = ap (λ (k : ℕ). take k (words_from m s next)) la ∙ ws in
-      rows_at-next a b s w bs c h la lb
-      (subst (λ (q : ℕ). AreWordsAt m s q c.words) p words)
+      rows_at-next a b s w bs c h la lb (subst (λ (q : ℕ). AreWordsAt m s q c.words) p words)
       (subst (λ (q : ℕ). AreAt m s q (trees_of c.slots)) (ap (λ (q : ℕ). q + a) p) ss)

@@ -106,8 +106,8 @@ decided b (pays x n ∷ vs) = fits (nat_lt b n) refl (decided (b - n) vs)
 
 -- ---- the meaning of a verdict
 
--- if the visits `vs` are accepted, they are within the budget `b`, `p` is the sum of their prices, and `k` is their
--- number
+-- if the visits `vs` are accepted, then they are within the budget `b`, `p` is the sum of their prices, and `k` is
+-- their number
 pub accepted-within : (b : ℕ) (vs : List Visit) (p k : ℕ) → judge b vs ≡ accepted p k → IsWithin b vs × (p ≡ paid_of vs)
     × (k ≡ length vs)
 accepted-within b vs p k h = from (decided b vs)

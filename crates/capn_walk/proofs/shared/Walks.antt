@@ -143,8 +143,7 @@ module _ (m : List (List ℕ)) where
       visits-object zero z = absurd (omega arith)
       visits-object (suc d) z = let f : suc d - 1 ≡ d = omega arith in
           ap (visit m base (visits m base d) at) e
-          ∙ ap (λ (c : ℕ). pays at (price base shape + pads) ∷ flat_map (visits m base c) (slots s start shape))
-          (sym f)
+          ∙ ap (λ (c : ℕ). pays at (price base shape + pads) ∷ flat_map (visits m base c) (slots s start shape)) (sym f)
 
   -- Case: the slot at `at` names an object, and the depth and `left` allow that object.
   module _ (base : ℕ) (at : Place) (s start pads : ℕ) (shape : Shape)

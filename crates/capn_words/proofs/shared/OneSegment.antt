@@ -64,7 +64,7 @@ bare_message ws each room = record {
   each = only_segment ws each;
 }
 
--- if segment `s` of the message of the one segment `ws` has a word `k`, `s` is 0 and `ws` has a word `k`
+-- if segment `s` of a message whose only segment is `ws` has a word `k`, `s` is 0 and `ws` has a word `k`
 pub only_place : (ws : List ℕ) (s k : ℕ) → k < length (segment_at (ws ∷ []) s) → (s ≡ 0) × (k < length ws)
 only_place ws zero k h = (refl, h)
 only_place ws (suc s) k h = absurd (omega arith)

@@ -4,8 +4,7 @@ use Rattle.std.proofs.Common.{drop, slice_index, refl, ap, sym, ◌∙◌, arith
 use Rattle.std.proofs.Math.Seq.{take-append-add}
 use Rattle.std.proofs.Math.Nat.{div-div-eq-div-mul, pow-succ'}
 use Rattle.std.specs.Int.{byte_at, bytes_low_first}
-use Rattle.std.proofs.lemmas.List.{drop-drop, get_or-drop, drop_at, take-append-drop}
-use Rattle.std.proofs.lemmas.List.{nil_from_length}
+use Rattle.std.proofs.lemmas.List.{drop-drop, get_or-drop, drop_at, take-append-drop, nil_from_length}
 use Rattle.byteorder.specs.Endian.{little_from}
 use Rattle.byteorder.specs.Numbers.{little_from-cons, little_from-lt, little_number-reads_back}
 use Rattle.capn_words.specs.Message.{word_bytes, word_number, words_in, bytes, AreBytes, AreWords}
@@ -32,12 +31,6 @@ bytes_of_number (suc n) (b ∷ bs) h l =
     let high : (b + 256 * little_from 0 n bs) / 256 ≡ little_from 0 n bs = omega arith in
     rw (moved, bytes_low_first-suc 0 n (b + 256 * little_from 0 n bs), low, high, ih) refl
 
-bytes_low_first-below : (i k x : ℕ) → AreBytes (bytes_low_first i k x)
-bytes_low_first-below i zero x j = omega arith
-bytes_low_first-below zero (suc k) x zero = omega arith
-bytes_low_first-below (suc i) (suc k) x zero = omega arith
-bytes_low_first-below i (suc k) x (suc j) = bytes_low_first-below (suc i) k x j
-
 -- ---- one word
 
 pub AreBytes-drop : (n : ℕ) (bs : List ℕ) → AreBytes bs → AreBytes (drop n bs)
@@ -58,7 +51,7 @@ pub word_bytes-number : (bs : List ℕ) → AreBytes bs → 8 ≤ length bs → 
 unfolding word_number word_bytes
 word_bytes-number bs h l = bytes_of_number 8 bs h l
 
--- if `w` is below 2^64, the word that is read from the bytes of `w`, and of any `rest` after them, is `w`
+-- if `w` is below 2^64, the word that is read from the bytes of `w`, followed by any `rest`, is `w`
 pub number-word_bytes : (w : ℕ) (rest : List ℕ) → w < 2 ^ 64 → word_number (word_bytes w ++ rest) ≡ w
 unfolding word_number word_bytes
 number-word_bytes w rest h = little_number-reads_back 8 w rest h
@@ -67,10 +60,6 @@ number-word_bytes w rest h = little_number-reads_back 8 w rest h
 pub length-word_bytes : (w : ℕ) → length (word_bytes w) ≡ 8
 unfolding word_bytes
 length-word_bytes w = refl
-
-word_bytes-below : (w : ℕ) → AreBytes (word_bytes w)
-unfolding word_bytes
-word_bytes-below w = bytes_low_first-below 0 8 w
 
 -- ---- the words in bytes
 
@@ -128,7 +117,7 @@ bytes-injective vs ws hv hw e =
     sym (words_of_bytes vs hv) ∙ ap (λ (n : ℕ). words_in n (bytes vs)) same
     ∙ ap (λ (bs : List ℕ). words_in (length ws) bs) e ∙ words_of_bytes ws hw
 
--- if the first `8 * n` bytes of `ws` are dropped, the bytes of all words of `ws` but the first `n` remain
+-- the bytes of `ws` without the first `8 * n` bytes are the bytes of the words of `ws` after the first `n` words
 pub bytes-drop : (n : ℕ) (ws : List ℕ) → drop (8 * n) (bytes ws) ≡ bytes (drop n ws)
 bytes-drop zero ws = refl
 bytes-drop (suc n) [] = let e : 8 * suc n ≡ suc (7 + 8 * n) = omega arith in rw e refl
@@ -146,7 +135,3 @@ bytes-take (suc n) (w ∷ ws) =
     let e : 8 * suc n ≡ length (word_bytes w) + 8 * n = omega (arith, length-word_bytes w) in
     rw e (take-append-add (word_bytes w) (bytes ws) (8 * n)
     ∙ ap (λ (bs : List ℕ). word_bytes w ++ bs) (bytes-take n ws))
-
-pub AreBytes-bytes : (ws : List ℕ) → AreBytes (bytes ws)
-AreBytes-bytes [] i = omega arith
-AreBytes-bytes (w ∷ ws) i = AreBytes-append (word_bytes w) (bytes ws) (word_bytes-below w) (AreBytes-bytes ws) i

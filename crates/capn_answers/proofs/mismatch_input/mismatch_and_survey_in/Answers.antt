@@ -1,4 +1,4 @@
--- The mismatch and the survey of a message are also those of the bytes that are read as that message.
+-- Bytes that are read as a message have the mismatch and the survey of that message.
 use Rattle.capn_canon.proofs.shared.TaskRuns.{run_answered}
 use Rattle.capn_answers.specs.inner.Answered.{IsMismatchSurveyed}
 use Rattle.capn_answers.proofs.SurveyedMismatches.{both_bounded, both_few, both_found, both_only}

@@ -1,4 +1,4 @@
--- The outcome of the walk of a message is also that of the bytes that are read as that message.
+-- If bytes are read as a message, the outcome of its walk is also the outcome for the bytes.
 use Rattle.capn_canon.proofs.shared.TaskRuns.{run_answered}
 use Rattle.capn_answers.specs.inner.Answered.{IsWalkTold}
 use Rattle.capn_answers.proofs.WalksTold.{walk_bounded, walk_found, walk_only, walk_short, walk_unread}

@@ -20,7 +20,7 @@ module _ (limits : Bounds) (tally : Tally) (at : Position) (frame : List ℕ) (m
   abbrev HasNone : ServeFault → Type 0
   HasNone fault = Finds (IsDigestIfAny message limits) (IsUnaccepted message limits) needs (Err fault)
 
-  -- Case: the call for the digest failed, and nothing was added.
+  -- Case: if the call for the digest failed, and nothing was added, `AddsServed` holds.
   none_found : (fault : ServeFault) → HasNone fault → (r : Result (Unit {0}) ServeFault) → IsErrAnd r (λ e. e ≡ fault)
       → AddsServed tasks.Digests limits tally at frame message a a false r tally
   none_found fault none (Ok u) is = absurd is

@@ -11,8 +11,7 @@ whole front bytes is = ap (λ (l : List ℕ). l ++ bytes) is
 pub returns-in_err-add_bytes : goal.returns-in_err-add_bytes
 returns-in_err-add_bytes g c =
     let made : c.head_of-head.result ≡ head (length c.args.bytes.now / 8) = c.head_of-head.ensures in
-    subst (λ (t : List ℕ). AddsText t
-    (outgoing (g.W.Write.contents (inner_of c.args.writer.now)) c.args.text.now.items)
+    subst (λ (t : List ℕ). AddsText t (outgoing (g.W.Write.contents (inner_of c.args.writer.now)) c.args.text.now.items)
     (outgoing (g.W.Write.contents (inner_of c.add_bytes.new.writer)) c.add_bytes.new.text.items)
     (has_failed c.add_bytes.new.writer) c.from_residual.result) (whole c.head_of-head.result c.args.bytes.now made)
     (none_added c.head_of-head.result c.args.bytes.now
@@ -24,8 +23,7 @@ returns-in_err-add_bytes g c =
 pub returns : goal.returns
 returns g c =
     let made : c.head_of-head.result ≡ head (length c.args.bytes.now / 8) = c.head_of-head.ensures in
-    subst (λ (t : List ℕ). AddsText t
-    (outgoing (g.W.Write.contents (inner_of c.args.writer.now)) c.args.text.now.items)
+    subst (λ (t : List ℕ). AddsText t (outgoing (g.W.Write.contents (inner_of c.args.writer.now)) c.args.text.now.items)
     (outgoing (g.W.Write.contents (inner_of c.add_bytes-2.new.writer)) c.add_bytes-2.new.text.items)
     (has_failed c.add_bytes-2.new.writer) c.add_bytes-2.result) (whole c.head_of-head.result c.args.bytes.now made)
     (both_added c.head_of-head.result c.args.bytes.now

@@ -14,12 +14,10 @@ whole false false frame e d = refl
 
 pub returns : goal.returns
 returns g c =
-    subst (λ (t : List ℕ). AddsText t
-    (outgoing (g.W.Write.contents (inner_of c.args.writer.now)) c.args.text.now.items)
+    subst (λ (t : List ℕ). AddsText t (outgoing (g.W.Write.contents (inner_of c.args.writer.now)) c.args.text.now.items)
     (outgoing (g.W.Write.contents (inner_of c.add_bytes.new.writer)) c.add_bytes.new.text.items)
     (has_failed c.add_bytes.new.writer) c.add_bytes.result)
     (whole c.args.count c.args.is_duplicate c.args.frame.now c.if-count.false c.if-is_duplicate.false)
-    (text_added c.args.frame.now
-    (outgoing (g.W.Write.contents (inner_of c.args.writer.now)) c.args.text.now.items)
+    (text_added c.args.frame.now (outgoing (g.W.Write.contents (inner_of c.args.writer.now)) c.args.text.now.items)
     (outgoing (g.W.Write.contents (inner_of c.add_bytes.new.writer)) c.add_bytes.new.text.items)
     (has_failed c.add_bytes.new.writer) c.add_bytes.result c.add_bytes.ensures)

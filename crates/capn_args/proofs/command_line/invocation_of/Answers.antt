@@ -52,7 +52,7 @@ returns-in_err-matches-clause-only g c taken invocation means =
     → kind_of c.in_err-matches.field-0.0 ≡ kinds.OutOfMemory) c.in_ok-tool.ensures c.in_err-matches.ensures.passes in
     told_memory invocation c.in_err-matches.field-0.0 _ (passes taken) c.from_residual-in_err-matches.ensures
 
--- Case: an allocation was refused for the parser.
+-- Case: if an allocation was refused for the parser, `GivesInvocation` holds.
 no_parser : (invocation : Invocation) (r : Result Invocation Usage) → IsErr r × IsErrAnd r NeedsMemory
     → GivesInvocation invocation r
 no_parser invocation (Ok given) (is_err, is) = absurd cc

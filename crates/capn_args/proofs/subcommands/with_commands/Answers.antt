@@ -10,7 +10,7 @@ use Rattle.capn_args.proofs.subcommands.with_commands.Goals as goal
 abbrev blank : Bor Text
 blank = record { ref_ptr = (0, 0); now = [] }
 
--- One step of the loop: `new` is `top` with the command added whose name is `names[i]`.
+-- One step of the loop: if `new` is `top` with the command `names[i]`, `new` with the later commands is `whole`.
 step : (names : List (Bor Text)) (i : ℕ) (top new whole : App) → i < length names
     → with_commands top (texts_of (drop i names)) ≡ whole
     → new ≡ with_subcommand top (line_of (get_or names i blank).now).top

@@ -1,4 +1,4 @@
--- The canonical bytes that are written for bare words are those of the bytes that encode the words.
+-- Bare words are a message of one segment. The result for that message is also the result for the bytes.
 use Rattle.std.proofs.Common.{[], ◌∷◌, refl}
 use Rattle.capn_canon.specs.declared.form.Form.TheVariants as forms
 use Rattle.capn_canon.specs.declared.refusal.Refusal.TheVariants as refusals

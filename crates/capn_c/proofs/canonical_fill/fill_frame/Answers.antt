@@ -1,4 +1,4 @@
--- The canonical bytes that are written for the message of a frame are those of the frame's bytes.
+-- The result for the message in a frame is also the result for the bytes of the frame.
 use Rattle.std.proofs.Common.{ap, Err}
 use Rattle.capn_canon.specs.declared.form.Form.TheVariants as forms
 use Rattle.capn_c.proofs.OutOfMemory.{unaccepted_refused}

@@ -1,4 +1,4 @@
--- The canonical bytes that are written for a message are those of the segments that hold the message.
+-- The result for a message is also the result for the segments that hold the message.
 use Rattle.std.proofs.Common.{refl}
 use Rattle.capn_stream.specs.Segments.{message_of}
 use Rattle.capn_c.proofs.Filled.{filled_held}

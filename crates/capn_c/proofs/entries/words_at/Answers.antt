@@ -1,4 +1,4 @@
--- The number of words of a segment, which is 0 if there is no such segment.
+-- The number of words of a segment, or 0 if the message has no segment with that number.
 use Rattle.capn_c.proofs.OneBare.{words-at}
 use Rattle.capn_c.proofs.entries.words_at.Goals as goal
 

@@ -1,4 +1,4 @@
--- The figures in the result are those of the measure of the message.
+-- The result has the figures that the measure of the message gives.
 use Rattle.capn_c.proofs.Figured.{figured}
 use Rattle.capn_c.proofs.figures.figures_of.Goals as goal
 

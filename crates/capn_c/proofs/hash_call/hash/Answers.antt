@@ -1,5 +1,5 @@
--- The digest is that of the canonical bytes of the only value that the bytes denote. If that value has no capability,
--- the only refusal is `Memory`.
+-- The digest is the SHA-256 of the canonical bytes of the only value that the bytes denote. If that value has no
+-- capability, the only refusal is `Memory`.
 use Rattle.std.proofs.Common.{inl, inr, refl, ap, ◌∙◌, Err}
 use Rattle.sha2.specs.Sha256.{sha256}
 use Rattle.capn_canon.proofs.shared.NotRefused.{not_refused}

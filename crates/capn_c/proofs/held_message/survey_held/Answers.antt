@@ -10,7 +10,6 @@ returns-clause-short c =
     let m = c.in_ok-message.message in
     let l = c.args.limits in
     let same = sym c.in_ok-message.ensures.exact.0 in
-    IfOk-weaker c.survey.result _ _
-    (λ s h v d. h v (subst (λ (x : List (List ℕ)). IsValueOf x l v) same d.value))
+    IfOk-weaker c.survey.result _ _ (λ s h v d. h v (subst (λ (x : List (List ℕ)). IsValueOf x l v) same d.value))
     (surveyed_short m l c.survey.result c.segments-segments.ensures.bounds (omega arith) (omega arith)
     c.survey.ensures.found)

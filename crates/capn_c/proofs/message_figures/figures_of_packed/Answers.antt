@@ -1,4 +1,4 @@
--- The figures of the stream that a packed text unpacks to are also those of the packed text.
+-- A packed text has the figures of the stream that it unpacks to.
 use Rattle.std.proofs.Common.{arith}
 use Rattle.std.proofs.lemmas.Result.{IfOk-weaker, IfErr-weaker}
 use Rattle.capn_c.proofs.PackedText.{packed_figures, packed_unaccepted, packed_needs, unpacks}

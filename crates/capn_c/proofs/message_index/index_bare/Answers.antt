@@ -1,4 +1,4 @@
--- The index that is written for bare words is that of the bytes that encode the words.
+-- Bare words are a message of one segment. The index of that message is also the index of the bytes.
 use Rattle.std.proofs.Common.{[], ◌∷◌, refl, arith}
 use Rattle.capn_canon.specs.declared.form.Form.TheVariants as forms
 use Rattle.capn_canon.specs.declared.refusal.Refusal.TheVariants as refusals

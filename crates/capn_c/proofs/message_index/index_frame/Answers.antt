@@ -1,4 +1,4 @@
--- The index that is written for the message of a frame is that of the frame.
+-- The index of the message in a frame is also the index of the bytes of the frame.
 use Rattle.std.proofs.Common.{ap, Err}
 use Rattle.capn_canon.specs.declared.form.Form.TheVariants as forms
 use Rattle.capn_c.proofs.Indexed.{indexed_in}

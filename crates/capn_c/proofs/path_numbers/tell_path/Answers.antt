@@ -1,4 +1,4 @@
--- The report is that of the stopped walk, except for the length.
+-- Except for its length, the report describes the stopped walk.
 use Rattle.std.proofs.Common.{◌*◌, length, refl}
 use Rattle.capn_c.proofs.PathTold.{but_length}
 use Rattle.capn_c.proofs.path_numbers.tell_path.Goals as goal

@@ -1,4 +1,4 @@
--- The status says whether the values are the same. A refusal is that of the message that `which` names, and has the
+-- The status says whether the values are the same. A refusal concerns the message that `which` names, and has the
 -- status 8 only if memory ran out.
 use Rattle.std.proofs.Common.{◌≡◌, ℕ, Bool, true, false, inl, inr, refl, ap, sym, subst, ◌∙◌, arith}
 use Rattle.std.proofs.Common.{Result, Err}

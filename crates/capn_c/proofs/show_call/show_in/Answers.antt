@@ -1,4 +1,4 @@
--- An accepted message has only one text in each style. The only error for it is `Memory`.
+-- An accepted message has only one text in each style, and its only error is `Memory`.
 use Rattle.std.proofs.Common.{rules, List, ℕ, inl, inr, ap, subst, ◌∙◌, Err}
 use Rattle.capn_canon.proofs.shared.NotUnaccepted.{not_unaccepted}
 use Rattle.capn_show.specs.declared.style.Style.{Style}

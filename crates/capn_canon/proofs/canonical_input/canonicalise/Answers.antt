@@ -29,8 +29,7 @@ returns-clause-bounded g c =
 pub returns-clause-only : goal.returns-clause-only
 returns-clause-only g c =
     let told = canonicalised c.args.form c.args.bytes.now c.args.limits c.run_task.result _ _ _ _ c.run_task.ensures in
-    found_only c.run_task.result _ _ c.args.form c.args.bytes.now c.args.limits told.found
-    told.refused
+    found_only c.run_task.result _ _ c.args.form c.args.bytes.now c.args.limits told.found told.refused
 
 pub returns-clause-short : goal.returns-clause-short
 returns-clause-short g c =
@@ -65,8 +64,7 @@ returns-clause-exactly g c =
 pub returns-clause-answered : goal.returns-clause-answered
 returns-clause-answered g c =
     let told = canonicalised c.args.form c.args.bytes.now c.args.limits c.run_task.result _ _ _ _ c.run_task.ensures in
-    answered c.args.form c.args.bytes.now c.args.limits c.run_task.result told.found
-    told.refused
+    answered c.args.form c.args.bytes.now c.args.limits c.run_task.result told.found told.refused
 
 pub returns-clause-equal : goal.returns-clause-equal
 returns-clause-equal g c =
@@ -85,5 +83,4 @@ returns-clause-second g c =
 pub returns-clause-within : goal.returns-clause-within
 returns-clause-within g c =
     let told = canonicalised c.args.form c.args.bytes.now c.args.limits c.run_task.result _ _ _ _ c.run_task.ensures in
-    within_budget c.args.form c.args.bytes.now c.args.limits c.run_task.result told.found
-    told.refused
+    within_budget c.args.form c.args.bytes.now c.args.limits c.run_task.result told.found told.refused

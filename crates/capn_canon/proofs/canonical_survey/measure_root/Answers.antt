@@ -48,8 +48,7 @@ returns-then-this-ne0-clause-found g c =
       visits = q.visits;
       capability = None;
       is_canonical = nat_eq q.next c.words_of-size.result;
-    })
-    (ap (λ (n : ℕ). n - q.left) c.budget-budget.ensures.value) refl refl
+    }) (ap (λ (n : ℕ). n - q.left) c.budget-budget.ensures.value) refl refl
     (λ t. yes-same q.next c.words_of-size.result t ∙ size)
     (λ v h free e. same-yes q.next c.words_of-size.result
     (root-ends all l v c.requires (omega arith) (omega arith) h free e l.depth l.budget q f ∙ sym size))
@@ -98,8 +97,7 @@ returns-else-this-ne0-clause-found g c =
       visits = q.visits;
       capability = None;
       is_canonical = nat_eq q.next c.words_of-size.result;
-    })
-    (ap (λ (n : ℕ). n - q.left) c.budget-budget.ensures.value) refl refl
+    }) (ap (λ (n : ℕ). n - q.left) c.budget-budget.ensures.value) refl refl
     (λ t. yes-same q.next c.words_of-size.result t ∙ size)
     (λ v h free e. same-yes q.next c.words_of-size.result
     (root-ends all l v c.requires (omega arith) (omega arith) h free e l.depth l.budget q f ∙ sym size))

@@ -16,8 +16,7 @@ returns g c =
       room =
           rw c.as_slice.ensures.value (omega (arith, c.in_ok-text.ensures.within));
     } in
-    packed_run c.args.bytes.now c.as_slice.result.now c.args.limits answers _ c.of_plain.result _ u
-    c.of_plain.ensures
+    packed_run c.args.bytes.now c.as_slice.result.now c.args.limits answers _ c.of_plain.result _ u c.of_plain.ensures
 
 pub returns-in_err-text : goal.returns-in_err-text
 returns-in_err-text g c =

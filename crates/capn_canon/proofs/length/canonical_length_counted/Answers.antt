@@ -5,8 +5,7 @@ use Rattle.capn_canon.proofs.length.canonical_length_counted.Goals as goal
 pub returns-clause-answered : goal.returns-clause-answered
 returns-clause-answered g c =
     let told = c.length_by_segments.ensures.told in
-    length_answered c.args.space.now c.args.limits c.length_by_segments.result told.found
-    told.refused
+    length_answered c.args.space.now c.args.limits c.length_by_segments.result told.found told.refused
 
 pub returns-clause-short : goal.returns-clause-short
 returns-clause-short g c =

@@ -8,8 +8,7 @@ use Rattle.capn_canon.proofs.length.length_beyond.Goals as goal
 
 pub returns-then-paid-room-clause-beyond : goal.returns-then-paid-room-clause-beyond
 returns-then-paid-room-clause-beyond g c v h =
-    let l = denoted_length c.args.space.now c.args.limits v c.bounds.ensures
-    (omega arith) (omega arith) h in
+    let l = denoted_length c.args.space.now c.args.limits v c.bounds.ensures (omega arith) (omega arith) h in
     let p = c.requires.pays in
     let t = c.if-paid-room.true in
     omega arith

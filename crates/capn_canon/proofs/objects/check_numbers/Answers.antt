@@ -69,8 +69,7 @@ returns g c =
               few = omega arith;
             };
             lowered = λ on le. let e = is on in omega arith;
-          })
-          c.paid.ensures.found;
+          }) c.paid.ensures.found;
       only = λ h. c.paid.ensures.only
           (let cheap = numbers-cheap all c.args.base p.from p.next p.depth p.left h small (omega arith) o.deep k n
           c.requires.list.few c.requires.list.word (λ e. subst IsPlain e c.requires.plain) c.requires.message

@@ -33,7 +33,7 @@ extra-no s n w z e = e ∙ sym (if-no (s == 0) n 0 (grind (arith, nat_tests)))
 if-same : (s t n m : ℕ) → s ≡ t → n ≡ m → (if s == 0 then n else 0) ≡ (if t == 0 then m else 0)
 if-same s t n m e f = ap₂ (λ (x y : ℕ). if x == 0 then y else 0) e f
 
--- A list of structs is due at the next free word, and the tag `g` has its sizes.
+-- The pass must find a list of structs at the next free word, and the tag `g` has the sizes of that list.
 record IsTagged (all : List ℕ) (base : ℕ) (p : Pass) (span : ℕ) (g : Tag) : Type 0 where
   due : DueTagged all base p.from p.next p.depth p.left span
   count : g.count ≡ due.n

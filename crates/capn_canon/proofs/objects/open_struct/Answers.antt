@@ -28,7 +28,7 @@ struct-word x from next a b lt order room low ea eb some =
     let n : next - from - 1 ≡ next - (from + 1) = omega arith in
     f ∙ sym (ap word_of (if-no ((a == 0) && (b == 0)) _ _ (grind (arith, nat_tests))) ∙ omega arith)
 
--- A struct is due at the next free word, and the tag `g` has its sizes.
+-- The pass must find a struct at the next free word, and the tag `g` has the sizes of that struct.
 record IsTagged (all : List ℕ) (base : ℕ) (p : Pass) (g : Tag) : Type 0 where
   due : DueStruct all base p.from p.next p.depth p.left
   words : g.words ≡ due.a

@@ -50,8 +50,8 @@ behind-reads : (p : Pass) (q : Progress) (r : Pass) → p.from < p.end → r ≡
     → may_read r + 7 ≡ 7 * (p.end - p.from) + 10 * q.left
 behind-reads p q r some e = let f = ap may_read e in omega arith
 
--- The pass `r` begins at a later slot than the pass `p`, and decides what `p` finds (`Leads`). If values are due at the
--- slots of `p`, values are due at the slots of `r`.
+-- The pass `r` begins at a later slot than the pass `p`, and decides what `p` finds (`Leads`). If the pass `p` must
+-- find values at all its slots, so must the pass `r` (`Due`).
 record GoesOn (all : List ℕ) (base : ℕ) (deep : Bool) (p : Pass) (least : ℕ) (r : Pass) (here : ℕ) : Type 0 where
   found : (p.from < r.from) × IsOpen all r × Leads all base deep p least r here
   only : Due all base p → Due all base r
@@ -73,8 +73,7 @@ check_slot-returns-then-word-eq0 g t c =
     let deep = not (nat_eq g.row.DEEP 0) in
     let least = c.args.least.now in
     let go = goes-on all c.args.base deep p least least c.requires.some o (come p)
-    (finds-null all c.args.base deep p least o z) c.behind.result
-    (c.behind.ensures ∙ ap (behind p) c.here.ensures) in
+    (finds-null all c.args.base deep p least o z) c.behind.result (c.behind.ensures ∙ ap (behind p) c.here.ensures) in
     let left = behind-reads p (come p) c.behind.result c.requires.some
     (c.behind.ensures ∙ ap (behind p) c.here.ensures) in
     let read = c.word_at-word.ensures.reads in
@@ -424,8 +423,7 @@ check_composite-returns-else-tag-eq0 g t c =
     record {
       found = if-some c.check_rows.result
           (λ q. opened.3 (not (nat_eq g.row.DEEP 0)) c.args.least.now c.lower.new.least q c.check_rows.new.least
-          c.lower.ensures)
-          rows;
+          c.lower.ensures) rows;
       only = λ h. rows_due (due h);
       reads = if-some c.check_rows.result (λ q h. omega arith) c.check_rows.ensures.reads;
       most = omega arith;

@@ -27,8 +27,7 @@ returns-clause-inside g c =
 pub returns-clause-short : goal.returns-clause-short
 returns-clause-short g c =
     short_into (g.M.Asked.message c.args.space) c.args.limits c.args.out.now c.ask_into.new.out
-    c.ask_into.result c.ask_into.ensures.1.written c.ask_into.ensures.0 (omega arith)
-    (omega arith)
+    c.ask_into.result c.ask_into.ensures.1.written c.ask_into.ensures.0 (omega arith) (omega arith)
 
 pub returns-clause-reads_back : goal.returns-clause-reads_back
 returns-clause-reads_back g c =

@@ -27,8 +27,7 @@ returns-clause-inside g c =
 pub returns-clause-short : goal.returns-clause-short
 returns-clause-short g c =
     short_into c.args.space.now c.args.limits c.args.out.now c.write_by_segments.new.out
-    c.write_by_segments.result c.write_by_segments.ensures.into.written c.bounds.ensures (omega arith)
-    (omega arith)
+    c.write_by_segments.result c.write_by_segments.ensures.into.written c.bounds.ensures (omega arith) (omega arith)
 
 pub returns-clause-reads_back : goal.returns-clause-reads_back
 returns-clause-reads_back g c =

@@ -26,33 +26,25 @@ returns-in-Packed-whole g c =
 pub returns-in-Unpacked : goal.returns-in-Unpacked
 returns-in-Unpacked g c =
     runs_planned c.args.plan (plans.Whole (wholes.Unpacked c.in-Unpacked.most)) _ _ _ _ _ _
-    c.write_made-in-Unpacked.result
-    (c.in-Whole.is ∙ ap (λ (w : Whole). plans.Whole w) c.in-Unpacked.is)
-    (c.write_made-in-Unpacked.ensures (wholes.Unpacked c.in-Unpacked.most) _ _ _
-    c.read_words.ensures)
+    c.write_made-in-Unpacked.result (c.in-Whole.is ∙ ap (λ (w : Whole). plans.Whole w) c.in-Unpacked.is)
+    (c.write_made-in-Unpacked.ensures (wholes.Unpacked c.in-Unpacked.most) _ _ _ c.read_words.ensures)
 
 pub returns-in-Canonical : goal.returns-in-Canonical
 returns-in-Canonical g c =
-    runs_planned c.args.plan
-    (plans.Whole (wholes.Canonical c.in-Canonical.form c.in-Canonical.limits)) _ _ _ _ _ _
-    c.write_made-in-Canonical.result
-    (c.in-Whole.is ∙ ap (λ (w : Whole). plans.Whole w) c.in-Canonical.is)
+    runs_planned c.args.plan (plans.Whole (wholes.Canonical c.in-Canonical.form c.in-Canonical.limits)) _ _ _ _ _ _
+    c.write_made-in-Canonical.result (c.in-Whole.is ∙ ap (λ (w : Whole). plans.Whole w) c.in-Canonical.is)
     (c.write_made-in-Canonical.ensures
     (wholes.Canonical c.in-Canonical.form c.in-Canonical.limits) _ _ _ c.make_canonical.ensures)
 
 pub returns-in-Bare : goal.returns-in-Bare
 returns-in-Bare g c =
-    runs_planned c.args.plan
-    (plans.Whole (wholes.Bare c.in-Bare.piece c.in-Bare.limits)) _ _ _ _ _ _
-    c.run_bare_piece.result (c.in-Whole.is ∙ ap (λ (w : Whole). plans.Whole w) c.in-Bare.is)
-    c.run_bare_piece.ensures
+    runs_planned c.args.plan (plans.Whole (wholes.Bare c.in-Bare.piece c.in-Bare.limits)) _ _ _ _ _ _
+    c.run_bare_piece.result (c.in-Whole.is ∙ ap (λ (w : Whole). plans.Whole w) c.in-Bare.is) c.run_bare_piece.ensures
 
 pub returns-in-One : goal.returns-in-One
 returns-in-One g c =
-    runs_planned c.args.plan
-    (plans.Whole (wholes.One c.in-One.piece c.in-One.form c.in-One.limits)) _ _ _ _ _ _
-    c.run_framed.result (c.in-Whole.is ∙ ap (λ (w : Whole). plans.Whole w) c.in-One.is)
-    c.run_framed.ensures
+    runs_planned c.args.plan (plans.Whole (wholes.One c.in-One.piece c.in-One.form c.in-One.limits)) _ _ _ _ _ _
+    c.run_framed.result (c.in-Whole.is ∙ ap (λ (w : Whole). plans.Whole w) c.in-One.is) c.run_framed.ensures
 
 pub returns-in-Each : goal.returns-in-Each
 returns-in-Each g c =

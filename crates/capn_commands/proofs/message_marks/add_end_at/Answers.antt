@@ -14,5 +14,4 @@ returns g c =
     subst (λ (l : List ℕ). AddsEnd l (outgoing g.W.Write.contents c.args.writer.now c.args.text.now.items)
     (outgoing g.W.Write.contents c.add_end.new.writer c.add_end.new.text.items) c.add_end.result)
     (all_written 25 c.write_digits-start.result c.write_digits-start.new.buf (decimal c.args.byte) (codes "\tend\n")
-    c.write_digits-start.ensures.written (ap (λ (k : ℕ). k + 5) c.write_digits-start.ensures.start))
-    c.add_end.ensures
+    c.write_digits-start.ensures.written (ap (λ (k : ℕ). k + 5) c.write_digits-start.ensures.start)) c.add_end.ensures

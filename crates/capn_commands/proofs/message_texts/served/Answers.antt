@@ -34,5 +34,4 @@ returns-in-Ok c s at frame message old new given =
 pub returns-in-Err : goal.returns-in-Err
 returns-in-Err c s at frame message old new given =
     subst (λ (f : ServeFault). PutsMessage serves refuses s at frame message old new (stopped f) s)
-    (sym c.served_fault.ensures)
-    (unput s at frame message old new c.in-Err.fault (rw c.in-Err.is at given))
+    (sym c.served_fault.ensures) (unput s at frame message old new c.in-Err.fault (rw c.in-Err.is at given))

@@ -4,7 +4,7 @@ use Rattle.capn_commands.specs.Flow.{Consumed, most}
 use Rattle.capn_commands.proofs.Packed.{Holds}
 use Rattle.capn_commands.proofs.pack_run.pack_stream.Given as goal
 
--- Neither the reader nor the writer has failed. The settled text was written, for the bytes read so far.
+-- Neither the reader nor the writer has failed. The settled text of the bytes read so far was written.
 abbrev pub invariant-chunks : goal.invariant-chunks
 invariant-chunks g l = record {
   reader : has_failed l.reader ≡ false;

@@ -11,8 +11,7 @@ returns-in-Ok g c =
     let r = outgoing g.W.Write.contents c.add_end.new.writer c.add_end.new.text.items in
     part_line (g.S.Space.message c.args.message.now) c.args.limits (styled c.args.style c.args.path.now)
     (end_of c.args.style) (outgoing g.W.Write.contents c.args.writer.now c.args.text.now.items) q r c.add_end.result
-    c.in-Ok.ensures.shown
-    (subst (λ (l : List ℕ). AddsEnd l q r c.add_end.result) c.end.ensures c.add_end.ensures)
+    c.in-Ok.ensures.shown (subst (λ (l : List ℕ). AddsEnd l q r c.add_end.result) c.end.ensures c.add_end.ensures)
 
 pub returns-in-Err : goal.returns-in-Err
 returns-in-Err g c =

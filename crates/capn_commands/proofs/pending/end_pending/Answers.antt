@@ -5,5 +5,4 @@ use Rattle.capn_commands.proofs.pending.end_pending.Goals as goal
 pub returns : goal.returns
 returns g c most seen p =
     let pending = c.args.pending.now in
-    ends_whole most seen _ c.args.words _ _ _ c.if-pending.false
-    (omega (arith, length-take pending.len pending.text)) p
+    ends_whole most seen _ c.args.words _ _ _ c.if-pending.false (omega (arith, length-take pending.len pending.text)) p

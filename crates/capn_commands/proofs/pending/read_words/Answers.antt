@@ -38,8 +38,7 @@ returns-in-Ok-eq0 g c =
     takes_so (Gives (wholes.Unpacked c.args.most)) _ _ _ c.end_pending.result i.seen
     (given_all _ _ _ _ _ i.seen c.read.new.buf c.in-Ok-eq0.field-0 i.given c.in-Ok-eq0.field-0-test
     c.in-Ok-eq0.ensures.bytes (omega (arith, room)) (omega (arith, i.size))
-    (still_fine _ _ i.given.fine c.in-Ok-eq0.ensures.failed))
-    (c.end_pending.ensures c.args.most i.seen i.pending)
+    (still_fine _ _ i.given.fine c.in-Ok-eq0.ensures.failed)) (c.end_pending.ensures c.args.most i.seen i.pending)
 
 pub returns-in_err-take_chunk-in-Ok : goal.returns-in_err-take_chunk-in-Ok
 returns-in_err-take_chunk-in-Ok g c =

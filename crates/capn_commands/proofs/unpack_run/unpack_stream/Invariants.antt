@@ -5,8 +5,7 @@ use Rattle.capn_commands.specs.Flow.{Consumed, most}
 use Rattle.capn_commands.proofs.Unpacked.{FromStart}
 use Rattle.capn_commands.proofs.unpack_run.unpack_stream.Given as goal
 
--- Neither the reader nor the writer has failed. The words of all complete groups were written, for the bytes read so
--- far.
+-- Neither the reader nor the writer has failed. The words of all complete groups that were read so far were written.
 abbrev pub invariant-chunks : goal.invariant-chunks
 invariant-chunks g l = record {
   reader : has_failed l.reader ≡ false;

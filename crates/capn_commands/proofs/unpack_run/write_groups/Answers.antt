@@ -12,8 +12,7 @@ returns-in_err-progress g c =
     let i = c.parts.invariant in
     let p = err_from_is_err_and c.from_residual.result c.from_residual.ensures.1 in
     let stop = rw (rest_is c.args.bytes.now c.parts.at) at c.in_err-progress.ensures in
-    rw (p.1, p.2)
-    (row_stop c.args.bytes.now i.words c.parts.at _ _ _ _ c.in_err-progress.field-0.0 i.told i.wrote stop)
+    rw (p.1, p.2) (row_stop c.args.bytes.now i.words c.parts.at _ _ _ _ c.in_err-progress.field-0.0 i.told i.wrote stop)
 
 pub returns-in-End : goal.returns-in-End
 returns-in-End g c =

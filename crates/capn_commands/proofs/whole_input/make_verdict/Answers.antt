@@ -15,5 +15,4 @@ returns-in_err-bytes g c =
 pub returns : goal.returns
 returns g c =
     made_bare _ _ _ start (wholes.Bare kinds.Price c.args.limits) c.in_ok-bytes.bytes _ c.verdict.result
-    c.in_ok-bytes.ensures c.deref.ensures.value
-    c.verdict.ensures
+    c.in_ok-bytes.ensures c.deref.ensures.value c.verdict.ensures

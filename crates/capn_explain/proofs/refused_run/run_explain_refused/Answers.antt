@@ -59,8 +59,7 @@ returns-in-Ok-write_fault g c =
     (c.in-Err.ensures.begun (first_run c.args.order) c.first_run-run.ensures)
     (by_order c.args.order c.each_of-each.result c.each_of-each.ensures c.serve_messages.new.begun c.in-Err.stopped
     (g.W.Write.contents (inner_of c.serve_messages.new.writer)) (g.W.Write.contents (inner_of c.write_fault.new.writer))
-    (has_failed c.serve_messages.new.writer) (has_failed c.write_fault.new.writer) (Ok tt)
-    c.in-Ok-write_fault.ensures))
+    (has_failed c.serve_messages.new.writer) (has_failed c.write_fault.new.writer) (Ok tt) c.in-Ok-write_fault.ensures))
 
 pub returns : goal.returns
 returns g c =

@@ -28,8 +28,7 @@ loop-i-preserved c =
           ∙ v.rest;
       ends = omega arith;
       same = kept-then c.loop-i.end c.push-end.result c.args.out.now c.loop-i.out c.push-end.new.out (omega arith)
-          v.same
-          a.kept;
+          v.same a.kept;
     }
 
 pub push-end-requires : goal.push-end-requires

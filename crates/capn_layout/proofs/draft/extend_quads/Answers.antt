@@ -22,5 +22,4 @@ returns c =
     (zeros-end c.args.len k c.extend_zeros-end.result c.div_ceil.result c.args.out.now c.extend_zeros-end.new.out e
     z.words)
     (subst (λ (j : ℕ). Writes (8 * c.args.len) (replicate (8 * j) 0) c.args.out.now c.extend_zeros-end.new.out) e
-    z.bytes)
-    c.write_quads.ensures)
+    z.bytes) c.write_quads.ensures)

@@ -6,5 +6,4 @@ use Rattle.capn_layout.proofs.draft.push.Goals as goal
 pub returns : goal.returns
 returns c =
     pushed c.args.len (c.args.len + 1) c.args.word (word_bytes c.args.word) c.args.out.now c.write_word.new.out
-    c.requires
-    (omega arith) refl refl c.write_word.ensures
+    c.requires (omega arith) refl refl c.write_word.ensures

@@ -13,6 +13,5 @@ returns-then-word-ne0-clause-kept g c =
 
 pub returns-clause-kept : goal.returns-clause-kept
 returns-clause-kept g c =
-    kept-least (segment_at c.args.space c.args.at.segment) c.args.at.word c.args.count
-    c.args.least c.loop-kept.kept
+    kept-least (segment_at c.args.space c.args.at.segment) c.args.at.word c.args.count c.args.least c.loop-kept.kept
     c.loop-kept-test.false c.loop-kept.invariant.low c.loop-kept.invariant.zeros

@@ -45,6 +45,5 @@ returns-in-Rows g c v h =
     let room = subst HasRoom x.is c.requires.room in
     rw c.again-in-Rows.ensures (all-rows m c.args.start c.requires.message x.count x.words x.slots x.span v
     (subst (λ (sh : Shape). IsContent m c.args.start (extent sh)) x.is c.requires.content)
-    (subst RowsFit x.is c.requires.rows)
-    (let a = room.1 in let b = room.2 in omega arith)
+    (subst RowsFit x.is c.requires.rows) (let a = room.1 in let b = room.2 in omega arith)
     (subst (λ (sh : Shape). IsInside m sh c.args.start.segment c.args.start.word v) x.is h))

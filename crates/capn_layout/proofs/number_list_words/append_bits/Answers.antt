@@ -64,6 +64,5 @@ returns-clause-appends g c =
           (words_in c.push.result c.push.new.out) c.if-rest-eq0.false a.words c.word.ensures.word
           (shifted-one (c.args.bits % 64) (omega arith)) b.words;
       kept = kept-then c.extend-end.result c.push.result c.args.out.now c.extend-end.new.out c.push.new.out (omega
-          arith)
-          a.kept b.kept;
+          arith) a.kept b.kept;
     }

@@ -155,8 +155,7 @@ lay_slot-lay_slots-requires g t c κs live =
     let ready = subst (λ (k : ℕ). AreReady g.S.Source.has c.slots.result 0 r.slots (c.args.depth - 1) (length q) (k /
     8))
     (sym same) (one-ready v x.0 c.args.from p q r.first r.words r.slots c.args.depth o
-    c.requires.ready.room c.requires.ready.low
-    g.S.Source.has c.slots.result one are) in
+    c.requires.ready.room c.requires.ready.low g.S.Source.has c.slots.result one are) in
     let inside = opened-first v x.0 c.args.from p q r.first r.words r.slots c.args.depth o
     c.requires.ready.room c.requires.ready.low one in
     let l = length-words_in r.end c.open_struct-own.new.out in
@@ -175,8 +174,7 @@ lay_slot-returns-in-Struct-clause-laid g t c w h =
     let one = struct-one v x.0 x.1 in
     let are = c.slots.ensures x.0 x.2 in
     let e = g.met.S.Source.one c.args.source.now c.args.slot w v h c.requires.ready.is in
-    one-laid v x.0 c.args.from p q r.first r.words r.slots c.args.depth o
-    c.requires.ready.room c.requires.ready.low
+    one-laid v x.0 c.args.from p q r.first r.words r.slots c.args.depth o c.requires.ready.room c.requires.ready.low
     g.S.Source.has c.slots.result one are (words_in c.lay_slots.result c.lay_slots.new.out) c.lay_slots.ensures.laid
     ∙ ap (λ (y : Tree). laid y (set p c.args.from (point y c.args.from (length p)))) (sym e)
 
@@ -244,8 +242,7 @@ lay_slot-lay_slots-requires-in-Links g t c κs live =
     let ready = subst (λ (k : ℕ). AreReady g.S.Source.has c.slots-in-Links.result 0 r.slots (c.args.depth - 1)
     (length q) (k / 8))
     (sym same) (one-ready v x.0 c.args.from p q r.first r.words r.slots c.args.depth o
-    c.requires.ready.room c.requires.ready.low
-    g.S.Source.has c.slots-in-Links.result one are) in
+    c.requires.ready.room c.requires.ready.low g.S.Source.has c.slots-in-Links.result one are) in
     let inside = opened-first v x.0 c.args.from p q r.first r.words r.slots c.args.depth o
     c.requires.ready.room c.requires.ready.low one in
     let l = length-words_in r.end c.open_links-own.new.out in
@@ -264,8 +261,7 @@ lay_slot-returns-in-Links-clause-laid g t c w h =
     let one = links-one c.in-Links.count v x.0 x.1 in
     let are = c.slots-in-Links.ensures x.0 x.2 in
     let e = g.met.S.Source.one c.args.source.now c.args.slot w v h c.requires.ready.is in
-    one-laid v x.0 c.args.from p q r.first r.words r.slots c.args.depth o
-    c.requires.ready.room c.requires.ready.low
+    one-laid v x.0 c.args.from p q r.first r.words r.slots c.args.depth o c.requires.ready.room c.requires.ready.low
     g.S.Source.has c.slots-in-Links.result one are (words_in c.lay_slots-in-Links.result
     c.lay_slots-in-Links.new.out) c.lay_slots-in-Links.ensures.laid
     ∙ ap (λ (y : Tree). laid y (set p c.args.from (point y c.args.from (length p)))) (sym e)
@@ -288,8 +284,7 @@ lay_slot-returns-in-Links-clause-kept g t c =
     let l = length-words_in r.end c.open_links-own.new.out in
     let k = length-words_in c.lay_slots-in-Links.result c.lay_slots-in-Links.new.out in
     kept-then r.end c.lay_slots-in-Links.result c.args.out.now c.open_links-own.new.out c.lay_slots-in-Links.new.out
-    (omega arith)
-    c.open_links-own.ensures.kept c.lay_slots-in-Links.ensures.kept
+    (omega arith) c.open_links-own.ensures.kept c.lay_slots-in-Links.ensures.kept
 
 -- ---- a list of structs
 
@@ -345,13 +340,10 @@ lay_list-lay_rows-requires g t c κs live =
     let high = x.5 in
     let same = c.open_rows-own.ensures.kept.same in
     let ready = subst (λ (k : ℕ). RowsReady g.S.Source.are c.args.rows.now 0 c.args.count r.words r.slots
-    (c.args.depth - 1)
-    (length q) (k / 8))
-    (sym same) (all-ready x.0 x.1 c.args.from p q r.first r.words r.slots c.args.depth o
-    x.6 x.5
+    (c.args.depth - 1) (length q) (k / 8))
+    (sym same) (all-ready x.0 x.1 c.args.from p q r.first r.words r.slots c.args.depth o x.6 x.5
     g.S.Source.are c.args.rows.now c.args.count x.2.1 x.3) in
-    let inside = all-inside x.0 x.1 c.args.from p q r.first r.words r.slots c.args.depth o
-    x.6 x.5
+    let inside = all-inside x.0 x.1 c.args.from p q r.first r.words r.slots c.args.depth o x.6 x.5
     g.S.Source.are c.args.rows.now c.args.count x.2.1 x.3 in
     let l = length-words_in r.end c.open_rows-own.new.out in
     let s = c.requires.short in
@@ -374,8 +366,7 @@ lay_list-returns-clause-kept g t c =
     let p = words_in c.args.len c.args.out.now in
     let q = words_in r.end c.open_rows-own.new.out in
     let o = c.open_rows-own.ensures.opened x.0 x.1 x.2 x.3 x.4 in
-    let grown = all-grown x.0 x.1 c.args.from p q r.first r.words r.slots c.args.depth o
-    x.6 x.5
+    let grown = all-grown x.0 x.1 c.args.from p q r.first r.words r.slots c.args.depth o x.6 x.5
     g.S.Source.are c.args.rows.now c.args.count x.2.1 x.3 (words_in c.lay_rows.result c.lay_rows.new.out)
     c.lay_rows.ensures.laid in
     let l = length-words_in r.end c.open_rows-own.new.out in
@@ -464,8 +455,7 @@ lay_rows-lay_each-end-requires g t c κs live =
     let s = c.requires.short in
     let ready = row-ready g.S.Source.has g.S.Source.are c.args.rows.now c.slots.result c.args.count c.args.words
     c.args.slots c.args.depth c.loop-row.row c.loop-row-test.true c.slots.ensures
-    (length (words_in c.loop-row.end c.loop-row.out))
-    c.loop-row.invariant.ready in
+    (length (words_in c.loop-row.end c.loop-row.out)) c.loop-row.invariant.ready in
     (omega arith, (live.0, (live.1.0, (live.1.1.0, (live.1.1.1, (ready, (omega arith, omega arith)))))))
 
 pub lay_rows-loop-row-preserved : goal.lay_rows-loop-row-preserved
@@ -505,8 +495,7 @@ lay_rows-loop-row-preserved g t c =
 
 pub lay_rows-returns-clause-laid : goal.lay_rows-returns-clause-laid
 lay_rows-returns-clause-laid g t c bs is e w s =
-    sym (rows-end c.args.words c.args.slots c.loop-row.row bs c.loop-row.next
-    (words_in c.loop-row.end c.loop-row.out)
+    sym (rows-end c.args.words c.args.slots c.loop-row.row bs c.loop-row.next (words_in c.loop-row.end c.loop-row.out)
     (let f = c.loop-row-test.false in omega arith))
     ∙ c.loop-row.invariant.rest bs is e w s
 

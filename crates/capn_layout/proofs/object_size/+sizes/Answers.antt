@@ -165,8 +165,7 @@ size_of_slot-size_of_rows-requires g t c κs live =
     let a = c.kept_words-words-in-Rows.result in
     let b = c.kept_slots-slots-in-Rows.result in
     let o = rows-block-at c.in-Rows.count v x.0 x.1 c.requires.sound a b
-    (c.kept_words-words-in-Rows.ensures.kept x.0 x.2)
-    (c.kept_slots-slots-in-Rows.ensures.kept x.0 x.2) in
+    (c.kept_words-words-in-Rows.ensures.kept x.0 x.2) (c.kept_slots-slots-in-Rows.ensures.kept x.0 x.2) in
     let low = o.low in
     let high = c.requires.low in (
       omega arith,
@@ -194,8 +193,7 @@ size_of_slot-returns-in-Rows-clause-size g t c w h =
     let a = c.kept_words-words-in-Rows.result in
     let b = c.kept_slots-slots-in-Rows.result in
     let o = rows-block-at c.in-Rows.count v x.0 x.1 c.requires.sound a b
-    (c.kept_words-words-in-Rows.ensures.kept x.0 x.2)
-    (c.kept_slots-slots-in-Rows.ensures.kept x.0 x.2) in
+    (c.kept_words-words-in-Rows.ensures.kept x.0 x.2) (c.kept_slots-slots-in-Rows.ensures.kept x.0 x.2) in
     let e = all-sized v (tag_of_rows x.0 ∷ []) a b c.args.depth x.0 o c.requires.room c.requires.low
     g.S.Source.are c.in-Rows.rows c.in-Rows.count x.1.1 x.2 c.size_of_rows.result c.size_of_rows.ensures.size in
     let same = ap size (g.met.S.Source.one c.args.source.now c.args.slot w v h c.requires.is) in

@@ -93,16 +93,13 @@ returns-clause-opened g c v bs h is s =
     let b = c.kept_slots-slots.result in
     rows-opened c.args.count v bs h s a b
     (c.kept_words-words.ensures.kept bs is) (c.kept_slots-slots.ensures.kept bs is) c.args.from
-    c.list_pointer-word.result
-    c.tag_word-tag.result c.push-first.result p (words_in c.args.len c.put.new.out)
-    (words_in c.push-first.result c.push-first.new.out)
-    (words_in c.append_rows-end.result c.append_rows-end.new.out)
+    c.list_pointer-word.result c.tag_word-tag.result c.push-first.result p (words_in c.args.len c.put.new.out)
+    (words_in c.push-first.result c.push-first.new.out) (words_in c.append_rows-end.result c.append_rows-end.new.out)
     (c.list_pointer-word.ensures
     ∙ ap (λ (j : ℕ). list_to c.args.from j Rows (c.args.count * (a + b))) (sym l))
     c.tag_word-tag.ensures (c.put.ensures c.args.len c.requires.order (omega arith)).words c.push-first.ensures.words
     (c.append_rows-end.ensures.grown bs is (rows-wide c.args.count v bs h s a b (c.kept_words-words.ensures.kept bs is)
-    (c.kept_slots-slots.ensures.kept bs is)))
-    (sym (length-words_in c.push-first.result c.push-first.new.out))
+    (c.kept_slots-slots.ensures.kept bs is))) (sym (length-words_in c.push-first.result c.push-first.new.out))
     (length-words_in c.args.len c.put.new.out ∙ sym l)
 
 pub returns-clause-kept : goal.returns-clause-kept

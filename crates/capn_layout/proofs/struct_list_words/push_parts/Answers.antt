@@ -73,8 +73,7 @@ extend-requires-2-clause-room g c =
     let e = copied-end m s w c.args.words c.args.len c.extend-end.result c.args.out.now c.extend-end.new.out
     c.bytes-2.result c.requires.message (omega arith) c.bytes-2.ensures.bytes c.extend-end.ensures in
     let k = c.extend-end.ensures.kept.same in
-    let l = length-copied m s (w + c.args.size) c.args.slots c.bytes-3.result (omega arith)
-    c.bytes-3.ensures.bytes in
+    let l = length-copied m s (w + c.args.size) c.args.slots c.bytes-3.result (omega arith) c.bytes-3.ensures.bytes in
     omega arith
 
 pub returns-clause-appends : goal.returns-clause-appends
@@ -87,7 +86,6 @@ returns-clause-appends g c =
     let a = copied m s w c.args.words c.args.len c.extend-end.result c.args.out.now c.extend-end.new.out
     c.bytes-2.result c.requires.message (omega arith) c.bytes-2.ensures.bytes c.extend-end.ensures in
     let b = copied m s (w + c.args.size) c.args.slots c.extend-end.result c.extend-2.result c.extend-end.new.out
-    c.extend-2.new.out c.bytes-3.result c.requires.message (omega arith) c.bytes-3.ensures.bytes
-    c.extend-2.ensures in
+    c.extend-2.new.out c.bytes-3.result c.requires.message (omega arith) c.bytes-3.ensures.bytes c.extend-2.ensures in
     appends-then c.args.len c.extend-end.result c.extend-2.result (take c.args.words (words_from m s w))
     (take c.args.slots (words_from m s (w + c.args.size))) c.args.out.now c.extend-end.new.out c.extend-2.new.out a b

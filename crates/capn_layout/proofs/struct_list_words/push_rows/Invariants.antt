@@ -10,10 +10,8 @@ invariant-loop-row g l = record {
   ends : l.end ≡ l.len + l.row * (l.kept + l.below);
   reads : l.reads ≤ l.fn.reads + l.row * (l.words + l.slots);
   rest : words_in l.end l.out
-      ++ row_cells l.space l.start.segment l.next (l.words + l.slots) l.words l.kept l.below
-      (l.count - l.row)
+      ++ row_cells l.space l.start.segment l.next (l.words + l.slots) l.words l.kept l.below (l.count - l.row)
       ≡ words_in l.len l.initial.out
-      ++ row_cells l.space l.start.segment l.start.word (l.words + l.slots) l.words l.kept
-      l.below l.count;
+      ++ row_cells l.space l.start.segment l.start.word (l.words + l.slots) l.words l.kept l.below l.count;
   same : IsKept l.end l.initial.out l.out;
 }

@@ -56,8 +56,7 @@ pub returns-in-Links : goal.returns-in-Links
 returns-in-Links g c =
     links-item (tree_of c.args.value.now) c.as_slice-slots.result.now _ _
     (ap tree_of c.in-Links.is ∙ tree_of-Links c.in-Links.items
-    ∙ ap (λ x. links (trees_of x)) (sym c.as_slice-slots.ensures))
-    c.requires refl refl
+    ∙ ap (λ x. links (trees_of x)) (sym c.as_slice-slots.ensures)) c.requires refl refl
 
 pub returns-in-Rows : goal.returns-in-Rows
 returns-in-Rows g c =

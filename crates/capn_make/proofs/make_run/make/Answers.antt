@@ -37,5 +37,4 @@ returns-clause-memory g c =
       s.line,
       s.tested,
       subst (λ f. IsUnderWay f bytes a b s.made.items s.rest.items s.line s.tested) takes.0 takes.1,
-    )) _ _ _ _ _ _ _ _
-    c.run.ensures
+    )) _ _ _ _ _ _ _ _ c.run.ensures

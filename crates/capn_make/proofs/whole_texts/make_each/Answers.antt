@@ -43,8 +43,7 @@ returns-clause-made g c = λ input written h.
     let next = rw c.in_default.is at c.in_ok-piece.ensures.made in
     all_made c.args.form input c.next_piece.new.texts (written ++ c.texts.made.items) tt c.requires.framed
     (subst (λ p. HasMade c.args.form input p (written ++ c.texts.made.items)) (sym next.1)
-    (c.texts.invariant.made input written h))
-    (ap (λ p. p.rest) next.1 ∙ next.0)
+    (c.texts.invariant.made input written h)) (ap (λ p. p.rest) next.1 ∙ next.0)
 
 pub returns-in_err-piece-clause-memory : goal.returns-in_err-piece-clause-memory
 returns-in_err-piece-clause-memory g c =

@@ -25,8 +25,7 @@ loop-at-preserved g c =
 
 pub returns-in_err-row-clause-begun : goal.returns-in_err-row-clause-begun
 returns-in_err-row-clause-begun g c =
-    on_err c.from_residual.result
-    (rw c.in_err-row.ensures.err (some_appended _ _ _ _ _ _ c.loop-at.invariant))
+    on_err c.from_residual.result (rw c.in_err-row.ensures.err (some_appended _ _ _ _ _ _ c.loop-at.invariant))
 
 pub returns-in_err-row-clause-memory : goal.returns-in_err-row-clause-memory
 returns-in_err-row-clause-memory g c =
@@ -43,8 +42,7 @@ pub returns-in-Err-Memory-clause-memory : goal.returns-in-Err-Memory-clause-memo
 returns-in-Err-Memory-clause-memory g c =
     let row = c.in_ok-row.ensures in
     let refused = rw c.in-Err-Memory.field-0-is at c.in-Err-Memory.ensures in
-    some_starts _ _ _ _ _ _ (appended_row _ _ _ _ _ _ _ _ _ c.loop-at.invariant row.row row.counted row.fits)
-    refused.0
+    some_starts _ _ _ _ _ _ (appended_row _ _ _ _ _ _ _ _ _ c.loop-at.invariant row.row row.counted row.fits) refused.0
 
 pub returns-in-Err-Cut-clause-some : goal.returns-in-Err-Cut-clause-some
 returns-in-Err-Cut-clause-some g c =
@@ -62,8 +60,7 @@ returns-in-Err-TooLong-clause-some g c =
     let is = c.stopped-in-Err-TooLong.ensures in
     rw long.1
     (long_next _ _ _ _ _ _ _ _ _
-    (appended_row _ _ _ _ _ _ _ _ _ c.loop-at.invariant row.row row.counted row.fits)
-    is.bytes is.words is.next long.0)
+    (appended_row _ _ _ _ _ _ _ _ _ c.loop-at.invariant row.row row.counted row.fits) is.bytes is.words is.next long.0)
 
 pub returns-clause-some : goal.returns-clause-some
 returns-clause-some g c =

@@ -107,8 +107,7 @@ is_same_content-returns-in_default-width g t c =
           omega arith;
       second = λ x j.
           let r = c.are_same_bits.ensures.second in
-          let k = bits-weigh a.b.now a.form w n (c.bits_of.result * n) a.depth a.beside x two ne eb c.requires.two j
-          in
+          let k = bits-weigh a.b.now a.form w n (c.bits_of.result * n) a.depth a.beside x two ne eb c.requires.two j in
           omega arith;
     }
 
@@ -123,8 +122,7 @@ is_same_content-returns-else-count-number-2-clause-same g t c v w h j =
     (sym c.if-count-number-2.false))
     (rows-there a.a.now a.b.now _ _ _ _ c.in-Rows.count c.in-Rows.words c.in-Rows.slots c.in-Rows-form.own
     c.in-Rows-form.below c.are_same_rows.result c.behind.ensures c.behind-in-Rows-form.ensures
-    c.are_same_rows.ensures.same)
-    c.requires.one c.requires.two v w h j
+    c.are_same_rows.ensures.same) c.requires.one c.requires.two v w h j
 
 -- ---- slots
 
@@ -329,8 +327,7 @@ are_same_rows-loop-row-preserved g t c =
           let step = row-next bs cs i (i + 1) (omega arith) (omega arith) (omega arith) in
           let v = c.loop-row.invariant.same bs cs h j in
           let yes = (c.is_same_row.ensures.same (words_at bs i) (words_at cs i) (slots_at bs i) (slots_at cs i)
-          (is-row_in a.a.now a.one.start a.count a.one.words a.one.slots _ c.loop-row.next i bs h lt ex
-          c.place.ensures)
+          (is-row_in a.a.now a.one.start a.count a.one.words a.one.slots _ c.loop-row.next i bs h lt ex c.place.ensures)
           (is-row_in a.b.now a.two.start a.count a.two.words a.two.slots _ c.loop-row.beyond i cs j lt ey
           c.place-in-loop-row.ensures)).0 c.if-not-is_same_row.false in
           ((λ q. (step.0 (v.0 q)).1), (λ q. v.1 (step.1 (yes, q))));

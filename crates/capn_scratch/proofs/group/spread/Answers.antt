@@ -14,8 +14,7 @@ loop-index-preserved c =
       named = spread_named c.args.tag l.left c.byte_of.result l.index l.next l.word c.args.bytes.now
           (omega (arith, i.room)) i.named c.byte_of.ensures.none;
       bytes = spread_bytes c.args.tag l.left c.byte_of.result l.index l.next l.word c.args.bytes.now
-          (omega (arith, i.room)) i.bytes c.byte_of.ensures.named
-          (λ odd. omega (arith, odd, ones, i.ones, c.requires));
+          (omega (arith, i.room)) i.bytes c.byte_of.ensures.named (λ odd. omega (arith, odd, ones, i.ones, c.requires));
       ones = omega (arith, ones, i.ones);
       room = length-set l.word l.index c.byte_of.result ∙ i.room;
     }

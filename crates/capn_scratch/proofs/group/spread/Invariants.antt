@@ -2,7 +2,7 @@ use Rattle.std.proofs.Common.{◌≡◌, ◌+◌, ◌++◌, List, ℕ, length, t
 use Rattle.capn_pack.specs.Packed.{named_bytes, IsNamedBy}
 use Rattle.capn_scratch.proofs.group.spread.Given as goal
 
--- The lowest bits of `l.tag` have set the first `l.index` bytes of `l.word`, and `l.left` has the other bits of
+-- The lowest `l.index` bits of `l.tag` have set the first `l.index` bytes of `l.word`. `l.left` has the other bits of
 -- `l.tag`.
 abbrev pub invariant-loop-index : goal.invariant-loop-index
 invariant-loop-index l = record {

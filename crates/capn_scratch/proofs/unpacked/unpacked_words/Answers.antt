@@ -12,8 +12,7 @@ loop-at-preserved c =
     let l = c.loop-at in
     let is = c.in-Ok.ensures in
     let there = group_there _ l.invariant.0 _ _
-    (byte_below c.args.bytes.now l.at (λ i. omega (arith, c.type_inv.bytes i)))
-    is.0 is.1 (omega arith) is.3 in
+    (byte_below c.args.bytes.now l.at (λ i. omega (arith, c.type_inv.bytes i))) is.0 is.1 (omega arith) is.3 in
     (there.0, unpacked_more _ _ _ _ _ _ _ _ l.invariant.1 there.1 is.4)
 
 pub returns-in-Err-Cut-clause-refused : goal.returns-in-Err-Cut-clause-refused

@@ -6,8 +6,7 @@ use Rattle.capn_serve.proofs.bare_run.run_bare.Goals as goal
 
 pub returns-then-is_done : goal.returns-then-is_done
 returns-then-is_done g c =
-    λ most.
-    runs_done (fold_until g.S.Service.serves g.S.Service.refuses g.S.Service.done most) c.args.run.now _ _ _ _
+    λ most. runs_done (fold_until g.S.Service.serves g.S.Service.refuses g.S.Service.done most) c.args.run.now _ _ _ _
     (sym c.is_done.ensures ∙ c.if-is_done.true) c.requires.reader_fine c.requires.writer_fine
 
 pub returns-in_err-serve_bare : goal.returns-in_err-serve_bare
@@ -16,8 +15,7 @@ returns-in_err-serve_bare g c =
     let p = err_from_is_err_and c.from_residual-in_err-serve_bare.result c.from_residual-in_err-serve_bare.ensures.1 in
     rw (p.1, p.2)
     (runs_stopped (fold_until g.S.Service.serves g.S.Service.refuses g.S.Service.done most) c.args.run.now
-    c.serve_bare.new.run
-    (sym c.is_done.ensures ∙ c.if-is_done.false) _ _ _ _ _
+    c.serve_bare.new.run (sym c.is_done.ensures ∙ c.if-is_done.false) _ _ _ _ _
     c.deref.result.now c.in_ok-bytes.bytes c.in_ok-bytes.ensures c.deref.ensures.value _ c.new-text.result.items
     c.serve_bare.new.text.items c.in_err-serve_bare.field-0.0 c.new-text.ensures.items
     (c.in_err-serve_bare.ensures most))
@@ -27,10 +25,8 @@ write_all-requires g c = (c.in_ok-serve_bare.ensures 0).2.3
 
 pub returns : goal.returns
 returns g c =
-    λ most.
-    runs_written (fold_until g.S.Service.serves g.S.Service.refuses g.S.Service.done most) c.args.run.now
-    c.serve_bare.new.run
-    (sym c.is_done.ensures ∙ c.if-is_done.false) _ _ _ _ _
+    λ most. runs_written (fold_until g.S.Service.serves g.S.Service.refuses g.S.Service.done most) c.args.run.now
+    c.serve_bare.new.run (sym c.is_done.ensures ∙ c.if-is_done.false) _ _ _ _ _
     c.deref.result.now c.in_ok-bytes.bytes c.in_ok-bytes.ensures c.deref.ensures.value _ _ c.new-text.result.items
     c.serve_bare.new.text.items c.deref-2.result.now _ c.write_all.result c.new-text.ensures.items
     (c.in_ok-serve_bare.ensures most) c.deref-2.ensures.value c.write_all.ensures.ok c.write_all.ensures.begun

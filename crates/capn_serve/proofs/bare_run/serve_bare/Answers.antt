@@ -21,8 +21,7 @@ returns-in-Ok g c most =
     c.add_message.new.run c.args.bytes.now c.in-Ok.message
     (outgoing (g.W.Write.contents (inner_of c.args.writer.now)) c.args.text.now.items)
     (outgoing (g.W.Write.contents (inner_of c.add_message.new.writer)) c.add_message.new.text.items)
-    (has_failed c.add_message.new.writer) c.add_message.result c.in-Ok.ensures.exact
-    (c.add_message.ensures most)
+    (has_failed c.add_message.new.writer) c.add_message.result c.in-Ok.ensures.exact (c.add_message.ensures most)
 
 pub returns-in-Err : goal.returns-in-Err
 returns-in-Err g c most = inr ((c.in-Err.fault, refl, c.in-Err.ensures.exact), adds_none _, c.requires.fine, refl)

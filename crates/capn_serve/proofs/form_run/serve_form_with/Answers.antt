@@ -10,42 +10,30 @@ use Rattle.capn_serve.proofs.form_run.serve_form_with.Goals as goal
 pub returns-in-Stream-clause-serves : goal.returns-in-Stream-clause-serves
 returns-in-Stream-clause-serves g c =
     subst (λ (form : Form). ServesMessages (fold_until g.S.Service.serves g.S.Service.refuses g.S.Service.done
-    c.args.most) c.args.run.now
-    form (g.R.Read.remaining (inner_of c.args.reader.now))
-    (g.R.Read.remaining (inner_of c.stream_into-served.new.reader))
-    (g.W.Write.contents (inner_of c.args.writer.now))
+    c.args.most) c.args.run.now form (g.R.Read.remaining (inner_of c.args.reader.now))
+    (g.R.Read.remaining (inner_of c.stream_into-served.new.reader)) (g.W.Write.contents (inner_of c.args.writer.now))
     (g.W.Write.contents (inner_of c.stream_into-served.new.writer))
     (has_failed c.stream_into-served.new.reader) (has_failed c.stream_into-served.new.writer)
-    c.stream_into-served.result c.stream_into-served.new.run)
-    (sym c.in-Stream.is)
+    c.stream_into-served.result c.stream_into-served.new.run) (sym c.in-Stream.is)
     (serves_stream (fold_until g.S.Service.serves g.S.Service.refuses g.S.Service.done c.args.most) c.args.run.now
-    (g.R.Read.remaining (inner_of c.args.reader.now))
-    (g.R.Read.remaining (inner_of c.stream_into-served.new.reader))
-    (g.W.Write.contents (inner_of c.args.writer.now))
-    (g.W.Write.contents (inner_of c.stream_into-served.new.writer))
+    (g.R.Read.remaining (inner_of c.args.reader.now)) (g.R.Read.remaining (inner_of c.stream_into-served.new.reader))
+    (g.W.Write.contents (inner_of c.args.writer.now)) (g.W.Write.contents (inner_of c.stream_into-served.new.writer))
     (has_failed c.stream_into-served.new.reader) (has_failed c.stream_into-served.new.writer)
-    c.stream_into-served.result c.stream_into-served.new.run
-    c.stream_into-served.ensures.runs)
+    c.stream_into-served.result c.stream_into-served.new.run c.stream_into-served.ensures.runs)
 
 pub returns-in-Packed-clause-serves : goal.returns-in-Packed-clause-serves
 returns-in-Packed-clause-serves g c =
     subst (λ (form : Form). ServesMessages (fold_until g.S.Service.serves g.S.Service.refuses g.S.Service.done
-    c.args.most) c.args.run.now
-    form (g.R.Read.remaining (inner_of c.args.reader.now))
-    (g.R.Read.remaining (inner_of c.packed_into-served.new.reader))
-    (g.W.Write.contents (inner_of c.args.writer.now))
+    c.args.most) c.args.run.now form (g.R.Read.remaining (inner_of c.args.reader.now))
+    (g.R.Read.remaining (inner_of c.packed_into-served.new.reader)) (g.W.Write.contents (inner_of c.args.writer.now))
     (g.W.Write.contents (inner_of c.packed_into-served.new.writer))
     (has_failed c.packed_into-served.new.reader) (has_failed c.packed_into-served.new.writer)
-    c.packed_into-served.result c.packed_into-served.new.run)
-    (sym c.in-Packed.is)
+    c.packed_into-served.result c.packed_into-served.new.run) (sym c.in-Packed.is)
     (serves_packed (fold_until g.S.Service.serves g.S.Service.refuses g.S.Service.done c.args.most) c.args.run.now
-    (g.R.Read.remaining (inner_of c.args.reader.now))
-    (g.R.Read.remaining (inner_of c.packed_into-served.new.reader))
-    (g.W.Write.contents (inner_of c.args.writer.now))
-    (g.W.Write.contents (inner_of c.packed_into-served.new.writer))
+    (g.R.Read.remaining (inner_of c.args.reader.now)) (g.R.Read.remaining (inner_of c.packed_into-served.new.reader))
+    (g.W.Write.contents (inner_of c.args.writer.now)) (g.W.Write.contents (inner_of c.packed_into-served.new.writer))
     (has_failed c.packed_into-served.new.reader) (has_failed c.packed_into-served.new.writer)
-    c.packed_into-served.result c.packed_into-served.new.run
-    c.packed_into-served.ensures.runs)
+    c.packed_into-served.result c.packed_into-served.new.run c.packed_into-served.ensures.runs)
 
 pub returns-in-Bare-clause-serves : goal.returns-in-Bare-clause-serves
 returns-in-Bare-clause-serves g c =
@@ -68,8 +56,7 @@ returns-in-Stream-clause-came g c =
     subst (λ (form : Form). IfSome (g.R.Read.remaining (inner_of c.args.reader.now)) (λ input.
     IfErr c.stream_into-served.result
     (λ e. TellsInput (fold_until g.S.Service.serves g.S.Service.refuses g.S.Service.done c.args.most) c.args.run.now
-    form input e
-    (record { rest = c.stream_into-served.new.framer.rest; group = c.new-unpacker.result.rest })
+    form input e (record { rest = c.stream_into-served.new.framer.rest; group = c.new-unpacker.result.rest })
     c.stream_into-served.new.run))) (sym c.in-Stream.is) c.stream_into-served.ensures.came
 
 pub returns-in-Packed-clause-came : goal.returns-in-Packed-clause-came
@@ -81,13 +68,11 @@ returns-in-Packed-clause-came g c =
     (record {
       rest = c.packed_into-served.new.packed.framer.rest;
       group = c.packed_into-served.new.packed.unpacker.rest;
-    })
-    c.packed_into-served.new.run))) (sym c.in-Packed.is) c.packed_into-served.ensures.came
+    }) c.packed_into-served.new.run))) (sym c.in-Packed.is) c.packed_into-served.ensures.came
 
 pub returns-in-Bare-clause-came : goal.returns-in-Bare-clause-came
 returns-in-Bare-clause-came g c =
-    subst (λ (form : Form). IfSome (g.R.Read.remaining (inner_of c.args.reader.now)) (λ input.
-    IfErr c.run_bare.result
+    subst (λ (form : Form). IfSome (g.R.Read.remaining (inner_of c.args.reader.now)) (λ input. IfErr c.run_bare.result
     (λ e. TellsInput (fold_until g.S.Service.serves g.S.Service.refuses g.S.Service.done c.args.most) c.args.run.now
     form input e c.args.begun.now c.run_bare.new.run))) (sym c.in-Bare.is)
     (came_bare (g.R.Read.remaining (inner_of c.args.reader.now)) c.run_bare.result)

@@ -53,8 +53,7 @@ loop-at-preserved g c =
       listening = kept.1;
       going = on;
       room = packed_room g.S.Service.serves g.S.Service.refuses g.S.Service.done c.args.most c.loop-at.run
-          c.serve_slice.new.run
-          (pending c.loop-at.packed.unpacker c.loop-at.packed.framer c.loop-at.packed.left)
+          c.serve_slice.new.run (pending c.loop-at.packed.unpacker c.loop-at.packed.framer c.loop-at.packed.left)
           (pending packed.unpacker packed.framer packed.left) _ _ _ kept.0 i.room;
       within = omega (arith, c.min-end.ensures);
       told = slice_more (fold_until g.S.Service.serves g.S.Service.refuses g.S.Service.done c.args.most) c.args.run.now

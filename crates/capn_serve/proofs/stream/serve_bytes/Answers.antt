@@ -66,8 +66,7 @@ serve_some-requires g c =
     let front = length-take c.loop-at.at c.args.bytes.now in
     let all = length-append c.args.framer.now.rest (take c.loop-at.at c.args.bytes.now) in
     let room = room_told g.S.Service.serves g.S.Service.refuses g.S.Service.done c.args.most c.args.run.now
-    c.loop-at.run
-    (c.args.framer.now.rest ++ take c.loop-at.at c.args.bytes.now) c.loop-at.framer.rest _ _
+    c.loop-at.run (c.args.framer.now.rest ++ take c.loop-at.at c.args.bytes.now) c.loop-at.framer.rest _ _
     (length c.args.bytes.now - c.loop-at.at) i.told
     (record {
       offset = omega (arith, c.requires.ready.can.room.offset, all, front, i.within);

@@ -13,9 +13,7 @@ invariant-loop-at g l = record {
   going : g.S.Service.done l.run.service l.run.at ≡ false;
   within : l.at ≤ length l.bytes;
   told : Tells (fold_until g.S.Service.serves g.S.Service.refuses g.S.Service.done l.most) l.fn.run (l.fn.framer.rest ++
-      take l.at l.bytes)
-      l.framer.rest
-      (outgoing (g.W.Write.contents (inner_of l.fn.writer)) l.fn.text.items)
+      take l.at l.bytes) l.framer.rest (outgoing (g.W.Write.contents (inner_of l.fn.writer)) l.fn.text.items)
       (outgoing (g.W.Write.contents (inner_of l.writer)) l.text.items) l.run;
 }
 

@@ -55,11 +55,9 @@ returns-clause-served g c =
     let all = whole _ c.args.framer.now.rest c.args.most _ c.in-Ok.taken c.held-held.ensures found c.requires.held
     c.in-Ok.ensures.only in
     held_some (fold_until g.S.Service.serves g.S.Service.refuses g.S.Service.done c.args.most) c.args.run.now
-    c.args.framer.now
-    c.requires.good c.requires.same c.add_framed.new.run c.clear.new.framer _ c.in-Ok.message _ _ _
+    c.args.framer.now c.requires.good c.requires.same c.add_framed.new.run c.clear.new.framer _ c.in-Ok.message _ _ _
     c.in_ok-add_framed-in-Ok.field-0 all found.frame found.room c.requires.going
-    (c.in_ok-add_framed-in-Ok.ensures c.args.most)
-    c.clear.ensures
+    (c.in_ok-add_framed-in-Ok.ensures c.args.most) c.clear.ensures
 
 pub returns-in_err-add_framed-in-Ok-clause-came : goal.returns-in_err-add_framed-in-Ok-clause-came
 returns-in_err-add_framed-in-Ok-clause-came g c =

@@ -15,8 +15,7 @@ returns-in_err-add_message-clause-served g c =
     let p = err_from_is_err_and c.from_residual.result c.from_residual.ensures.1 in
     rw (p.1, p.2)
     (whole_stop (fold_until g.S.Service.serves g.S.Service.refuses g.S.Service.done c.args.most) c.args.run.now
-    c.loop-at.run
-    c.args.bytes.now c.loop-at.at _ _ c.loop-at.invariant.told _ c.in-Some.size c.args.most refl
+    c.loop-at.run c.args.bytes.now c.loop-at.at _ _ c.loop-at.invariant.told _ c.in-Some.size c.args.most refl
     (sym c.is_done.ensures ∙ c.if-is_done.false) c.in-Some.ensures.found
     c.add_message.new.run _ _ c.in_err-add_message.field-0.0 (c.in_err-add_message.ensures c.args.most))
 
@@ -42,18 +41,15 @@ loop-at-preserved-in-Some g c =
       fine = next.3;
       within = omega (arith, found.inside, rest, i.within, behind);
       room = room_step g.S.Service.serves g.S.Service.refuses g.S.Service.done c.args.most c.loop-at.run
-          c.add_message.new.run
-          (take c.in-Some.size left) (c.in-Some.message ∷ []) next.0
+          c.add_message.new.run (take c.in-Some.size left) (c.in-Some.message ∷ []) next.0
           (length c.args.bytes.now - (c.loop-at.at + c.in-Some.size)) some next.1
           (record {
             offset = omega (arith, i.room.offset, size, found.inside, rest, behind);
             index = i.room.index;
           });
       told = whole_more (fold_until g.S.Service.serves g.S.Service.refuses g.S.Service.done c.args.most) c.args.run.now
-          c.loop-at.run
-          c.args.bytes.now c.loop-at.at _ _ i.told _ c.in-Some.size c.args.most refl
-          (sym c.is_done.ensures ∙ c.if-is_done.false) found c.add_message.new.run _ next.0
-          next.1 next.2;
+          c.loop-at.run c.args.bytes.now c.loop-at.at _ _ i.told _ c.in-Some.size c.args.most refl
+          (sym c.is_done.ensures ∙ c.if-is_done.false) found c.add_message.new.run _ next.0 next.1 next.2;
     }
 
 -- ---- a message of several segments
@@ -64,8 +60,7 @@ returns-in_err-add_framed-in-Ok-clause-served g c =
     c.from_residual-in_err-add_framed-in-Ok.ensures.1 in
     rw (p.1, p.2)
     (whole_stop (fold_until g.S.Service.serves g.S.Service.refuses g.S.Service.done c.args.most) c.args.run.now
-    c.loop-at.run
-    c.args.bytes.now c.loop-at.at _ _ c.loop-at.invariant.told _ c.in-Ok.taken c.args.most refl
+    c.loop-at.run c.args.bytes.now c.loop-at.at _ _ c.loop-at.invariant.told _ c.in-Ok.taken c.args.most refl
     (sym c.is_done.ensures ∙ c.if-is_done.false) c.in-Ok.ensures.found
     c.add_framed.new.run _ _ c.in_err-add_framed-in-Ok.field-0.0 (c.in_err-add_framed-in-Ok.ensures c.args.most))
 
@@ -91,18 +86,15 @@ loop-at-preserved g c =
       fine = next.3;
       within = omega (arith, found.inside, rest, i.within, behind);
       room = room_step g.S.Service.serves g.S.Service.refuses g.S.Service.done c.args.most c.loop-at.run
-          c.add_framed.new.run
-          (take c.in-Ok.taken left) c.in-Ok.message next.0
+          c.add_framed.new.run (take c.in-Ok.taken left) c.in-Ok.message next.0
           (length c.args.bytes.now - (c.loop-at.at + c.in-Ok.taken)) some next.1
           (record {
             offset = omega (arith, i.room.offset, size, found.inside, rest, behind);
             index = i.room.index;
           });
       told = whole_more (fold_until g.S.Service.serves g.S.Service.refuses g.S.Service.done c.args.most) c.args.run.now
-          c.loop-at.run
-          c.args.bytes.now c.loop-at.at _ _ i.told _ c.in-Ok.taken c.args.most refl
-          (sym c.is_done.ensures ∙ c.if-is_done.false) found c.add_framed.new.run _ next.0
-          next.1 next.2;
+          c.loop-at.run c.args.bytes.now c.loop-at.at _ _ i.told _ c.in-Ok.taken c.args.most refl
+          (sym c.is_done.ensures ∙ c.if-is_done.false) found c.add_framed.new.run _ next.0 next.1 next.2;
     }
 
 -- ---- no message
@@ -113,8 +105,7 @@ returns-in_err-pass-in-Err-clause-served g c =
     let p = err_from_is_err_and c.from_residual-in_err-pass-in-Err.result left in
     rw (p.1, p.2, c.in_err-pass-in-Err.ensures.1)
     (whole_memory (fold_until g.S.Service.serves g.S.Service.refuses g.S.Service.done c.args.most) c.args.run.now
-    c.loop-at.run
-    c.args.bytes.now c.loop-at.at _ _ _ c.loop-at.invariant.told c.loop-at.invariant.fine)
+    c.loop-at.run c.args.bytes.now c.loop-at.at _ _ _ c.loop-at.invariant.told c.loop-at.invariant.fine)
 
 -- ---- what is refused
 

@@ -12,8 +12,7 @@ invariant-loop-at g l = record {
   within : l.at ≤ length l.bytes;
   room : HasRoom l.run.at (length l.bytes - l.at);
   told : Tells (fold_until g.S.Service.serves g.S.Service.refuses g.S.Service.done l.most) l.fn.run (take l.at l.bytes)
-      []
-      (outgoing (g.W.Write.contents (inner_of l.fn.writer)) l.fn.text.items)
+      [] (outgoing (g.W.Write.contents (inner_of l.fn.writer)) l.fn.text.items)
       (outgoing (g.W.Write.contents (inner_of l.writer)) l.text.items) l.run;
 }
 

@@ -87,9 +87,7 @@ chunks-preserved g c =
         length-take-le c.in-Ok.count c.read.new.buf bound.0,
       );
       first = first_more c.args.most i.seen c.read.new.buf tail c.chunks.bytes.items
-          c.extend_from_slice.new.self.items c.in-Ok.count c.min-kept.result i.first bound.0
-          least
-          items;
+          c.extend_from_slice.new.self.items c.in-Ok.count c.min-kept.result i.first bound.0 least items;
       room = omega (arith, grown, i.room, c.min-kept.ensures);
     }
 

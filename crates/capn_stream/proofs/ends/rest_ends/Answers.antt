@@ -55,8 +55,7 @@ returns-clause-ends g c =
     (λ v h. ap (λ (xs : List ℕ). ends_from 0 (entries c.args.first c.args.sizes.now) ++ xs) h
     ∙ ap (λ (n : ℕ). ends_from 0 (entries c.args.first c.args.sizes.now)
     ++ ends_from n (left_of c.args.first c.args.count c.args.sizes.now)) (sym from)
-    ∙ sym more ∙ ap (λ (xs : List ℕ). ends_from 0 xs) (sym all))
-    c.ends_of.ensures.ends
+    ∙ sym more ∙ ap (λ (xs : List ℕ). ends_from 0 xs) (sym all)) c.ends_of.ensures.ends
 
 pub returns-clause-number : goal.returns-clause-number
 returns-clause-number g c =

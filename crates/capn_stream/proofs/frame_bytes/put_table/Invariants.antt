@@ -3,7 +3,7 @@ use Rattle.std.specs.List.{flat_map}
 use Rattle.capn_stream.specs.Frames.{entry}
 use Rattle.capn_stream.proofs.frame_bytes.put_table.Given as goal
 
--- `text` is the old text, the count and the sizes of the segments before `segment`
+-- `text` is the old text, the count of all segments, and the sizes of the segments before `segment`
 abbrev pub invariant-loop-segment : goal.invariant-loop-segment
 invariant-loop-segment g l =
     l.text.items ≡ l.fn.text.items

@@ -3,7 +3,7 @@ use Rattle.std.specs.List.{flat_map}
 use Rattle.capn_stream.specs.Frames.{entry}
 use Rattle.capn_stream.proofs.frame_output.put_head.Given as goal
 
--- `head` begins with the count and the sizes of the segments before `segment`
+-- `head` begins with the count of all segments, and the sizes of the segments before `segment`
 abbrev pub invariant-loop-segment : goal.invariant-loop-segment
 invariant-loop-segment g l = record {
   so_far : l.at ≡ 4 + 4 * l.segment;

@@ -84,8 +84,7 @@ returns-in-Some g c =
           i.read c.in-Ok.ensures.bytes.0 bound.0 (omega (arith, c.wanted.ensures.bound, i.most, room, bound.0)) fine
           came
           (read_within c.pieces.framer c.read.new.buf _ c.in-Ok.count c.args.max_words c.wanted.ensures.within
-          i.most (omega (arith, bound.0, room)))
-          c.in-Some.message took;
+          i.most (omega (arith, bound.0, room))) c.in-Some.message took;
     }
 
 pub pieces-preserved : goal.pieces-preserved

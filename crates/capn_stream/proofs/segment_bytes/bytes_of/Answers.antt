@@ -1,4 +1,4 @@
--- The proof of `bytes_of`: the bytes of words of 8 bytes each.
+-- The proof of `bytes_of`: the bytes of 8-byte words.
 use Rattle.std.proofs.Common.{length, ap, sym, ◌∙◌, rules, subst}
 use Rattle.capn_words.specs.Message.{AreBytes}
 use Rattle.capn_stream.proofs.Joined.{length-joined, all_words}

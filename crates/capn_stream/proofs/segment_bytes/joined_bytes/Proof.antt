@@ -1,5 +1,5 @@
--- The proof of `joined_bytes`: the bytes of words are those of their arrays, one after another. The proof follows the
--- MIR by hand, since the function uses a raw pointer.
+-- The proof of `joined_bytes`: a borrow of 8-byte arrays is a borrow of their joined bytes. The proof follows the MIR
+-- by hand, since the function uses a raw pointer.
 use Rattle.std.proofs.Common.{◌≡◌, ℕ, ◌+◌, ◌*◌, ◌^◌, ◌<◌, List, [], ◌∷◌, ◌++◌, length, refl, subst}
 use Rattle.std.proofs.Common.{arith, w64, Bor}
 use Rattle.capn_stream.specs.Segments.{joined}
@@ -51,7 +51,7 @@ flat (w ∷ ws) = w ++ flat ws
 
 module _ {M : Type 1} {𝓤 : Ura M} (𝓛 : Logic 𝓤) {D : Type 0} (c : D → ℕ → ℕ → Lft → Fml) (n : ℕ) (κ : Lft)
     (b : ℕ) where
-  -- what a borrow of an array of `n` elements says, if each element has size 1
+  -- the formula of a borrow of the `n` elements `ys`, each of size 1
   abbrev run_of : List D → ℕ → ℕ → Lft → Fml
   run_of ys b' o = beside (said (feq ℕ (length ys) n)) (each_shared ys c 1 b' o)
 
@@ -60,8 +60,7 @@ module _ {M : Type 1} {𝓤 : Ura M} (𝓛 : Logic 𝓤) {D : Type 0} (c : D →
       → ent 𝓤 (sem 𝓛 (beside (each_shared xs c 1 b o) (each_shared ys c 1 b (at o 1 (length xs))) κ))
       (sem 𝓛 (each_shared (xs ++ ys) c 1 b o κ))
   after [] ys o =
-      qed 𝓛 (‵ (beside (each_shared [] c 1 b o) (each_shared ys c 1 b o) κ) ∷ []) ∵
-      fsplit ! $ drop ! $ done !
+      qed 𝓛 (‵ (beside (each_shared [] c 1 b o) (each_shared ys c 1 b o) κ) ∷ []) ∵ fsplit ! $ drop ! $ done !
   after (x ∷ xs) ys o =
       qed 𝓛 (‵ (beside (each_shared (x ∷ xs) c 1 b o) (each_shared ys c 1 b (at (o + 1) 1 (length xs))) κ) ∷ []) ∵
       fsplit ! $ fsplit ! $ move ! (1 ∷ 2 ∷ []) $ fjoin ! $
@@ -108,8 +107,7 @@ module _ {M : Type 1} {𝓤 : Ura M} (𝓛 : Logic 𝓤) (at_mem : Memory → SP
     Post = (walk_of 𝓛 F.ended stayed clauses).post bound
 
     walk : m < 2 ^ 64 → Room (Array u8 8) (length xs) → (m ≡ length ys) × (m < 2 ^ 63)
-        → ent 𝓤 (on_entry 𝓛 F.signature (κ, tt) (q, tt)
-        (words, (m, tt)) (shr_slice_vals words, (vint w64 m ∷ [], tt)))
+        → ent 𝓤 (on_entry 𝓛 F.signature (κ, tt) (q, tt) (words, (m, tt)) (shr_slice_vals words, (vint w64 m ∷ [], tt)))
         (WpFn 𝓤 H C Λ code.function (slice_val (b, o) (length xs) ∷ vint w64 m ∷ []) Post)
     walk fm rm needed =
         let many : m ≡ length ys = needed.0 in
@@ -123,8 +121,7 @@ module _ {M : Type 1} {𝓤 : Ura M} (𝓛 : Logic 𝓤) (at_mem : Memory → SP
         first ! $ blocks ! $
         sets ! (addr ! (from ! (fld ! refl (hop ! (look_in_at ! 1 (sub ! 0 refl (whole !))) (stop !))))) refl (tt, tt) $
         sets_last ! (agg ! (and_then ! (get ! refl) (and_then ! (get ! refl) (no_more !)))) refl
-        (tt, (tt, (record { fits = fm }, tt))) $
-        exec ! C Λ En rest (at_ret En Post) $
+        (tt, (tt, (record { fits = fm }, tt))) $ exec ! C Λ En rest (at_ret En Post) $
         sets ! (of_opd ! (get ! refl)) refl (tt, (tt, (record { fits = fm }, tt))) $
         move ! (1 ∷ []) $ fsplit ! $ fsplit ! $ drop ! $ unhide ! $
         use1 𝓛 (‵ (each_shared (flat xs) (shared_of u8) 1 b o κ)) (joins 𝓛 (shared_of u8) 8 κ b xs o) $ hide ! $
@@ -135,18 +132,15 @@ module _ {M : Type 1} {𝓤 : Ura M} (𝓛 : Logic 𝓤) (at_mem : Memory → SP
         flt_i ! (length ys * 1) (2 ^ 63) (subst (λ (k : ℕ). k * 1 < 2 ^ 63) many small) $
         flt_i ! (length ys) (2 ^ 64) (subst (λ (k : ℕ). k < 2 ^ 64) many fm) $ fjoin ! $
         feq_i ! (List Val) (slice_val (b, o) m ∷ []) (slice_val (b, o) (length ys) ∷ [])
-        (λ i. slice_val (b, o) (many i) ∷ []) $
-        fjoin ! $ fjoin ! $ done !)
+        (λ i. slice_val (b, o) (many i) ∷ []) $ fjoin ! $ fjoin ! $ done !)
 
   meets : (𝓣 : Tables 𝓤 H) → Meets 𝓛 F.signature (WpFn 𝓤 H 𝓣.C 𝓣.Λ code.function) (F.spec 𝓛 at_mem run)
   meets 𝓣 =
       walk_Meets 𝓛 F.ended stayed (
         Goes-dropped 𝓛 1 (shr_slice_of (0 ∷ []) tt (plain (λ _. Array u8 8))) yes (λ κs x f. refl),
         (Goes-dropped 𝓛 1 (plain (λ _. usize)) yes (λ κs x f. refl), tt),
-      )
-      clauses (WpFn 𝓤 H 𝓣.C 𝓣.Λ code.function) (WpFn-mono 𝓤 H 𝓛.laws 𝓣 code.function)
-      (walked 𝓛 F.ended stayed clauses (WpFn 𝓤 H 𝓣.C 𝓣.Λ code.function)
-      (λ κs. (shr_slice_vals, (uint_vals w64, tt)))
+      ) clauses (WpFn 𝓤 H 𝓣.C 𝓣.Λ code.function) (WpFn-mono 𝓤 H 𝓛.laws 𝓣 code.function)
+      (walked 𝓛 F.ended stayed clauses (WpFn 𝓤 H 𝓣.C 𝓣.Λ code.function) (λ κs. (shr_slice_vals, (uint_vals w64, tt)))
       (λ κs. (shr_slice_Tells (named 0) κs.0 (Array u8 8), (uint_Tells w64, tt)))
       (λ κs qs bounds a g are. needs 𝓤 ((a.1.0 ≡ length (joined a.0.now)) × (a.1.0 < 2 ^ 63)) _
       (walk 𝓣.C 𝓣.Λ κs.0 qs.0 a.0.ref_ptr.0 a.0.ref_ptr.1 a.0.now a.1.0 are.1.0.1 are.0.0.1)))

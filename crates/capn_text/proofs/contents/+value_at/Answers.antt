@@ -88,8 +88,7 @@ body_at-returns-in_err-words g t c =
 
 pub body_at-returns-in_err-slots : goal.body_at-returns-in_err-slots
 body_at-returns-in_err-slots g t c =
-    let p = err_from_is_err_and c.from_residual-in_err-slots.result
-    c.from_residual-in_err-slots.ensures.1 in
+    let p = err_from_is_err_and c.from_residual-in_err-slots.result c.from_residual-in_err-slots.ensures.1 in
     rw (p.1, p.2)
     (slots_fail c.args.room c.args.level c.in_err-slots.field-0.0 c.args.text.now c.args.words c.args.slots
     c.in_ok-words.words.items c.in_ok-words.rest.now c.in_ok-words.ensures c.in_err-slots.ensures)

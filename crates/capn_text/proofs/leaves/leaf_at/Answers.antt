@@ -35,8 +35,7 @@ returns-in_err-xs-in-Quads g c =
 
 pub returns-in_err-xs-in-Octs : goal.returns-in_err-xs-in-Octs
 returns-in_err-xs-in-Octs g c =
-    let p = err_from_is_err_and c.from_residual-in_err-xs-in-Octs.result
-    c.from_residual-in_err-xs-in-Octs.ensures.1 in
+    let p = err_from_is_err_and c.from_residual-in_err-xs-in-Octs.result c.from_residual-in_err-xs-in-Octs.ensures.1 in
     rw (p.1, p.2, c.in-Octs.is)
     (octs_fail c.args.level c.args.count c.in_err-xs-in-Octs.field-0.0 c.args.text.now
     c.in_err-xs-in-Octs.ensures)

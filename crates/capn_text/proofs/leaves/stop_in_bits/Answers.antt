@@ -11,8 +11,7 @@ pub returns-then-are_bits : goal.returns-then-are_bits
 returns-then-are_bits c =
     let few = c.if-digits-count.true in
     row_open bit_at c.args.level 1 is_bit refl bits_fill bits_in bits_all c.args.count c.args.text.now
-    c.in-Ok.digits.now c.requires.none
-    c.in-Ok.ensures (sym c.if-are_bits.ensures) (omega arith)
+    c.in-Ok.digits.now c.requires.none c.in-Ok.ensures (sym c.if-are_bits.ensures) (omega arith)
 
 pub returns-else-digits-count : goal.returns-else-digits-count
 returns-else-digits-count c =

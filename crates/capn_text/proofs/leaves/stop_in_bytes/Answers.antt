@@ -11,8 +11,7 @@ pub returns-then-are_hex : goal.returns-then-are_hex
 returns-then-are_hex c =
     let few = c.if-bytes-count.true in
     row_open byte_at c.args.level 2 is_hex refl bytes_fill bytes_in bytes_all c.args.count c.args.text.now
-    c.in-Ok.digits.now c.requires.none
-    c.in-Ok.ensures (sym c.if-are_hex.ensures) (omega arith)
+    c.in-Ok.digits.now c.requires.none c.in-Ok.ensures (sym c.if-are_hex.ensures) (omega arith)
 
 pub returns-else-bytes-count : goal.returns-else-bytes-count
 returns-else-bytes-count c =

@@ -13,8 +13,7 @@ returns-in_err-word g c =
     (one_fails (words_by c.args.level) (word_local c.args.level) 0
     (word_full c.args.level) c.args.count c.loop.counter c.loop.rest.now c.args.text.now
     c.loop-test.true c.loop.invariant.passes_on c.in_err-word.field-0.0
-    (word_fails c.args.level 0 c.in_err-word.field-0.0 c.loop.rest.now
-    c.in_err-word.ensures))
+    (word_fails c.args.level 0 c.in_err-word.field-0.0 c.loop.rest.now c.in_err-word.ensures))
 
 pub loop-preserved : goal.loop-preserved
 loop-preserved g c =

@@ -22,14 +22,12 @@ returns-in-Err-clause-only g c v rest s low e =
 
 pub returns-in-Err-clause-first : goal.returns-in-Err-clause-first
 returns-in-Err-clause-first g c n same =
-    subst (λ m. IsFirstWrong show_text m c.args.text.now)
-    (same_named c.in-Err.fault 1 n c.in-Err.ensures.line same)
+    subst (λ m. IsFirstWrong show_text m c.args.text.now) (same_named c.in-Err.fault 1 n c.in-Err.ensures.line same)
     (first_line_wrong show_text [] (λ w. sym (append-nil (show_text w))) c.args.text.now c.in-Err.ensures.none)
 
 pub returns-in-Err-clause-first_ended : goal.returns-in-Err-clause-first_ended
 returns-in-Err-clause-first_ended g c n same =
-    subst (λ m. IsFirstWrong ended_text m c.args.text.now)
-    (same_named c.in-Err.fault 1 n c.in-Err.ensures.line same)
+    subst (λ m. IsFirstWrong ended_text m c.args.text.now) (same_named c.in-Err.fault 1 n c.in-Err.ensures.line same)
     (first_line_wrong ended_text end_line (λ w. refl) c.args.text.now c.in-Err.ensures.none)
 
 pub returns-in-Err-clause-lost : goal.returns-in-Err-clause-lost

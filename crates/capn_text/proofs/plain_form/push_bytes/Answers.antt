@@ -11,5 +11,4 @@ returns g c =
       c.in_ok-push_number.ensures,
       c.in_ok-extend_from_slice.ensures.items,
       c.in_ok-push_indent.ensures,
-    )
-    (bytes_lines c.args.out.now.items c.args.level c.args.bytes.now c.requires.some)
+    ) (bytes_lines c.args.out.now.items c.args.level c.args.bytes.now c.requires.some)

@@ -12,5 +12,4 @@ returns c show path p q h k frame input is_longer t u r s a b =
       style = h.style ∙ sym k.style;
       offsets = h.offsets ∙ sym k.offsets;
       ways = h.ways ∙ sym k.ways;
-    })
-    frame input is_longer t u r s a b
+    }) frame input is_longer t u r s a b

@@ -12,5 +12,4 @@ returns c show path p q h k input t u r s y z a b =
       style = h.style ∙ sym k.style;
       offsets = h.offsets ∙ sym k.offsets;
       ways = h.ways ∙ sym k.ways;
-    })
-    input t u r s y z a b
+    }) input t u r s y z a b

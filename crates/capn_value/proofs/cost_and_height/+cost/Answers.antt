@@ -74,8 +74,7 @@ capped_cost-returns-in-Octs-clause-in_range g t c =
 pub capped_cost-returns-in-Node-clause-value : goal.capped_cost-returns-in-Node-clause-value
 capped_cost-returns-in-Node-clause-value g t c =
     node_costs _ dear _ c.in-Node.is c.as_slice.ensures c.as_slice-slots.ensures c.oct_words-words.ensures.words
-    c.plus.ensures
-    c.plus-own.ensures c.capped_costs.ensures.value c.plus-in-Node.ensures
+    c.plus.ensures c.plus-own.ensures c.capped_costs.ensures.value c.plus-in-Node.ensures
 
 pub capped_cost-returns-in-Node-clause-in_range : goal.capped_cost-returns-in-Node-clause-in_range
 capped_cost-returns-in-Node-clause-in_range g t c =
@@ -94,8 +93,7 @@ capped_cost-returns-in-Links-clause-in_range g t c =
 pub capped_cost-returns-in-Rows-clause-value : goal.capped_cost-returns-in-Rows-clause-value
 capped_cost-returns-in-Rows-clause-value g t c =
     rows_cost _ dear _ c.in-Rows.is c.as_slice-bodies.ensures c.plus-in-Rows.ensures c.capped_rows_price.ensures
-    c.plus-own-in-Rows.ensures
-    c.measured_rows-rows.ensures.costs c.plus-in-Rows-2.ensures
+    c.plus-own-in-Rows.ensures c.measured_rows-rows.ensures.costs c.plus-in-Rows-2.ensures
 
 pub capped_cost-returns-in-Rows-clause-in_range : goal.capped_cost-returns-in-Rows-clause-in_range
 capped_cost-returns-in-Rows-clause-in_range g t c =
@@ -125,8 +123,7 @@ measured_rows-loop-body-preserved g t c = record {
       c.as_slice-slots.ensures c.oct_words.ensures.words c.plus.ensures c.plus-words.ensures;
   cheap = still_capped _ _ _ c.plus-costs.ensures;
   costs = row_cost _ dear _ _ c.args.bodies.now _ c.loop-body.invariant.costs c.body-item.result (omega arith)
-      c.body-item.is c.as_slice-slots.ensures
-      c.capped_costs.ensures.value c.plus-costs.ensures;
+      c.body-item.is c.as_slice-slots.ensures c.capped_costs.ensures.value c.plus-costs.ensures;
   in_range = row_ranged c.args.bodies.now _ c.loop-body.invariant.in_range c.body-item.result (omega arith)
       c.body-item.is c.as_slice.ensures
       c.as_slice-slots.ensures c.oct_words.ensures.in_range c.capped_costs.ensures.in_range;

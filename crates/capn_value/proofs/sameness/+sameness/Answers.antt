@@ -38,26 +38,22 @@ test-returns-in-Bits-Bits g t c =
 
 pub test-returns-in-Bytes-Bytes : goal.test-returns-in-Bytes-Bytes
 test-returns-in-Bytes-Bytes g t c =
-    both_numbers _ _ (is_bytes c.in-Bytes-Bytes.is-0) (is_bytes c.in-Bytes-Bytes.is-1)
-    c.as_slice-in-Bytes-Bytes.ensures
+    both_numbers _ _ (is_bytes c.in-Bytes-Bytes.is-0) (is_bytes c.in-Bytes-Bytes.is-1) c.as_slice-in-Bytes-Bytes.ensures
     c.as_slice-in-Bytes-Bytes-2.ensures c.eq-in-Bytes-Bytes.ensures
 
 pub test-returns-in-Pairs-Pairs : goal.test-returns-in-Pairs-Pairs
 test-returns-in-Pairs-Pairs g t c =
-    both_numbers _ _ (is_pairs c.in-Pairs-Pairs.is-0) (is_pairs c.in-Pairs-Pairs.is-1)
-    c.as_slice-in-Pairs-Pairs.ensures
+    both_numbers _ _ (is_pairs c.in-Pairs-Pairs.is-0) (is_pairs c.in-Pairs-Pairs.is-1) c.as_slice-in-Pairs-Pairs.ensures
     c.as_slice-in-Pairs-Pairs-2.ensures c.eq-in-Pairs-Pairs.ensures
 
 pub test-returns-in-Quads-Quads : goal.test-returns-in-Quads-Quads
 test-returns-in-Quads-Quads g t c =
-    both_numbers _ _ (is_quads c.in-Quads-Quads.is-0) (is_quads c.in-Quads-Quads.is-1)
-    c.as_slice-in-Quads-Quads.ensures
+    both_numbers _ _ (is_quads c.in-Quads-Quads.is-0) (is_quads c.in-Quads-Quads.is-1) c.as_slice-in-Quads-Quads.ensures
     c.as_slice-in-Quads-Quads-2.ensures c.eq-in-Quads-Quads.ensures
 
 pub test-returns-in-Octs-Octs : goal.test-returns-in-Octs-Octs
 test-returns-in-Octs-Octs g t c =
-    both_numbers _ _ (is_octs c.in-Octs-Octs.is-0) (is_octs c.in-Octs-Octs.is-1)
-    c.as_slice-in-Octs-Octs.ensures
+    both_numbers _ _ (is_octs c.in-Octs-Octs.is-0) (is_octs c.in-Octs-Octs.is-1) c.as_slice-in-Octs-Octs.ensures
     c.as_slice-in-Octs-Octs-2.ensures c.eq-in-Octs-Octs.ensures
 
 pub test-returns-in-Links-Links : goal.test-returns-in-Links-Links
@@ -121,8 +117,7 @@ test_slots-returns-else-are_null g t c =
 pub test_bodies-returns-else-test_words : goal.test_bodies-returns-else-test_words
 test_bodies-returns-else-test_words g t c =
     words_differ c.as_slice.ensures c.as_slice-2.ensures c.test_words.ensures
-    (test_slots (trees_of c.args.a.now.slots) (trees_of c.args.b.now.slots))
-    c.if-test_words.false
+    (test_slots (trees_of c.args.a.now.slots) (trees_of c.args.b.now.slots)) c.if-test_words.false
 
 pub test_bodies-returns-then-test_words : goal.test_bodies-returns-then-test_words
 test_bodies-returns-then-test_words g t c =
@@ -137,14 +132,12 @@ test_each-returns-then-a-b g t c =
 pub test_each-returns-then-not-test : goal.test_each-returns-then-not-test
 test_each-returns-then-not-test g t c =
     each_differs c.args.a.now c.args.b.now _ c.loop-i.invariant c.index-a-i.result c.index-b-i.result (omega arith)
-    (omega arith)
-    c.index-a-i.is c.index-b-i.is c.test.ensures c.if-not-test.true
+    (omega arith) c.index-a-i.is c.index-b-i.is c.test.ensures c.if-not-test.true
 
 pub test_each-loop-i-preserved : goal.test_each-loop-i-preserved
 test_each-loop-i-preserved g t c =
     each_agrees c.args.a.now c.args.b.now _ c.loop-i.invariant c.index-a-i.result c.index-b-i.result (omega arith)
-    (omega arith)
-    c.index-a-i.is c.index-b-i.is c.test.ensures c.if-not-test.false
+    (omega arith) c.index-a-i.is c.index-b-i.is c.test.ensures c.if-not-test.false
 
 pub test_each-returns : goal.test_each-returns
 test_each-returns g t c = each_tested c.args.a.now c.args.b.now _ c.loop-i.invariant (omega arith) (omega arith)
@@ -157,14 +150,12 @@ test_rows-returns-then-a-b g t c =
 pub test_rows-returns-then-not-test_bodies : goal.test_rows-returns-then-not-test_bodies
 test_rows-returns-then-not-test_bodies g t c =
     row_differs c.args.a.now c.args.b.now _ c.loop-i.invariant c.index-a-i.result c.index-b-i.result (omega arith)
-    (omega arith)
-    c.index-a-i.is c.index-b-i.is c.test_bodies.ensures c.if-not-test_bodies.true
+    (omega arith) c.index-a-i.is c.index-b-i.is c.test_bodies.ensures c.if-not-test_bodies.true
 
 pub test_rows-loop-i-preserved : goal.test_rows-loop-i-preserved
 test_rows-loop-i-preserved g t c =
     row_agrees c.args.a.now c.args.b.now _ c.loop-i.invariant c.index-a-i.result c.index-b-i.result (omega arith)
-    (omega arith)
-    c.index-a-i.is c.index-b-i.is c.test_bodies.ensures c.if-not-test_bodies.false
+    (omega arith) c.index-a-i.is c.index-b-i.is c.test_bodies.ensures c.if-not-test_bodies.false
 
 pub test_rows-returns : goal.test_rows-returns
 test_rows-returns g t c = rows_tested c.args.a.now c.args.b.now _ c.loop-i.invariant (omega arith) (omega arith)

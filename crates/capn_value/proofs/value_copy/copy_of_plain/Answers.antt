@@ -13,28 +13,23 @@ returns-in-Voids g c = voids_kept _ _ c.in-Voids.is
 
 pub returns-in_ok-copied-in-Bits : goal.returns-in_ok-copied-in-Bits
 returns-in_ok-copied-in-Bits g c =
-    numbers_kept _ (tree_of-Bits _ _) (ap (map from_bool) c.in_ok-copied-in-Bits.ensures)
-    (is_bits c.in-Bits.is)
+    numbers_kept _ (tree_of-Bits _ _) (ap (map from_bool) c.in_ok-copied-in-Bits.ensures) (is_bits c.in-Bits.is)
 
 pub returns-in_ok-copied-in-Bytes : goal.returns-in_ok-copied-in-Bytes
 returns-in_ok-copied-in-Bytes g c =
-    numbers_kept _ (tree_of-Bytes _ _) c.in_ok-copied-in-Bytes.ensures
-    (is_bytes c.in-Bytes.is)
+    numbers_kept _ (tree_of-Bytes _ _) c.in_ok-copied-in-Bytes.ensures (is_bytes c.in-Bytes.is)
 
 pub returns-in_ok-copied-in-Pairs : goal.returns-in_ok-copied-in-Pairs
 returns-in_ok-copied-in-Pairs g c =
-    numbers_kept _ (tree_of-Pairs _ _) c.in_ok-copied-in-Pairs.ensures
-    (is_pairs c.in-Pairs.is)
+    numbers_kept _ (tree_of-Pairs _ _) c.in_ok-copied-in-Pairs.ensures (is_pairs c.in-Pairs.is)
 
 pub returns-in_ok-copied-in-Quads : goal.returns-in_ok-copied-in-Quads
 returns-in_ok-copied-in-Quads g c =
-    numbers_kept _ (tree_of-Quads _ _) c.in_ok-copied-in-Quads.ensures
-    (is_quads c.in-Quads.is)
+    numbers_kept _ (tree_of-Quads _ _) c.in_ok-copied-in-Quads.ensures (is_quads c.in-Quads.is)
 
 pub returns-in_ok-copied-in-Octs : goal.returns-in_ok-copied-in-Octs
 returns-in_ok-copied-in-Octs g c =
-    numbers_kept _ (tree_of-Octs _ _) c.in_ok-copied-in-Octs.ensures
-    (is_octs c.in-Octs.is)
+    numbers_kept _ (tree_of-Octs _ _) c.in_ok-copied-in-Octs.ensures (is_octs c.in-Octs.is)
 
 pub returns-in-Cap : goal.returns-in-Cap
 returns-in-Cap g c = cap_kept _ _ c.in-Cap.is

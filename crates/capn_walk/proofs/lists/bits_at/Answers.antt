@@ -34,8 +34,7 @@ loop-i-preserved g c =
       elements = bits-more c.args.space.now c.args.at c.div_ceil.result c.bytes-bytes.result
           c.bytes-bytes.ensures.bytes (omega arith) c.loop-i.i 8 _ c.loop-i.bits.items _
           (next-is c.loop-i.i c.bytes-bytes.result c.loop-i.bytes c.next_byte.result c.loop-i.invariant.left
-          c.next_byte.ensures.byte)
-          (omega arith) (omega arith) so_far more.items c.loop-i.invariant.elements;
+          c.next_byte.ensures.byte) (omega arith) (omega arith) so_far more.items c.loop-i.invariant.elements;
     }
 
 pub returns-clause-number : goal.returns-clause-number
@@ -62,8 +61,7 @@ returns-clause-elements g c =
           c.bytes-bytes.result c.bytes-bytes.ensures.bytes (omega arith) c.loop-i.i (c.args.count % 8) _
           c.loop-i.bits.items _
           (next-is c.loop-i.i c.bytes-bytes.result c.loop-i.bytes w.next_byte-then-count-gt0.result
-          c.loop-i.invariant.left w.next_byte-then-count-gt0.ensures.byte)
-          (omega arith) (omega arith) so_far
+          c.loop-i.invariant.left w.next_byte-then-count-gt0.ensures.byte) (omega arith) (omega arith) so_far
           w.push_bits-then-count-gt0.ensures.items c.loop-i.invariant.elements)
       | else-count-gt0 w ↦ rw (w.bits-is) c.loop-i.invariant.elements
     ])

@@ -31,6 +31,5 @@ returns-clause-elements g c =
     let so_far = c.loop-i.invariant.number in
     let number : length c.loop-i.pairs.items ≡ c.args.count = omega arith in
     let read = are-pairs c.args.space.now c.args.at (2 * c.args.count) c.bytes-bytes.result
-    c.bytes-bytes.ensures.bytes (omega arith) c.loop-i.pairs.items
-    (omega arith) c.loop-i.invariant.read in
+    c.bytes-bytes.ensures.bytes (omega arith) c.loop-i.pairs.items (omega arith) c.loop-i.invariant.read in
     rw (c.from_vec.ensures) read

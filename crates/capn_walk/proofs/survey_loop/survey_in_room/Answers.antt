@@ -32,8 +32,7 @@ slots-preserved-then-frame-gt0 g c =
     let n = reach_of c.args.space c.args.limit (places_of c.args.first) in
     record {
       surveys = next-row m c.args.base c.args.budget _ (owed c.args.first) c.args.limit w.depth w.stack.items w.frame
-          t.result w.paid w.visits w.capability
-          t.ensures.places t.ensures.owed lies w.invariant.surveys;
+          t.result w.paid w.visits w.capability t.ensures.places t.ensures.owed lies w.invariant.surveys;
       room = w.invariant.room;
       size = rw t.ensures.segment w.invariant.size;
       deep = λ on. deep-row m c.args.base c.args.limit n w.least w.depth w.stack.items w.frame t.result
@@ -97,8 +96,7 @@ slots-smaller-then-word-eq0 g c =
     let w = c.slots in
     let t = c.take in
     fewer-null m c.args.base c.args.budget _ (owed c.args.first) c.args.limit w.depth w.stack.items w.frame t.result.1
-    t.result.0 w.paid w.visits w.capability
-    w.invariant.surveys t.ensures.places (null-target m t.result.0 cc)
+    t.result.0 w.paid w.visits w.capability w.invariant.surveys t.ensures.places (null-target m t.result.0 cc)
 
 pub visit_struct-requires-clause-pointer : goal.visit_struct-requires-clause-pointer
 visit_struct-requires-clause-pointer g c =
@@ -149,16 +147,14 @@ slots-preserved-then-is_done g c =
           (passed m c.args.base c.args.budget _ (owed c.args.first) c.args.limit w.depth w.stack.items w.frame
           t.result.1 t.result.0 w.paid w.visits w.capability
           w.invariant.surveys t.ensures.places t.ensures.owed x.found.below x.found.price None x.ensures.visits.visits
-          x.ensures.visits.price x.ensures.visits.owed none
-          lies x.ensures.visits.below.rows z);
+          x.ensures.visits.price x.ensures.visits.owed none lies x.ensures.visits.below.rows z);
       room = w.invariant.room;
       size = rw t.ensures.segment w.invariant.size;
       deep = λ on. deep-passed m c.args.base c.args.limit n w.least c.lowered-least.result
           w.depth w.stack.items w.frame
           t.result.1 x.found.below t.result.0 x.found.price _ None (w.invariant.deep on) low
           t.ensures.places x.ensures.visits.visits is none x.ensures.visits.places
-          (c.lowered-least.ensures.deep c.args.limit on)
-          x.ensures.visits.below.rows z;
+          (c.lowered-least.ensures.deep c.args.limit on) x.ensures.visits.below.rows z;
       least = omega arith;
       reads = omega arith;
     }
@@ -194,8 +190,7 @@ slots-preserved-in-Node-1 g c =
       | else-not-is_done w ↦ dropped
           (done c.is_done-in-Node.result (owed c.take.result.1) c.is_done-in-Node.ensures w.if-not-is_done.false)
           (rw w.stack-is refl)
-    ]
-    in
+    ] in
     let longer = length-kept c.args.space c.args.base c.slots.depth c.slots.stack.items c.take.result.1
     c.if-not-is_done.stack.items k in
     let n = reach_of c.args.space c.args.limit (places_of c.args.first) in
@@ -220,8 +215,7 @@ slots-preserved-in-Node-1 g c =
           w.depth w.stack.items w.frame
           t.result.1 x.found.below t.result.0 x.found.price _ None (w.invariant.deep on) low
           t.ensures.places x.ensures.visits.visits is none x.ensures.visits.places
-          (c.lowered-least.ensures.deep c.args.limit on)
-          c.if-not-is_done.stack.items t.ensures.kept k;
+          (c.lowered-least.ensures.deep c.args.limit on) c.if-not-is_done.stack.items t.ensures.kept k;
       least = omega arith;
       reads = omega arith;
     }
@@ -239,8 +233,7 @@ slots-smaller-in-Node-1 g c =
       | else-not-is_done w ↦ dropped
           (done c.is_done-in-Node.result (owed c.take.result.1) c.is_done-in-Node.ensures w.if-not-is_done.false)
           (rw w.stack-is refl)
-    ]
-    in
+    ] in
     fewer-entered m c.args.base c.args.budget _ (owed c.args.first) c.args.limit w.depth w.stack.items w.frame
     t.result.1 x.found.below t.result.0 x.found.price w.paid w.visits w.capability
     w.invariant.surveys t.ensures.places x.ensures.visits.visits c.if-not-is_done.stack.items t.ensures.kept k
@@ -268,16 +261,14 @@ slots-preserved-then-is_done-2 g c =
           (passed m c.args.base c.args.budget _ (owed c.args.first) c.args.limit w.depth w.stack.items w.frame
           t.result.1 t.result.0 w.paid w.visits w.capability
           w.invariant.surveys t.ensures.places t.ensures.owed x.found.below x.found.price x.found.capability
-          here.visits here.price here.owed here.capability
-          lies here.below.rows z);
+          here.visits here.price here.owed here.capability lies here.below.rows z);
       room = w.invariant.room;
       size = rw t.ensures.segment w.invariant.size;
       deep = λ on. deep-passed m c.args.base c.args.limit n w.least c.lowered-least-in_default-pointer.result
           w.depth w.stack.items w.frame
           t.result.1 x.found.below t.result.0 x.found.price _ x.found.capability (w.invariant.deep on) low
           t.ensures.places here.visits is here.capability here.places
-          (c.lowered-least-in_default-pointer.ensures.deep c.args.limit on)
-          here.below.rows z;
+          (c.lowered-least-in_default-pointer.ensures.deep c.args.limit on) here.below.rows z;
       least = omega arith;
       reads = omega arith;
     }
@@ -313,8 +304,7 @@ slots-preserved g c =
       | else-not-is_done-2 w ↦ dropped
           (done c.is_done-in_default-pointer-2.result (owed c.take.result.1) c.is_done-in_default-pointer-2.ensures
           w.if-not-is_done-2.false) (rw w.stack-is refl)
-    ]
-    in
+    ] in
     let longer = length-kept c.args.space c.args.base c.slots.depth c.slots.stack.items c.take.result.1
     c.if-not-is_done-2.stack.items k in
     let n = reach_of c.args.space c.args.limit (places_of c.args.first) in
@@ -330,8 +320,7 @@ slots-preserved g c =
           (entered m c.args.base c.args.budget _ (owed c.args.first) c.args.limit w.depth w.stack.items w.frame
           t.result.1 t.result.0 w.paid w.visits w.capability
           w.invariant.surveys t.ensures.places t.ensures.owed x.found.below x.found.price x.found.capability
-          here.visits here.price here.owed here.capability
-          c.if-not-is_done-2.stack.items k lies here.below deep);
+          here.visits here.price here.owed here.capability c.if-not-is_done-2.stack.items k lies here.below deep);
       room = elim c.if-not-is_done-2.branch
           [ then-not-is_done-2+in-Ok-push-2 w ↦ search rules | else-not-is_done-2 w ↦ search rules ];
       size = search rules;
@@ -359,8 +348,7 @@ slots-smaller g c =
       | else-not-is_done-2 w ↦ dropped
           (done c.is_done-in_default-pointer-2.result (owed c.take.result.1) c.is_done-in_default-pointer-2.ensures
           w.if-not-is_done-2.false) (rw w.stack-is refl)
-    ]
-    in
+    ] in
     fewer-entered m c.args.base c.args.budget _ (owed c.args.first) c.args.limit w.depth w.stack.items w.frame
     t.result.1 x.found.below t.result.0 x.found.price w.paid w.visits w.capability
     w.invariant.surveys t.ensures.places here.visits c.if-not-is_done-2.stack.items t.ensures.kept k
@@ -385,8 +373,7 @@ returns-in-Err-visit_elsewhere-clause-tells g c =
     rw c.stopped-in-Err-visit_elsewhere.ensures
     (refused-here m c.args.base c.args.budget _ (owed c.args.first) c.args.limit w.depth w.stack.items w.frame
     t.result.1 t.result.0 w.paid w.visits w.capability
-    w.invariant.surveys t.ensures.places t.ensures.owed c.in-Err-visit_elsewhere.fault
-    here.refused)
+    w.invariant.surveys t.ensures.places t.ensures.owed c.in-Err-visit_elsewhere.fault here.refused)
 
 pub slots-preserved-then-is_plain : goal.slots-preserved-then-is_plain
 slots-preserved-then-is_plain g c =
@@ -415,16 +402,13 @@ slots-preserved-then-is_plain g c =
           (passed m c.args.base c.args.budget _ (owed c.args.first) c.args.limit w.depth w.stack.items w.frame
           t.result.1 t.result.0 w.paid w.visits w.capability
           w.invariant.surveys t.ensures.places t.ensures.owed no_frame x.price None x.ensures.visits x.ensures.price
-          (omega arith) none
-          lies (λ h. absurd (omega arith)) refl);
+          (omega arith) none lies (λ h. absurd (omega arith)) refl);
       room = w.invariant.room;
       size = rw t.ensures.segment w.invariant.size;
       deep = λ on. deep-passed m c.args.base c.args.limit n w.least c.lowered-least-in-Ok-visit_numbers.result
-          w.depth w.stack.items w.frame
-          t.result.1 no_frame t.result.0 x.price _ None (w.invariant.deep on) low
+          w.depth w.stack.items w.frame t.result.1 no_frame t.result.0 x.price _ None (w.invariant.deep on) low
           t.ensures.places x.ensures.visits is none nothing
-          (c.lowered-least-in-Ok-visit_numbers.ensures.deep c.args.limit on)
-          (λ h. absurd (omega arith)) refl;
+          (c.lowered-least-in-Ok-visit_numbers.ensures.deep c.args.limit on) (λ h. absurd (omega arith)) refl;
       least = omega arith;
       reads = omega arith;
     }

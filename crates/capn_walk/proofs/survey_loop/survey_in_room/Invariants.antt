@@ -9,8 +9,7 @@ use Rattle.capn_walk.proofs.survey_loop.survey_in_room.Given as goal
 
 abbrev pub decreases-slots : goal.decreases-slots
 decreases-slots g l =
-    3 * length (coming l.space l.base l.depth l.stack.items l.frame) + length l.stack.items
-    + (1 - l.frame.left)
+    3 * length (coming l.space l.base l.depth l.stack.items l.frame) + length l.stack.items + (1 - l.frame.left)
 
 abbrev pub invariant-slots : goal.invariant-slots
 invariant-slots g l =

@@ -12,8 +12,7 @@ returns-then-is_done-clause-tells g c =
     let x = c.in-Ok in
     let z : owed c.in-Ok.visited.below ≡ 0 = done c.is_done.result _ c.is_done.ensures c.if-is_done.true in
     tells-alone m c.args.base c.args.budget c.args.depth root x.visited.price x.visited.below x.visited.capability
-    x.ensures.visits x.ensures.price x.ensures.owed x.ensures.capability c.levels.result
-    x.ensures.below.rows z
+    x.ensures.visits x.ensures.price x.ensures.owed x.ensures.capability c.levels.result x.ensures.below.rows z
 
 pub returns-then-is_done-clause-depth : goal.returns-then-is_done-clause-depth
 returns-then-is_done-clause-depth g c on =

@@ -7,8 +7,7 @@ returns-in-Ok-clause-visits g c =
     let m = c.args.space.now in
     let n = sym c.near.ensures.near ∙ c.in-Ok.is in
     numbers-paid m c.args.base c.args.at c.args.depth c.args.left c.args.pointer c.in-Ok.target c.requires.numbers n
-    c.requires.pointer c.price_within.result
-    c.price_within.ensures.found c.price_within.ensures.price
+    c.requires.pointer c.price_within.result c.price_within.ensures.found c.price_within.ensures.price
 
 pub returns-in-Ok-clause-refused : goal.returns-in-Ok-clause-refused
 returns-in-Ok-clause-refused g c =

@@ -311,8 +311,7 @@ walk_slots-loop-i-preserved g t c =
           c.args.start c.args.left c.loop-i.i c.loop-i.paid c.loop-i.visits
           c.in-Ok-walk_slot.found.paid c.in-Ok-walk_slot.found.visits c.loop-i.invariant.pays gives;
       value = rw pushed.items
-          (at-next c.args.space c.args.segment c.args.start c.loop-i.slots.items
-          c.in-Ok-walk_slot.found.value
+          (at-next c.args.space c.args.segment c.args.start c.loop-i.slots.items c.in-Ok-walk_slot.found.value
           c.loop-i.invariant.value (rw e at));
       number = rw pushed.items
           (count-next c.args.space c.loop-i.slots.items c.in-Ok-walk_slot.found.value
@@ -386,8 +385,7 @@ walk_rows-overflow_add-next g t c =
     let next = c.loop-i.invariant.next in
     let room = row-inside c.args.start.word c.args.count c.loop-i.i (c.args.words + c.args.slots) c.loop-i.next _
     c.loop-i-test.true next inside in
-    let all = segment-room c.args.space c.args.start.segment c.requires.message
-    c.requires.content.exists in
+    let all = segment-room c.args.space c.args.start.segment c.requires.message c.requires.content.exists in
     omega arith
 
 pub walk_rows-loop-i-preserved : goal.walk_rows-loop-i-preserved
@@ -405,8 +403,7 @@ walk_rows-loop-i-preserved g t c =
       value = rw pushed.items
           (rows_at-step c.args.space c.args.words c.args.slots c.args.start.segment
           c.args.start.word c.loop-i.next c.loop-i.i c.loop-i.rows.items _
-          c.loop-i.invariant.value n e c.in-Ok-words_at.ensures.number ws a.2
-          a.1);
+          c.loop-i.invariant.value n e c.in-Ok-words_at.ensures.number ws a.2 a.1);
       number = rw pushed.items (count_rows-next c.args.space c.loop-i.rows.items _
           ∙ ap (λ (k : ℕ). k + 1) n);
       filled = let a = pushed.len in let b = c.loop-i.invariant.filled in omega arith;

@@ -21,8 +21,7 @@ returns-else-not-self g c =
         inr (is_skipped c.self.inside.order c.self.inside.digests.seen c.self.inside.served c.self.inside.skipped
             c.args.self.now same c.args.at (g.S.Space.message c.args.message.now) c.in-Refused.refusal
             (subst (λ (s : UniqState). IsUndigested (g.S.Space.message c.args.message.now) s.order.limits
-            c.in-Refused.refusal) (sym same) known.0)
-            c.if-not-self.false c.one_more.result c.one_more.ensures),
+            c.in-Refused.refusal) (sym same) known.0) c.if-not-self.false c.one_more.result c.one_more.ensures),
         subst (λ (x : Outgoing). Adds old x []) (sym known.1) (added_none old),
         known.3,
       ),

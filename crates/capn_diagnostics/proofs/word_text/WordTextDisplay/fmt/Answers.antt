@@ -5,8 +5,7 @@ use Rattle.capn_diagnostics.proofs.word_text.WordTextDisplay.fmt.Goals as goal
 
 pub returns-clause-writes : goal.returns-clause-writes
 returns-clause-writes g c = λ plain ok.
-    has_written_of_eq _ _ _ _ _
-    (c.in-Ok.ensures.cases.0 ∙ c.digits_of-digits.ensures ∙ word-digits c.args.self.now.0)
+    has_written_of_eq _ _ _ _ _ (c.in-Ok.ensures.cases.0 ∙ c.digits_of-digits.ensures ∙ word-digits c.args.self.now.0)
     (c.write_str.ensures.writes plain ok)
 
 pub unreachable-requires : goal.unreachable-requires

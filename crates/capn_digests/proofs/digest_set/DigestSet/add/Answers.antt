@@ -54,8 +54,7 @@ invariant_of-self-then-at g c =
     let new_table : List (List Slot) = set table (c.tag_of-tag.result % c.len.result) bucket in
     let whole : length c.index_mut.result.now ≡ 16 = c.put.ensures.whole in
     subst (λ (b : List Slot). IsIndexed c.push.new.self.items new_heads
-    (set table (c.tag_of-tag.result % c.len.result) b)
-    s.rest.keys) (sym c.put.ensures.set)
+    (set table (c.tag_of-tag.result % c.len.result) b) s.rest.keys) (sym c.put.ensures.set)
     (subst (λ (xs : List (List ℕ)). IsIndexed xs new_heads new_table s.rest.keys) (sym items)
     (indexed_listed s.list.items s.heads.items s.table.items s.rest.keys d c.self.invariant lacks new_heads new_table
     (found_added s.list.items heads table s.rest.keys d f c.tag_of-tag.result c.len.result c.tag_of-tag.ensures count

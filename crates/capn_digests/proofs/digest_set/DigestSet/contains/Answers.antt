@@ -16,8 +16,7 @@ returns-then-is_empty g c =
     let f = c.self.invariant.found in
     let zero : length s.heads.items ≡ 0 = sym s.heads.ok.0 ∙ zero_of s.heads.len c.if-is_empty.ensures in
     sym (sym (ap (λ (v : Digests). set.contains v.seen q) c.self.view_is)
-    ∙ absent s.list.items s.rest.keys q
-    (none_listed s.list.items s.heads.items s.table.items s.rest.keys q f zero)
+    ∙ absent s.list.items s.rest.keys q (none_listed s.list.items s.heads.items s.table.items s.rest.keys q f zero)
     (none_other s.list.items s.heads.items s.table.items s.rest.keys q f zero))
 
 pub returns-then-not-may_have : goal.returns-then-not-may_have

@@ -43,5 +43,4 @@ returns-clause-ok g c =
     let k = words_for (8 * length c.args.xs.now) in
     patched-grown c.self.inside.holes.items c.cover.new.marks.items c.self.inside.bytes.items content
     c.append_bytes.new.bytes.items k c.self.invariant c.cover.ensures.same
-    (omega arith) c.in_ok-append_bytes.ensures.ok _ _ c.self.view_is
-    refl
+    (omega arith) c.in_ok-append_bytes.ensures.ok _ _ c.self.view_is refl

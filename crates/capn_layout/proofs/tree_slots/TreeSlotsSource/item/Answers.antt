@@ -15,8 +15,7 @@ pub returns-in-Root-clause-is : goal.returns-in-Root-clause-is
 returns-in-Root-clause-is g c v x =
     let h = subst (λ s. HasValue (values_of s) c.args.slot v) c.in-Root.is x in
     subst (λ (t : Tree). IsItem PacksNumbers AreBodies c.item_of.result t)
-    (sym (root-is c.in-Root.value.now c.args.slot v h))
-    c.item_of.ensures
+    (sym (root-is c.in-Root.value.now c.args.slot v h)) c.item_of.ensures
 
 pub offset_bounds-values-slot : goal.offset_bounds-values-slot
 offset_bounds-values-slot g c =

@@ -27,5 +27,4 @@ returns-in-Misfit g c =
 
 pub returns-in-Capability : goal.returns-in-Capability
 returns-in-Capability g c =
-    rw c.in-Capability.is
-    (both _ _ _ _ _ c.put_named-in-Capability.ensures c.put_named-in-Capability-2.ensures)
+    rw c.in-Capability.is (both _ _ _ _ _ c.put_named-in-Capability.ensures c.put_named-in-Capability-2.ensures)

@@ -20,8 +20,7 @@ pub returns-then-is_lost-clause-found : goal.returns-then-is_lost-clause-found
 returns-then-is_lost-clause-found g c = λ input written h.
     found_lost c.refusing.ensures.one c.args.self.now.form input (written ++ c.go_on.new.self.made.items)
     (record { rest = c.go_on.new.self.rest.items; line = c.go_on.new.self.line }) c.in-Err.fault c.go_on.new.cut
-    c.in_default.not-Memory (c.in-Err.ensures.made input written h) c.in-Err.ensures.cut
-    (sym c.if-is_lost.ensures)
+    c.in_default.not-Memory (c.in-Err.ensures.made input written h) c.in-Err.ensures.cut (sym c.if-is_lost.ensures)
 
 pub returns-else-is_lost-clause-found : goal.returns-else-is_lost-clause-found
 returns-else-is_lost-clause-found g c = λ input written h.

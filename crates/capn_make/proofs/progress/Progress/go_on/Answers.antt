@@ -20,8 +20,7 @@ returns-clause-made g c = λ input written h.
     let made = c.make_texts-ending.ensures.made input written
     (subst (λ p. HasMade c.args.self.now.form input p (written ++ c.args.self.now.made.items)) (sym started) h) in
     subst (λ p. GoesOn c.args.self.now.form input p (written ++ c.make_texts-ending.new.made.items)
-    c.make_texts-ending.result)
-    (place_is new _ _ (sym dropped) (sym c.line-line.ensures)) made
+    c.make_texts-ending.result) (place_is new _ _ (sym dropped) (sym c.line-line.ensures)) made
 
 pub returns-clause-memory : goal.returns-clause-memory
 returns-clause-memory g c = λ refused none.

@@ -38,8 +38,7 @@ returns-in_err-refusal-clause-looked g c = λ input x h.
 
 pub returns-in_err-write_made-clause-looked : goal.returns-in_err-write_made-clause-looked
 returns-in_err-write_made-clause-looked g c = λ input x h.
-    let p = err_from_is_err_and c.from_residual-in_err-write_made.result
-    c.from_residual-in_err-write_made.ensures.1 in
+    let p = err_from_is_err_and c.from_residual-in_err-write_made.result c.from_residual-in_err-write_made.ensures.1 in
     let told = c.in_ok-refusal.ensures.found input h.written h.made_so_far in
     let w = rw c.in_ok-refusal.ensures.form at c.in_err-write_made.ensures.wrote in
     rw (p.1, p.2) (part_at c.args.self.now.form input x _ _ _ _ _ _ h c.find_refusal.new.self.made.items

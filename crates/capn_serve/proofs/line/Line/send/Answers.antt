@@ -9,5 +9,4 @@ returns-clause-sent g c =
     let old = c.args.errors.now in
     let new = c.write_part.new.errors in
     subst (λ (held : List ℕ). Says [] (way held (g.E.Write.contents (inner_of old)) (has_failed old))
-    (way [] (g.E.Write.contents (inner_of new)) (has_failed new))) c.self.view_is
-    (sent _ _ _ _ _ c.write_part.ensures)
+    (way [] (g.E.Write.contents (inner_of new)) (has_failed new))) c.self.view_is (sent _ _ _ _ _ c.write_part.ensures)

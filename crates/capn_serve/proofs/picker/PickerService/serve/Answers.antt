@@ -17,5 +17,4 @@ returns-then-writes g c =
     (outgoing (g.W.Write.contents (inner_of c.add_bytes.new.writer)) c.add_bytes.new.text.items) c.args.frame.now (
       ap (λ (b : Bool). if b then c.args.frame.now else []) writes,
       c.left-self.ensures ∙ ap (left p.rest.now) c.number_of-number.ensures,
-    )
-    (has_failed c.add_bytes.new.writer) c.add_bytes.result c.add_bytes.ensures
+    ) (has_failed c.add_bytes.new.writer) c.add_bytes.result c.add_bytes.ensures

@@ -9,8 +9,7 @@ returns-clause-least g c =
     let is = c.self.invariant.is (ap (λ (f : Framing). f.failed) c.self.view_is ∙ c.requires) in
     rw (← c.self.view_is)
     (λ more f. rw left
-    (least c.self.inside.stage c.self.inside.frame.items c.self.inside.max_words c.self.inside.ends.items more is
-    f))
+    (least c.self.inside.stage c.self.inside.frame.items c.self.inside.max_words c.self.inside.ends.items more is f))
 
 pub returns-clause-bound : goal.returns-clause-bound
 returns-clause-bound g c =

@@ -18,5 +18,4 @@ returns-then-segment-self c =
 
 pub returns : goal.returns
 returns c =
-    seen_words c.self.inside.segments.now c.args.self.now c.self.view_is c.args.segment
-    none c.if-segment-self.false
+    seen_words c.self.inside.segments.now c.args.self.now c.self.view_is c.args.segment none c.if-segment-self.false

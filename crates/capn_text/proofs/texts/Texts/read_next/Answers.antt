@@ -137,8 +137,7 @@ returns-in_default-clause-first g c n same =
     let t = c.self.inside.rest.now in
     let lines = c.lines_before.ensures.exact ∙ lines_counted t w c.in-Ok.after.now c.in-Ok.ensures.found in
     let is = c.end_fault.ensures.named n same in
-    let wrong = c.in-Ok.ensures.no_end [] (ap (strip end_line) (append-nil c.in-Ok.after.now) ∙ c.in_default.ensures)
-    in
+    let wrong = c.in-Ok.ensures.no_end [] (ap (strip end_line) (append-nil c.in-Ok.after.now) ∙ c.in_default.ensures) in
     rw (← c.self.view_is) ((
       ended_lines (show_text w) + 1,
       omega arith,

@@ -6,8 +6,7 @@ use Rattle.capn_text.proofs.unquoter.Unquoter.take.Goals as goal
 pub returns-then-self : goal.returns-then-self
 returns-then-self g c =
     part_given c.args.self.now c.args.part.now c.args.out.now.items c.extend_from_slice.new.self.items c.requires
-    (sym (ap (λ (u : Unquoting). u.through) c.self.view_is) ∙ c.if-self.true)
-    c.in_ok-extend_from_slice.ensures.items
+    (sym (ap (λ (u : Unquoting). u.through) c.self.view_is) ∙ c.if-self.true) c.in_ok-extend_from_slice.ensures.items
 
 pub returns : goal.returns
 returns g c =

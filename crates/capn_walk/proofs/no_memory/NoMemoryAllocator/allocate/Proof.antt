@@ -1,4 +1,4 @@
--- The proof of `NoMemory::allocate`. Each call returns an error. Assumes `Logic`.
+-- The proof of `NoMemory::allocate`, which assumes `Logic`. Each call returns an error.
 use Rattle.std.proofs.Common.{ℕ, ◌^◌, ◌<◌, false, List, [], ◌∷◌, Err, refl, w64, Bor}
 use seplogic.Ra.Ura.{Ura}
 use mir.Syntax.{Ty}
@@ -87,8 +87,7 @@ allocate_spec 𝓤 𝓛 𝓜 𝓡 wired =
         Goes-dropped 𝓛 1 (plain (λ _. usize)) yes (λ κs x f. refl),
         (Goes-dropped 𝓛 1 (plain (λ _. usize)) yes (λ κs x f. refl), tt),
       ),
-    ) c (WpFn 𝓤 𝓛.H 𝓣.C 𝓣.Λ code.function)
-    (WpFn-mono 𝓤 𝓛.H 𝓛.laws 𝓣 code.function)
+    ) c (WpFn 𝓤 𝓛.H 𝓣.C 𝓣.Λ code.function) (WpFn-mono 𝓤 𝓛.H 𝓛.laws 𝓣 code.function)
     (walked 𝓛 F.ended stayed c (WpFn 𝓤 𝓛.H 𝓣.C 𝓣.Λ code.function)
     (λ κs. (shr_vals, (uint_vals w64, (uint_vals w64, tt))))
     (λ κs. ((λ r vs s. s.0), (uint_Tells w64, (uint_Tells w64, tt))))

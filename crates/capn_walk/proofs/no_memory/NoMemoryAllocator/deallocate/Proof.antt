@@ -1,4 +1,4 @@
--- The proof of `NoMemory::deallocate`. Each call does nothing, since `allocate` never returns a block. Assumes `Logic`.
+-- The proof of `NoMemory::deallocate`, which assumes `Logic`. A call does nothing, since `allocate` returns no block.
 use Rattle.std.proofs.Common.{ℕ, ◌^◌, ◌<◌, T, List, [], ◌∷◌, refl, lit<, w64, Bor}
 use seplogic.Ra.Ura.{Ura}
 use mir.Syntax.{Ty, ty_ptr}
@@ -105,8 +105,7 @@ deallocate_spec 𝓤 𝓛 𝓜 𝓡 wired =
           (Goes-dropped 𝓛 1 (plain (λ _. usize)) yes (λ κs x f. refl), tt),
         ),
       ),
-    ) c (WpFn 𝓤 𝓛.H 𝓣.C 𝓣.Λ code.function)
-    (WpFn-mono 𝓤 𝓛.H 𝓛.laws 𝓣 code.function)
+    ) c (WpFn 𝓤 𝓛.H 𝓣.C 𝓣.Λ code.function) (WpFn-mono 𝓤 𝓛.H 𝓛.laws 𝓣 code.function)
     (walked 𝓛 F.ended stayed c (WpFn 𝓤 𝓛.H 𝓣.C 𝓣.Λ code.function)
     (λ κs. (shr_vals, (rawptr_vals, (uint_vals w64, (uint_vals w64, tt)))))
     (λ κs. ((λ r vs s. s.0), (rawptr_Tells, (uint_Tells w64, (uint_Tells w64, tt)))))

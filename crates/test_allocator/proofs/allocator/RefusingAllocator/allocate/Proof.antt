@@ -1,4 +1,4 @@
--- The proof of `allocate` of `Refusing`: it counts the call, and then refuses it or returns what the inner allocator
+-- The proof that `allocate` of `Refusing` counts the call, and then refuses it or returns what the inner allocator
 -- returns. Assumes `Logic`.
 use Rattle.std.proofs.Common.{◌≡◌, ℕ, ◌+◌, ◌^◌, ◌<◌, true, false, List, [], ◌∷◌, Ok, Err, refl, ap, w64, Bor}
 use seplogic.Ra.Ura.{Ura}

@@ -1,4 +1,4 @@
--- The proof of `deallocate` of `Refusing`: it gives the block back to the inner allocator. Assumes `Logic`.
+-- The proof that `deallocate` of `Refusing` gives the block back to the inner allocator. Assumes `Logic`.
 use Rattle.std.proofs.Common.{◌≡◌, ℕ, ◌+◌, ◌^◌, ◌<◌, List, [], ◌∷◌, refl, w64, Bor}
 use seplogic.Ra.Ura.{Ura}
 use mir.Syntax.{Ty, Args, Fn, a_type, dnil, dcons}
