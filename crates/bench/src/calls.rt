@@ -1,4 +1,4 @@
-//! The measured calls, and the calls for their inputs.
+//! The measured calls, and the calls that make their inputs.
 
 use anyhow::{Result, anyhow};
 use capn_canon::{Form, canonical_of, is_canonical, same_messages};
@@ -11,7 +11,7 @@ use capn_words::{MOST_MESSAGE_WORDS, Space, Watched};
 use sha2::{Digest, Sha256};
 use std::alloc::Global;
 
-/// The number of bytes of a chunk.
+/// The number of bytes of a chunk that a framer is fed.
 const PIECE: usize = 65_536;
 
 pub(crate) fn message(alloc: Global, framed: &[u8]) -> Result<Framed<'_>> {
@@ -29,7 +29,7 @@ fn walk_of<S: Space>(alloc: Global, space: &S) -> Result<Walked> {
     }
 }
 
-/// Returns the words that the walk of a framed message pays. The tree of the walk is freed.
+/// Returns the number of words that the walk of a framed message pays. The tree of the walk is freed.
 pub(crate) fn walked(alloc: Global, framed: &[u8]) -> Result<u32> {
     let message = message(alloc, framed)?;
     let walked = walk_of(alloc, &message)?;
@@ -73,7 +73,7 @@ pub(crate) fn unpacked(alloc: Global, text: &[u8]) -> Result<Vec<u8>> {
     unpack(alloc, text, MOST_MESSAGE_WORDS).map_err(|_| anyhow!("not unpacked"))
 }
 
-/// Returns the words that the survey of a framed message pays.
+/// Returns the number of words that the survey of a framed message pays.
 pub(crate) fn paid(alloc: Global, framed: &[u8]) -> Result<u32> {
     match survey(alloc, &message(alloc, framed)?, Limits::usual()) {
         Ok(surveyed) => Ok(surveyed.paid),
@@ -106,7 +106,7 @@ pub(crate) fn indexed(alloc: Global, framed: &[u8]) -> Result<u32> {
     }
 }
 
-/// Feeds the message to `framer` in chunks. Returns the number of words of the message.
+/// Feeds the message in `framed` to `framer` in chunks. Returns the number of words of the message.
 fn fed(framer: &mut Framer, framed: &[u8]) -> Result<u32> {
     for piece in framed.chunks(PIECE) {
         match framer.feed(piece) {
@@ -122,7 +122,7 @@ fn fed(framer: &mut Framer, framed: &[u8]) -> Result<u32> {
     }
 }
 
-/// Reads the message in chunks by a new framer. Returns the number of words of the message.
+/// Reads the message in `framed` in chunks with a new framer. Returns the number of words of the message.
 pub(crate) fn received(alloc: Global, framed: &[u8]) -> Result<u32> {
     let mut framer = Framer::new(alloc, MOST_MESSAGE_WORDS);
     fed(&mut framer, framed)
@@ -171,8 +171,8 @@ pub(crate) fn digest(alloc: Global, framed: &[u8]) -> Result<[u8; 32]> {
     Ok(Sha256::digest(canonical(alloc, framed)?.as_slice()))
 }
 
-/// Returns a framed message with one changed bit in the first word of its root's content. The root must be a near
-/// pointer to the next word.
+/// Returns a framed message with one changed bit in the first word of its root's content. The message must have one
+/// segment, and its root must point to the next word.
 pub(crate) fn changed(alloc: Global, framed: &[u8]) -> Result<Vec<u8>> {
     let mut bytes = copied(alloc, framed)?;
     match bytes.get_mut(16) {

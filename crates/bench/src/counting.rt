@@ -5,8 +5,8 @@ use crate::shapes::{Shape, framed};
 use anyhow::Result;
 use std::alloc::Global;
 
-/// Does an operation `steps` times. Returns the sum of the numbers that it returned, so that the compiler cannot leave
-/// a step out.
+/// Does `operation` `steps` times. Returns the sum of the numbers that the steps return, so that the compiler cannot
+/// leave a step out.
 fn repeated(alloc: Global, operation: Operation, input: &Input, steps: u32) -> Result<usize> {
     let mut sum = 0usize;
     for _ in 0..steps {
@@ -15,8 +15,8 @@ fn repeated(alloc: Global, operation: Operation, input: &Input, steps: u32) -> R
     Ok(sum)
 }
 
-/// Makes the input of an operation, and does the operation `steps` times. Prints the number of bytes by which the cost
-/// is divided.
+/// Makes the input of `operation`, and does the operation `steps` times. Prints the number of bytes by which the cost
+/// is divided, and the sum of the results.
 pub(crate) fn count(
     rt: &impl Print,
     alloc: Global,

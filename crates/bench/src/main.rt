@@ -1,11 +1,11 @@
-//! Measurements of the libraries on messages of nine shapes.
-//! A fixed generator makes the messages.
+//! Measurements of the libraries on messages of nine shapes, which a fixed generator makes.
 //!
 //! - Without arguments: prints the digest of a small message of each shape, and whether the operations agree on it.
-//! - `times`: prints the shortest times of each operation on each shape at four sizes, in nanoseconds a byte.
+//! - `times`: prints the shortest times of 14 operations on each shape at four sizes, in nanoseconds a byte, and of
+//!   `check` on a stream of small messages, in nanoseconds a message.
 //! - `count OPERATION SHAPE STEPS [BYTES]`: does an operation `STEPS` times on about `BYTES` bytes of one shape, or on
-//!   1 MiB. It is for a tool that counts instructions: the difference of two runs gives those of one step. It prints
-//!   the number of bytes by which that cost is divided.
+//!   1 MiB. Prints the number of bytes by which the cost of a step is divided, and the sum of the results. A tool that
+//!   counts the instructions of two runs with different `STEPS` finds the cost of a step.
 //! - `write SHAPE BYTES`: writes about `BYTES` bytes of one shape to standard output, framed.
 #![tactic(auto)]
 

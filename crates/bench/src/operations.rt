@@ -8,14 +8,14 @@ use anyhow::{Result, anyhow};
 use capn_value::{Tree, show};
 use std::alloc::Global;
 
-/// An operation on a message, a tree, canonical bytes or packed bytes.
+/// An operation on a message, a stream, a tree, canonical bytes or packed bytes.
 #[derive(Clone, Copy)]
 pub(crate) enum Operation {
     /// A copy of the framed message's bytes, whose cost the other operations are compared with.
     Copy,
-    /// The message of the frame.
+    /// The message that `first` reads from its frame.
     First,
-    /// The message, read in chunks of 64 KiB.
+    /// The message, read by a framer in chunks of 64 KiB.
     Framer,
     /// The price of reading the message.
     Survey,
@@ -29,7 +29,7 @@ pub(crate) enum Operation {
     Canonical,
     /// The test of canonical bytes.
     IsCanonical,
-    /// The test of canonical bytes with a word after them.
+    /// The test of bytes that are not canonical, because a word follows the canonical bytes.
     NotCanonical,
     /// The SHA-256 of the message's canonical bytes.
     Hash,
@@ -43,7 +43,7 @@ pub(crate) enum Operation {
     Check,
     /// The comparison of the message with itself. The message is surveyed once for each side.
     Same,
-    /// The comparison with a message that differs in the root's first word.
+    /// The comparison of the message with one that differs in the first word of the root's content.
     NotSame,
 }
 
@@ -117,8 +117,7 @@ pub(crate) struct Input {
     pub size: usize,
 }
 
-/// Returns an input of `bytes`, whose cost is divided by `size`. If `size` is `None`, it is divided by the number of
-/// `bytes`.
+/// Returns an input of `bytes`, whose cost is divided by `size`, or by the number of `bytes` if `size` is `None`.
 fn of_bytes(alloc: Global, bytes: Result<Vec<u8>>, size: Option<usize>) -> Result<Input> {
     let bytes = bytes?;
     let size = size.unwrap_or(bytes.len());
@@ -141,7 +140,7 @@ fn of_tree(alloc: Global, tree: Result<Tree>, size: usize) -> Result<Input> {
     })
 }
 
-/// Returns an input of two messages, whose cost is divided by the size of `bytes`.
+/// Returns an input of the messages `bytes` and `other`, whose cost is divided by the size of `bytes`.
 fn of_two(other: Result<Vec<u8>>, bytes: Vec<u8>) -> Result<Input> {
     let other = other?;
     let size = bytes.len();
@@ -188,7 +187,7 @@ impl Input {
         }
     }
 
-    /// Does the operation once. Returns a number that depends on its result.
+    /// Does `operation` once. Returns a number that depends on the result.
     #[inline(never)]
     pub(crate) fn perform(&self, alloc: Global, operation: Operation) -> Result<usize> {
         let bytes = self.bytes.as_slice();

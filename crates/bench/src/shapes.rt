@@ -30,8 +30,8 @@ pub(crate) enum Shape {
     Segments,
     /// Structs, lists of structs with slots, texts, lists of pointers and null slots.
     Mixed,
-    /// Lists of structs and of pointers in segments as a builder fills them: three of four objects are in the segment
-    /// of their pointer.
+    /// Lists of structs and lists of pointers, in segments that are filled one after the other. Three of four objects
+    /// are in the segment of their pointer.
     Builder,
     /// A stream of messages of 32 bytes each, in place of one message.
     Small,

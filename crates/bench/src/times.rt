@@ -1,4 +1,4 @@
-//! `measure`: prints the shortest times of each operation.
+//! `measure`: prints the shortest times of the operations in `Operation::ALL`, and of `check`.
 
 use crate::operations::{Input, Operation};
 use crate::shapes::{Shape, framed};
@@ -106,7 +106,7 @@ fn print_small<R: Print + Clock>(rt: &R, alloc: Global) -> Result<()> {
     Ok(())
 }
 
-/// Prints the shortest times, in nanoseconds a byte, of each operation on each shape at each size.
+/// Prints the shortest times of `Operation::ALL` on each shape at each size, and of `check` on small messages.
 pub(crate) fn measure<R: Print + Clock>(rt: &R, alloc: Global) -> Result<()> {
     for bytes in SIZES {
         print_size(rt, alloc, bytes)?;

@@ -2,9 +2,9 @@
 //!
 //! `capn_tool::program` states what the program does. This file calls `program` with the words of the command line,
 //! standard input, standard output and standard error, and ends with the exit status that `program` returns. The status
-//! is 0 if the run has no fault and no message differs, 1 if the input is refused or a message differs, and 2 after a
-//! mistake on the command line. The status is 3 if memory is refused, if the input or the output fails, or if the input
-//! is too long.
+//! is 0 if the run has no fault and finds no difference between messages. It is 1 if the input is refused or messages
+//! differ, and 2 after a mistake on the command line. It is 3 if memory is refused, if the input or the output fails,
+//! or if the input is too long.
 #![tactic(auto)]
 
 use capn_tool::{ToolFault, end, program};
@@ -17,7 +17,7 @@ use std::process::ExitCode;
 const MISTAKE: u8 = 2;
 
 /// Returns the words of the command line. The error says that an allocation was refused, or that a word is no UTF-8
-/// text. `collect` would request memory for all words first, and continue with less memory if that request is refused.
+/// text. `collect` is not used, because it ignores a refusal of its first request, which is for all words.
 fn words_of(rt: &HostRuntime) -> io::Result<Vec<String>> {
     let mut words = Vec::new(rt.alloc());
     for word in env::args(rt)? {

@@ -8,7 +8,7 @@ use Rattle.capn_canon.specs.declared.form.Form.TheVariants as forms
 use Rattle.capn_abi.specs.declared.limits.CapnLimits.{CapnLimits}
 use Rattle.capn_abi.specs.declared.report.CapnReport.{CapnReport}
 
--- The form that a number names.
+-- The form that a number names, or `Bare` if the number names no form.
 abbrev pub form_named : ℕ → Form
 form_named zero = forms.Stream
 form_named (suc zero) = forms.Packed
@@ -22,7 +22,7 @@ IsForm n = n ≤ 2
 abbrev pub IsFlat : ℕ → Type 0
 IsFlat n = (n ≡ 0) ⊎ (n ≡ 2)
 
--- The tariff that a number names.
+-- The tariff that a number names, or `Plain` if the number names no tariff.
 abbrev pub tariff_named : ℕ → Tariff
 tariff_named zero = tariffs.Strict
 tariff_named (suc n) = tariffs.Plain
@@ -40,7 +40,7 @@ bounds_of c =
 abbrev pub GiveLimits : CapnLimits → Type 0
 GiveLimits c = AreLimits c.message_words c.budget c.depth
 
--- `new` begins with `answer`, and is the same as `old` after `answer`.
+-- `new` begins with `answer`. The numbers after `answer` are the same as in `old`.
 abbrev pub IsWritten : List ℕ → List ℕ → List ℕ → Type 0
 IsWritten answer old new = new ≡ answer ++ drop (length answer) old
 
@@ -48,14 +48,14 @@ IsWritten answer old new = new ≡ answer ++ drop (length answer) old
 abbrev pub HasNoRoom : List ℕ → List ℕ → List ℕ → Type 0
 HasNoRoom answer old new = (length old < length answer) × (new ≡ old)
 
--- `told` is the length of `answer`. Either `status` is 0 and `answer` is written to `new`, or `status` is 1 and the
--- buffer is too short.
+-- `told` is the length of `answer`. Either `status` is 0 and `answer` is written to `new`, or `status` is 1,
+-- the buffer `old` is too short, and `new` is `old`.
 pub record Delivers (answer : List ℕ) (status told : ℕ) (old new : List ℕ) : Type 0 where
   pub length_is : told ≡ length answer
   pub either : ((status ≡ 0) × IsWritten answer old new) ⊎ ((status ≡ 1) × HasNoRoom answer old new)
 
--- If the buffer is empty, `status` is 1. The reported length is then 8 bytes for each word paid and 8 more, which is
--- enough for `answer`. If the buffer is not empty, `answer` is delivered.
+-- If the buffer `old` is empty, `status` is 1. The reported length is then 8 bytes for each word paid and 8 more, which
+-- is enough for `answer`. If the buffer is not empty, `answer` is delivered.
 pub record Serves (answer : List ℕ) (status : ℕ) (report : CapnReport) (old new : List ℕ) : Type 0 where
   pub measured : length old ≡ 0
       → (status ≡ 1) × (report.length ≡ 8 * (report.paid + 1)) × (length answer ≤ report.length)

@@ -98,21 +98,21 @@ report_of (refusals.Walk s) =
 report_of (refusals.Capability k) = at_number k
 report_of refusals.Memory = at_number 0
 
--- `status` and `report` are those of the refusal `e`. If `status` is not 8, no other refusal has this status and this
+-- `status` and `report` describe the refusal `e`. If `status` is not 8, no other refusal has this status and this
 -- report.
 pub record Reports (status : ℕ) (report : CapnReport) (e : Refusal) : Type 0 where
   pub status_is : status ≡ code e
   pub report_is : report ≡ report_of e
   pub alone : status ≢ 8 → (f : Refusal) → status ≡ code f → report ≡ report_of f → f ≡ e
 
--- `status` and `report` are those of the fault `e` of packed bytes. If `status` is not 8, no other fault of packed
--- bytes has this status and this report.
+-- `status` and `report` describe the fault `e` of packed bytes. If `status` is not 8, no other fault of packed bytes
+-- has this status and this report.
 pub record ReportsPacked (status : ℕ) (report : CapnReport) (e : UnpackFault) : Type 0 where
   pub status_is : status ≡ packed_code e
   pub report_is : report ≡ at_number (packed_number e)
   pub alone : status ≢ 8 → (f : UnpackFault) → status ≡ packed_code f → report ≡ at_number (packed_number f) → f ≡ e
 
--- True if `n` is one of the statuses.
+-- True if `n` is one of the statuses other than 9, which only `capn_canonical_with_scratch` returns.
 abbrev pub is_status : ℕ → Bool
 is_status n =
     nat_lt n 9 || nat_eq n 16 || nat_eq n 17 || nat_eq n 32 || nat_eq n 33 || (nat_lt 47 n && nat_lt n 53)

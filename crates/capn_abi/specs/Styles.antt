@@ -3,7 +3,7 @@ use Rattle.std.specs.Prelude.{ℕ, zero, suc, ◌≤◌}
 use Rattle.capn_show.specs.declared.style.Style.{Style}
 use Rattle.capn_show.specs.declared.style.Style.TheVariants as styles
 
--- The style that a number names.
+-- The style that a number names, or `JsonText` if the number names no style.
 abbrev pub style_named : ℕ → Style
 style_named zero = styles.Lines
 style_named (suc zero) = styles.Quoted

@@ -1,4 +1,4 @@
-//! The arguments and reports of the calls for C: forms, limits and styles by numbers, and the statuses of refusals.
+//! The arguments and reports of the calls for C: the numbers of forms, limits and styles, and the statuses of refusals.
 //!
 //! - [`form_of`], [`flat_form_of`], [`limits_of`] and [`style_of`] read the numbers that a caller passes, and refuse a
 //!   number that is out of its range.

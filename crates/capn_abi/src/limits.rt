@@ -1,4 +1,4 @@
-//! The limits and the form of a call, as C passes them by numbers.
+//! The limits and the form of a call, which C passes as numbers.
 
 ghost use Rattle.std.specs.Prelude.{◌≡◌, ◌↔◌, ◌⊎◌, IsSome, IfSome, IfOk, IfErr};
 ghost use Rattle.capn_abi.specs.Calls.{IsForm, form_named, IsTariff, tariff_named, GiveLimits, bounds_of};
@@ -19,8 +19,8 @@ pub struct CapnLimits {
     pub budget: u32,
     /// The greatest depth of objects, from 1 to 256.
     pub depth: u32,
-    /// The number of the tariff, by which visits are priced. Under tariff 0, each content costs 1 in addition to its
-    /// size. Under tariff 1, each content costs only its size.
+    /// The number of the tariff, which sets the price of a visit. Under tariff 0, each struct or list costs 1 in
+    /// addition to its size. Under tariff 1, each struct or list costs only its size.
     pub tariff: u32,
 }
 
@@ -49,7 +49,7 @@ pub fn form_of(number: u32) -> Option<Form>
     }
 }
 
-/// Returns the form with the given `number`, if that is a stream or bare words. Returns `None` for any other number.
+/// Returns the form with the given `number`, or `None` if that form is packed or no form has that number.
 pub fn flat_form_of(number: u32) -> Option<Form>
     ensures some { IsSome result ↔ IsFlat number }
     ensures value { IfSome result (λ f. f ≡ form_named number) }
@@ -62,8 +62,7 @@ pub fn flat_form_of(number: u32) -> Option<Form>
     }
 }
 
-/// Returns the limits that the numbers in `limits` give. Returns `BAD_LIMITS` or `BAD_TARIFF` if a number is out of its
-/// range.
+/// Returns the limits in `limits`, `BAD_LIMITS` if a limit is out of its range, or `BAD_TARIFF` if only the tariff is.
 pub fn limits_of(limits: &CapnLimits) -> Result<Limits, u32>
     ensures value { IfOk result (λ l. l ≡ bounds_of limits.now) }
     ensures ok { IfOk result (λ l. GiveLimits limits.now × IsTariff limits.now.tariff) }

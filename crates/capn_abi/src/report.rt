@@ -7,9 +7,10 @@ ghost use Rattle.capn_abi.specs.StatusCodes.{at_number, answered};
 #[derive(Clone, Copy)]
 #[repr(C)]
 pub struct CapnReport {
-    /// The number of bytes of the result. If the buffer is too short, it is a number of bytes that is enough.
+    /// The number of bytes of the result, or a number that is enough if the buffer is too short. For an incomplete
+    /// frame, it is a number of bytes that the frame needs.
     pub length: u64,
-    /// The number that a refusal has: an offset, a count or an index.
+    /// The number that belongs to the status: an offset, a count or an index.
     pub at: u64,
     /// The number of words that the walk paid.
     pub paid: u32,
@@ -17,7 +18,7 @@ pub struct CapnReport {
     pub visits: u32,
     /// The segment of the slot at which the walk stopped.
     pub segment: u32,
-    /// The word of that slot, counted from the start of the segment.
+    /// The word of the slot at which the walk stopped, counted from the start of the segment.
     pub word: u32,
 }
 
@@ -35,7 +36,7 @@ pub fn report_at(at: u64) -> CapnReport
     }
 }
 
-/// Returns the report of a result of `length` bytes. The walk `paid` words and made `visits` visits.
+/// Returns the report of a result of `length` bytes. The walk paid `paid` words and made `visits` visits.
 pub fn answer_of(length: u64, paid: u32, visits: u32) -> CapnReport
     ensures { result ≡ answered length paid visits }
 {

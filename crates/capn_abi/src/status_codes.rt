@@ -12,7 +12,7 @@ use capn_stream::FrameFault;
 use capn_walk::Fault;
 use capn_words::BareFault;
 
-/// The status of success: the result is written.
+/// The status of success.
 pub const DONE: u32 = 0;
 
 /// The status if the buffer is too short for the result.

@@ -1,4 +1,4 @@
-//! The styles of the text of a message, as C passes them by numbers.
+//! The styles of a message's text, which C passes as numbers.
 
 ghost use Rattle.std.specs.Prelude.{◌≡◌, ◌↔◌, IsSome, IfSome};
 ghost use Rattle.capn_abi.specs.Styles.{IsStyle, style_named};

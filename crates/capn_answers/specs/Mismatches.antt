@@ -27,7 +27,7 @@ abbrev pub MayNeedMismatch : Form → List ℕ → Bounds → Type 0
 MayNeedMismatch form bs limits = MayNeedMemory form bs limits ⊎ HasMismatchIn form bs limits
 
 module _ {A : Type 0} where
-  -- The path to the slot that owns a word.
+  -- The path in the given `Whose`, to the slot whose pointer or list the word belongs to.
   abbrev pub owner_path : Whose A → List ℕ
   owner_path (Pointer path) = path.items
   owner_path (Tag path) = path.items

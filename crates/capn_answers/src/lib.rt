@@ -1,11 +1,11 @@
 //! Calls that explain why one message, in any of the three forms, is refused or is not canonical.
 //!
-//! - [`walk_in`] returns the survey of an accepted message. If the walk is refused, it returns the reason and the path
-//!   to the slot at which the walk stopped.
+//! - [`walk_in`] returns the survey of an accepted message. If the walk is refused, the call returns the reason and the
+//!   path to the slot at which the walk stopped.
 //! - [`mismatch_and_survey_in`] finds the first reason why an accepted message is not canonical, such as the first word
 //!   that differs from the canonical bytes. It also returns the survey of the message.
 //!
-//! Both calls read the bytes once. Bytes that are no message are refused with the refusal of
+//! Both calls unpack or unframe the bytes at most once. Bytes that are no message are refused with the refusal of
 //! [`capn_canon::survey_bytes`].
 //!
 //! ```text

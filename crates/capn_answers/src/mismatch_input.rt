@@ -1,4 +1,4 @@
-//! The call `mismatch_and_survey_in`, which finds the first reason why a message in any form is not canonical.
+//! The call `mismatch_and_survey_in`, which finds the first reason, if any, why a message in any form is not canonical.
 
 ghost use Rattle.std.specs.Prelude.{◌≡◌, ◌≤◌, ◌*◌, length, ⊤, IfOk, IfErr, IsErrOf, MatchResult};
 ghost use Rattle.capn_value.specs.Tree.{Tree as Value};
@@ -25,7 +25,7 @@ pub struct SurveyedMismatch<A: Allocator = Global> {
     pub survey: Surveyed,
 }
 
-/// The task of `mismatch_and_survey_in`: surveys a message, and finds the first reason why the message is not
+/// The task of `mismatch_and_survey_in`: surveys a message, and finds the first reason, if any, why the message is not
 /// canonical.
 #[derive(Clone, Copy)]
 struct MismatchTask;
@@ -52,7 +52,7 @@ impl<A: Allocator + Copy> MessageTask<A> for MismatchTask {
 /// Tests whether the message that `bytes` encode in `form` is canonical within `limits`. If the message is not
 /// canonical, finds the first reason: several segments, the first capability, or the first word that differs from the
 /// canonical bytes. Returns the mismatch, and the survey that [`capn_canon::survey_bytes`] returns. A path has at most
-/// two numbers for each level of the depth limit. The bytes are read once.
+/// two numbers for each level of the depth limit. The bytes are unpacked or unframed at most once.
 ///
 /// The errors are those of [`capn_canon::survey_bytes`]. `Memory` is returned only if an allocation on `alloc` was
 /// refused. Memory is allocated for a stream of more than 64 segments, and for the words that a packed text unpacks to.
@@ -75,8 +75,8 @@ pub fn mismatch_and_survey_in<A: Allocator + Copy>(
     ensures short { IfOk result (λ d. length (path_of d.mismatch) ≤ 2 * limits.depth) }
     // If `result` is `Err(e)`, the reason that `e` gives is true.
     ensures refused { IfErr result (λ e. IsUnacceptedIn form bytes.now limits e) }
-    // `Memory` is returned only for a stream of more than 64 segments, for the words that a packed text unpacks to, or
-    // for a message of one segment that is not canonical.
+    // `Memory` is returned only for a stream of more than 64 segments, for the unpacked words, or for a message of one
+    // segment that is not canonical.
     ensures memory { IsErrOf result refusals.Memory → MayNeedMismatch form bytes.now limits }
     // The price, in the survey or in a refusal by the walk, is at most the budget. The number of visits is at most the
     // price plus 1.

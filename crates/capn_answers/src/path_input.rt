@@ -1,4 +1,4 @@
-//! The call `walk_in`, which walks a message in any form and finds the path to the slot at which the walk stopped.
+//! The call `walk_in`, which walks a message in any form and finds the path to the slot of a refusal.
 
 ghost use Rattle.std.specs.Prelude.{◌≡◌, ◌≤◌, ◌*◌, length, IfOk, IfErr, IsErrOf, MatchResult};
 ghost use Rattle.capn_value.specs.Tree.{Tree as Value};
@@ -16,7 +16,7 @@ use capn_walk::{Limits, survey};
 use capn_words::Space;
 use std::alloc::Allocator;
 
-/// The task of `walk_in`: walks the message that was read, and finds the path to the slot at which the walk stopped.
+/// The task of `walk_in`: walks a message and, if the walk is refused, finds the path to the slot where it stopped.
 #[derive(Clone, Copy)]
 struct Walk;
 
@@ -42,8 +42,8 @@ impl<A: Allocator + Copy> MessageTask<A> for Walk {
 }
 
 /// Walks the message that `bytes` encode in `form` within `limits`. If the message is accepted, returns its survey. If
-/// the walk is refused, returns the place and the reason of the stop, and the path to the slot at which the walk
-/// stopped. A path has at most two numbers for each level of the depth limit. The bytes are read once.
+/// the walk is refused, returns the place and the reason of the stop, and the path to that place. A path has at most
+/// two numbers for each level of the depth limit. The bytes are unpacked or unframed at most once.
 ///
 /// An `Err` that is not `Memory` says why the bytes are no message. An `Err` is never `Walk` or `Capability`. `Memory`
 /// is returned only if an allocation on `alloc` was refused: for a stream of more than 64 segments, for the words that
@@ -64,8 +64,8 @@ pub fn walk_in<A: Allocator + Copy>(
     ensures short { IfOk result (λ w. length (walked_path w) ≤ 2 * limits.depth) }
     // If `result` is `Err(e)`, and `e` is not `Memory`, the reason that `e` gives is true.
     ensures refused { IfErr result (λ e. IsUnread form bytes.now limits e) }
-    // `Memory` is returned only for a stream of more than 64 segments, for the words that a packed text unpacks to, or
-    // for the path of a message whose walk is refused.
+    // `Memory` is returned only for a stream of more than 64 segments, for the unpacked words, or for the path of a
+    // message whose walk is refused.
     ensures memory { IsErrOf result refusals.Memory → MayNeedItsPath form bytes.now limits }
     // If `result` is `Ok`, the price is at most the budget, and the number of visits is at most the price plus 1.
     ensures bounded { IfOk result (λ w. IsWalkedWithin limits.budget w) }

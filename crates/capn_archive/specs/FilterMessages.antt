@@ -53,7 +53,7 @@ EndsAt s at message text t =
     × (t ≡ record { order = s.order; skipped = s.skipped; ended = Some at })
 
 -- `message` leads from the state `s` to `t` and writes `text`. `filter` lets `message` through, skips it, or ends the
--- run there.
+-- run.
 abbrev pub serves : FilterService → Position → List ℕ → List (List ℕ) → List ℕ → FilterService → Type 0
 serves s at frame message text t =
     LetsThrough s frame message text t ⊎ (IsSkipped s at message text t ⊎ EndsAt s at message text t)
@@ -62,6 +62,6 @@ serves s at frame message text t =
 abbrev pub refuses : FilterService → Position → List ℕ → List (List ℕ) → Refusal → Type 0
 refuses s at frame message r = (s.order.keep_going ≡ false) × IsRefusedBy tasks.List message s.order.limits r
 
--- Tests whether a message has ended the run, so that no further message is served.
+-- Tests whether a message that is not canonical has ended the run, so that no further message is served.
 abbrev pub done : FilterService → Position → Bool
 done s at = is_some s.ended

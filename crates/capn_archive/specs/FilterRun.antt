@@ -9,7 +9,7 @@ use Rattle.capn_archive.specs.declared.filter_service.FilterService.{FilterServi
 use Rattle.capn_archive.specs.FilterMessages.{done, first_state, refuses, serves}
 use Rattle.capn_archive.specs.Finish.{Finish, Finished}
 
--- The fold of a run of `filter` with the options `order`. A state is `done` after a message that ended the run.
+-- The fold of a run of `filter` with the options `order`. A state is `done` if its `ended` has a position.
 abbrev pub filter_fold : FilterOrder → Fold (Run FilterService)
 filter_fold order = fold_until serves refuses done order.limits.message_words
 
@@ -17,8 +17,8 @@ filter_fold order = fold_until serves refuses done order.limits.message_words
 abbrev pub first_run : FilterOrder → Run FilterService
 first_run order = record { service = first_state order; at = start }
 
--- The end of a run of `filter`, without a closing text. It has the count of the skipped messages, and the position of a
--- message that ended the run.
+-- The end of a run of `filter`, without a closing text. It has the count of the skipped messages, and the position of
+-- the message that ended the run because it is not canonical, if there is one.
 abbrev pub filter_finish : Finish (Run FilterService)
 filter_finish = record {
   closing = λ y. [];

@@ -90,8 +90,8 @@ module _ {X : Type 0} (f : Fold X) (x : X) (finish : Finish X) where
       (r ≡ Err faults.Memory)
       ⊎ ((r ≡ Err faults.Io) ⊎ ((text : List ℕ) × IsWholeText form input text r × Appends old new text))
 
-  -- `messages` is the text of all messages of `input`, which lead to the state `y`. A prefix of `messages` and the
-  -- closing text of `y` was written. If `input` is not known, `messages` and `y` are arbitrary.
+  -- `messages` is the text of all messages of `input`, which lead to the state `y`. A prefix of
+  -- `messages ++ finish.closing y` was written. If `input` is not known, `messages` and `y` are arbitrary.
   abbrev pub HasBegunClosing : Form → Option (List ℕ) → Option (List ℕ) → Option (List ℕ) → Type 0
   HasBegunClosing form input old new =
       (messages : List ℕ) × (y : X) × IfSome input (λ bytes. AreMessages f x form bytes messages (Ok tt) y)
@@ -104,8 +104,8 @@ module _ {X : Type 0} (f : Fold X) (x : X) (finish : Finish X) where
       × IfSome input (λ bytes. (messages : List ℕ) × AreMessages f x form bytes messages (Ok tt) y)
       × (finish.closing y ≢ [])
 
-  -- A reader returned `bytes`, no more than the run needs. A prefix of the text of `bytes` was written, or a prefix of
-  -- the text of the complete input and the closing text.
+  -- A reader returned `bytes`, no more than the run needs. Either a prefix of the text of `bytes` was written, or
+  -- `HasBegunClosing` holds for the complete input `a`.
   pub record Begins (form : Form) (a b c d : Option (List ℕ)) : Type 0 where
     pub bytes : List ℕ
     pub read : Consumes a b bytes

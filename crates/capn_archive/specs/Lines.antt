@@ -74,8 +74,8 @@ abbrev pub tariff_text : Tariff → List ℕ
 tariff_text tariffs.Strict = codes ""
 tariff_text tariffs.Plain = codes " --tariff plain"
 
--- The first four lines of `limits`: the number of messages, and the greatest number of words, price and depth of a
--- message.
+-- The first four lines of `limits`: the number of messages, and the greatest size, the greatest price and the greatest
+-- depth, each with the number of its message.
 abbrev pub needs_text : Needs → List ℕ
 needs_text needs =
     codes "messages " ++ (decimal needs.messages
@@ -83,8 +83,8 @@ needs_text needs =
     ++ (codes "\nbudget " ++ (greatest_text needs.tally.price
     ++ (codes "\ndepth " ++ greatest_text needs.tally.depth))))))
 
--- The last line of `limits`: options for four times the greatest words and price, and for twice the greatest depth.
--- Each number stays within the range of its option.
+-- The last line of `limits`: options for four times the greatest size and price, and for twice the greatest depth. Each
+-- number stays within the range of its option.
 abbrev pub advice_text : Needs → List ℕ
 advice_text needs =
     codes "use --message-words " ++ (decimal (min (max (4 * amount_of needs.tally.words) 1) (2 ^ 28))

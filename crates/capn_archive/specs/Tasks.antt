@@ -41,7 +41,7 @@ IsRefusedBy tasks.Canonical message limits r = IsRefusedMessage message limits r
 IsRefusedBy _ message limits r = IsUnaccepted message limits r × (r ≢ refusals.Memory)
 
 -- `message` is not refused within `limits`. The task writes `text` for `message`, and `tally_after` is the tally after
--- it. Only the task `Limits` changes the tally, and this task writes nothing.
+-- `message`. Only the task `Limits` changes the tally, and this task writes nothing.
 abbrev pub IsServedBy : Task → Bounds → Tally → Position → List ℕ → List (List ℕ) → List ℕ → Tally → Type 0
 IsServedBy tasks.List limits tally at frame message text tally_after =
     (measured : MeasuredBare) × IsMeasure message limits measured

@@ -65,12 +65,12 @@ fn fault_of(run: &Run<ArchiveService>, fault: RunFault) -> ArchiveFault
 /// message and at the end.
 ///
 /// Input is read as [`serve_form`] reads it. The run ends with `Ok`, with `Skipped` if all of the input was read and
-/// messages were skipped, or with the first fault. The fault is `Refused`, with the position, if a frame, a group or a
-/// message is refused. The fault is `RefusedAfterSkipped` if messages were skipped before a refused frame or group. The
-/// other faults are `InputTooLong`, `Io` if and only if the reader or the writer failed, and `Memory` if an allocation
-/// was refused. If the input is refused or too long, the texts of the messages before the fault have been written, and
-/// nothing else. A run holds in memory what the loop over the messages holds, the canonical bytes of one message, and a
-/// tally.
+/// messages were skipped, or with the first fault. A refused message is skipped if `order.keep_going` is true, and
+/// otherwise ends the run with `Refused` and its position. A refused frame or group ends the run with `Refused` and the
+/// position, or with `RefusedAfterSkipped` if messages were skipped before that position. The other faults are
+/// `InputTooLong`, `Io` if and only if the reader or the writer failed, and `Memory` if an allocation was refused. If
+/// the input is refused or too long, the texts of the messages before the fault have been written, and nothing else. A
+/// run holds in memory what the loop over the messages holds, the canonical bytes of one message, and a tally.
 pub fn run_archive<R: Read, W: Write, A: Allocator + Copy>(
     alloc: A,
     order: ArchiveOrder,

@@ -169,8 +169,8 @@ fn skip_message<S: Space, A: Allocator + Copy>(
 }
 
 impl ArchiveService {
-    /// Carries out the task of `self.order` for `message`. If the message is refused and `keep_going` is set, counts it
-    /// as skipped instead.
+    /// Carries out the task of `self.order` for `message`. If the message is refused and `keep_going` is set, skips it
+    /// with `skip_message` instead.
     fn add_message<S: Space, W: Write, A: Allocator + Copy>(
         &mut self,
         alloc: A,

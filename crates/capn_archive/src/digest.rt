@@ -34,7 +34,7 @@ pub(crate) fn digest_of<S: Space, A: Allocator + Copy>(
 }
 
 /// Returns the digest of `message`, or `None` if the value of `message` has a capability. The error is `Refused` if the
-/// walk refuses the message.
+/// walk refuses the message, and `Memory` if an allocation is refused.
 pub(crate) fn digest_if_any<S: Space, A: Allocator + Copy>(
     alloc: A,
     limits: Limits,

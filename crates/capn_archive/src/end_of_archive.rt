@@ -36,7 +36,7 @@ fn after_skipped(
 }
 
 /// Returns the fault of a run that `refusal` ended at the position `at`. If a frame or packed bytes are refused, the
-/// fault also counts the messages skipped before.
+/// fault also counts the messages that were skipped before `at`.
 fn refused_after(
     skipped: Option<SkippedSoFar>,
     messages: u64,
@@ -82,7 +82,7 @@ pub(crate) fn outcome(skipped: Option<SkippedSoFar>, messages: u64) -> Result<()
     }
 }
 
-/// Returns the limits that the messages of `run` need.
+/// Returns the figures of the messages of `run`, with the tariff in `order`.
 fn needs_of(order: &ArchiveOrder, run: &Run<ArchiveService>) -> Needs
     ensures { result ≡ spec.needs_of order.now run.now }
 {

@@ -16,7 +16,7 @@ pub enum ArchiveFault {
     Memory,
     /// The reader or the writer failed.
     Io,
-    /// The input has more bytes than a run may serve.
+    /// The input has, or unpacks to, more bytes than a run may serve.
     InputTooLong,
     /// The message at this position is refused, or no message can begin there.
     Refused(Position, Refusal),

@@ -40,19 +40,19 @@ fn fault_of(run: &Run<FilterService>, fault: RunFault) -> ArchiveFault
     fault_after(run.service.skipped, run.at.index, fault)
 }
 
-/// Reads the messages of an archive from `reader`, and writes the frame of each accepted one to `writer`, unchanged. If
-/// the input is packed, the unpacked bytes of the frame are written. If the input is bare, all of it is written. If
+/// Reads the messages of an archive from `reader`, and writes the frame of each accepted one to `writer`, unchanged.
+/// The frame of a packed message is written unpacked, and the frame of a bare message is all of the input. If
 /// `order.canonical` is true, only canonical messages are written. A canonical message has one segment, which holds the
 /// canonical bytes of its value.
 ///
-/// Input is read as [`serve_form`] reads it. A frame that is let through is written before the next chunk of input is
-/// read. The run ends with `Ok`, with `Skipped` if all of the input was read and messages were skipped, or with the
-/// first fault. The fault is `Refused`, with the position, if a frame, a group or a message is refused. The fault is
-/// `RefusedAfterSkipped` if messages were skipped before a refused frame or group. The fault is `NotCanonical`, with
-/// the position, if a message is accepted but not canonical, and nothing is read after that message. The other faults
-/// are `InputTooLong`, `Io` if and only if the reader or the writer failed, and `Memory` if an allocation was refused.
-/// If a message ends the run, or the input is refused or too long, the frames that were let through before that end
-/// have been written, and nothing else. A run holds in memory only what the loop over the messages holds.
+/// Input is read as [`serve_form`] reads it. Each frame let through is written before the next chunk is read. The run
+/// ends with `Ok`, with `Skipped` if all input was read and messages were skipped, or with the first fault. A message
+/// that is not let through is skipped if `order.keep_going` is true, and otherwise ends the run. The fault is then
+/// `NotCanonical` if the message is accepted, and else `Refused`, with the position. A refused frame or group ends the
+/// run with `Refused` and the position, or with `RefusedAfterSkipped` if messages were skipped before that position.
+/// The other faults are `InputTooLong`, `Io` if and only if the reader or the writer failed, and `Memory` if an
+/// allocation was refused. If a message ends the run, or the input is refused or too long, nothing more is read, and
+/// only the frames let through before are written. A run holds in memory only what the loop over messages holds.
 pub fn run_filter<R: Read, W: Write, A: Allocator + Copy>(
     alloc: A,
     order: FilterOrder,

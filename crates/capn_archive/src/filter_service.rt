@@ -17,14 +17,14 @@ use std::io::Write;
 ///
 /// Nothing is written for a message that is not let through. If `order.keep_going` is set, such a message is skipped
 /// and counted. Otherwise the message ends the run. If its walk refuses the message, the run ends with that refusal. If
-/// the message is accepted but not canonical, its position is stored in `ended`. The service takes no memory.
+/// the message is accepted but not canonical, its position is stored in `ended`. The service itself takes no memory.
 #[derive(Clone, Copy, Debug, PartialEq, Eq)]
 pub struct FilterService {
     /// The options of the run.
     pub order: FilterOrder,
     /// The count of the skipped messages, if there are any.
     pub skipped: Option<SkippedSoFar>,
-    /// The position of a message that ended the run because it is not canonical.
+    /// The position of the message that ended the run because it is not canonical, if there is one.
     pub ended: Option<Position>,
 }
 

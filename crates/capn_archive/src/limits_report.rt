@@ -13,7 +13,7 @@ use std::fmt;
 /// The figures of the messages of an archive, displayed as the limits that the messages need.
 #[derive(Clone, Copy, Debug, PartialEq, Eq)]
 pub struct Needs {
-    /// The number of messages.
+    /// The number of messages, including those that were skipped.
     pub messages: u64,
     /// The greatest size, price and depth of a message.
     pub tally: Tally,
@@ -21,7 +21,7 @@ pub struct Needs {
     pub tariff: Tariff,
 }
 
-/// The greatest amount and the number of its message, displayed as zeros if there is no message.
+/// The greatest amount and the number of its message, displayed as `0 message 0` if no message was counted.
 #[derive(Drop)]
 struct Peak(Option<Greatest>);
 
@@ -61,7 +61,7 @@ impl fmt::Display for TariffOption {
 }
 
 /// Displays four lines: the number of messages, and the greatest number of words, the greatest price and the greatest
-/// depth of a message.
+/// depth of a message. Each of the last three lines also shows the number of the first message with that amount.
 impl fmt::Display for Needs {
     ghost use Rattle.std.specs.Prelude.{Some};
     ghost use Rattle.capn_archive.specs.Lines.{needs_text};
@@ -80,7 +80,7 @@ impl fmt::Display for Needs {
     }
 }
 
-/// Returns the amount in `greatest`, or 0 if there is no message.
+/// Returns the amount in `greatest`, or 0 if `greatest` is `None`.
 fn amount_of(greatest: Option<Greatest>) -> u64
     ensures value { result ≡ spec.amount_of greatest }
     ensures small { result < 2 ^ 32 }
@@ -91,7 +91,7 @@ fn amount_of(greatest: Option<Greatest>) -> u64
     }
 }
 
-/// The last line of `limits`, with options for four times the greatest words and price, and for twice the greatest
+/// The last line of `limits`, with options for four times the greatest size and price, and for twice the greatest
 /// depth. Each number stays within the range of its option.
 #[derive(Drop)]
 struct Advice<'a>(&'a Needs);

@@ -12,7 +12,7 @@ use capn_canon::{MeasuredBare, Refusal};
 use capn_serve::{NumberLine, ServeFault};
 use std::alloc::{AllocError, Allocator};
 
-/// A line with room for the longest one, of `list --digest`. A number has at most 20 digits.
+/// A line with room for the longest line, which `list --digest` writes. A number has at most 20 digits.
 type Line = NumberLine<352>;
 
 /// Returns the line of `list` for an accepted message.

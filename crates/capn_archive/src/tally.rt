@@ -14,7 +14,7 @@ pub struct Greatest {
     pub index: u64,
 }
 
-/// The greatest amounts of the messages that a run has served, and the count of the messages that the run has skipped.
+/// The greatest amounts of the messages that the task `Limits` counts, and the count of the skipped messages.
 #[derive(Clone, Copy, Debug, PartialEq, Eq)]
 pub struct Tally {
     /// The count of the skipped messages, if there are any.

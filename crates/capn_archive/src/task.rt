@@ -10,7 +10,7 @@ pub enum Task {
     /// Writes the lines of `List`, each with the SHA-256 of the canonical bytes, or with `-` if the value has a
     /// capability.
     Digests,
-    /// Writes the limits that all messages need, at the end.
+    /// Writes the limits that the accepted messages need, at the end.
     Limits,
     /// Writes the canonical bytes of each message, as a frame of one segment.
     Canonical,

@@ -70,18 +70,18 @@ fn fault_of<A: Allocator>(run: &Run<UniqService<A>>, fault: RunFault) -> Archive
 }
 
 /// Reads the messages of an archive from `reader`, and writes to `writer` each one whose canonical bytes no earlier
-/// message had. Canonical bytes are compared by their SHA-256. The frame of a message is written unchanged. If the
-/// input is packed, the unpacked bytes of the frame are written. If the input is bare, all of it is written. If
-/// `order.count` is true, only a line `U of N` is written at the end, with the number `U` of different digests and the
-/// number `N` of messages served.
+/// message had. Canonical bytes are compared by their SHA-256. The frame of a message is written unchanged. The frame
+/// of a packed message is written unpacked, and the frame of a bare message is all of the input. If `order.count` is
+/// true, only a line `U of N` is written at the end, with the number `U` of different digests and the number `N` of
+/// messages served.
 ///
 /// Input is read as [`serve_form`] reads it. The run ends with `Ok`, with `Skipped` if all of the input was read and
-/// messages were skipped, or with the first fault. The fault is `Refused`, with the position, if a frame, a group or a
-/// message is refused. The fault is `RefusedAfterSkipped` if messages were skipped before a refused frame or group. The
-/// other faults are `InputTooLong`, `Io` if and only if the reader or the writer failed, and `Memory` if an allocation
-/// was refused. If the input is refused or too long, the texts of the messages before the fault have been written, and
-/// nothing else. A run holds in memory what the loop over the messages holds, the canonical bytes of one message, and
-/// the digests of the messages served.
+/// messages were skipped, or with the first fault. A refused message is skipped if `order.keep_going` is true, and
+/// otherwise ends the run with `Refused` and its position. A refused frame or group ends the run with `Refused` and the
+/// position, or with `RefusedAfterSkipped` if messages were skipped before that position. The other faults are
+/// `InputTooLong`, `Io` if and only if the reader or the writer failed, and `Memory` if an allocation was refused. If
+/// the input is refused or too long, only the output for the messages before the fault has been written. A run holds in
+/// memory what the loop over the messages holds, one message's canonical bytes, and the digests of the messages served.
 pub fn run_uniq<R: Read, W: Write, A: Allocator + Copy>(
     alloc: A,
     order: UniqOrder,

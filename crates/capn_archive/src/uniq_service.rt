@@ -18,8 +18,8 @@ use std::alloc::Allocator;
 use std::io::Write;
 use std::marker::Model;
 
-/// The service of `uniq`. It writes the frame of each message unchanged, unless an earlier message had the same
-/// canonical bytes. Canonical bytes are compared by their SHA-256.
+/// The service of `uniq`. It writes the frame of each message unchanged, unless messages are only counted or an
+/// earlier message had the same canonical bytes. Canonical bytes are compared by their SHA-256.
 ///
 /// A message is refused by its walk or for a capability. A refused message ends the run, or is skipped if `keep_going`
 /// is set in the order. Nothing is written for a skipped message, and later messages are not compared with it. The

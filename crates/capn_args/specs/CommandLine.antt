@@ -58,7 +58,7 @@ place_rule name usual = record (usual_rule name usual) { parser = Some (parsers.
 abbrev pub HasLine : Command → App → Type 0
 HasLine command line = (app_of command ≡ line) × ((out-Command command).has_globals ≡ false)
 
--- The commands over messages that take limits.
+-- The commands that take `--budget`, `--depth` and `--tariff`.
 abbrev pub limited : List Text
 limited = codes "show" ∷ codes "check" ∷ codes "explain" ∷ codes "list" ∷ codes "limits" ∷ codes "canonical"
     ∷ codes "hash" ∷ codes "uniq" ∷ codes "filter" ∷ codes "cmp" ∷ []

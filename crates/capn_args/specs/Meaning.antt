@@ -162,8 +162,8 @@ MarksAre rows style offsets ways = FlagIs rows (codes "offsets") offsets × Flag
 abbrev pub is_plain : Style → Bool → Bool → Bool
 is_plain style offsets ways = has_lines style && (not (is_quoted style) && not (offsets || ways))
 
--- If the last argument is `path`, it is the value of `--at` in `rows`, and `path_of` gives its numbers. If it is
--- `None`, `--at` is not given, and `plain` is false.
+-- If the last argument is `Some path`, `path` is the value of `--at` in `rows`, and `path_of` gives its numbers. If the
+-- last argument is `None`, `--at` is not given, and `plain` is false.
 abbrev pub PathIs : List Row → Bool → Option (Bor Text) → Type 0
 PathIs rows plain None = (first_of (codes "at") rows ≡ None) × (plain ≡ false)
 PathIs rows plain (Some path) = (first_of (codes "at") rows ≡ Some path.now) × IsSome (path_of path.now)
@@ -211,8 +211,8 @@ abbrev pub Means : Option (Text × List Row) → Command → Type 0
 Means None command = ⊥
 Means (Some s) command = (s.0 ≡ command_name command) × CommandIs s.1 command
 
--- No option in `rows` turns the command into another invocation. For `show`, such options are `--at` and each flag but
--- `--one`. For `pack` and `unpack` it is `--streaming`, and for `canonical` they are `--framed` and `--keep-going`.
+-- No option in `rows` turns the command into another invocation. The options that do are `--at` and each flag but
+-- `--one` for `show`, `--streaming` for `pack` and `unpack`, and `--framed` and `--keep-going` for `canonical`.
 abbrev pub HasNoFlag : List Row → Command → Type 0
 HasNoFlag rows (commands.Show form limits) = (first_of (codes "at") rows ≡ None) × StyleIs rows styles.Lines
     × MarksAre rows styles.Lines false false
@@ -271,7 +271,7 @@ IsSamePath None (Some path) = ⊥
 IsSamePath (Some path) None = ⊥
 IsSamePath (Some path) (Some other) = path.now ≡ other.now
 
--- Two invocations are equal. Of a path of `show` and of a list of `pick --only`, only the texts are compared.
+-- Two invocations are equal. Paths of `show` and lists of `pick --only` are compared only by their texts.
 abbrev pub AreSame : Invocation → Invocation → Type 0
 AreSame (invocations.Show s) (invocations.Show t) =
     (s.form ≡ t.form) × (s.limits ≡ t.limits) × (s.style ≡ t.style) × (s.offsets ≡ t.offsets) × (s.ways ≡ t.ways)

@@ -4,7 +4,7 @@ use Rattle.clap.specs.Words.{Text}
 use Rattle.capn_args.specs.Path.{with_digit}
 
 -- The number whose digits are those of `begun`, if it is given, and then those of a text. It is `None` if a character
--- is no digit, if the number is 2^64 or more, or if it begins with a zero.
+-- is no digit, if there are no digits, if the number is 2^64 or more, or if the number begins with a zero.
 abbrev pub number_from : Option ℕ → Text → Option ℕ
 number_from begun [] = begun
 number_from begun (c ∷ rest) =

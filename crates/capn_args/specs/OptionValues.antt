@@ -48,8 +48,8 @@ LimitsAre rows limits =
     × TariffIs rows limits.tariff
     × AreLimits limits.message_words limits.budget limits.depth
 
--- `most` is the value of `--message-words`, which is in its range, plus the number of words of the longest segment
--- table.
+-- `most` is the value of `--message-words`, which is at most `most_message_words`, plus the number of words of the
+-- longest segment table.
 abbrev pub UnpackedIs : List Row → ℕ → Type 0
 UnpackedIs rows most = (n : ℕ) × NumberIs rows (codes "message-words") n × (n ≤ most_message_words)
     × (most ≡ n + most_table_words)
@@ -80,7 +80,7 @@ FlagIs rows option given = one_of option rows ≡ Some (flag_text given)
 abbrev pub source_of : List Row → Text → Option ValueSource
 source_of rows option = option_and_then (λ row. row.source) (find (λ row. bytes_eq row.id option) rows)
 
--- `option` is not given, so that it has its default.
+-- `option` is not given on the command line, and has a default.
 abbrev pub IsUsual : List Row → Text → Type 0
 IsUsual rows option = source_of rows option ≡ Some sources.DefaultValue
 

@@ -11,7 +11,7 @@ with_digit begun c = cond (nat_le 48 c && nat_le c 57)
     (cond (nat_lt (unwrap_or begun 0 * 10 + (c - 48)) (2 ^ 64)) (Some (unwrap_or begun 0 * 10 + (c - 48))) None) None
 
 -- The numbers of a text, which are separated by dots. If `begun` is given, the first digits of the text are appended to
--- it.
+-- it. The result is `None` if a number is missing or too great, or if a character is neither a digit nor a dot.
 abbrev pub path_from : Option ℕ → Text → Option (List ℕ)
 path_from begun [] = option_map (λ n. n ∷ []) begun
 path_from begun (c ∷ rest) = cond (c == 46)

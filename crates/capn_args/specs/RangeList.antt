@@ -30,7 +30,7 @@ with_hyphen last (Some n) digits = None
 abbrev pub with_number : ℕ → Option ℕ → ℕ → Option Begun
 with_number last first n = cond (n == 0) None (Some (record { last = last; first = first; digits = Some n }))
 
--- The state after the state `b`, when the character `c` of a range is read. It is `None` if `c` must not follow.
+-- The state that follows `b` when the character `c` of a range is read. It is `None` if `c` must not follow.
 abbrev pub longer : Begun → ℕ → Option Begun
 longer b c =
     cond (c == 45) (with_hyphen b.last b.first b.digits)
@@ -44,8 +44,8 @@ ranges_from b (c ∷ rest) =
     cond (c == 44) (option_and_then (λ r. option_map (λ rs. r ∷ rs) (ranges_from (fresh r.to) rest)) (range_of b))
     (option_and_then (λ next. ranges_from next rest) (longer b c))
 
--- The ranges of `text`, a list of numbers and ranges from 1 to 2^64 - 1, in ascending order, separated by single
--- commas.
+-- The ranges of `text`, if `text` is a list of numbers and ranges from 1 to 2^64 - 1, in ascending order, separated by
+-- single commas.
 abbrev pub ranges_in : Text → Option (List Range)
 ranges_in text = ranges_from (fresh 0) text
 

@@ -40,8 +40,8 @@ help_title =
 abbrev pub IsHelp : List ℕ → Type 0
 IsHelp text = (said : List ℕ) × (text ≡ help_title ++ said)
 
--- `kind` is a reason why `words` mean no invocation: a refused allocation, a fault of the first step of the parser that
--- fails, or `InvalidValue`. In the last case no step fails, and the options mean no invocation.
+-- `kind` is a reason why `words` mean no invocation: a refused allocation, a fault of the first failing step of the
+-- parser, or `InvalidValue`. In the last case no step fails, and the options mean no invocation.
 abbrev pub IsReason : List Text → ErrorKind → Type 0
 IsReason words kind = (kind ≡ kinds.OutOfMemory) ⊎ (IsAmong kind (fault_of program_line words)
     ⊎ ((fault_of program_line words ≡ []) × (kind ≡ kinds.InvalidValue)

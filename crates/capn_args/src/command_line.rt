@@ -31,8 +31,7 @@ use clap::ArgMatches;
 use std::alloc::Global;
 use std::convert::AsStr;
 
-/// Returns the order to run `task` over an archive, as the options in `matches` mean, or `None` if they mean no such
-/// order.
+/// Returns the order to run `task` over an archive with the options in `matches`, or `None` if they mean no such order.
 fn archive_of(task: Task, matches: &ArgMatches) -> Option<ArchiveOrder>
     ensures task { IfSome result (λ archive. archive.task ≡ task) }
     ensures options { IfSome result (AreOptions (rows_of (found_of matches.now))) }
@@ -63,8 +62,8 @@ fn task_of(name: &str) -> Option<Task>
     }
 }
 
-/// Returns the invocation that the command `name` and the options in `matches` mean, if they mean a run over an archive
-/// whose task depends on no flag.
+/// Returns the invocation that the command `name` and the options in `matches` mean. Returns `None` unless they mean a
+/// run over an archive, and the task of the run depends on no flag.
 fn task_invocation<'a>(name: &str, matches: &ArgMatches<'a>) -> Option<Invocation<'a>>
     requires not_list { name.now ≢ codes "list" }
     requires not_canonical { name.now ≢ codes "canonical" }
@@ -251,12 +250,12 @@ fn named_invocation<'a>(name: &str, matches: &ArgMatches<'a>) -> Option<Invocati
 /// program's name. Options that are not given have their default values.
 ///
 /// Every other outcome is returned as a `Usage`, with the text for the user. The words may ask for help or for the
-/// version. A word, an option or a value may be unknown, and a number may be out of its range. The command may not take
-/// the form or the tariff. An allocation may be refused. A `Usage` is also returned for a value of `--at` that is no
-/// path, a value of `--number` that is no message number, and a value of `--only` that is no list. These options
-/// are refused together: `--json` with `--offsets` or `--ways`, `--only` with `--from` or `--to`,
-/// `--keep-going` of `explain` with `--number`, and `--message-words` of `unpack` with `--streaming`. `--keep-going` of
-/// `canonical` is refused without `--framed`.
+/// version. A word, an option or a value may be unknown, or a number out of its range. A form or a tariff may be one
+/// that the command does not take. An allocation may be refused. A `Usage` is also returned for a value of `--at` that
+/// is no path, a value of `--number` that is no message number, and a value of `--only` that is no list. These options
+/// are refused together: `--json` with `--offsets` or `--ways`, `--only` with `--from` or `--to`, `--keep-going` of
+/// `explain` with `--number`, and `--message-words` of `unpack` with `--streaming`. `--keep-going` of `canonical` is
+/// refused without `--framed`.
 pub fn invocation_of<'a, S: AsStr>(alloc: Global, words: &'a [S]) -> Result<Invocation<'a>, Usage>
     // If `result` is `Ok`, the words mean the returned invocation.
     ensures means { IfOk result (MeansInvocation (subcommand_of program_line (map S.text words.now))) }

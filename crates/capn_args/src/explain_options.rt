@@ -29,7 +29,7 @@ fn numbered(matches: &ArgMatches) -> Option<Option<u64>>
     }
 }
 
-/// Returns the order to explain one message, as the options in `matches` mean, or `None` if they mean no such order.
+/// Returns the order to explain one message with the options in `matches`, or `None` if they mean no such order.
 fn one_of(matches: &ArgMatches) -> Option<Explain>
     ensures are { IfSome result (ExplainIs (rows_of (found_of matches.now))) }
     ensures served { (explain : Explain) → ExplainIs (rows_of (found_of matches.now)) explain → IsSome result }
@@ -44,7 +44,7 @@ fn one_of(matches: &ArgMatches) -> Option<Explain>
     })
 }
 
-/// Returns the order to explain every refused message, as the options in `matches` mean, or `None` if they mean no such
+/// Returns the order to explain every refused message with the options in `matches`, or `None` if they mean no such
 /// order. `--number` must not be given.
 fn refused_of(matches: &ArgMatches) -> Option<ExplainRefused>
     ensures are { IfSome result (RefusedIs (rows_of (found_of matches.now))) }

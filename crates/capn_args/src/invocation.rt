@@ -27,10 +27,10 @@ pub struct Show<'a> {
     pub limits: Limits,
     /// The style of the text.
     pub style: Style,
-    /// True if each line begins with the offset of the byte that the line is about.
+    /// True if each line of a value begins with the byte offset of the slot, row, word or elements that the line shows.
     pub offsets: bool,
-    /// True if each line begins with the path to the slot that the line is about. If `offsets` is true too, the offset
-    /// comes before the path.
+    /// True if each line of a value begins with the path to the slot or row of that line. If `offsets` is true too, the
+    /// offset comes before the path.
     pub ways: bool,
     /// True if the input must be exactly one message.
     pub one: bool,
@@ -72,13 +72,13 @@ pub struct Make {
 pub enum Invocation<'a> {
     /// A command over messages or bytes, whose input has a limit on its length.
     Message(Command),
-    /// Shows each message of an input of any length in a style, or the value at a path from its root.
+    /// Shows each message of an input, or the value at a path from each root, in a style or with marks.
     Show(Show<'a>),
     /// Explains one message of an input of any length, or every refused one.
     Explain(Explanation),
     /// Runs `list`, `limits` or `canonical --framed` over an archive of any length.
     Archive(ArchiveOrder),
-    /// Writes the messages of an archive without duplicates, or counts them.
+    /// Writes the messages of an archive without duplicates, or only the numbers of different messages and of all.
     Uniq(UniqOrder),
     /// Writes the accepted messages of an archive, or only the canonical ones, unchanged.
     Filter(FilterOrder),

@@ -41,7 +41,7 @@ fn origin_of(matches: &ArgMatches, id: &str) -> Option<ValueSource>
     matches.value_source(id)
 }
 
-/// Tests whether the option `id` is not given, so that it has its default.
+/// Tests whether the option `id` is not given on the command line, and has a default.
 pub(crate) fn is_usual(matches: &ArgMatches, id: &str) -> bool
     ensures { IsTrue result ↔ IsUsual (rows_of (found_of matches.now)) id.now }
 {

@@ -62,8 +62,8 @@ fn with_hyphen(begun: Begun) -> Option<Begun>
     }
 }
 
-/// Returns the state after `begun` and the character `c`, if `c` may follow. A hyphen must follow the first number of
-/// the range. A digit must not be a leading zero, and must keep the number below 2^64.
+/// Returns the state after `begun` and the character `c`, if `c` may follow. A hyphen may follow only the first number
+/// of the range. A digit must not be a leading zero, and must keep the number below 2^64.
 fn longer(begun: Begun, c: u8) -> Option<Begun>
     ensures is { result ≡ spec.longer begun c }
     ensures same { IfSome result (λ next. next.last ≡ begun.last) }

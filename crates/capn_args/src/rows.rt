@@ -5,7 +5,7 @@ use crate::option_row::{Exclusion, FORM, OptionRow, Taken, WORDS};
 use crate::{archives_help, bytes_help, messages_help};
 use capn_value::{MOST_COST, MOST_HEIGHT};
 
-/// The commands over messages that take limits.
+/// The commands that take `--budget`, `--depth` and `--tariff`.
 const LIMITED: &[&str] = &[
     "show",
     "check",

@@ -9,14 +9,14 @@ use Rattle.capn_canon.specs.declared.form.Form.TheVariants as forms
 use Rattle.capn_canon.specs.declared.refusal.Refusal.{Refusal}
 use Rattle.capn_c.specs.Held.{AnswersHeld, IsRefusedHeld}
 
--- `text` and `price` are the canonical bytes and the price of the segments of `message` if and only if they are those
--- of its frame `bs`.
+-- If `bs` is a frame of `message`, the segments of `message` have the canonical bytes `text` and the price `price` if
+-- and only if `bs` has them.
 abbrev pub HeldAreAnsweredAsFramed : Type 0
 HeldAreAnsweredAsFramed = (bs : List ℕ) (message : List (List ℕ)) (limits : Bounds) → Frames bs message
     → (text : List ℕ) (price : ℕ)
     → AnswersHeld message limits text price ↔ Answers forms.Stream bs limits text price
 
--- Each refusal `e` of the segments of `message` is a refusal of its frame `bs`.
+-- If `bs` is a frame of `message`, each refusal `e` of the segments of `message` is a refusal of `bs`.
 abbrev pub HeldAreRefusedAsFramed : Type 0
 HeldAreRefusedAsFramed = (bs : List ℕ) (message : List (List ℕ)) (limits : Bounds) → Frames bs message
     → (e : Refusal) → IsRefusedHeld message limits e → IsRefused forms.Stream bs limits e

@@ -16,7 +16,7 @@ use Rattle.capn_c.specs.declared.departed.CapnDeparted.{CapnDeparted}
 use Rattle.capn_abi.specs.declared.report.CapnReport.{CapnReport}
 
 module _ {A : Type 0} where
-  -- The number for the role of a word that differs: a pointer, the tag word or the last word of a list.
+  -- The number for the role of a word that differs: a pointer, the tag word of a list, or the last word of a list.
   abbrev pub owner_number : Whose A → ℕ
   owner_number (Pointer path) = 1
   owner_number (Tag path) = 2

@@ -12,7 +12,7 @@ use Rattle.capn_canon.specs.declared.form.Form.{Form}
 use Rattle.capn_canon.specs.declared.form.Form.TheVariants as forms
 use Rattle.capn_c.specs.declared.entries.CapnEntry.{CapnEntry}
 
--- The number that C has for the kind of a target.
+-- The number that C has for the given kind of target.
 abbrev pub kind_number : Kind → ℕ
 kind_number kinds.Nil = 0
 kind_number kinds.Node = 1
@@ -32,7 +32,7 @@ starts_from n [] = []
 starts_from n (ws ∷ message) = n ∷ starts_from (n + length ws) message
 
 -- An entry in the layout that C reads. Its offset counts the bytes from the start of a segment table of `table` bytes.
--- The segments begin at the words `starts` after the table.
+-- `starts` has the word after the table at which each segment begins.
 abbrev pub c_entry : ℕ → List ℕ → Entry → CapnEntry
 c_entry table starts e = record {
   offset = table + 8 * (get_or starts e.segment 0 + e.start);
@@ -53,8 +53,8 @@ table_length forms.Stream message = head_length (length message)
 table_length forms.Packed message = 0
 table_length forms.Bare message = 0
 
--- `bs` are read as an accepted message. `new` begins with the index of that message, and is the same as `old` after the
--- index.
+-- `bs` are read as an accepted message. `new` begins with the index of that message. The entries after the index are
+-- the same as in `old`.
 pub record IndexedIn (form : Form) (bs : List ℕ) (limits : Bounds) (old new : List CapnEntry) : Type 0 where
   pub message : List (List ℕ)
   pub reads : Reads form bs limits.message_words message

@@ -19,7 +19,7 @@ pub record IsCanonicalMessage (message : List (List ℕ)) (limits : Bounds) : Ty
   pub free : first_cap value ≡ None
   pub same : canon value ≡ bytes (segment_at message 0)
 
--- `None` if the first number is 0, else the capability with the index `k`.
+-- `None` if the first number is 0, else `Some k`, where `k` is the index of a capability.
 abbrev pub reported_cap : ℕ → ℕ → Option ℕ
 reported_cap zero k = None
 reported_cap (suc n) k = Some k

@@ -4,9 +4,9 @@ use Rattle.capn_stream.specs.StreamPieces.{IsFrame}
 use Rattle.capn_stream.specs.FrameRefusal.{announced_segments, frame_length, head_length}
 use Rattle.capn_stream.specs.NextMessage.{most_bytes}
 
--- A lower bound for the length in bytes of a frame that begins with `bs`. If `bs` lack the number of segments, it is
--- the length of a table for one segment. If `bs` have that number but not the complete table, it is the length of the
--- table. Otherwise it is the length of the complete frame.
+-- A lower bound for the length in bytes of every frame that begins with `bs`. If `bs` lack the number of segments, it
+-- is the length of a table for one segment. If `bs` have that number but not the complete table, it is the length of
+-- the table. Otherwise it is the length of the complete frame.
 abbrev pub needed : List ℕ → ℕ
 needed bs =
     if nat_lt (length bs) 4 then head_length 1

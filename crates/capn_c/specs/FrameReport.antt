@@ -1,4 +1,4 @@
--- The report of a fault of a stream's first frame. (Our own.)
+-- The report for a fault in the first frame of a stream. (Our own.)
 use Rattle.std.specs.Prelude.{◌≡◌, ◌≢◌, ℕ, List}
 use Rattle.capn_stream.specs.declared.fault.FrameFault.{FrameFault}
 use Rattle.capn_stream.specs.declared.fault.FrameFault.TheVariants as frame
@@ -6,7 +6,7 @@ use Rattle.capn_abi.specs.StatusCodes.{answered, at_number, frame_code}
 use Rattle.capn_c.specs.FrameNeed.{needed}
 use Rattle.capn_abi.specs.declared.report.CapnReport.{CapnReport}
 
--- The report of a fault of a frame that begins with `bs`. If the frame is incomplete, the report has the number of
+-- The report for the fault of a frame that begins with `bs`. If the frame is incomplete, the report has the number of
 -- bytes that the frame needs. Otherwise it has the number of the fault.
 abbrev pub frame_report : List ℕ → FrameFault → CapnReport
 frame_report bs frame.Empty = answered (needed bs) 0 0
@@ -16,7 +16,7 @@ frame_report bs (frame.TooManyWords n) = at_number n
 frame_report bs frame.Memory = at_number 0
 frame_report bs frame.Failed = at_number 0
 
--- `status` and `report` are those of the fault `e` of the frame in `bs`. If `status` is not 8, no other fault has this
+-- `status` and `report` describe the fault `e` of the frame in `bs`. If `status` is not 8, no other fault has this
 -- status and this report.
 pub record ReportsFrame (bs : List ℕ) (status : ℕ) (report : CapnReport) (e : FrameFault) : Type 0 where
   pub status_is : status ≡ frame_code e

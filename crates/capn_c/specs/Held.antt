@@ -44,7 +44,7 @@ IsMisheld message most (frame.TooManyWords n) = IsUnheld message most (segments.
 IsMisheld message most _ = ⊥
 
 -- The result is `Ok` with `message` if the segments of `message` are held within the limits. Otherwise it is an `Err`
--- with the reason why they are no message.
+-- with the reason why the segments are no message.
 abbrev pub IsHeldOr : List (List ℕ) → Bounds → Result (List (List ℕ)) Refusal → Type 0
 IsHeldOr message limits (Ok read) = (read ≡ message) × IsHeld message limits.message_words
 IsHeldOr message limits (Err (refusals.Frame e)) = IsMisheld message limits.message_words e

@@ -1,4 +1,4 @@
--- Messages that aren't canonical. Their digest needs memory for the canonical bytes. (Our own.)
+-- Messages that aren't canonical, so that a digest needs memory for the canonical bytes. (Our own.)
 use Rattle.std.specs.Prelude.{◌≡◌, ◌⊎◌, ℕ, List, None}
 use Rattle.capn_value.specs.Tree.{Tree}
 use Rattle.capn_value.specs.FirstCap.{first_cap}

@@ -1,4 +1,4 @@
--- Laws: the bytes at the offset of an entry are the words of the entry's place. (Our own.)
+-- Laws: the bytes at the offset of an entry are the words at the entry's place. (Our own.)
 use Rattle.std.specs.Prelude.{◌≡◌, ◌≢◌, ℕ, ◌+◌, ◌*◌, ◌<◌, ◌≤◌, List, length, take, drop, get_or, ⊤}
 use Rattle.capn_words.specs.Message.{bytes_at}
 use Rattle.capn_words.specs.declared.space.Place.{Place}
@@ -14,7 +14,7 @@ use Rattle.capn_canon.specs.declared.form.Form.TheVariants as forms
 use Rattle.capn_c.specs.Entries.{IndexedIn, c_entry, starts_from, table_length}
 use Rattle.capn_c.specs.declared.entries.CapnEntry.{CapnEntry}
 
--- The bytes of `bs` from `offset` on begin with the bytes of the `words` words of `message` from the place `at` on.
+-- From `offset` on, `bs` has the bytes of `words` words of `message`: the words from the place `at` on.
 pub record StandAt (bs : List ℕ) (offset : ℕ) (message : List (List ℕ)) (at : Place) (words : ℕ) : Type 0 where
   pub inside : offset + 8 * words ≤ length bs
   pub same : take (8 * words) (drop offset bs) ≡ bytes_at message at (8 * words)
@@ -29,15 +29,15 @@ StandsAt bs offset message _ = ⊤
 abbrev pub entry_place : Entry → Place
 entry_place e = record { segment = e.segment; word = e.start }
 
--- If `bs` are read as a message, in a stream or bare, the words at the place of any entry are in `bs`. They are at the
--- offset that C reads in the entry.
+-- Suppose that `bs`, a stream or bare words, are read as a message. Then the words at the place of any entry are in
+-- `bs`, at the offset that C reads in the entry.
 abbrev pub OffsetsAreOfPlaces : Type 0
 OffsetsAreOfPlaces = (form : Form) (bs : List ℕ) (most : ℕ) (message : List (List ℕ)) → form ≢ forms.Packed
     → Reads form bs most message → (e : Entry) (words : ℕ) → IsContent message (entry_place e) words
     → StandAt bs (c_entry (table_length form message) (starts_from 0 message) e).offset message (entry_place e) words
 
--- If `bs` are a stream or bare words, and `new` has the index of `bs`, the content of each slot's target is in `bs`. It
--- is at the offset of the slot's entry.
+-- Suppose that `bs` are a stream or bare words, and that `new` has the index of `bs`. Then the content of each slot's
+-- target is in `bs`, at the offset of the slot's entry.
 abbrev pub OffsetsAreOfContents : Type 0
 OffsetsAreOfContents = (form : Form) (bs : List ℕ) (limits : Bounds) (old new : List CapnEntry) → form ≢ forms.Packed
     → (h : IndexedIn form bs limits old new) → (i : ℕ) → i < length (index_of h.message limits) → (none : CapnEntry)

@@ -17,12 +17,12 @@ next_code nexts.End = 0
 next_code nexts.Cut = 32
 next_code nexts.TooLong = 33
 
--- A report of `written` bytes written to the buffer, and of `taken` bytes read from the text.
+-- A report of `written` bytes written to the buffer, and of groups that take `taken` bytes of the text.
 abbrev pub progressed : ℕ → ℕ → CapnReport
 progressed written taken = record { length = written; at = taken; segment = 0; word = 0; paid = 0; visits = 0 }
 
--- The first groups of `bytes` are unpacked into the buffer, as many as are complete and fit. The report has the numbers
--- of bytes written and read. The status says what follows these groups.
+-- The first groups of `bytes` are unpacked into the buffer, as many as are complete and fit. The report has the number
+-- of bytes written and the length of these groups. The status says what follows these groups.
 pub record UnpacksInto (bytes : List ℕ) (status : ℕ) (report : CapnReport) (old new : List ℕ) : Type 0 where
   pub content : List ℕ
   pub words : ℕ

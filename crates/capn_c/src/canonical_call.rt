@@ -54,11 +54,11 @@ fn survey_length(
     }
 }
 
-/// Writes the canonical bytes of the message that `bytes` encode in `form` to `out`, within `limits`.
+/// Writes to `out` the canonical bytes of the message that `bytes` encode in `form`, within `limits`.
 ///
-/// The status is 0 if the answer is at the start of `out`, and 1 if `out` is too short. If it is 1, `out` is unchanged,
-/// and `length` is exactly the length of the answer in bytes. An empty `out` is an exception: the message is only
-/// surveyed, and `length` is 8 bytes for each word paid and 8 more, which is enough.
+/// The status is 0 if the canonical bytes are at the start of `out`, and 1 if `out` is too short. If it is 1, `out` is
+/// unchanged, and `length` is exactly the number of canonical bytes. An empty `out` is an exception: the message is
+/// only surveyed, and `length` is 8 bytes for each word paid and 8 more, which is enough.
 ///
 /// The status is 2, 3 or 4 if the form, a limit or the tariff is out of its range, and 8 if memory was refused.
 /// Otherwise it is the status of the refusal. Bare words, and a stream of at most 64 segments, need no memory.
@@ -77,12 +77,12 @@ pub extern "C" fn capn_canonical(
     ensures form { (result ≡ 2) ↔ (IsForm form → ⊥) }
     ensures limits { (result ≡ 3) ↔ (IsForm form × (GiveLimits limits.now → ⊥)) }
     ensures tariff { (result ≡ 4) ↔ (IsForm form × GiveLimits limits.now × (IsTariff limits.now.tariff → ⊥)) }
-    // If `result` is 0 or 1, the answer is the canonical bytes of the one value that the bytes denote, and `paid` is
-    // the price.
+    // If `result` is 0 or 1, the bytes denote one value, which has canonical bytes, and `paid` is the price. The
+    // canonical bytes are in `out` if `result` is 0, and are too long for `out` if it is 1.
     ensures found { result ≤ 1 → (text : List ℕ)
         × Answers (form_named form) bytes.now (bounds_of limits.now) text report.new.paid
         × Serves text result report.new out.old out.new }
-    // If the bytes denote a value without capabilities, the answer is the canonical bytes, unless `result` is 8.
+    // If the bytes denote a value without capabilities, `result` is 0 (`out` has its canonical bytes), 1 or 8.
     ensures only { IsForm form → GiveLimits limits.now → IsTariff limits.now.tariff → (v : Value)
         → Denotes (form_named form) bytes.now (bounds_of limits.now) v → first_cap v ≡ None
         → (result ≡ 8) ⊎ Serves (canon v) result report.new out.old out.new }
@@ -90,8 +90,8 @@ pub extern "C" fn capn_canonical(
     ensures rest { result ≤ 1 → report.new ≡ answered report.new.length report.new.paid 0 }
     ensures blank { 2 ≤ result → result ≤ 4 → report.new ≡ at_number 0 }
     ensures listed { IsTrue (is_status result) }
-    // If `result` is at least 5, `result` and `report` are those of a refusal `e`, whose reason is true. If `result` is
-    // not 8, they are those of no other refusal.
+    // If `result` is at least 5, `result` and `report` describe a refusal `e`, whose reason is true. If `result` is not
+    // 8, they describe no other refusal.
     ensures refused { 5 ≤ result → (e : Refusals) × Reports result report.new e
         × IsRefused (form_named form) bytes.now (bounds_of limits.now) e }
     // `result` is 8 only for a stream of more than 64 segments, or for the words that a packed text unpacks to.
@@ -101,7 +101,7 @@ pub extern "C" fn capn_canonical(
     ensures short { result ≤ 1 → report.new.length ≤ 8 * (report.new.paid + 1) }
     // If `result` is not 0, `out` is unchanged.
     ensures kept { result ≢ 0 → out.new ≡ out.old }
-    // If `result` is 0, the bytes written have the four properties of the canonical form of `v` (`IsCanonicalForm`).
+    // If `bytes` denote `v` and `result` is 0, the bytes written have the four properties of `IsCanonicalForm`.
     ensures canonical { result ≡ 0 → (v : Value) → Denotes (form_named form) bytes.now (bounds_of limits.now) v
         → IsCanonicalForm (take report.new.length out.new) (bounds_of limits.now) v }
 {

@@ -12,7 +12,7 @@ use capn_walk::Limits;
 use capn_words::Bare;
 use std::alloc::Global;
 
-/// Makes the canonical bytes of a message in any `form` in memory, and copies them to `out`.
+/// Makes on `alloc` the canonical bytes of the message that `bytes` encode in `form`. Copies them to `out` if they fit.
 #[inline(never)]
 fn fill_copied(
     alloc: Global,
@@ -45,7 +45,7 @@ fn fill_bare(bytes: &[u8], limits: Limits, out: &mut [u8], report: &mut CapnRepo
 }
 
 /// Writes the canonical bytes of the frame `bytes` straight to `out`. This is a separate function, so that only frames
-/// use stack for the ends of the segments.
+/// use stack space for the ends of their segments.
 #[inline(never)]
 fn fill_frame(
     alloc: Global,
@@ -63,7 +63,7 @@ fn fill_frame(
     }
 }
 
-/// Writes the canonical bytes of the message that `bytes` encode in `form` to `out`. Fills in `report`, and returns the
+/// Writes to `out` the canonical bytes of the message that `bytes` encode in `form`. Fills in `report`, and returns the
 /// status.
 pub fn fill(
     alloc: Global,

@@ -1,4 +1,4 @@
-//! The call `capn_canonical_with_scratch`, which makes canonical bytes in words that the caller lends.
+//! The call `capn_canonical_with_scratch`, which makes canonical bytes with only the memory that the caller lends.
 
 ghost use Rattle.std.specs.Prelude.{IsTrue, ◌≡◌, ◌≢◌, ◌↔◌, ◌≤◌, ◌+◌, ◌*◌, ℕ, List, None, length, take};
 ghost use Rattle.capn_value.specs.Tree.{Tree as Value};
@@ -64,7 +64,7 @@ fn tell(written: Result<CanonicalLength, FormRefusal>, report: &mut CapnReport) 
     }
 }
 
-/// Writes the canonical bytes of the message that `bytes` encode in `form` to `out`, and reports the result.
+/// Writes to `out` the canonical bytes of the message that `bytes` encode in `form`, and reports the result.
 fn write_lent(
     form: Form,
     bytes: &[u8],
@@ -86,21 +86,19 @@ fn write_lent(
     tell(written, report)
 }
 
-/// Writes the canonical bytes of the message that `bytes` encode in `form` to `out`, within `limits`. The call
+/// Writes to `out` the canonical bytes of the message that `bytes` encode in `form`, within `limits`. The call
 /// allocates no memory, and works in the words of `scratch` instead. The contents of `scratch` after the call are not
 /// specified.
 ///
-/// The status is 0 if the answer is at the start of `out`, and 1 if `out` is too short. If it is 1, `out` is unchanged,
-/// and `length` is exactly the length of the answer in bytes. The status is 2, 3 or 4 if the form, a limit or the
-/// tariff is out of its range. It is 9 if `scratch` has too few words. Then `at` is the number of words needed.
-/// Otherwise the status is that of the refusal, but never 8.
+/// The status is 0 if the canonical bytes are at the start of `out`, and 1 if `out` is too short. If it is 1, `out` is
+/// unchanged, and `length` is exactly the number of canonical bytes. The status is 2, 3 or 4 if the form, a limit or
+/// the tariff is out of its range. It is 9 if `scratch` has too few words. Then `at` is the number of words needed.
+/// Otherwise it is the status of the refusal, but never 8.
 ///
 /// Bare words, and a stream of at most 64 segments, need no scratch. A stream of more segments needs one word for each
 /// segment but the last, so 4,095 words are always enough. A packed text needs the words of the stream that it unpacks
 /// to, and then the words that this stream needs. For a packed text, 6,144 words more than the limit on message words
-/// are always enough.
-///
-/// If `scratch` is too short for the unpacked words of a packed text, `at` counts these words only.
+/// are always enough. If `scratch` is too short for the unpacked words, `at` counts these words only.
 #[unsafe(no_mangle)]
 pub extern "C" fn capn_canonical_with_scratch(
     form: u32,
@@ -116,24 +114,24 @@ pub extern "C" fn capn_canonical_with_scratch(
     ensures form { (result ≡ 2) ↔ (IsForm form → ⊥) }
     ensures limits { (result ≡ 3) ↔ (IsForm form × (GiveLimits limits.now → ⊥)) }
     ensures tariff { (result ≡ 4) ↔ (IsForm form × GiveLimits limits.now × (IsTariff limits.now.tariff → ⊥)) }
-    // If `result` is 0 or 1, the answer is the canonical bytes of the one value that the bytes denote. `paid` is the
-    // number of words that the walk pays. `scratch` has as many words as the bytes need.
+    // If `result` is 0 or 1, the bytes denote one value, which has canonical bytes, and `scratch` has enough words. The
+    // canonical bytes are in `out` if `result` is 0, and are too long for `out` if it is 1. `paid` is the price.
     ensures found { result ≤ 1 → (text : List ℕ)
         × Answers (form_named form) bytes.now (bounds_of limits.now) text report.new.paid
         × HasScratch (form_named form) bytes.now (length scratch.old)
         × Delivers text result report.new.length out.old out.new }
-    // If the bytes denote a value without capabilities, and `scratch` has as many words as the bytes need, the answer
-    // is the canonical bytes of that value.
+    // If the bytes denote a value without capabilities, and `scratch` has enough words, `result` is 0 or 1. If it is 0,
+    // `out` has the canonical bytes of that value.
     ensures only { IsForm form → GiveLimits limits.now → IsTariff limits.now.tariff → (v : Value)
         → Denotes (form_named form) bytes.now (bounds_of limits.now) v → first_cap v ≡ None
         → HasScratch (form_named form) bytes.now (length scratch.old)
         → Delivers (canon v) result report.new.length out.old out.new }
-    // If `result` is 0 or 1, the report has the length of the answer and the price. All other fields of the report are
-    // 0.
+    // If `result` is 0 or 1, the report has the number of canonical bytes and the price. All other fields of the report
+    // are 0.
     ensures rest { result ≤ 1 → report.new ≡ answered report.new.length report.new.paid 0 }
     ensures blank { 2 ≤ result → result ≤ 4 → report.new ≡ at_number 0 }
     ensures listed { IsTrue (is_lent_status result) }
-    // `result` is 9 if and only if `scratch` has too few words. Then `at` is the number of words needed.
+    // With arguments in range, `result` is 9 exactly if `scratch` has too few words. `LacksScratch` says what `at` is.
     ensures lacking { result ≡ 9 → (report.new ≡ at_number report.new.at)
         × LacksScratch (form_named form) bytes.now limits.now.message_words (length scratch.old) report.new.at }
     ensures lacked { IsForm form → GiveLimits limits.now → IsTariff limits.now.tariff → (n : ℕ)
@@ -141,8 +139,8 @@ pub extern "C" fn capn_canonical_with_scratch(
         → (result ≡ 9) × (report.new ≡ at_number n) }
     // If `result` is 9, `at` is at most the number of words that is enough for every input in the form.
     ensures enough { result ≡ 9 → report.new.at ≤ most_scratch (form_named form) limits.now.message_words }
-    // If `result` is at least 10, `result` and `report` are those of a refusal `e`, whose reason is true, and of no
-    // other refusal. `result` is never 8.
+    // If `result` is at least 10, `result` and `report` describe a refusal `e`, whose reason is true, and no other
+    // refusal. `result` is never 8.
     ensures refused { 10 ≤ result → (e : Refusals) × Reports result report.new e
         × IsRefused (form_named form) bytes.now (bounds_of limits.now) e }
     ensures no_memory { result ≢ 8 }
@@ -151,7 +149,7 @@ pub extern "C" fn capn_canonical_with_scratch(
     ensures short { result ≤ 1 → report.new.length ≤ 8 * (report.new.paid + 1) }
     // If `result` is not 0, `out` is unchanged.
     ensures kept { result ≢ 0 → out.new ≡ out.old }
-    // If `result` is 0, the bytes written have the four properties of the canonical form of `v` (`IsCanonicalForm`).
+    // If `bytes` denote `v` and `result` is 0, the bytes written have the four properties of `IsCanonicalForm`.
     ensures canonical { result ≡ 0 → (v : Value) → Denotes (form_named form) bytes.now (bounds_of limits.now) v
         → IsCanonicalForm (take report.new.length out.new) (bounds_of limits.now) v }
 {

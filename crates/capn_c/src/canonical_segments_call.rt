@@ -67,9 +67,9 @@ fn fill_held(
 
 /// Writes the canonical bytes of the message that is held in `segments` to `out`, within `limits`.
 ///
-/// The status is 0 if the answer is at the start of `out`, and 1 if `out` is too short. If it is 1, `out` is unchanged,
-/// and `length` is exactly the length of the answer in bytes. An empty `out` is an exception: the message is only
-/// surveyed, and `length` is 8 bytes for each word paid and 8 more, which is enough.
+/// The status is 0 if the canonical bytes are at the start of `out`, and 1 if `out` is too short. If it is 1, `out` is
+/// unchanged, and `length` is exactly the number of canonical bytes. An empty `out` is an exception: the message is
+/// only surveyed, and `length` is 8 bytes for each word paid and 8 more, which is enough.
 ///
 /// The status is 3 or 4 if a limit or the tariff is out of its range, and 48 if there are no segments. Otherwise it is
 /// the status of the refusal that a frame of the same segments gets. No memory is allocated.
@@ -85,12 +85,12 @@ pub extern "C" fn capn_canonical_segments(
     // only if the tariff is out of its range.
     ensures limits { (result ≡ 3) ↔ (GiveLimits limits.now → ⊥) }
     ensures tariff { (result ≡ 4) ↔ (GiveLimits limits.now × (IsTariff limits.now.tariff → ⊥)) }
-    // If `result` is 0 or 1, the answer is the canonical bytes of the one value that the message denotes, and `paid` is
-    // the price.
+    // If `result` is 0 or 1, the message denotes one value, which has canonical bytes, and `paid` is the price. The
+    // canonical bytes are in `out` if `result` is 0, and are too long for `out` if it is 1.
     ensures found { result ≤ 1 → (text : List ℕ)
         × AnswersHeld (message_of segments.now) (bounds_of limits.now) text report.new.paid
         × Serves text result report.new out.old out.new }
-    // If the message denotes a value without capabilities, the answer is the canonical bytes of that value.
+    // If the message denotes a value without capabilities, `result` is 0 (`out` has its canonical bytes) or 1.
     ensures only { GiveLimits limits.now → IsTariff limits.now.tariff → (v : Value)
         → DenotesHeld (message_of segments.now) (bounds_of limits.now) v → first_cap v ≡ None
         → Serves (canon v) result report.new out.old out.new }
@@ -98,8 +98,8 @@ pub extern "C" fn capn_canonical_segments(
     ensures rest { result ≤ 1 → report.new ≡ answered report.new.length report.new.paid 0 }
     ensures blank { 2 ≤ result → result ≤ 4 → report.new ≡ at_number 0 }
     ensures listed { IsTrue (is_status result) }
-    // If `result` is at least 5, `result` and `report` are those of a refusal `e`, whose reason is true. If `result` is
-    // not 8, they are those of no other refusal.
+    // If `result` is at least 5, `result` and `report` describe a refusal `e`, whose reason is true. If `result` is not
+    // 8, they describe no other refusal.
     ensures refused { 5 ≤ result → (e : Refusals) × Reports result report.new e
         × IsRefusedHeld (message_of segments.now) (bounds_of limits.now) e }
     // `result` is never 8, since nothing is allocated.
@@ -109,7 +109,7 @@ pub extern "C" fn capn_canonical_segments(
     ensures short { result ≤ 1 → report.new.length ≤ 8 * (report.new.paid + 1) }
     // If `result` is not 0, `out` is unchanged.
     ensures kept { result ≢ 0 → out.new ≡ out.old }
-    // If `result` is 0, the bytes written have the four properties of the canonical form of `v` (`IsCanonicalForm`).
+    // If the message denotes `v` and `result` is 0, the bytes written have the four properties of `IsCanonicalForm`.
     ensures canonical { result ≡ 0 → (v : Value) → DenotesHeld (message_of segments.now) (bounds_of limits.now) v
         → IsCanonicalForm (take report.new.length out.new) (bounds_of limits.now) v }
 {

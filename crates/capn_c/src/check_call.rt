@@ -37,10 +37,10 @@ fn check(alloc: Global, form: Form, bytes: &[u8], limits: Limits, report: &mut C
 
 /// Tests whether the message that `bytes` encode in `form` is accepted within `limits`, and reports the price.
 ///
-/// The status is 0 if the message is accepted. Then `paid` and `visits` are those of the walk. The status is 2, 3 or 4
-/// if the form, a limit or the tariff is out of its range. It is 8 if memory was refused: for a stream of more than 64
-/// segments, or for the unpacked words. Otherwise it is the status of the refusal. A capability is no reason for a
-/// refusal.
+/// The status is 0 if the message is accepted. Then `paid` is the price of the walk, and `visits` is the number of
+/// visits. The status is 2, 3 or 4 if the form, a limit or the tariff is out of its range. It is 8 if memory was
+/// refused: for a stream of more than 64 segments, or for the unpacked words. Otherwise it is the status of the
+/// refusal. A capability is no reason for a refusal.
 #[unsafe(no_mangle)]
 pub extern "C" fn capn_check(
     alloc: Global,
@@ -64,8 +64,8 @@ pub extern "C" fn capn_check(
         → Denotes (form_named form) bytes.now (bounds_of limits.now) v → (result ≡ 0) ⊎ (result ≡ 8) }
     ensures blank { 1 ≤ result → result ≤ 4 → report.new ≡ at_number 0 }
     ensures listed { IsTrue (is_status result) }
-    // If `result` is at least 5, `result` and `report` are those of a refusal `e`, whose reason is true. If `result` is
-    // not 8, they are those of no other refusal.
+    // If `result` is at least 5, `result` and `report` describe a refusal `e`, whose reason is true. If `result` is not
+    // 8, they describe no other refusal.
     ensures refused { 5 ≤ result → (e : Refusals) × Reports result report.new e
         × IsUnacceptedIn (form_named form) bytes.now (bounds_of limits.now) e }
     // `result` is 8 only for a stream of more than 64 segments, or for the words that a packed text unpacks to.

@@ -38,9 +38,9 @@ fn check_held(
 
 /// Tests whether the message that is held in `segments` is accepted within `limits`, and reports the price of the walk.
 ///
-/// The status is 0 if the message is accepted. Then `paid` and `visits` are those of the walk. The status is 3 or 4 if
-/// a limit or the tariff is out of its range, and 48 if there are no segments. Otherwise it is the status of the
-/// refusal that a frame of the same segments gets. No memory is allocated.
+/// The status is 0 if the message is accepted. Then `paid` is the price of the walk, and `visits` is the number of
+/// visits. The status is 3 or 4 if a limit or the tariff is out of its range, and 48 if there are no segments.
+/// Otherwise it is the status of the refusal that a frame of the same segments gets. No memory is allocated.
 #[unsafe(no_mangle)]
 pub extern "C" fn capn_check_segments(
     alloc: Global,
@@ -61,8 +61,8 @@ pub extern "C" fn capn_check_segments(
         → DenotesHeld (message_of segments.now) (bounds_of limits.now) v → result ≡ 0 }
     ensures blank { 1 ≤ result → result ≤ 4 → report.new ≡ at_number 0 }
     ensures listed { IsTrue (is_status result) }
-    // If `result` is at least 5, `result` and `report` are those of a refusal `e`, whose reason is true. If `result` is
-    // not 8, they are those of no other refusal.
+    // If `result` is at least 5, `result` and `report` describe a refusal `e`, whose reason is true. If `result` is not
+    // 8, they describe no other refusal.
     ensures refused { 5 ≤ result → (e : Refusals) × Reports result report.new e
         × IsUnacceptedHeld (message_of segments.now) (bounds_of limits.now) e }
     // `result` is never 8, since nothing is allocated.

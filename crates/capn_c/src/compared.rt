@@ -117,7 +117,7 @@ impl<'a> MessageTask<Global> for Compare<'a> {
 /// Tests whether the messages that `first` and `second` encode in `form` have the same value within `limits`. An inner
 /// `Err` is the refusal of `second`. An outer `Err` is the refusal of `first`, and `second` is then not read.
 ///
-/// Each input is read once. Only packed texts, and frames of more than 64 segments, need memory of `alloc`.
+/// No input is unpacked or unframed twice. Only packed texts, and frames of more than 64 segments, need memory.
 pub fn compared_in(
     alloc: Global,
     form: Form,

@@ -20,7 +20,7 @@ pub struct CapnDeparted {
     pub kind: u32,
     /// The role of the word that differs. 1: a pointer. 2: the tag word of a list. 3: the last word of a list.
     pub owner: u32,
-    /// The index of the word in the segment.
+    /// The index of the word `is` in the segment.
     pub word: u32,
     /// The number of segments for kind 1, or the index of the capability for kind 2.
     pub count: u32,
@@ -41,7 +41,7 @@ fn number_of_owner(whose: &Whose<Global>) -> u32
     }
 }
 
-/// Returns the path in `whose`, which leads to the slot that owns the word.
+/// Returns the path in `whose`, to the slot whose pointer or list the word belongs to.
 fn path_of_owner(whose: &Whose<Global>) -> &[u32]
     ensures { result.now ≡ mismatches.owner_path whose.now }
 {

@@ -26,7 +26,7 @@ use capn_canon::Form;
 use capn_walk::{Limits, Surveyed};
 use std::alloc::Global;
 
-/// Reports the mismatch `found` of an accepted message, and writes the path to `way` if the path fits.
+/// Reports `surveyed` and `found`, the mismatch of an accepted message. Writes to `way` the path of `found` if it fits.
 fn tell_mismatch(
     found: &Mismatch<Global>,
     surveyed: Surveyed,
@@ -76,11 +76,11 @@ fn find_mismatch(
 
 /// Tests whether the message that `bytes` encode in `form` is canonical. The message must be accepted within `limits`.
 /// The first reason why the message is not canonical is written to `departed`. For a capability, `way` gets the path to
-/// its slot. For a word that differs, `way` gets the path to the slot that owns the word.
+/// its slot. For a word that differs, `way` gets the path to the slot whose pointer or list the word belongs to.
 ///
-/// The status is 0 if the message is accepted. Then `paid` and `visits` are those of the walk, and `length` is 4 bytes
-/// for each number of the path. The numbers are at the start of `way` if all of them fit. Otherwise `way` is unchanged.
-/// A `way` of two numbers for each level of the depth limit is always long enough.
+/// The status is 0 if the message is accepted. Then `paid` is the price of the walk, `visits` is the number of visits,
+/// and `length` is 4 bytes for each number of the path. The numbers are at the start of `way` if all of them fit.
+/// Otherwise `way` is unchanged. A `way` of two numbers for each level of the depth limit is always long enough.
 ///
 /// The status is 2, 3 or 4 if the form, a limit or the tariff is out of its range. It is 8 if memory was refused.
 /// Otherwise it is the status of the refusal. A capability is no reason for a refusal.
@@ -115,12 +115,12 @@ pub extern "C" fn capn_departure(
     ensures short { result ≡ 0 → report.new.length ≤ 8 * limits.now.depth }
     ensures blank { 1 ≤ result → result ≤ 4 → report.new ≡ at_number 0 }
     ensures listed { IsTrue (is_status result) }
-    // If `result` is at least 5, `result` and `report` are those of a refusal `e`, whose reason is true. If `result` is
-    // not 8, they are those of no other refusal.
+    // If `result` is at least 5, `result` and `report` describe a refusal `e`, whose reason is true. If `result` is not
+    // 8, they describe no other refusal.
     ensures refused { 5 ≤ result → (e : Refusals) × Reports result report.new e
         × IsUnacceptedIn (form_named form) bytes.now (bounds_of limits.now) e }
-    // `result` is 8 only for a stream of more than 64 segments, for the words that a packed text unpacks to, or for a
-    // message of one segment that is not canonical.
+    // `result` is 8 only for a stream of more than 64 segments, for the unpacked words, or for a message of one segment
+    // that is not canonical.
     ensures memory { result ≡ 8 → MayNeedMismatch (form_named form) bytes.now (bounds_of limits.now) }
     // For any `result`, the reported price is at most the budget, and the number of visits at most the price plus 1.
     ensures bounded { IsBounded limits.now.budget report.new.paid report.new.visits }

@@ -11,7 +11,8 @@ use capn_words::Space;
 #[derive(Clone, Copy)]
 #[repr(C)]
 pub struct CapnEntry {
-    /// The offset in the bytes at which the target begins. For a composite list it is the offset of the tag word.
+    /// The offset in the bytes at which the target begins. A composite list begins at its tag word. If the target has
+    /// no content, the offset is that of the message's first word.
     pub offset: u64,
     /// The number of elements or rows of a list, or the index of a capability, else 0.
     pub count: u32,
@@ -21,7 +22,7 @@ pub struct CapnEntry {
     pub words: u16,
     /// The number of pointers of a struct, or of each row, else 0.
     pub slots: u16,
-    /// The number of the kind of the target.
+    /// The number that C has for the target's kind.
     pub kind: u32,
 }
 
@@ -45,8 +46,8 @@ fn number_of_kind(kind: Kind) -> u32
     }
 }
 
-/// Returns the word at which `segment` begins, counted from the end of the table. `starts` has these words for all
-/// segments.
+/// Returns the word at which `segment` begins, counted from the end of the segment table. It is the number in `starts`
+/// at index `segment`, or 0 if `starts` has no such index.
 #[inline(always)]
 fn start_of(starts: &[u32], segment: u32) -> u32
     ensures { result ≡ get_or starts.now segment 0 }
@@ -59,8 +60,8 @@ fn start_of(starts: &[u32], segment: u32) -> u32
     }
 }
 
-/// Returns `entry` in the layout that C reads, with an offset in bytes. The segment table has `table` bytes. The
-/// segments begin at the words `starts` after the table.
+/// Returns `entry` in the layout that C reads, with an offset in bytes. The segment table has `table` bytes.
+/// `starts` has the word at which each segment begins, counted from the end of the table.
 #[inline(always)]
 fn entry_of(entry: Entry, table: u32, starts: &[u32]) -> CapnEntry
     ensures { result ≡ c_entry table starts.now entry }
@@ -114,8 +115,8 @@ fn words_at<S: Space>(space: &S, segment: u32) -> u32
     space.words(segment).unwrap_or(0)
 }
 
-/// Writes to `starts` the word at which each segment of `space` begins, counted from the end of the table. The
-/// numbers of `starts` after these are unchanged.
+/// Writes to `starts` the word at which each segment of `space` begins, counted from the end of the table. The other
+/// numbers of `starts` are unchanged.
 #[tactic(auto, using(std::proofs::lemmas::List::Sums::sum_by_more_le))]
 pub fn put_starts<S: Space>(space: &S, starts: &mut [u32])
     requires { length (S.message space.now) ≤ length starts.old }

@@ -14,7 +14,7 @@ use capn_walk::Limits;
 use capn_words::{Space, total_words};
 use std::alloc::Global;
 
-/// The figures of a message that a survey finds.
+/// The figures that a survey finds for a message.
 #[derive(Clone, Copy)]
 #[repr(C)]
 pub struct CapnFigures {
@@ -30,13 +30,13 @@ pub struct CapnFigures {
     pub depth: u32,
     /// 1 if the value has a capability, else 0.
     pub has_capability: u32,
-    /// The index of the first capability in preorder, else 0.
+    /// The index of the first capability in preorder, or 0 if the value has none.
     pub capability: u32,
     /// 1 if the message has one segment whose bytes are canonical, else 0.
     pub canonical: u32,
 }
 
-/// Returns the figures of the message `space`, for which `measured` is the measure.
+/// Returns the figures of the message `space`, whose measure is `measured`.
 fn figures_by<S: Space>(space: &S, measured: MeasuredBare) -> CapnFigures
     ensures words { result.words ≡ total (S.message space.now) }
     ensures segments { result.segments ≡ length (S.message space.now) }

@@ -18,7 +18,7 @@ use capn_abi::{
 use capn_stream::{FrameFault, first};
 use std::alloc::Global;
 
-/// Returns the report of the refusal `fault` of the frame in `bytes`. If the frame is incomplete, the report has the
+/// Returns the report for `fault`, the refusal of the frame in `bytes`. If the frame is incomplete, the report has the
 /// number of bytes that the frame needs. Otherwise it has the number of the fault.
 fn report_of_frame(fault: FrameFault, bytes: &[u8], most: u32) -> CapnReport
     requires small { most ≤ most_message_words }
@@ -32,7 +32,7 @@ fn report_of_frame(fault: FrameFault, bytes: &[u8], most: u32) -> CapnReport
     }
 }
 
-/// Writes the numbers of the refusal `fault` of the frame in `bytes` to `report`, and returns the status of `fault`.
+/// Writes the numbers of `fault`, the refusal of the frame in `bytes`, to `report`. Returns the status of `fault`.
 fn refuse_frame(fault: FrameFault, bytes: &[u8], most: u32, report: &mut CapnReport) -> u32
     requires small { most ≤ most_message_words }
     requires refused { IsFrameRefused bytes.now most fault }
@@ -42,7 +42,7 @@ fn refuse_frame(fault: FrameFault, bytes: &[u8], most: u32, report: &mut CapnRep
     code_of_frame(fault)
 }
 
-/// Returns the length of the frame of at most `most` words that comes first in `bytes`.
+/// Returns the length in bytes of the first frame in `bytes`. Its message has at most `most` words.
 fn length_of(alloc: Global, bytes: &[u8], most: u32) -> Result<usize, FrameFault>
     requires small { most ≤ most_message_words }
     ensures found { IfOk result (λ taken. (message : List (List ℕ)) × StandsFirst bytes.now most message taken) }
@@ -55,7 +55,7 @@ fn length_of(alloc: Global, bytes: &[u8], most: u32) -> Result<usize, FrameFault
     Ok(taken)
 }
 
-/// Reports the length of the first frame in `bytes`, of at most `most` words, or the number of bytes needed.
+/// Reports the length of the first frame in `bytes`, or the bytes it needs. Its message has at most `most` words.
 fn frame(alloc: Global, bytes: &[u8], most: u32, report: &mut CapnReport) -> u32
     requires small { most ≤ most_message_words }
     ensures possible { (result ≡ 0) ⊎ (8 ≤ result) }
@@ -81,8 +81,8 @@ fn frame(alloc: Global, bytes: &[u8], most: u32, report: &mut CapnReport) -> u32
 /// Reports the length of the first frame in `bytes`, or the number of bytes that the frame needs, within `limits`.
 ///
 /// The status is 0 if the first `length` bytes are the frame. It is 3 or 4 if a limit or the tariff is out of its
-/// range, and 8 if memory was refused. It is 48 if there are no bytes, and 51 if the frame is incomplete. Then the
-/// complete frame has at least `length` bytes. The status is 49 or 50 if the table announces too many segments or
+/// range, and 8 if memory was refused. It is 48 if there are no bytes, and 51 if the frame is incomplete. In both cases
+/// the complete frame has at least `length` bytes. The status is 49 or 50 if the table announces too many segments or
 /// words. Then `at` is the number announced. Memory is allocated only for a complete frame of more than 64 segments.
 #[unsafe(no_mangle)]
 pub extern "C" fn capn_first(
@@ -107,8 +107,8 @@ pub extern "C" fn capn_first(
     ensures rest { result ≡ 0 → report.new ≡ answered report.new.length 0 0 }
     ensures blank { 1 ≤ result → result ≤ 4 → report.new ≡ at_number 0 }
     ensures listed { IsTrue (is_status result) }
-    // If `result` is at least 5, `result` and `report` are those of a fault `e` of the frame, whose reason is true. If
-    // `result` is not 8, they are those of no other fault.
+    // If `result` is at least 5, `result` and `report` describe a fault `e` of the frame, whose reason is true. If
+    // `result` is not 8, they describe no other fault.
     ensures refused { 5 ≤ result → (e : Faults) × ReportsFrame bytes.now result report.new e
         × IsFrameRefused bytes.now limits.now.message_words e }
     // If `result` is 48 or 51, every complete frame that begins with `bytes` has at least `length` bytes. `length` is

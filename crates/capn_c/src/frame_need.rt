@@ -7,8 +7,8 @@ ghost use Rattle.capn_c.specs.FrameNeed.{needed};
 
 use capn_stream::table::{entry_at, head_of, total_of};
 
-/// Returns a lower bound for the length in bytes of a complete frame, of at most `most` words, that begins with the
-/// incomplete frame `bytes`. If `bytes` have the complete segment table, the bound is the length of that frame.
+/// Returns a lower bound for the length in bytes of every complete frame that begins with the incomplete frame `bytes`.
+/// A message has at most `most` words. If the segment table in `bytes` is complete, the bound is the exact length.
 pub fn needed_of(bytes: &[u8], most: u32) -> u64
     requires small { most ≤ most_message_words }
     requires unfinished { IsUnfinished bytes.now most }

@@ -22,7 +22,7 @@ use capn_canon::Form;
 use capn_walk::Limits;
 use std::alloc::Global;
 
-/// Writes the SHA-256 of the canonical bytes of the message that `bytes` encode in `form` to `digest`, and reports the
+/// Writes to `digest` the SHA-256 of the canonical bytes of the message that `bytes` encode in `form`, and reports the
 /// result.
 fn hash(
     alloc: Global,
@@ -85,12 +85,12 @@ pub extern "C" fn capn_hash(
     ensures rest { result ≡ 0 → report.new ≡ answered 0 report.new.paid 0 }
     ensures blank { 1 ≤ result → result ≤ 4 → report.new ≡ at_number 0 }
     ensures listed { IsTrue (is_status result) }
-    // If `result` is at least 5, `result` and `report` are those of a refusal `e`, whose reason is true. If `result` is
-    // not 8, they are those of no other refusal.
+    // If `result` is at least 5, `result` and `report` describe a refusal `e`, whose reason is true. If `result` is not
+    // 8, they describe no other refusal.
     ensures refused { 5 ≤ result → (e : Refusals) × Reports result report.new e
         × IsRefused (form_named form) bytes.now (bounds_of limits.now) e }
-    // `result` is 8 only for a stream of more than 64 segments, for the words that a packed text unpacks to, or for the
-    // canonical bytes of a message that is not canonical.
+    // `result` is 8 only for a stream of more than 64 segments, for the unpacked words, or for the canonical bytes of a
+    // message that is not canonical.
     ensures memory { result ≡ 8 → MayNeedToMake (form_named form) bytes.now (bounds_of limits.now) }
     // For any `result`, the reported price is at most the budget, and the number of visits at most the price plus 1.
     ensures bounded { IsBounded limits.now.budget report.new.paid report.new.visits }

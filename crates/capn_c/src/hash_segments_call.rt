@@ -52,9 +52,9 @@ fn hash_held(
 /// Writes the SHA-256 of the canonical bytes of the message that is held in `segments`, within `limits`, to `digest`.
 /// Each segment is a list of words of 8 bytes.
 ///
-/// The status is 0 if the digest is written, 3 or 4 if a limit or the tariff is out of its range, and 8 if memory was
-/// refused for the canonical bytes. It is 48 if there are no segments. Otherwise it is the status of the refusal that a
-/// frame of the same segments gets.
+/// The status is 0 if the digest is written, and 3 or 4 if a limit or the tariff is out of its range. It is 8 if memory
+/// was refused for the canonical bytes, and 48 if there are no segments. Otherwise it is the status of the refusal that
+/// a frame of the same segments gets.
 #[unsafe(no_mangle)]
 pub extern "C" fn capn_hash_segments(
     alloc: Global,
@@ -79,8 +79,8 @@ pub extern "C" fn capn_hash_segments(
     ensures rest { result ≡ 0 → report.new ≡ answered 0 report.new.paid 0 }
     ensures blank { 1 ≤ result → result ≤ 4 → report.new ≡ at_number 0 }
     ensures listed { IsTrue (is_status result) }
-    // If `result` is at least 5, `result` and `report` are those of a refusal `e`, whose reason is true. If `result` is
-    // not 8, they are those of no other refusal.
+    // If `result` is at least 5, `result` and `report` describe a refusal `e`, whose reason is true. If `result` is not
+    // 8, they describe no other refusal.
     ensures refused { 5 ≤ result → (e : Refusals) × Reports result report.new e
         × IsRefusedHeld (message_of segments.now) (bounds_of limits.now) e }
     // `result` is 8 only if the message has canonical bytes.

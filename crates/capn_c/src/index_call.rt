@@ -24,7 +24,7 @@ use capn_walk::Limits;
 use capn_walk::laws::indexes;
 use std::alloc::Global;
 
-/// Writes the index of the message that `bytes` encode in `form` to `out`, and reports the result. The form is not
+/// Writes to `out` the index of the message that `bytes` encode in `form`, and reports the result. The form is not
 /// packed.
 fn index_in(
     alloc: Global,
@@ -47,13 +47,13 @@ fn index_in(
     }
 }
 
-/// Writes the index of the message that `bytes` encode in `form` to `out`, within `limits`. The form is a stream or
+/// Writes to `out` the index of the message that `bytes` encode in `form`, within `limits`. The form is a stream or
 /// bare words. The index has an entry for each slot that the walk visits, in preorder.
 ///
 /// The status is 0 if the entries are at the start of `out`. It is 1 if `out` is too short, and then `out` is
 /// unchanged. If it is 0 or 1, `visits` is the number of entries, and `length` is 24 bytes for each entry. The status
-/// is 2 if the form is neither a stream nor bare words, 3 or 4 if a limit or the tariff is out of its range, and 8 if
-/// memory was refused. Otherwise it is the status of the refusal. A capability is no reason for a refusal.
+/// is 2 if the form is neither a stream nor bare words, and 3 or 4 if a limit or the tariff is out of its range. It is
+/// 8 if memory was refused. Otherwise it is the status of the refusal. A capability is no reason for a refusal.
 ///
 /// Bare words, and a stream of at most 64 segments, need no memory, since the entries are written straight into `out`.
 /// A stream of more segments needs memory for the table of its segments.
@@ -76,7 +76,7 @@ pub extern "C" fn capn_index(
     // `paid` is the price.
     ensures counted { result ≤ 1 → (s : Survey) × Surveys (form_named form) bytes.now (bounds_of limits.now) s
         × (report.new ≡ answered (24 * s.visits) s.paid s.visits) }
-    // `visits` counts all entries of the index, also if `out` is too short for them.
+    // `visits` counts all entries of the index, even if `out` is too short for them.
     ensures entries { result ≤ 1
         → HasEntries (form_named form) bytes.now (bounds_of limits.now) report.new.visits }
     // If `result` is 0, the index is in `out`. If `result` is 1, `out` has fewer entries than the index.
@@ -88,8 +88,8 @@ pub extern "C" fn capn_index(
         → Denotes (form_named form) bytes.now (bounds_of limits.now) v → (result ≤ 1) ⊎ (result ≡ 8) }
     ensures blank { 2 ≤ result → result ≤ 4 → report.new ≡ at_number 0 }
     ensures listed { IsTrue (is_status result) }
-    // If `result` is at least 5, `result` and `report` are those of a refusal `e`, whose reason is true. If `result` is
-    // not 8, they are those of no other refusal.
+    // If `result` is at least 5, `result` and `report` describe a refusal `e`, whose reason is true. If `result` is not
+    // 8, they describe no other refusal.
     ensures refused { 5 ≤ result → (e : Refusals) × Reports result report.new e
         × IsUnacceptedIn (form_named form) bytes.now (bounds_of limits.now) e }
     // `result` is 8 only if reading the bytes may need memory.

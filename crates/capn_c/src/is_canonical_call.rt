@@ -1,4 +1,4 @@
-//! The call `capn_is_canonical`, which tests whether bare bytes are canonical.
+//! The call `capn_is_canonical`, which tests whether bare words are canonical.
 
 ghost use Rattle.std.specs.Prelude.{IsTrue, ◌≡◌, ◌≢◌, ◌⊎◌, ◌↔◌, ◌≤◌, None, true, false};
 ghost use Rattle.capn_value.specs.Tree.{Tree as Value};
@@ -37,10 +37,10 @@ fn test(alloc: Global, bytes: &[u8], limits: Limits, report: &mut CapnReport) ->
     }
 }
 
-/// Tests whether `bytes`, read bare within `limits`, are the canonical bytes of the value that `bytes` denote.
+/// Tests whether `bytes`, read as bare words within `limits`, are the canonical bytes of the value that they denote.
 ///
-/// The status is 0 if the bytes are canonical, and 5 if they are not. It is 3 or 4 if a limit or the tariff is out of
-/// its range. Otherwise it is the status of the refusal, but never 8.
+/// The status is 0 if the bytes are canonical, and 5 if the canonical bytes of their value differ. It is 3 or 4 if a
+/// limit or the tariff is out of its range. Otherwise it is the status of the refusal, but never 8.
 #[unsafe(no_mangle)]
 pub extern "C" fn capn_is_canonical(
     alloc: Global,
@@ -63,11 +63,11 @@ pub extern "C" fn capn_is_canonical(
     // If `result` is 0 or 5, all fields of the report are 0.
     ensures blank { result ≤ 5 → report.new ≡ at_number 0 }
     ensures listed { IsTrue (is_status result) }
-    // If `result` is at least 6, `result` and `report` are those of a refusal `e`, whose reason is true. If `result` is
-    // not 8, they are those of no other refusal.
+    // If `result` is at least 6, `result` and `report` describe a refusal `e`, whose reason is true. If `result` is not
+    // 8, they describe no other refusal.
     ensures refused { 6 ≤ result → (e : Refusals) × Reports result report.new e
         × IsRefused forms.Bare bytes.now (bounds_of limits.now) e }
-    // `result` is never 8, since nothing is allocated, whatever the depth.
+    // `result` is never 8, since nothing is allocated at any depth.
     ensures no_memory { result ≢ 8 }
     // For any `result`, the reported price is at most the budget, and the number of visits at most the price plus 1.
     ensures bounded { IsBounded limits.now.budget report.new.paid report.new.visits }

@@ -1,15 +1,15 @@
 //! The library for C: one export for each call. The buffers belong to the caller.
 //!
 //! Each export returns a status and fills in a [`CapnReport`]. The statuses up to 7 concern the call.
-//! - 0: the result is written.
+//! - 0: the call succeeded.
 //! - 1: the buffer is too short for the result.
 //! - 2, 3, 4 and 6: the form, a limit, the tariff or the style is out of its range.
 //! - 5: the bytes are not canonical.
-//! - 7: two messages differ.
+//! - 7: the values of two messages differ.
 //!
-//! Status 9 says that the scratch is too short. Status 8, and those from 16 on, stand for a refusal. The report has the
-//! numbers of the status, and 0 in all other fields. A caller must ensure only what the types say: the memory of the
-//! arguments exists, and no written memory overlaps another argument.
+//! Status 9 says that the scratch memory is too short. Status 8 and all statuses from 16 on stand for a refusal. The
+//! report has the numbers that belong to the status, and 0 in all other fields. A caller must ensure only what the
+//! types say: the memory of the arguments exists, and no written memory overlaps another argument.
 #![tactic(auto)]
 
 mod canonical_call;

@@ -71,8 +71,8 @@ impl MessageTask<Global> for Hash {
 /// Returns the digest of the canonical bytes of the message that `bytes` encode in `form`, within `limits`. A message
 /// without canonical bytes is refused.
 ///
-/// The bytes are read once. Memory is allocated on `alloc` only for a packed text, for a frame of more than 64
-/// segments, and for the canonical bytes of a message that is not canonical.
+/// The bytes are unpacked or unframed at most once. Memory is allocated on `alloc` only for a packed text, for a frame
+/// of more than 64 segments, and for the canonical bytes of a message that is not canonical.
 pub fn digest_in(
     alloc: Global,
     form: Form,

@@ -36,8 +36,8 @@ fn figures_of_packed(alloc: Global, bytes: &[u8], limits: Limits) -> Result<Capn
 /// Returns the figures of the message that `bytes` encode in `form`, within `limits`. Bytes that are no message, and a
 /// message that is not accepted, are refused.
 ///
-/// The bytes are read once, and the message is walked as by [`figures_of`]. Memory is allocated on `alloc` only for a
-/// packed text, and for a frame of more than 64 segments.
+/// The bytes are unpacked or unframed at most once, and the message is walked as by [`figures_of`]. Memory is allocated
+/// on `alloc` only for a packed text, and for a frame of more than 64 segments.
 pub fn figures_in(
     alloc: Global,
     form: Form,

@@ -22,7 +22,7 @@ use capn_words::{Bare, Space};
 use std::alloc::Global;
 
 /// Writes the index of the accepted message `space` to `out`, which is long enough for the index. The offsets count
-/// from the start of a segment table of `table` bytes. The segments begin at the words `starts` after the table.
+/// from the start of a segment table of `table` bytes. `starts` has the word after the table where each segment begins.
 fn write_index<S: Space>(
     space: &S,
     limits: Limits,

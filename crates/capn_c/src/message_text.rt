@@ -77,7 +77,7 @@ impl MessageTask<Global> for Show {
 }
 
 /// Returns the text in `style` of the message that `bytes` encode in `form`, and the survey within `limits`. Bytes that
-/// are no message, and a message that is not accepted, are refused. The bytes are read once.
+/// are no message, and a message that is not accepted, are refused. The bytes are unpacked or unframed at most once.
 pub fn text_in(
     alloc: Global,
     form: Form,

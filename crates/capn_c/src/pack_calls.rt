@@ -25,11 +25,11 @@ pub extern "C" fn capn_pack(
     out: &mut [u8],
     report: &mut CapnReport,
 ) -> u32
-    // If `result` is 0 or 1, the answer is the text that the packer chooses for the words. The text unpacks to the
-    // words.
+    // The text that the packer chooses for the words is in `out` if `result` is 0, and too long for `out` if it is 1.
+    // The text unpacks to the words.
     ensures found { result ≤ 1 → (text : List ℕ) × Chosen text bytes.now × Packs text bytes.now
         × Delivers text result report.new.length out.old out.new }
-    // The text that the packer chooses for the words is the answer, unless memory was refused.
+    // If the packer chooses a text for the words, `result` is 0, 1 or 8. If it is 0, that text is in `out`.
     ensures only { (text : List ℕ) → Chosen text bytes.now
         → (result ≡ 8) ⊎ Delivers text result report.new.length out.old out.new }
     // Two texts that the packer chooses are equal if and only if their words are equal.
@@ -66,7 +66,7 @@ pub extern "C" fn capn_pack(
 ///
 /// The status is 0 if the words are at the start of `out`, and 1 if `out` is too short. If it is 1, `out` is unchanged,
 /// and `length` is the length of the words in bytes. The status is 8 if memory was refused. It is 32 if the text ends
-/// within a group, and 33 if a group takes the words over `max_words`. Then `at` is the offset of that group's tag.
+/// within a group, and 33 if a group takes the words over `max_words`. For both, `at` is the offset of the group's tag.
 #[unsafe(no_mangle)]
 pub extern "C" fn capn_unpack(
     alloc: Global,
@@ -75,16 +75,16 @@ pub extern "C" fn capn_unpack(
     out: &mut [u8],
     report: &mut CapnReport,
 ) -> u32
-    // If `result` is 0 or 1, the answer is the words that the packed text unpacks to, at most `max_words`.
+    // If `result` is 0 or 1, the packed text unpacks to at most `max_words` words. If it is 0, they are in `out`.
     ensures found { result ≤ 1 → (words : List ℕ)
         × Packs bytes.now words × (length words ≤ 8 * max_words) × HasWords words
         × Delivers words result report.new.length out.old out.new }
-    // If the packed text unpacks to at most `max_words` words, the answer is those words, unless memory was refused.
+    // If the packed text unpacks to at most `max_words` words, `result` is 0, 1 or 8. If it is 0, they are in `out`.
     ensures only { (words : List ℕ) → Packs bytes.now words → length words ≤ 8 * max_words
         → (result ≡ 8) ⊎ Delivers words result report.new.length out.old out.new }
     ensures listed { IsTrue (is_status result) }
-    // If `result` is at least 2, `result` and `report` are those of a fault `e` of the text, whose reason is true. If
-    // `result` is not 8, they are those of no other fault.
+    // If `result` is at least 2, `result` and `report` describe a fault `e` of the text, whose reason is true. If
+    // `result` is not 8, they describe no other fault.
     ensures refused { 2 ≤ result → (e : Faults) × ReportsPacked result report.new e
         × IsUnpackRefused bytes.now max_words e }
     // `result` is 8 only if a complete group of at most `max_words` words comes first.

@@ -1,4 +1,4 @@
-//! Functions that write the numbers of a path into the caller's buffer and report them.
+//! Functions that write the numbers of a path into the caller's buffer and report the length of the path.
 
 ghost use Rattle.std.specs.Prelude.{◌≡◌, ◌≤◌, ◌*◌, length};
 ghost use Rattle.capn_c.specs.PathNumbers.{ArePlaced, TellsPath};
@@ -16,8 +16,8 @@ pub fn place_path(path: &[u32], room: &mut [u32])
     }
 }
 
-/// Reports `stopped`, the stop of a walk, with the length in bytes of the `path` to that stop. Writes the path to
-/// `room` if the path fits, and returns the status.
+/// Reports `stopped`, the stop of a walk, with the length in bytes of the `path` to that stop. Writes the numbers of
+/// `path` into `room` if all of them fit, and returns the status of `stopped`.
 pub fn tell_path(stopped: Stopped, path: &[u32], room: &mut [u32], report: &mut CapnReport) -> u32
     requires few { length path.now ≤ 512 }
     ensures told { TellsPath result report.new stopped path.now room.old room.new }

@@ -65,10 +65,10 @@ fn refusal_way(
 /// Tests whether the message that `bytes` encode in `form` is accepted within `limits`. If the walk is refused, the
 /// path from the root to the slot at which the walk stopped is written to `way`.
 ///
-/// The status is 0 if the message is accepted. Then `paid` and `visits` are those of the walk. The status is 2, 3 or 4
-/// if the form, a limit or the tariff is out of its range. It is 8 if memory was refused: for a stream of more than 64
-/// segments, for the unpacked words, or for the path. Otherwise it is the status of the refusal. A capability is no
-/// reason for a refusal.
+/// The status is 0 if the message is accepted. Then `paid` is the price of the walk, and `visits` is the number of
+/// visits. The status is 2, 3 or 4 if the form, a limit or the tariff is out of its range. It is 8 if memory was
+/// refused: for a stream of more than 64 segments, for the unpacked words, or for the path. Otherwise it is the status
+/// of the refusal. A capability is no reason for a refusal.
 ///
 /// A status from 64 to 74 is a refusal of the walk. Then `length` is 4 bytes for each number of the path. The numbers
 /// are at the start of `way` if all of them fit. Otherwise `way` is unchanged. A `way` of two numbers for each level of
@@ -97,8 +97,8 @@ pub extern "C" fn capn_refusal_way(
         → Denotes (form_named form) bytes.now (bounds_of limits.now) v → (result ≡ 0) ⊎ (result ≡ 8) }
     ensures blank { 1 ≤ result → result ≤ 4 → report.new ≡ at_number 0 }
     ensures listed { IsTrue (is_status result) }
-    // If `result` is from 5 to 63, `result` and `report` are those of a refusal `e`, whose reason is true. If `result`
-    // is not 8, they are those of no other refusal.
+    // If `result` is from 5 to 63, `result` and `report` describe a refusal `e`, whose reason is true. If `result` is
+    // not 8, they describe no other refusal.
     ensures refused { 5 ≤ result → result < 64 → (e : Refusals) × Reports result report.new e
         × IsUnacceptedIn (form_named form) bytes.now (bounds_of limits.now) e }
     // If `result` is at least 64, it is the status of a refused walk. The report has the place at which the walk
@@ -112,7 +112,7 @@ pub extern "C" fn capn_refusal_way(
     ensures memory { result ≡ 8 → MayNeedItsPath (form_named form) bytes.now (bounds_of limits.now) }
     // For any `result`, the reported price is at most the budget, and the number of visits at most the price plus 1.
     ensures bounded { IsBounded limits.now.budget report.new.paid report.new.visits }
-    // If the walk is not refused, `way` is unchanged.
+    // If `result` is less than 64, `way` is unchanged.
     ensures kept { result < 64 → way.new ≡ way.old }
 {
     *report = report_at(0);

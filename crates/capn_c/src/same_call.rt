@@ -102,8 +102,8 @@ pub extern "C" fn capn_same(
     // If `result` is at most 7, `which` and all fields of the report are 0.
     ensures blank { result ≤ 7 → (which.new ≡ 0) × (report.new ≡ at_number 0) }
     ensures listed { IsTrue (is_status result) }
-    // If `result` is 1, or at least 5 but not 7, `result` and `report` are those of a refusal `e`. The reason of `e` is
-    // true of the message that `which` names. If `result` is not 8, they are those of no other refusal.
+    // If `result` is 1, or at least 5 but not 7, `result` and `report` describe a refusal `e`, whose reason is true of
+    // the message that `which` names. If `result` is not 8, they describe no other refusal.
     ensures refused { (result ≡ 1) ⊎ (5 ≤ result) → result ≢ 7 → (e : Refusals) × Reports result report.new e
         × IsRefused (form_named form) (named which.new first.now second.now) (bounds_of limits.now) e }
     // `second` is refused only if `first` has canonical bytes.

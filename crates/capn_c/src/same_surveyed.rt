@@ -66,7 +66,7 @@ fn same_with_ledgers<A: Space, B: Space, L: Ledger, M: Ledger>(
 }
 
 /// Compares the values of `first` and `second`, at most `depth` objects deep, and counts the reads in `reads` and
-/// `others`. If `second` has one segment, only the words of that segment are read, which is faster.
+/// `others`. If `second` has one segment, the words of that segment are read directly, which is faster.
 fn same_beside<A: Space, B: Space, L: Ledger, M: Ledger>(
     first: &CountedSpace<'_, A, L>,
     second: &CountedSpace<'_, B, M>,

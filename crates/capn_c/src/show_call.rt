@@ -23,7 +23,7 @@ use capn_canon::Form;
 use capn_walk::Limits;
 use std::alloc::Global;
 
-/// Writes the text of the message that `bytes` encode in `form` to `out`, and reports the result. `style` is the number
+/// Writes to `out` the text of the message that `bytes` encode in `form`, and reports the result. `style` is the number
 /// of the style.
 fn show_in(
     alloc: Global,
@@ -61,14 +61,14 @@ fn show_in(
     }
 }
 
-/// Writes the text of the message that `bytes` encode in `form` to `out`, within `limits`. The `style` 0 is lines, 1 is
+/// Writes to `out` the text of the message that `bytes` encode in `form`, within `limits`. The `style` 0 is lines, 1 is
 /// lines with texts between quotes, 2 is a line of JSON, and 3 is a line of JSON with texts as strings.
 ///
-/// The status is 0 if the text is at the start of `out`, and 1 if `out` is too short. If it is 0 or 1, `paid` and
-/// `visits` are those of the walk. If it is 1, `out` is unchanged, and `length` is exactly the length of the text in
-/// bytes. The status is 2, 3, 4 or 6 if the form, a limit, the tariff or the style is out of its range. It is 8 if
-/// memory was refused: for a stream of more than 64 segments, for the unpacked words, or for the text. Otherwise it is
-/// the status of the refusal. A capability is no reason for a refusal.
+/// The status is 0 if the text is at the start of `out`, and 1 if `out` is too short. If it is 0 or 1, `paid` is the
+/// price of the walk, and `visits` is the number of visits. If it is 1, `out` is unchanged, and `length` is exactly the
+/// length of the text in bytes. The status is 2, 3, 4 or 6 if the form, a limit, the tariff or the style is out of its
+/// range. It is 8 if memory was refused: for a stream of more than 64 segments, for the unpacked words, or for the
+/// text. Otherwise it is the status of the refusal. A capability is no reason for a refusal.
 #[unsafe(no_mangle)]
 pub extern "C" fn capn_show(
     alloc: Global,
@@ -79,19 +79,18 @@ pub extern "C" fn capn_show(
     out: &mut [u8],
     report: &mut CapnReport,
 ) -> u32
-    // `result` is 2 if and only if the form is out of its range. If the form is in its range, `result` is 3 if and only
-    // if a limit is out of its range. The tariff (4) and then the style (6) are tested in the same way, after the
-    // limits.
+    // If the form, a limit, the tariff or the style is out of its range, the first of them decides `result`: 2 for the
+    // form, 3 for a limit, 4 for the tariff, 6 for the style. Otherwise `result` is none of these numbers.
     ensures form { (result ≡ 2) ↔ (IsForm form → ⊥) }
     ensures limits { (result ≡ 3) ↔ (IsForm form × (GiveLimits limits.now → ⊥)) }
     ensures tariff { (result ≡ 4) ↔ (IsForm form × GiveLimits limits.now × (IsTariff limits.now.tariff → ⊥)) }
     ensures style { (result ≡ 6)
         ↔ (IsForm form × GiveLimits limits.now × IsTariff limits.now.tariff × (IsStyle style → ⊥)) }
-    // If `result` is 0 or 1, the bytes are an accepted message, and the answer is the text of that message.
+    // If `result` is 0 or 1, the bytes are an accepted message. Its text is in `out` if `result` is 0.
     ensures found { result ≤ 1 → (text : List ℕ)
         × ShowsIn (form_named form) bytes.now (bounds_of limits.now) (style_named style) text
         × Delivers text result report.new.length out.old out.new }
-    // If the bytes are an accepted message, the answer is the text of that message, unless `result` is 8.
+    // If the bytes are an accepted message, `result` is 0, 1 or 8. If it is 0, the text of the message is in `out`.
     ensures only { IsForm form → GiveLimits limits.now → IsTariff limits.now.tariff → IsStyle style → (v : Value)
         → Denotes (form_named form) bytes.now (bounds_of limits.now) v
         → (result ≡ 8) ⊎ Delivers (message_text (style_named style) v) result report.new.length out.old out.new }
@@ -101,12 +100,12 @@ pub extern "C" fn capn_show(
         × (report.new ≡ answered report.new.length s.paid s.visits) }
     ensures blank { 2 ≤ result → result ≤ 6 → report.new ≡ at_number 0 }
     ensures listed { IsTrue (is_status result) }
-    // If `result` is at least 5 and not 6, `result` and `report` are those of a refusal `e`, whose reason is true. If
-    // `result` is not 8, they are those of no other refusal.
+    // If `result` is at least 5 and not 6, `result` and `report` describe a refusal `e`, whose reason is true. If
+    // `result` is not 8, they describe no other refusal.
     ensures refused { 5 ≤ result → result ≢ 6 → (e : Refusals) × Reports result report.new e
         × IsUnacceptedIn (form_named form) bytes.now (bounds_of limits.now) e }
-    // `result` is 8 only for a stream of more than 64 segments, for the words that a packed text unpacks to, or for the
-    // text of an accepted message.
+    // `result` is 8 only for a stream of more than 64 segments, for the unpacked words, or for the text of an accepted
+    // message.
     ensures memory { result ≡ 8 → MayNeedText (form_named form) bytes.now (bounds_of limits.now) }
     // For any `result`, the reported price is at most the budget, and the number of visits at most the price plus 1.
     ensures bounded { IsBounded limits.now.budget report.new.paid report.new.visits }

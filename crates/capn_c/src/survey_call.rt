@@ -21,7 +21,7 @@ use capn_canon::Form;
 use capn_walk::Limits;
 use std::alloc::Global;
 
-/// Writes the figures of the message that `bytes` encode in `form` to `figures`, and reports the result.
+/// Writes to `figures` the figures of the message that `bytes` encode in `form`, and reports the result.
 fn survey_in(
     alloc: Global,
     form: Form,
@@ -45,14 +45,15 @@ fn survey_in(
     }
 }
 
-/// Writes the figures of the message that `bytes` encode in `form` to `figures`, within `limits`. The figures are the
+/// Writes to `figures` the figures of the message that `bytes` encode in `form`, within `limits`. The figures are the
 /// words, the segments, the price, the visits, the depth, the first capability, and whether the message is canonical.
 ///
 /// The status is 0 if the figures are written, and 2, 3 or 4 if the form, a limit or the tariff is out of its range. It
 /// is 8 if memory was refused: for a stream of more than 64 segments, or for the unpacked words. Otherwise it is the
 /// status of the refusal. A capability is no reason for a refusal.
 ///
-/// The bytes are read once. A message of one segment that is not canonical is walked at most twice, any other once.
+/// The bytes are unpacked or unframed at most once. A message of one segment that is not canonical is walked at most
+/// twice, any other message once.
 #[unsafe(no_mangle)]
 pub extern "C" fn capn_survey(
     alloc: Global,
@@ -77,8 +78,8 @@ pub extern "C" fn capn_survey(
         → Denotes (form_named form) bytes.now (bounds_of limits.now) v → (result ≡ 0) ⊎ (result ≡ 8) }
     ensures blank { 1 ≤ result → result ≤ 4 → report.new ≡ at_number 0 }
     ensures listed { IsTrue (is_status result) }
-    // If `result` is at least 5, `result` and `report` are those of a refusal `e`, whose reason is true. If `result` is
-    // not 8, they are those of no other refusal.
+    // If `result` is at least 5, `result` and `report` describe a refusal `e`, whose reason is true. If `result` is not
+    // 8, they describe no other refusal.
     ensures refused { 5 ≤ result → (e : Refusals) × Reports result report.new e
         × IsUnacceptedIn (form_named form) bytes.now (bounds_of limits.now) e }
     // `result` is 8 only for a stream of more than 64 segments, or for the words that a packed text unpacks to.

@@ -22,7 +22,7 @@ fn code_of_next(next: Next) -> u32
     }
 }
 
-/// Returns `progress` as a report. `length` is the number of bytes written, and `at` is the number of bytes read.
+/// Returns `progress` as a report. `length` is the length of the words, and `at` that of the groups, both in bytes.
 fn report_of_progress(progress: Progress) -> CapnReport
     ensures { result ≡ progressed (8 * progress.words) progress.bytes }
 {
@@ -50,8 +50,8 @@ fn put(bytes: &[u8], out: &mut [u8])
 /// Unpacks the first complete groups of the packed text `bytes` into `out`, as many as fit.
 ///
 /// The status is 0 if `bytes` end after these groups, and 8 if memory was refused. It is 32 if the next group is
-/// incomplete, and 33 if the next group doesn't fit. If it is 0, 32 or 33, `length` bytes were written and `at` bytes
-/// were read. So `at` is the offset of the next group's tag. Memory is allocated for the words that are written.
+/// incomplete, and 33 if the next group doesn't fit. If it is 0, 32 or 33, the unpacked groups take `at` bytes of the
+/// text, and `length` bytes were written. For 32 and 33, the next group begins at `at`. Memory is needed for the words.
 #[unsafe(no_mangle)]
 pub extern "C" fn capn_unpack_some(
     alloc: Global,
@@ -59,7 +59,7 @@ pub extern "C" fn capn_unpack_some(
     out: &mut [u8],
     report: &mut CapnReport,
 ) -> u32
-    // If `result` is not 8, the words are in `out`, and the report has the numbers of bytes written and read.
+    // If `result` is not 8, the unpacked words are in `out`. The report has the lengths in bytes of words and groups.
     ensures some { result ≢ 8 → UnpacksInto bytes.now result report.new out.old out.new }
     // `result` is 8 only if a complete group that fits comes first.
     ensures memory { result ≡ 8 → StartsWithin bytes.now (words_in (length out.old)) }

@@ -107,15 +107,15 @@ abbrev pub CanonIsThePageForm : Type 0
 CanonIsThePageForm = (v : Tree) (bs : List ℕ) → Fits v → InRange v → first_cap v ≡ None
     → (bs ≡ canon v) ↔ IsPageFormOf bs v
 
--- If `out` is an answer for `bs` under valid limits (`Answers`), it is a page form of the value that `bs` denote
+-- If `out` is an answer for `bs` under valid limits (`Answers`), `out` is a page form of the value that `bs` denote
 -- (`IsPageFormOf`).
 abbrev pub AnswersFollowThePage : Type 0
 AnswersFollowThePage = (form : Form) (bs : List ℕ) (limits : Bounds) (out : List ℕ) (price : ℕ)
     → AreLimits limits.message_words limits.budget limits.depth → Answers form bs limits out price
     → (v : Tree) × Denotes form bs limits v × IsPageFormOf out v
 
--- If `told` says whether `bs` are canonical (`SaysCanonical`), it is true if and only if `bs` are words that follow the
--- rules of the page.
+-- If `told` says whether `bs` are canonical (`SaysCanonical`), `told` is true if and only if `bs` are the bytes of
+-- words that follow the rules of the page.
 abbrev pub CheckIsOfThePage : Type 0
 CheckIsOfThePage = (bs : List ℕ) (limits : Bounds) (told : Bool)
     → AreLimits limits.message_words limits.budget limits.depth → SaysCanonical bs limits told

@@ -58,8 +58,8 @@ module _ (words : List ℕ) where
   abbrev pub EndsInSome : (from n : ℕ) → Type 0
   EndsInSome from n = 0 < n → slice_index words (from + (n - 1)) ≢ 0
 
-  -- The first of `many` rows has `n` words from the word `from` on, and each further row has them `step` words later.
-  -- If `n` is not 0, the last of the `n` words is not zero in at least one row.
+  -- `many` rows have `n` words each: the first row from the word `from` on, each next row `step` words later. If `n` is
+  -- not 0, the last of the `n` words is not zero in at least one row.
   abbrev pub OneEndsInSome : (many step from n : ℕ) → Type 0
   OneEndsInSome many step from n = 0 < n → (i : ℕ) × (i < many) × (slice_index words (from + i * step + (n - 1)) ≢ 0)
 

@@ -24,7 +24,7 @@ Reads forms.Bare bs most message = (ws : List ℕ) × IsBare bs ws × (message �
 Reads forms.Stream bs most message = IsFramed bs most message
 Reads forms.Packed bs most message = (text : List ℕ) × Unpacks bs most text × IsFramed text most message
 
--- `bs` begin with the frame of a message of at most `most` words. The frame ends at the offset `at`, and more bytes
--- follow it.
+-- `bs` begin with the frame of a message of at most `most` words. The frame has `at` bytes, and more bytes follow the
+-- frame.
 abbrev pub Trails : List ℕ → (most at : ℕ) → Type 0
 Trails bs most at = (message : List (List ℕ)) × StandsFirst bs most message at × (at < length bs)

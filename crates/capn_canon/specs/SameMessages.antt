@@ -38,7 +38,7 @@ IsRefusedOn a b limits Second e = HasBytes a limits × IsUnfit b limits e
 abbrev pub IsNotCompared : List (List ℕ) → List (List ℕ) → Bounds → SameRefusal → Type 0
 IsNotCompared a b limits e = IsRefusedOn a b limits e.side e.refusal
 
--- If `r` is `Ok`, it says whether `a` and `b` have the same value. If `r` is an `Err`, it says why they are not
+-- If `r` is `Ok`, it says whether `a` and `b` have the same value. If `r` is an `Err`, it says why `a` and `b` are not
 -- compared, and a stopped walk pays at most the budget.
 pub record IsSameTold (a b : List (List ℕ)) (limits : Bounds) (r : Result Bool SameRefusal) : Type 0 where
   pub found : IfOk r (λ same. SaysSame a b limits same)

@@ -1,4 +1,4 @@
--- The theorem of the README, in definitions for its sentences. Each is a clause of `canonical_into` or of
+-- The theorem of the README, in definitions for its sentences. Each definition is a clause of `canonical_into` or of
 -- `canonicalise`.
 use Rattle.std.specs.Prelude.{◌≡◌, ◌≢◌, ◌↔◌, ℕ, ◌<◌, ◌≤◌, List, ◌++◌, length, drop, Some, None, Result, Err, IsOk}
 use Rattle.std.specs.Prelude.{IfOk, MatchResult}
@@ -37,7 +37,7 @@ pub record WrittenInto (message : List (List ℕ)) (limits : Bounds) (old new : 
   pub room : length (canon value) ≤ length old
   pub written : new ≡ canon value ++ drop (length (canon value)) old
 
--- The refusal is true of `message`, and no earlier test refuses it. `Walk` says where and why the walk stops, and
+-- The refusal is true of `message`, and no earlier test refuses `message`. `Walk` says where and why the walk stops.
 -- `Capability` has the index of the first capability. `NoRoom` has the length of the canonical bytes, which is above
 -- `room`, and the number of words paid.
 abbrev pub RefusedInto : List (List ℕ) → Bounds → (room : ℕ) → IntoRefusal → Type 0

@@ -87,7 +87,7 @@ pub fn survey_bare_of<M: Asked>(space: M, limits: Limits) -> Result<SurveyedBare
 /// visits, the first capability, and whether the bytes are canonical. If `space` begins with canonical bytes, one pass
 /// over the words finds all of that. Otherwise a survey follows the pass.
 ///
-/// A message that the walk refuses is refused with the stop of the walk. The allocator is not used.
+/// If the walk refuses the message, the error is the stop of the walk. The allocator is not used.
 pub fn survey_bare<A: Allocator + Copy>(
     _alloc: A,
     space: &Bare<'_>,

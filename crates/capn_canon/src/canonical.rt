@@ -129,7 +129,7 @@ pub fn canonical_of<A: Allocator + Copy, M: Asked>(
     // A walk of the canonical bytes, read bare, pays exactly the cost of the trimmed value of `v`.
     ensures pays { IfOk result (λ c. (v : Value) → IsValueOf (M.message space) limits v
         → PaysItsCost c.bytes.items limits v) }
-    // The canonical bytes of `v` are also those of the trimmed value of `v`.
+    // The canonical bytes of `v` are also the canonical bytes of the trimmed value of `v`.
     ensures own { IfOk result (λ c. (v : Value) → IsValueOf (M.message space) limits v
         → IsItsOwnForm c.bytes.items v) }
     // A value that fits and is in range has the same canonical bytes as `v` if and only if it is the same as `v`
@@ -175,7 +175,7 @@ pub fn canonical_of_counted<A: Allocator + Copy, S: Space, L: Ledger>(
     // A walk of the canonical bytes, read bare, pays exactly the cost of the trimmed value of `v`.
     ensures pays { IfOk result (λ c. (v : Value) → IsValueOf space.now limits v
         → PaysItsCost c.bytes.items limits v) }
-    // The canonical bytes of `v` are also those of the trimmed value of `v`.
+    // The canonical bytes of `v` are also the canonical bytes of the trimmed value of `v`.
     ensures own { IfOk result (λ c. (v : Value) → IsValueOf space.now limits v
         → IsItsOwnForm c.bytes.items v) }
     // A value that fits and is in range has the same canonical bytes as `v` if and only if it is the same as `v`

@@ -44,11 +44,11 @@ impl<A: Allocator + Copy> MessageTask<A> for CanonicalBytes {
 ///
 /// The refusals are tested in three steps. First the bytes are read. `Bare` refuses bytes that are not bare words.
 /// `Packed` refuses bytes that are not a packed text, or that unpack to more words than `limits.message_words` and the
-/// longest table allow. `Frame` refuses bytes that begin with no frame of at most `limits.message_words` words, and
-/// `Trailing` refuses bytes after the frame. Then the message is walked. `Walk` refuses a message that is not accepted,
-/// with a fault that is never `Memory`. Last the value is laid out. `Capability` refuses a value with capabilities,
-/// with the index of the first in preorder. `Memory` is returned only if an allocation on `alloc` was refused. No
-/// clause can say that.
+/// longest table allow. `Frame` refuses bytes, unpacked for `Packed`, that begin with no frame of at most
+/// `limits.message_words` words, and `Trailing` refuses bytes after the frame. Then the message is walked. `Walk`
+/// refuses a message that is not accepted, with a fault that is never `Memory`. Last the value is laid out.
+/// `Capability` refuses a value with capabilities, with the index of the first in preorder. `Memory` is returned only
+/// if an allocation on `alloc` was refused. No clause can say that.
 pub fn canonicalise<A: Allocator + Copy>(
     alloc: A,
     form: Form,
@@ -76,7 +76,7 @@ pub fn canonicalise<A: Allocator + Copy>(
     // A walk of the canonical bytes, read bare, pays exactly the cost of the trimmed value of `v`.
     ensures pays { IfOk result (λ c. (v : Value) → Denotes form bytes.now limits v
         → PaysItsCost c.bytes.items limits v) }
-    // The canonical bytes of `v` are also those of the trimmed value of `v`.
+    // The canonical bytes of `v` are also the canonical bytes of the trimmed value of `v`.
     ensures own { IfOk result (λ c. (v : Value) → Denotes form bytes.now limits v → IsItsOwnForm c.bytes.items v) }
     // A value that fits and is in range has the same canonical bytes as `v` if and only if it is the same as `v`
     // (`Same`).

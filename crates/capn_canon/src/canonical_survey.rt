@@ -1,4 +1,4 @@
-//! The one pass that accepts only canonical bytes, and finds the number of words that the walk pays, and the depth.
+//! The one pass that accepts only canonical bytes. It finds the number of words that the walk pays, and the depth.
 
 ghost use Rattle.std.specs.Prelude.{◌≡◌, ◌+◌, ◌*◌, ◌<◌, ◌≤◌, [], ◌∷◌, length, IsTrue, IfSome, IsSome, None};
 ghost use Rattle.capn_words.specs.Message.{IsMessage, bytes, segment_at};
@@ -85,7 +85,7 @@ pub fn survey_canonical_counted<S: Space, L: Ledger>(
 
 /// Surveys the bare message `space` within `limits`, and finds its depth. Returns `None` if [`survey_canonical`] does.
 /// The depth is the least limit on depth under which the message is accepted. It is the greatest number of objects on a
-/// path from the root, including the root. (Our own.)
+/// path from the root, including the root object. (Our own.)
 ///
 /// No memory is allocated. If the result is `None`, [`survey_bare`](crate::survey_bare) and
 /// [`survey_depth`](capn_walk::survey_depth) report more.
@@ -157,9 +157,9 @@ pub fn measure_canonical_counted<S: Space, L: Ledger>(
 }
 
 /// Makes the one pass over the words of `space` within `limits`, and counts the reads in `reads`. Returns `None` if the
-/// words do not begin with canonical bytes. If other words follow the canonical bytes, they cost nothing, and
-/// `is_canonical` is `false`. If `DEEP` is set, the pass also finds the depth of the objects. Otherwise the depth
-/// returned is 0.
+/// words do not begin with canonical bytes of a value within `limits`. If words follow the canonical bytes, these words
+/// cost nothing, and `is_canonical` is `false`. If `DEEP` is set, the pass also finds the depth of the objects.
+/// Otherwise the depth returned is 0.
 #[inline(always)]
 pub fn measure_root<S: Space, L: Ledger, const DEEP: bool>(
     space: &CountedWords<'_, S, L>,

@@ -122,8 +122,8 @@ fn same_by_first<S: Space, T: Space, L: Ledger, M: Ledger>(
     }
 }
 
-/// Compares the values of the messages `a` and `b` within `limits`. Returns the result of [`same_messages`]. The reads
-/// of `a` and the loop turns are counted in `first`, those of `b` in `second`.
+/// Compares the values of the messages `a` and `b` within `limits`. Returns the result of [`same_messages`]. Reads and
+/// loop turns are counted in `first` for `a` and in `second` for `b`.
 ///
 /// There are at most 34 reads and turns for each word that the walk of a message pays, and 34 more. A refusal costs at
 /// most 34 for each word of the budget, and 34 more. If `a` is refused, nothing of `b` is read. Only the stack is used.

@@ -16,7 +16,7 @@ use capn_walk::Limits;
 use capn_words::{Bare, Space};
 use std::alloc::Allocator;
 
-/// A task on the message that bytes in one of the three forms encode. (Our own.)
+/// A task on a message that is read from bytes in one of the three forms. (Our own.)
 pub trait MessageTask<A: Allocator + Copy> {
     /// The type of the task's answer.
     type Answer;
@@ -96,7 +96,7 @@ fn of_plain<T: MessageTask<A>, A: Allocator + Copy>(
     }
 }
 
-/// Does the `task` on the message in the frame that the packed text `bytes` unpacks to.
+/// Unpacks the packed text `bytes` to a frame, and does the `task` on the message in the frame.
 fn of_packed<T: MessageTask<A>, A: Allocator + Copy>(
     alloc: A,
     task: &mut T,
@@ -111,9 +111,9 @@ fn of_packed<T: MessageTask<A>, A: Allocator + Copy>(
 
 /// Reads `bytes` in `form` as a message, once, and returns the answer of `task` for the message, within `limits`.
 ///
-/// Bytes that are no message of the form are refused before the task runs, and `task` stays as it was. All other
-/// refusals come from the task. Reading asks `alloc` for memory only for the ends of more than 64 segments, and for the
-/// unpacked words. (Our own.)
+/// If the reading fails, for a fault of the bytes or with `Memory`, the task is not run, and `task` stays as it was.
+/// All other refusals come from the task. Reading takes memory from `alloc` only to store the segments' ends, if there
+/// are more than 64 segments, and the unpacked words. (Our own.)
 pub fn run_task<T: MessageTask<A>, A: Allocator + Copy>(
     alloc: A,
     task: &mut T,

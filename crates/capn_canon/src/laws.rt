@@ -51,8 +51,8 @@ pub fn spelling()
 
 /// States that words are the canonical bytes of the value that they denote if and only if they follow the rules of the
 /// encoding page. Words that follow the rules denote a value without capabilities. Each value without capabilities has
-/// exactly one form that follows the rules. So each result follows the rules, and `is_canonical` returns `true` if and
-/// only if the input follows them.
+/// exactly one form that follows the rules. So each result follows the rules, and an `Ok` result of `is_canonical` is
+/// `true` if and only if the input follows the rules.
 pub fn page()
     ensures exactly { CanonicalExactlyByPage }
     ensures denoted { PageFormsDenote }
@@ -63,8 +63,8 @@ pub fn page()
 {}
 
 /// States that two results are equal if and only if the getters return the same from the values of both, along every
-/// path. The same is true of two messages that follow the rules of the encoding page. The getters return the same from
-/// the value of a result as from the value of its input.
+/// path. Two messages that follow the rules of the encoding page have equal bytes if and only if the getters return the
+/// same from both. The getters return the same from the value of a result as from the value of its input.
 pub fn readers<A: Allocator>()
     ensures canon { CanonIsWhatIsTold }
     ensures page { PageFormsAreWhatIsTold }

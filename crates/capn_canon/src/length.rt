@@ -122,7 +122,7 @@ impl CountedTask for LengthTask {
 /// Returns the length of the canonical bytes of the value that the message `space` denotes within `limits`.
 ///
 /// A message that is not accepted is refused by `Walk`, and a value with capabilities by `Capability`. There is no
-/// other refusal. The message is read twice. Only the stack is used, whatever the depth. (Our own.)
+/// other refusal. A message that is not refused is read twice. Only the stack is used, at any depth. (Our own.)
 pub fn canonical_length<M: Asked>(
     space: M,
     limits: Limits,

@@ -14,20 +14,20 @@
 //!   without `_counted` return, for a message of one segment whose reads are counted. The budget bounds the number of
 //!   reads.
 //! - [`canonical_of_counted`], [`canonical_into_counted`] and [`canonical_length_counted`] return what the calls
-//!   without `_counted` return, for a message whose reads are counted. The number of words paid bounds the reads of all
-//!   passes together.
+//!   without `_counted` return, for a message whose reads are counted. The budget bounds the reads of all passes
+//!   together, and so does the number of words paid if the result is `Ok`.
 //! - [`same_messages`] tests whether the canonical bytes of two messages are equal, without making the bytes.
 //!   [`same_messages_counted`] compares two messages whose reads are counted.
 //! - [`own_canonical`] returns the bytes of a message if the message is canonical already, and copies nothing.
 //!   [`measure`] reports the price, the number of visits and the depth of a message, and whether it is canonical.
 //! - [`run_task`] reads bytes in a form as a message, and returns the answer of a [`MessageTask`] for it.
 //! - [`survey_bytes`] and [`survey`] report the price of a message, the number of visits and the first capability.
-//!   Neither writes anything.
-//! - [`layout`] writes the canonical bytes of a tree: one segment, its objects in preorder, every struct without its
-//!   trailing zero words and trailing null pointers. A tree with a capability is refused with the index of the first
-//!   capability.
-//! - [`Patch`] is a buffer of words, with holes for words that are not known yet. Such a word is a pointer to an object
-//!   that has no place so far. No call of this crate writes to a `Patch`.
+//!   Neither makes canonical bytes.
+//! - [`layout`] writes the canonical bytes of a tree: one segment, its objects in preorder. A struct has no trailing
+//!   zero words and no trailing null pointers, and all rows of a list are shortened to one size. A tree with a
+//!   capability is refused with the index of the first capability.
+//! - [`Patch`] is a buffer of words, with holes for words that are not known yet, for example the pointer to an object
+//!   that has no place yet. No call of this crate writes to a `Patch`.
 //!
 //! For any bytes, form and limits, unless an allocation is refused, `canonicalise` succeeds if and only if the bytes
 //! denote a value without capabilities within the limits. Two results, from any two forms, inputs and limits, are byte
@@ -39,7 +39,7 @@
 //! `refused` allow.
 //!
 //! For any message, limits and buffer, `canonical_into` succeeds if and only if the message denotes a value without
-//! capabilities within the limits and the buffer has room for its canonical bytes. It writes exactly the canonical
+//! capabilities within the limits and the buffer has room for its canonical bytes. It then writes exactly the canonical
 //! bytes. Otherwise it returns the first refusal, and the buffer is as it was. It never allocates. The clauses
 //! `answered`, `written`, `refused` and `unchanged` of `canonical_into` state this, by definitions of
 //! `specs/Theorem.antt`. [`laws::decision`] states that the clauses allow only one result.

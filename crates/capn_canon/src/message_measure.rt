@@ -64,8 +64,8 @@ fn measure_bare<A: Allocator + Copy>(
 /// depth, and whether the message is one segment of canonical bytes. The depth is the least limit on depth under which
 /// the message is accepted, with the other limits unchanged. (Our own.)
 ///
-/// A message of one segment that is not canonical is walked at most twice. Any other message is walked once. A message
-/// that the walk refuses is refused with the stop of the walk. No memory is allocated.
+/// A message of one segment that is not canonical is walked at most twice. Any other message is walked once. If the
+/// walk refuses the message, the error is the stop of the walk. No memory is allocated.
 pub fn measure<S: Space, A: Allocator + Copy>(
     alloc: A,
     space: &S,

@@ -8,8 +8,8 @@ use std::fmt;
 /// The reason why a message has no canonical bytes within the limits. The variants stand in the order of the tests.
 /// (Our own.)
 ///
-/// There is no variant `Memory`, since no memory is allocated. The fault of a walk has such a variant, for walks that
-/// make a tree. The clauses of the calls exclude that fault here.
+/// There is no variant `Memory`, since no memory is allocated. A walk that makes a tree may stop with the fault
+/// `Memory`, so the type of the fault in `Walk` has that variant. The clauses of the calls exclude it here.
 #[derive(Clone, Copy, Debug, PartialEq, Eq)]
 pub enum MessageRefusal {
     /// The stop of the walk, with its place and its fault, if the message is not accepted. The fault is never `Memory`.

@@ -17,8 +17,8 @@ use capn_words::{Space, Width};
 use std::sync::ledger::Ledger;
 
 /// Opens the struct at the next free word. `word` is the first slot of `pass` and points to the struct. Returns the
-/// slots of the struct. Returns `None` if the struct is empty, is out of range or costs too much, or if its last word
-/// or its last slot is zero.
+/// slots of the struct. Returns `None` if the struct is empty, is out of range or costs too much, or if its last data
+/// word or its last slot is zero.
 #[inline(always)]
 pub fn open_struct<S: Space, L: Ledger>(
     space: &CountedWords<'_, S, L>,

@@ -1,11 +1,11 @@
 //! The one pass that tests whether words are a canonical layout, and finds the number of words that the walk pays.
 //!
-//! In a canonical layout every object begins at the next free word. So if each pointer leads to that word, nothing is
-//! out of range and nothing is read twice. The pass follows the words in order, and needs no survey before it.
+//! In a canonical layout every object with words begins at the next free word, so no word belongs to two objects. The
+//! pass tests that each such object begins at that word and ends within the message, and needs no survey before it.
 //!
-//! For each slot the pass makes at most seven reads and turns: the turn, the word, and five to test the object that the
-//! slot points to. A list of structs needs further reads and turns. They are at most two for each word of the rows, to
-//! test that trimming keeps all words, and a turn for each row with slots. The price of the list covers them.
+//! For each slot the pass makes at most seven reads and turns: one loop turn, one read of the slot, and five to test
+//! the object that the slot points to. A list of structs needs further reads and turns: at most two for each word of
+//! the rows, to test that trimming keeps all words, and a turn for each row with slots. The list's price covers them.
 
 ghost use Rattle.std.specs.Prelude.{◌≡◌, ◌+◌, ◌-◌, ◌*◌, ◌%◌, ◌^◌, ◌<◌, ◌≤◌, [], ◌∷◌, slice_index, IfSome};
 ghost use Rattle.capn_words.specs.Message.{IsMessage};
@@ -23,10 +23,10 @@ use capn_target::counted::Reads;
 use capn_words::{Pointer, Space, Width, split};
 use std::sync::ledger::Ledger;
 
-/// Tests the slots of `pass` and everything below them. Returns the progress after the test. Returns `None` if a word
-/// is not in its canonical place, if a slot holds a capability, or if the limit on depth or price is exceeded.
+/// Tests the slots of `pass` and everything below them. Returns the progress after the test. Returns `None` if an
+/// object is not laid out canonically, if a slot holds a capability, or if the limit on depth or price is exceeded.
 ///
-/// Each level of depth takes one frame of the stack, of this function or of [`check_rows`].
+/// Each level of depth takes at most one frame of the stack, of this function or of [`check_rows`].
 #[cycle(pass)]
 #[inline(never)]
 pub fn check_object<S: Space, L: Ledger, const DEEP: bool>(
@@ -142,8 +142,8 @@ fn check_struct<S: Space, L: Ledger, const DEEP: bool>(
     }
 }
 
-/// Tests the slots `below` and everything below them. They are the slots of the object to which the first slot of
-/// `pass` points. If that slot is the last of `pass`, `below` is returned untested.
+/// Tests `below`, the slots of the object that the first slot of `pass` points to, and everything below these slots. If
+/// `pass` has only one slot, `below` is returned untested.
 #[cycle(pass)]
 #[inline(always)]
 fn check_below<S: Space, L: Ledger, const DEEP: bool>(

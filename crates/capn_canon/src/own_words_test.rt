@@ -18,7 +18,7 @@ use capn_target::counted::Reads;
 use capn_words::{Space, Width};
 use std::sync::ledger::Ledger;
 
-/// Tests whether trimming would keep all `count` words from word `at` on: there are none, or the last is not zero.
+/// Tests whether trimming keeps all `count` words from word `at` on: `count` is 0, or the last word is not zero.
 #[inline(always)]
 pub fn is_kept<S: Space, L: Ledger>(
     space: &CountedWords<'_, S, L>,
@@ -37,8 +37,8 @@ pub fn is_kept<S: Space, L: Ledger>(
 /// The canonical pointer to a struct without words and slots: its offset is -1. (Page: canonicalization.)
 pub const EMPTY: u64 = 0xffff_fffc;
 
-/// Tests whether the word at `from` is the pointer to a list of `count` elements at word `next`, and whether the
-/// message has the `words` words of that list.
+/// Tests whether the word at `from` is the list pointer with `width` and `count` that leads to word `next`, and whether
+/// the message has `words` words from `next` on.
 fn is_list_at<S: Space, L: Ledger>(
     space: &CountedWords<'_, S, L>,
     width: Width,
@@ -91,7 +91,7 @@ pub struct Tag {
     pub slots: u16,
 }
 
-/// Returns the fields of the tag word `word`. The pointer kind of `word` is not tested.
+/// Returns the count, words and slots that the tag word `word` holds. The pointer kind of `word` is not tested.
 #[inline(always)]
 pub fn tag_of(word: u64) -> Tag
     ensures { result ≡ record { count = field 2 30 word; words = field 32 16 word; slots = field 48 16 word } }
@@ -103,9 +103,9 @@ pub fn tag_of(word: u64) -> Tag
     }
 }
 
-/// Tests whether trimming would keep all `size` words of one section of the rows: in some row the last word of the
-/// section isn't zero. There are `count` rows, one every `step` words from word `start` on, and the section begins
-/// `inset` words into each row.
+/// Tests whether trimming would keep all `size` words of one section of the rows: `size` is 0, or in some row the last
+/// word of the section isn't zero. There are `count` rows, one every `step` words from word `start` on, and the section
+/// begins `inset` words into each row.
 fn is_part_kept<S: Space, L: Ledger>(
     space: &CountedWords<'_, S, L>,
     start: u32,
@@ -137,7 +137,7 @@ fn is_part_kept<S: Space, L: Ledger>(
 }
 
 /// Tests whether the list of structs at word `next` is canonical, without the objects below its slots. It is canonical
-/// if four conditions hold. Trimming leaves the rows the sizes in `tag`. The word at `next` is the tag word of `tag`.
+/// if four conditions hold. Trimmed rows have the sizes in `tag`. The word at `next` is the tag word of `tag`.
 /// The word at `from` points to `next`. The message has all words of the rows.
 pub fn are_rows_at<S: Space, L: Ledger>(
     space: &CountedWords<'_, S, L>,

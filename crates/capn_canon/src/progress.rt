@@ -89,7 +89,7 @@ impl Pass {
         }
     }
 
-    /// Returns the progress after an object that ends at word `end`, costs `price` and has `slots` slots. Returns
+    /// Returns the progress after an object that ends before word `end`, costs `price` and has `slots` slots. Returns
     /// `None` if `price` is above `self.left`.
     #[inline(always)]
     pub fn paid(self, price: u64, end: u32, slots: u32) -> Option<Progress>

@@ -17,7 +17,7 @@ pub enum Refusal {
     /// A fault of the form `Packed`: the bytes end within a group, or unpack to more words than the limit on message
     /// words and the longest table allow.
     Packed(UnpackFault),
-    /// A fault of the frame: the bytes, or those that they unpack to, are no frame within the limit on message words.
+    /// A fault of the frame: the bytes, unpacked for `Packed`, begin with no frame within the limit on message words.
     Frame(FrameFault),
     /// The offset of the first byte that follows the frame. For the form `Packed` it is an offset in the unpacked
     /// bytes.

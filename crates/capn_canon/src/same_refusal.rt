@@ -7,7 +7,7 @@ use crate::refusal::Refusal;
 pub enum Side {
     /// The first message.
     First,
-    /// The second message, if the first isn't refused.
+    /// The second message, named only if the first isn't refused.
     Second,
 }
 
@@ -16,7 +16,7 @@ pub enum Side {
 pub struct SameRefusal {
     /// The message that is refused, first or second.
     pub side: Side,
-    /// The refusal that [`canonical_of`](crate::canonical_of) gives that message. The clauses allow only `Walk` and
-    /// `Capability`.
+    /// The refusal that [`canonical_of`](crate::canonical_of) returns for that message. The clauses allow only `Walk`
+    /// and `Capability`.
     pub refusal: Refusal,
 }

@@ -42,8 +42,8 @@ impl<A: Allocator + Copy> MessageTask<A> for Survey {
 /// Surveys the message that `bytes` encode in `form`, within `limits`. Returns the number of words that the walk pays,
 /// the number of visits and the first capability.
 ///
-/// The refusals are those of [`crate::canonicalise`] except `Capability`. `Memory` is returned only if an allocation on
-/// `alloc` was refused, for the ends of more than 64 segments or for the unpacked words.
+/// The refusals are as for [`crate::canonicalise`], but never `Capability`. `Memory` is returned only if an allocation
+/// on `alloc` was refused: for the segments' ends, if there are more than 64 segments, or for the unpacked words.
 pub fn survey_bytes<A: Allocator + Copy>(
     alloc: A,
     form: Form,
@@ -58,7 +58,7 @@ pub fn survey_bytes<A: Allocator + Copy>(
         → MatchResult result (λ s. s.capability ≡ first_cap v) (λ e. e ≡ refusals.Memory) }
     // If `result` is `Err(e)`, the reason that `e` gives is true.
     ensures refused { IfErr result (λ e. IsUnacceptedIn form bytes.now limits e) }
-    // `Memory` is returned only for the ends of more than 64 segments, or for the words that a packed text unpacks to.
+    // `Memory` is returned only if reading the bytes may need memory, for more than 64 segments or for unpacked words.
     ensures memory { IsErrOf result refusals.Memory → MayNeedMemory form bytes.now limits }
     // The walk pays at most the budget, also if the message is refused.
     ensures bounded { MatchResult result (λ s. IsBounded limits.budget s.paid s.visits)

@@ -134,7 +134,7 @@ pub fn canonical_into<M: Asked>(
     // A walk of the canonical bytes, read bare, pays exactly the cost of the trimmed value of `v`.
     ensures pays { IfOk result (λ c. (v : Value) → IsValueOf (M.message space) limits v
         → PaysItsCost (take c.length out.new) limits v) }
-    // The canonical bytes of `v` are also those of the trimmed value of `v`.
+    // The canonical bytes of `v` are also the canonical bytes of the trimmed value of `v`.
     ensures own { IfOk result (λ c. (v : Value) → IsValueOf (M.message space) limits v
         → IsItsOwnForm (take c.length out.new) v) }
     // A value that fits and is in range has the same canonical bytes as `v` if and only if it is the same as `v`
@@ -184,7 +184,7 @@ pub fn canonical_into_counted<S: Space, L: Ledger>(
     // A walk of the canonical bytes, read bare, pays exactly the cost of the trimmed value of `v`.
     ensures pays { IfOk result (λ c. (v : Value) → IsValueOf space.now limits v
         → PaysItsCost (take c.length out.new) limits v) }
-    // The canonical bytes of `v` are also those of the trimmed value of `v`.
+    // The canonical bytes of `v` are also the canonical bytes of the trimmed value of `v`.
     ensures own { IfOk result (λ c. (v : Value) → IsValueOf space.now limits v
         → IsItsOwnForm (take c.length out.new) v) }
     // A value that fits and is in range has the same canonical bytes as `v` if and only if it is the same as `v`

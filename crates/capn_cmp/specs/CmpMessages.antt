@@ -43,15 +43,15 @@ second : report (record { index = 1; offset = 24 }) (codes "0\t  word 0000000000
 unfolding digits
 second = refl
 
--- `text` is the report on the message at `at`. `first` are the canonical bytes of the first message, and `bytes` are
--- those of the message at `at`.
+-- `text` is the report on the message at `at`. `first` and `bytes` are the canonical bytes of the first message and of
+-- the message at `at`.
 abbrev pub IsReport : Position → List ℕ → List ℕ → List ℕ → Type 0
 IsReport at first bytes text =
     (shown : List ℕ) × (other : List ℕ) × (line : List ℕ) × (other_line : List ℕ)
     × IsShown first shown × IsShown bytes other × AreApart shown other line other_line
     × (text ≡ report at line other_line)
 
--- The message at the position `at` is the first. Nothing is written, and `t` has its canonical bytes `bytes`.
+-- The message at the position `at` is the first. Nothing is written, and `t.first` is `bytes`, its canonical bytes.
 abbrev pub Keeps : CmpState → Position → List ℕ → List ℕ → CmpState → Type 0
 Keeps s at bytes text t =
     (at.index ≡ 0) × (text ≡ []) × (t ≡ record { limits = s.limits; first = bytes; differs = s.differs })

@@ -1,4 +1,4 @@
--- Laws of the definitions, without any function. (Our own.)
+-- Laws that follow from the definitions alone. (Our own.)
 use Rattle.std.specs.Prelude.{◌≡◌, ◌≢◌, ◌↔◌, ℕ, ◌≤◌, List, [], ◌∷◌, length, Result, Ok, ⊤}
 use Rattle.capn_words.specs.Message.{total}
 use Rattle.capn_stream.specs.Frames.{Frames}

@@ -11,7 +11,7 @@ abbrev pub AreLines : List (List ℕ) → Type 0
 AreLines [] = ⊤
 AreLines (line ∷ lines) = IsUnbroken line × AreLines lines
 
--- The lines joined, each followed by a newline.
+-- The joined lines, each followed by a newline.
 abbrev pub joined : List (List ℕ) → List ℕ
 joined [] = []
 joined (line ∷ lines) = line ++ 10 ∷ joined lines

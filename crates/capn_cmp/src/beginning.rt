@@ -73,7 +73,7 @@ fn kept_by<A: Allocator>(writer: Watched<Beginning<A>>) -> Vec<u8, A>
     writer.into_inner().bytes
 }
 
-/// Appends the line `end` to `text`, and writes `text` to `writer`. The error is `Io` if the writer is full.
+/// Appends the line `end` to `text`, and writes `text` to `writer`. The error is `Io` (`writer` is full) or `Memory`.
 fn end_text<A: Allocator>(
     text: &mut Vec<u8, A>,
     writer: &mut Watched<Beginning<A>>,

@@ -56,7 +56,7 @@ impl<B: Allocator> CmpService<B> {
     }
 
     /// If the message at `at` is the first, stores its `canonical` bytes. Otherwise compares `canonical` with the bytes
-    /// of the first message.
+    /// of the first message, and adds the report on the message to the output if they differ.
     #[tactic(auto, using(crate::proofs::CmpServed::keeps, crate::proofs::CmpServed::no_memory))]
     fn compare<W: Write, A: Allocator + Copy>(
         &mut self,

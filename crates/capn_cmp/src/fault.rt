@@ -7,7 +7,7 @@ use std::io::Write;
 /// The reason why a run of `cmp` does not end with a result.
 #[derive(Clone, Copy, Debug, PartialEq, Eq)]
 pub enum CmpFault {
-    /// The loop over the messages ended with this fault before all messages were served.
+    /// The loop over the messages ended with this fault.
     Run(RunFault),
     /// The input has fewer than two messages.
     TooFew,

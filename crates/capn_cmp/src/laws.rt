@@ -9,8 +9,8 @@ pub fn one_text()
     ensures written { WritesExactly }
 {}
 
-/// States when a comparison finds all messages the same, for a stream of at most 2^64 - 1 bytes. It finds them the same
-/// if and only if the stream is at least two accepted messages with the same canonical bytes.
+/// States when the result of a comparison is `Same`, for a stream of at most 2^64 - 1 bytes: if and only if the stream
+/// is at least two accepted messages with the same canonical bytes.
 pub fn same_exactly()
     ensures { SameExactly }
 {}

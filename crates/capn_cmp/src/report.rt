@@ -48,7 +48,7 @@ fn report_of<A: Allocator + Copy>(
     Ok(text)
 }
 
-/// Returns the report on the message at `at`, or `None` if the prefixes `text` and `other` end before the first lines
+/// Returns the report on the message at `at`, or `None` if `text` or `other` ends before the end of the first lines
 /// that differ. `first` and `bytes` are the canonical bytes of the first message and of the message at `at`. `text` is
 /// a prefix of the text of `first`, and `other` a prefix of the text of `bytes`.
 fn report_by<A: Allocator + Copy>(
@@ -73,7 +73,7 @@ fn report_by<A: Allocator + Copy>(
     }
 }
 
-/// Returns the report on the message at `at`, whose canonical `bytes` differ from those of the `first` message.
+/// Returns the report on the message at `at`, whose canonical bytes `bytes` differ from `first`, those of message 1.
 ///
 /// The call makes a prefix of each text, at first of 65,536 bytes, and doubles that size until both prefixes have the
 /// first lines that differ. Both prefixes are in memory at once. If more than 65,536 bytes are needed, the size is less

@@ -17,15 +17,15 @@ use Rattle.capn_commands.specs.Plan.{plan_of}
 use Rattle.capn_commands.specs.declared.fault.ToolFault.{ToolFault}
 use Rattle.capn_commands.specs.declared.fault.ToolFault.TheVariants as faults
 
--- The fault of a run, without the position of its message.
+-- The fault of a run, without the position of a refused message.
 abbrev pub unplaced : RunFault → ToolFault
 unplaced run_faults.Memory = faults.Memory
 unplaced run_faults.Io = faults.Io
 unplaced run_faults.InputTooLong = faults.InputTooLong
 unplaced (run_faults.Refused at refusal) = faults.Refused refusal
 
--- The reader returned `bytes`, which took it from `a` to `b`. All output `text` of `plan` for these bytes was written,
--- which took the writer from `c` to `d`.
+-- The reader returned `bytes`, and all output `text` of `plan` for these bytes was written. `a` and `b` are the reader
+-- before and after, and `c` and `d` the writer.
 abbrev pub HasKeptUp : Plan → Option (List ℕ) → Option (List ℕ) → Option (List ℕ) → Option (List ℕ) → Type 0
 HasKeptUp plan a b c d =
     (bytes : List ℕ) × (text : List ℕ) × (due : Result (Unit {0}) ToolFault) × Consumes a b bytes
@@ -42,8 +42,8 @@ PlanKeepsUp (plans.Packed piece limits) a b c d = HasKeptUp (plans.Packed piece 
 abbrev pub KeepsUp : Command → Option (List ℕ) → Option (List ℕ) → Option (List ℕ) → Option (List ℕ) → Type 0
 KeepsUp command a b c d = PlanKeepsUp (plan_of command) a b c d
 
--- `parts` are the complete messages at the front of `bytes`. Their texts were written, which took the writer from `c`
--- to `d`. The bytes after these messages do not begin with a complete frame.
+-- `parts` are the complete messages at the front of `bytes`, and their texts were written. The bytes after these
+-- messages do not begin with a complete frame. `c` and `d` are the writer before and after.
 abbrev pub HasWrittenAll : MessageText → Bounds → List ℕ → Option (List ℕ) → Option (List ℕ) → Type 0
 HasWrittenAll piece limits bytes c d = (parts : List Part) × (rest : List ℕ)
     × AreParts piece limits bytes parts rest × IsUnfinished rest limits.message_words × Appends c d (texts_of parts)
@@ -53,8 +53,8 @@ abbrev pub HasWrittenAllPacked : MessageText → Bounds → List ℕ → Option 
 HasWrittenAllPacked piece limits bytes c d = (words group : List ℕ) × (at : ℕ) × Splits bytes group [] words at
     × HasWrittenAll piece limits words c d
 
--- The reader returned `bytes`, which took it from `a` to `b`. Before the last chunk of `bytes` was read, `Written` held
--- for the bytes before that chunk (`IsAhead`).
+-- The reader returned `bytes`. Before the last chunk of `bytes` was read, `Written` held for the bytes before that
+-- chunk (`IsAhead`). `a` and `b` are the reader before and after, and `c` and `d` the writer.
 abbrev pub StaysAhead : (List ℕ → Option (List ℕ) → Option (List ℕ) → Type 0) → Option (List ℕ) → Option (List ℕ)
     → Option (List ℕ) → Option (List ℕ) → Type 0
 StaysAhead Written a b c d = (bytes : List ℕ) × Consumes a b bytes × IsAhead Written bytes c d
@@ -70,8 +70,8 @@ PlanIsAhead (plans.Packed piece limits) a b c d = StaysAhead (HasWrittenAllPacke
 abbrev pub StaysAheadAs : Command → Option (List ℕ) → Option (List ℕ) → Option (List ℕ) → Option (List ℕ) → Type 0
 StaysAheadAs command a b c d = PlanIsAhead (plan_of command) a b c d
 
--- The reader returned at least one byte, which took it from `a` to `b`. For `Whole`, the reader may be at its end
--- instead.
+-- The reader returned at least one byte. For `Whole`, the reader may be at its end instead. `a` and `b` are the reader
+-- before and after.
 abbrev pub PlanMayNeedMemory : Plan → Option (List ℕ) → Option (List ℕ) → Type 0
 PlanMayNeedMemory (plans.Whole whole) a b = TakesBytes a b ⊎ IsAtEnd b
 PlanMayNeedMemory (plans.Each piece limits) a b = TakesBytes a b

@@ -4,7 +4,7 @@ use Rattle.capn_serve.specs.Ending.{status_of_ending}
 use Rattle.capn_commands.specs.declared.fault.ToolFault.{ToolFault}
 use Rattle.capn_commands.specs.declared.fault.ToolFault.TheVariants as faults
 
--- The exit status after a fault: 1 if the input is refused, and 3 otherwise. (Our own.)
+-- The exit status after a fault: 1 for `NotWhole` and `Refused`, and 3 for any other fault. (Our own.)
 abbrev pub exit_of : ToolFault → ℕ
 exit_of faults.Memory = 3
 exit_of faults.Io = 3

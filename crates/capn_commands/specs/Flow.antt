@@ -9,7 +9,7 @@ use Rattle.capn_commands.specs.declared.flow_fault.FlowFault.TheVariants as faul
 abbrev pub Ending : Type 0
 Ending = Result (Unit {0}) FlowFault
 
--- The greatest number of bytes of a stream that a run takes, so that each offset has 64 bits.
+-- The greatest number of bytes of a stream that a run takes, so that each offset fits into 64 bits.
 abbrev pub most : ℕ
 most = 2 ^ 64 - 1
 
@@ -21,13 +21,13 @@ taken_of input = take most input
 abbrev pub has_more : List ℕ → Bool
 has_more input = nat_lt most (length input)
 
--- A reader returned at least one byte, which took it from `old` to `new`.
+-- A reader returned at least one byte. `old` and `new` are the reader before and after.
 abbrev pub TakesBytes : Option (List ℕ) → Option (List ℕ) → Type 0
 TakesBytes old new = (bytes : List ℕ) × Consumes old new bytes × (0 < length bytes)
 
--- A transformation of a stream. `gives` relates the bytes of a run to its output and its result. `settles` relates
--- bytes to the output that is written before the next read, and `begins` relates bytes to an output of which a prefix
--- may be written.
+-- A transformation of a stream. `gives` relates the bytes that a run takes, and whether the input has more, to the
+-- output and the result. `settles` relates bytes to the output that is written before the next read, and `begins`
+-- relates bytes to an output of which a prefix may be written.
 pub record Flow : Type 1 where
   pub gives : List ℕ → Bool → List ℕ → Ending → Type 0
   pub settles : List ℕ → List ℕ → Type 0
@@ -35,7 +35,7 @@ pub record Flow : Type 1 where
 
 module _ (f : Flow) where
   -- A run over `bytes` has the result `r`: `Memory`, `Io`, or the result that `gives` relates to an output `text`. In
-  -- the last case `text` was written, which took the writer from `c` to `d`.
+  -- the last case `text` was written. `c` and `d` are the writer before and after.
   abbrev pub HasEnded : List ℕ → Bool → Option (List ℕ) → Option (List ℕ) → Ending → Type 0
   HasEnded bytes is_longer c d r =
       (r ≡ Err faults.Memory)
@@ -46,7 +46,7 @@ module _ (f : Flow) where
   abbrev pub EndsAs : Option (List ℕ) → Option (List ℕ) → Ending → List ℕ → Type 0
   EndsAs c d r input = HasEnded (taken_of input) (has_more input) c d r
 
-  -- A prefix of some `text` was written, which took the writer from `c` to `d`. `begins` relates `bytes` to `text`.
+  -- A prefix of some `text` was written, and `begins` relates `bytes` to `text`. The writer was `c`, and is now `d`.
   abbrev pub HasWritten : List ℕ → Option (List ℕ) → Option (List ℕ) → Type 0
   HasWritten bytes c d = (text : List ℕ) × (count : ℕ) × f.begins bytes text × Appends c d (take count text)
 
@@ -65,8 +65,8 @@ module _ (f : Flow) where
     pub lazy : IsAhead bytes c d
     pub written : HasWritten (taken_of bytes) c d
 
-  -- A reader returned `bytes`, which took it from `a` to `b`. A `text` was written, which took the writer from `c` to
-  -- `d`. `settles` relates `bytes` to `text`.
+  -- A reader returned `bytes`, a `text` was written, and `settles` relates `bytes` to `text`. `a` and `b` are the
+  -- reader before and after, and `c` and `d` the writer.
   abbrev pub KeepsUp : Option (List ℕ) → Option (List ℕ) → Option (List ℕ) → Option (List ℕ) → Type 0
   KeepsUp a b c d = (bytes : List ℕ) × (text : List ℕ) × Consumes a b bytes × f.settles bytes text × Appends c d text
 
@@ -97,7 +97,7 @@ module _ (f : Flow) where
     pub written : HasWritten bytes c d
 
 -- A reader returned `bytes`, at most one byte more than a run takes. `kept` are the bytes that the run takes, and
--- `is_longer` says whether `bytes` has more than `kept`. If not, the reader is at its end.
+-- `is_longer` says whether `bytes` has more bytes than `kept`. If `is_longer` is false, the reader is at its end.
 pub record Kept (old new : Option (List ℕ)) (kept : List ℕ) (is_longer : Bool) (bytes : List ℕ) : Type 0 where
   pub read : Consumes old new bytes
   pub bounded : length bytes ≤ most + 1
@@ -105,7 +105,7 @@ pub record Kept (old new : Option (List ℕ)) (kept : List ℕ) (is_longer : Boo
   pub more : has_more bytes ≡ is_longer
   pub ended : is_longer ≡ false → IsAtEnd new
 
--- A reader returned `taken` bytes, and a `text` was written. `P` holds for these `bytes` and for `text`.
+-- A reader returned `bytes`, whose number is `taken`, and a `text` was written. `P` holds for `bytes` and `text`.
 pub record Consumed (P : List ℕ → List ℕ → Type 0) (a b c d : Option (List ℕ)) (taken : ℕ) : Type 0 where
   pub bytes : List ℕ
   pub text : List ℕ

@@ -13,7 +13,7 @@ fault_text faults.InputTooLong = codes "input too long"
 fault_text (faults.Cut at) = codes "packed: Cut at " ++ decimal at
 fault_text (faults.NotWhole n) = codes "NotWhole(" ++ decimal n ++ codes ")"
 
--- The exit status of a run that ends with the fault: 1 if the input is refused, and 3 otherwise.
+-- The exit status of a run that ends with the fault: 1 for `Cut` and `NotWhole`, and 3 for any other fault.
 abbrev pub status_of : FlowFault → ℕ
 status_of faults.Memory = 3
 status_of faults.Io = 3

@@ -1,4 +1,4 @@
--- The marks of a message in an input, and the line `end` with marks. (Our own.)
+-- The marks of a message in an input (offsets and paths), and the line `end` with marks. (Our own.)
 use Rattle.std.specs.Prelude.{◌≡◌, ℕ, ◌+◌, ◌*◌, List, [], ◌∷◌, ◌++◌, codes, Bool, true, false, if◌then◌else◌}
 use Rattle.std.specs.Prelude.{refl}
 use Rattle.std.specs.Fmt.{decimal, digits}
@@ -24,13 +24,13 @@ abbrev pub byte_after : Marks → ℕ → ℕ
 byte_after marks words = marks.offset + 8 * (marks.table + words)
 
 -- The line `end` after a message of `words` words. If `marks` ask for offsets, the line begins with the offset of the
--- byte after the message. If `marks` ask for paths, an empty path comes next.
+-- byte after the message. If `marks` ask for paths, an empty path and a tab stand directly before `end`.
 abbrev pub marked_end : Marks → ℕ → List ℕ
 marked_end marks words =
     (if marks.offsets then decimal (byte_after marks words) ++ 9 ∷ [] else [])
     ++ ((if marks.ways then 9 ∷ [] else []) ++ (codes "end" ++ 10 ∷ []))
 
--- ---- examples: the line after a message of 3 words, whose table of 1 word begins at byte 24
+-- Two examples: the line after a message of 3 words, whose segment table of 1 word begins at byte 24.
 
 after_both : marked_end (record { offsets = true; ways = true; quoted = false; offset = 24; table = 1 }) 3
     ≡ codes "56\t\tend\n"

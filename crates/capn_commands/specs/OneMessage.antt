@@ -13,7 +13,7 @@ use Rattle.capn_commands.specs.declared.fault.ToolFault.{ToolFault}
 use Rattle.capn_commands.specs.declared.fault.ToolFault.TheVariants as faults
 
 -- For `Stream`, `frame` is `bytes`. For `Packed`, `bytes` unpack to `frame`, which is no longer than a message of
--- `most` words and the longest segment table.
+-- `most` words with the longest segment table.
 abbrev pub IsFrameOf : StreamForm → ℕ → List ℕ → List ℕ → Type 0
 IsFrameOf forms.Stream most bytes frame = bytes ≡ frame
 IsFrameOf forms.Packed most bytes frame = Unpacks bytes most frame

@@ -67,14 +67,14 @@ SettlesMost bytes text = (rest : List ℕ) × Settles bytes text rest × (length
 abbrev pub IsFront : List ℕ → List ℕ → Type 0
 IsFront bytes text = ((rest : List ℕ) × Settles bytes text rest) ⊎ Chosen text (whole_of bytes)
 
--- Packing as a flow. Before each read, the text is written that no later byte can change (`Settles`). At the end all
+-- Packing as a `Flow`. Before each read, the text that no later byte can change is written (`Settles`). At the end all
 -- text is written.
 abbrev pub packing : Flow
 packing = record { gives = λ bytes. IsPacked (length bytes) bytes; settles = SettlesMost; begins = IsFront }
 
 -- ---- the progress of packing
 
--- Packing as a flow, for the last bytes of a stream of `count` bytes.
+-- Packing as a `Flow`, for the last bytes of a stream of `count` bytes.
 abbrev pub packing_last : ℕ → Flow
 packing_last count = record { gives = IsPacked count; settles = SettlesMost; begins = IsFront }
 
@@ -82,8 +82,8 @@ packing_last count = record { gives = IsPacked count; settles = SettlesMost; beg
 abbrev pub most_open : ℕ
 most_open = 2040
 
--- The first `first` bytes of `text` pack the first `at` bytes of `words`, whatever bytes follow `words`. After these
--- `at` bytes, `words` has at most `most_open` bytes, and `AreOpen` holds for them.
+-- `take first text` packs the bytes of `words` before the offset `at`, whatever bytes follow `words`. From `at` on,
+-- `words` has at most `most_open` bytes, and `AreOpen` holds for them.
 pub record IsSettled (text words : List ℕ) (first at : ℕ) : Type 0 where
   pub inside : at ≤ length words
   pub settled : (more : List ℕ) → Settles (words ++ more) (take first text) (drop at words ++ more)
@@ -94,8 +94,8 @@ pub record IsSettled (text words : List ℕ) (first at : ℕ) : Type 0 where
 abbrev pub last_word : List ℕ → List ℕ
 last_word bytes = drop (length bytes - 8) bytes
 
--- After `Ok`, a `text` was written, and `Settles` holds for `before ++ bytes`, `text` and `after`. Then `after` has
--- fewer than `most_held` bytes. After `Err`, the run stopped with `fault` (`Stops`).
+-- After `Ok`, a `text` was written. `Settles` holds for `before ++ bytes`, `text` and `after`, and `MayGoOn` for
+-- `after`, which is shorter than `most_held` and no longer than `before ++ bytes`. After `Err`, `Stops` holds.
 abbrev pub PacksPart : List ℕ → List ℕ → Option (List ℕ) → Option (List ℕ) → Bool → Ending → List ℕ → Type 0
 PacksPart before bytes c d failed (Ok u) after =
     (text : List ℕ) × Settles (before ++ bytes) text after × (length after < most_held) × Appends c d text

@@ -84,8 +84,7 @@ EndsUnframed limits rest behind ending =
     (e : FrameFault) × (e ≢ frame_faults.Memory) × frames.IsFrameRefused rest limits.message_words e
     × (ending ≡ end_of e behind)
 
--- `rest` begins with a `message` that has no text of the kind `piece`, for the reason `fault`, and `ending` is `Err
--- fault`.
+-- `rest` begins with a `message` that has no text of the kind `piece`, for the reason `fault`. `ending` is `Err fault`.
 abbrev pub EndsRefused : MessageText → Bounds → List ℕ → Result (Unit {0}) ToolFault → Type 0
 EndsRefused piece limits rest ending =
     (message : List (List ℕ)) × (taken : ℕ) × (fault : ToolFault) × StandsFirst rest limits.message_words message taken

@@ -47,7 +47,7 @@ abbrev pub IsText : Command → List ℕ → List ℕ → Result (Unit {0}) Tool
 IsText command input text ending = IsDue (plan_of command) (taken_of input) (has_more input) text ending
 
 -- `ending` is `Memory` or `Io`, or `IsDue` holds for `plan`, `bytes`, `ending` and some `text`. In the last case `text`
--- was written, which took the writer from `old` to `new`.
+-- was written. `old` and `new` are the writer before and after.
 abbrev pub HasEnded : Plan → List ℕ → Bool → Option (List ℕ) → Option (List ℕ) → Result (Unit {0}) ToolFault → Type 0
 HasEnded plan bytes is_longer old new ending =
     (ending ≡ Err faults.Memory)
@@ -61,15 +61,15 @@ PlanEndsAs plan old new ending input = HasEnded plan (taken_of input) (has_more 
 abbrev pub EndsAs : Command → Option (List ℕ) → Option (List ℕ) → Result (Unit {0}) ToolFault → List ℕ → Type 0
 EndsAs command old new ending input = PlanEndsAs (plan_of command) old new ending input
 
--- `ending` is `Memory`, `Io` or `due`. If `ending` is neither `Memory` nor `Io`, `text` was written, which took the
--- writer from `old` to `new`.
+-- `ending` is `Memory`, `Io` or `due`. If `ending` is neither `Memory` nor `Io`, `text` was written. `old` and `new`
+-- are the writer before and after.
 abbrev pub EndsBy : List ℕ → Result (Unit {0}) ToolFault → Option (List ℕ) → Option (List ℕ)
     → Result (Unit {0}) ToolFault → Type 0
 EndsBy text due old new ending =
     (ending ≡ Err faults.Memory) ⊎ ((ending ≡ Err faults.Io) ⊎ ((ending ≡ due) × Appends old new text))
 
 -- `text` is an output that a run of `plan` may begin to write for `bytes`. For `Whole`, `text` is empty or the complete
--- output. For a stream, `text` is the texts of the first complete messages.
+-- output. For a stream, `text` is the texts of any number of complete messages at the front of the stream.
 abbrev pub IsFront : Plan → List ℕ → Bool → List ℕ → Type 0
 IsFront (plans.Whole whole) bytes is_longer text = (text ≡ []) ⊎ IsDueWhole whole bytes is_longer text (Ok tt)
 IsFront (plans.Each piece limits) bytes is_longer text = (parts : List Part) × (rest : List ℕ)
@@ -78,7 +78,7 @@ IsFront (plans.Packed piece limits) bytes is_longer text =
     (words : List ℕ) × (parts : List Part) × (rest : List ℕ) × packs.Begins bytes [] words
     × AreParts piece limits words parts rest × (text ≡ texts_of parts)
 
--- A prefix of some `text` was written, which took the writer from `old` to `new`. `IsFront` holds for `text`.
+-- A prefix of some `text` was written, and `IsFront` holds for `text`. The writer was `old`, and is now `new`.
 abbrev pub HasWritten : Plan → List ℕ → Bool → Option (List ℕ) → Option (List ℕ) → Type 0
 HasWritten plan bytes is_longer old new =
     (text : List ℕ) × (count : ℕ) × IsFront plan bytes is_longer text × Appends old new (take count text)

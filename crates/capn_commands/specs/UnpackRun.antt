@@ -32,7 +32,7 @@ pub record IsUnpacked (bytes : List ℕ) (is_longer : Bool) (words : List ℕ) (
 abbrev pub UnpacksTo : List ℕ → List ℕ → Type 0
 UnpacksTo bytes words = (group : List ℕ) × (offset : ℕ) × Splits bytes group [] words offset
 
--- Unpacking as a flow. The words of all complete groups are written before each read, and at the end.
+-- Unpacking as a `Flow`. The words of all complete groups are written before each read, and at the end.
 abbrev pub unpacking : Flow
 unpacking = record { gives = IsUnpacked; settles = UnpacksTo; begins = λ bytes words. packing.Begins bytes [] words }
 

@@ -28,8 +28,8 @@ abbrev pub IsFaultOf : Refusal → ToolFault → Type 0
 IsFaultOf r fault =
     ((r ≡ refusals.Memory) × (fault ≡ faults.Memory)) ⊎ ((r ≢ refusals.Memory) × (fault ≡ faults.Refused r))
 
--- `r` is the reason why `bytes` in `form` have no text of the given kind as one message. For a text or a price, the
--- message is not accepted. For a digest, the message has no canonical bytes.
+-- `r` is the reason why `bytes`, read as one message in `form`, have no text of the given kind. For `Text` and `Price`,
+-- the message is not accepted. For `Digest`, the message has no canonical bytes.
 abbrev pub IsOneRefused : MessageText → Form → List ℕ → Bounds → Refusal → Type 0
 IsOneRefused kinds.Text form bytes limits r = IsUnacceptedIn form bytes limits r
 IsOneRefused kinds.Price form bytes limits r = IsUnacceptedIn form bytes limits r
@@ -46,8 +46,8 @@ Makes (wholes.Bare piece limits) bytes text = (words : List ℕ) × IsBare bytes
 Makes (wholes.One piece form limits) bytes text = (message : List (List ℕ))
     × Reads (form_of form) bytes limits.message_words message × IsMessageText piece message limits text
 
--- `fault` is the reason why `whole` has no output for `bytes`. `bytes` are no complete words, or do not unpack to at
--- most `most` words, or are not one message that has this output.
+-- `fault` is the reason why `whole` has no output for `bytes`. `Packed` needs complete words, `Unpacked` needs packed
+-- bytes of at most `most` words, and the other outputs need one message that has the output.
 abbrev pub MakesNothing : Whole → List ℕ → ToolFault → Type 0
 MakesNothing wholes.Packed bytes fault = (length bytes % 8 ≢ 0) × (fault ≡ faults.NotWhole (length bytes))
 MakesNothing (wholes.Unpacked most) bytes fault =

@@ -11,7 +11,7 @@ use Rattle.capn_commands.specs.declared.fault.ToolFault.TheVariants as faults
 
 module _ (makes : List ℕ → List ℕ → Type 0) (fails : List ℕ → ToolFault → Type 0) where
   -- `ending` is `Memory` or `Io`, or `IsDueOf` holds for `bytes`, `ending` and some `text`. In the last case `text` was
-  -- written, which took the writer from `old` to `new`.
+  -- written. `old` and `new` are the writer before and after.
   abbrev pub WholeEnds : Option (List ℕ) → Option (List ℕ) → Result (Unit {0}) ToolFault → List ℕ → Bool → Type 0
   WholeEnds old new ending bytes is_longer =
       (ending ≡ Err faults.Memory)

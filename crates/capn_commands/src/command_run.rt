@@ -98,10 +98,10 @@ fn perform<R: Read, W: Write, A: Allocator + Copy>(
 
 /// Carries out `command`: reads the input, and writes the output of the command.
 ///
-/// `pack`, `unpack`, `canonical`, [`Command::One`] and the form bare read the complete input first, and write nothing
-/// if the input is refused. `show`, `check` and `hash` read a stream, packed or not, message by message. Before each
-/// read, the text of all messages that are complete by then has been written, mostly by one call. If a message is
-/// refused, the text of the messages before it has been written.
+/// `pack`, `unpack`, `canonical`, [`Command::One`] and any command over a bare input read the complete input first, and
+/// write nothing if the input is refused. `show`, `check` and `hash` read a stream, packed or not, message by message.
+/// Before each read, the text of all messages that are complete by then has been written, mostly by one call. If a
+/// message is refused, the text of the messages before it has been written.
 ///
 /// `Memory` is returned if an allocation was refused, and `Io` if and only if the reader or the writer has failed.
 /// `InputTooLong` is returned if the input has more than 2^32 bytes. In a stream, an earlier refusal is returned
@@ -110,10 +110,10 @@ fn perform<R: Read, W: Write, A: Allocator + Copy>(
 /// not grow with the length of the input. A run takes 128 KiB, and at most 1 MiB for unpacked words. It also takes
 /// memory for the longest message, and for the texts of the messages that are complete after one read.
 ///
-/// If the complete input is read first, the run may hold only its first bytes. Of a stream, `canonical` and
-/// [`Command::One`] hold the first 8 * (message words + 2,049) + 1 bytes. Of a packed input they hold the first
-/// (message words + 2,049) words that the input unpacks to. `unpack` holds its output. Input after these bytes is read
-/// and dropped. The form bare holds at most 2^28 + 1 words, and `pack` holds all of the input.
+/// If the complete input is read first, the run may hold only a part of the input. Let `m` be the greatest number of
+/// words of a message. Of a stream, `canonical` and [`Command::One`] hold the first 8 * (`m` + 2,049) + 1 bytes. Of a
+/// packed input they hold the first `m` + 2,049 words that the input unpacks to. `unpack` holds its output. Of a bare
+/// input at most 2^28 + 1 words are held. Later input is read and dropped. `pack` holds all of the input.
 pub fn run<R: Read, W: Write, A: Allocator + Copy>(
     alloc: A,
     command: Command,
@@ -141,8 +141,8 @@ pub fn run<R: Read, W: Write, A: Allocator + Copy>(
     ensures heard { has_failed reader.new ≡ true
         → KeepsUp command (R.remaining (inner_of reader.old)) (R.remaining (inner_of reader.new))
         (W.contents (inner_of writer.old)) (W.contents (inner_of writer.new)) }
-    // If the input is read message by message, the writer had these texts before the last read: the texts of all
-    // messages that were complete by then.
+    // If the input is read message by message, the texts of all messages that were complete before the last read were
+    // written before that read.
     ensures ahead { StaysAheadAs command (R.remaining (inner_of reader.old)) (R.remaining (inner_of reader.new))
         (W.contents (inner_of writer.old)) (W.contents (inner_of writer.new)) }
     // `result` is `Memory` only if some bytes were read, or if the complete input is read first and its end was found.

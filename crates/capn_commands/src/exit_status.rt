@@ -40,8 +40,8 @@ impl Ending for ToolFault {
     }
 }
 
-/// Returns the exit status of a run with this `outcome`: 0 for `Ok`, and 1 if the input is refused. The status is 3 if
-/// memory, the reader or the writer failed, or if the input is too long.
+/// Returns the exit status of a run with this `outcome`: 0 for `Ok`, 1 for `NotWhole` and `Refused`, and 3 for
+/// `Memory`, `Io` and `InputTooLong`.
 pub fn status(outcome: &Result<(), ToolFault>) -> u8
     ensures { result ≡ status_of outcome.now }
 {

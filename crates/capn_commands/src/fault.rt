@@ -20,7 +20,7 @@ pub enum ToolFault {
     /// The reader or the writer failed.
     #[error("Io")]
     Io,
-    /// The input has more than 2^32 bytes.
+    /// The input has more than 2^32 bytes, or as a stream of `run_show` more than 2^64 - 1.
     #[error("InputTooLong")]
     InputTooLong,
     /// The input has this number of bytes, which is no multiple of eight.

@@ -10,7 +10,7 @@ use std::error::Error;
 use std::fmt;
 use std::io::Write;
 
-/// The reason why a stream isn't packed or unpacked to its end.
+/// The reason why a stream is not packed or unpacked to its end.
 #[derive(Clone, Copy, Debug, PartialEq, Eq)]
 pub enum FlowFault {
     /// An allocation was refused.
@@ -55,7 +55,7 @@ impl fmt::Display for FlowFault {
 impl Error for FlowFault {}
 
 impl FlowFault {
-    /// Returns the status with which a program ends: 1 if the input is refused, else 3.
+    /// Returns the status with which a program ends: 1 for `Cut` and `NotWhole`, and 3 for any other fault.
     pub fn status(self) -> u8
         ensures { result ≡ status_of self }
     {

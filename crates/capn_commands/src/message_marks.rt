@@ -1,4 +1,4 @@
-//! The marks before the lines of a shown message (offset and path), and the line `end` after them.
+//! The marks (offset and path) before the lines of a shown message, and the line `end` after the last of these lines.
 
 ghost use Rattle.std.specs.Prelude.{◌≡◌, [], ◌∷◌, ◌++◌, codes, false, if◌then◌else◌};
 ghost use Rattle.std.specs.Fmt.{decimal};
@@ -14,7 +14,7 @@ use capn_words::{Space, Watched};
 use std::alloc::Allocator;
 use std::io::Write;
 
-/// Returns the marks that `texts` asks for, for `message` at the position `at`.
+/// Returns the marks for `message` at the position `at`, with the options of `texts`.
 pub(crate) fn marks_of<S: Space>(texts: &PartTexts, at: Position, message: &S) -> Marks
     ensures { result ≡ spec.marks_of texts.now at (S.message message.now) }
 {

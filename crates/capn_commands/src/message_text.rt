@@ -15,8 +15,8 @@ use capn_words::{Bare, Space};
 use sha2::{Digest, Sha256};
 use std::alloc::Allocator;
 
-/// Appends the line with the price `paid` and the number `visits`, which ends with `end`. Nothing is appended if an
-/// allocation is refused.
+/// Appends a line with the price `paid` and the number `visits`. The line ends with the bytes `end`, newline included.
+/// Nothing is appended if an allocation is refused.
 #[inline(always)]
 fn put_priced<A: Allocator>(
     text: &mut Vec<u8, A>,
@@ -27,7 +27,7 @@ fn put_priced<A: Allocator>(
     requires { length end.now ≤ 16 }
     ensures { PutsLine (priced paid visits end.now) text.old.items text.new.items result }
 {
-    // Two numbers of at most 20 digits each, 16 bytes of words, and the end.
+    // Two numbers of at most 20 digits each, the 16 bytes of `ok paid ` and ` visits `, and at most 16 bytes of `end`.
     let mut line = NumberLine::<72>::new();
     line.put(end);
     line.put_named(b" visits ", visits as u64);

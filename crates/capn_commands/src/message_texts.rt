@@ -84,8 +84,8 @@ fn served(put: Result<(), ToolFault>) -> Result<(), ServeFault>
     }
 }
 
-/// Maps `put`, the outcome of appending a message's text, to the outcome of serving the message. Writes `text` if
-/// `text` has at least 65,536 bytes.
+/// Maps `put`, the outcome of appending a message's text, to the outcome of serving the message. If `put` is `Ok`,
+/// writes a `text` of at least 65,536 bytes.
 #[inline(always)]
 fn end_piece<W: Write, A: Allocator>(
     put: Result<(), ToolFault>,

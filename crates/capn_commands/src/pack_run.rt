@@ -30,11 +30,11 @@ const CHUNK: u64 = 65_536;
 /// The greatest number of words of a group.
 const RUN: u32 = 256;
 
-/// The number of bytes of 255 words, which is the longest run that may continue with a further word.
+/// The number of bytes of the longest run that may continue with a further word: 255 words.
 const OPEN: usize = 2040;
 
-/// The settled prefix of a packed text. No later word changes this prefix. `text` is the length of the prefix in bytes,
-/// and `words` is the number of bytes of the words that the prefix packs.
+/// The settled prefix of a packed text. No later word changes this prefix. `text` and `words` are the lengths, in
+/// bytes, of the prefix and of the words that are packed in the prefix.
 #[derive(Clone, Copy)]
 struct Settled {
     text: usize,
@@ -87,7 +87,7 @@ fn before_dense(words: &[u8]) -> usize
 }
 
 /// Returns the settled prefix of `text`, the packed text of `words`. The last word is zero, so the last group is a run
-/// of zero words. The last byte of `text` is the number of words of that run less one.
+/// of zero words. The last byte of `text` is one less than the number of words of that run.
 fn zeros_part(words: &[u8], text: &[u8]) -> Settled
     requires some { 8 ≤ length words.now }
     requires chosen { Chosen text.now words.now }
@@ -225,8 +225,8 @@ fn end_after(count: u64, is_longer: bool) -> Result<(), FlowFault>
     Ok(())
 }
 
-/// Writes the packed text of the complete words of `held`, which are the last of the stream, to `writer`. Returns the
-/// outcome of the run, which packed `count` bytes in all. If `is_longer` is set, the stream has more bytes, and the
+/// Writes the packed text of the complete words of `held`, the last words that the run packs, to `writer`. Returns the
+/// outcome of the run, which took `count` bytes in all. If `is_longer` is set, the stream has more bytes, and the
 /// outcome is an error.
 fn pack_last<W: Write, A: Allocator + Copy>(
     alloc: A,
@@ -249,20 +249,20 @@ fn pack_last<W: Write, A: Allocator + Copy>(
     }
 }
 
-/// Packs a stream: writes the text that [`pack`](capn_pack::pack) returns for the complete words of `reader` to
-/// `writer`. Chunks of at most 65,536 bytes are read. Before each read, the settled prefix of the text has been
+/// Packs a stream: writes to `writer` the text that [`pack`](capn_pack::pack) returns for the complete words of
+/// `reader`. Chunks of at most 65,536 bytes are read. Before each read, the settled prefix of the text has been
 /// written. (Page: packing; the rest is our own.)
 ///
 /// Text is settled if no later word can change it. If the last group is a run of zero words or of raw words that may
-/// continue, the text before that group is settled. Otherwise all text is settled. Up to 255 dense words at the end are
-/// not packed before the next read either. In all, fewer than 4,096 bytes of input are not packed before a read.
+/// continue, the text before that group is settled. Otherwise all text is settled. Up to 255 words at the end are held
+/// back too, if each has at most one zero byte. In all, fewer than 4,096 bytes of input are not packed before a read.
 ///
 /// At most 2^64 - 1 bytes of the stream are packed. One more byte may be read, to find out whether the stream is
 /// longer. `Io` is returned if and only if the reader or the writer failed. `Memory` is returned if an allocation was
 /// refused, and only after at least one byte of input. `InputTooLong` is returned if the stream has more than 2^64 - 1
 /// bytes. `NotWhole`, with the number of bytes, is returned if that number is no multiple of eight. Before
 /// `InputTooLong` and `NotWhole` the text of all complete words was written. Before `Memory` and `Io` a prefix of that
-/// text was written. The run holds a chunk with its text and its words, each at most twice: less than 2 MiB.
+/// text was written. The run holds at most two copies of a chunk, of its text and of its words: less than 2 MiB.
 pub fn pack_stream<R: Read, W: Write, A: Allocator + Copy>(
     alloc: A,
     reader: &mut Watched<R>,

@@ -1,4 +1,4 @@
-//! The service of `show`: the text of messages or of parts of them, in a style or with marks.
+//! The service of `show`: it writes the value at a path of each message, in a style or in lines with offsets or paths.
 
 ghost use Rattle.std.specs.Prelude.{◌≡◌, ◌||◌, false};
 ghost use Rattle.capn_words.specs.Message.{total};
@@ -20,22 +20,21 @@ use capn_words::{Space, Watched, total_words};
 use std::alloc::Allocator;
 use std::io::Write;
 
-/// The service that writes, for each message of a stream, the text of the value at a path and the end of that text. A
-/// message that exceeds the limits is refused.
+/// The service that writes, for each message of an input, the text of the value at a path, and then a line `end` unless
+/// the text is JSON. A message that exceeds the limits is refused.
 #[derive(Drop)]
 pub struct PartTexts<'w> {
     /// The numbers of the path.
     pub path: &'w [u64],
-    /// The encoding of the stream.
+    /// The encoding of the input.
     pub form: Form,
     /// The limits of a message.
     pub limits: Limits,
-    /// The style of the text.
+    /// The style of the text. With offsets or paths, lines are written even if the style is JSON.
     pub style: Style,
-    /// True if each line begins with the offset of the byte that the line describes. JSON has no offsets.
+    /// True if each line of a value begins with the byte offset of the slot, row, word or elements that the line shows.
     pub offsets: bool,
-    /// True if each line begins, after any offset, with the path to the slot that the line describes. JSON has no
-    /// paths.
+    /// True if each line of a value begins, after any offset, with the path to the slot or row of that line.
     pub ways: bool,
 }
 
@@ -116,8 +115,8 @@ fn has_marks(texts: &PartTexts) -> bool
     texts.offsets || texts.ways
 }
 
-/// Adds the text of the value at `texts.path` from the message's root, and the line `end` if the style has one. The
-/// text has marks if `texts` asks for offsets or paths, and otherwise the style `texts.style`.
+/// Adds the text of the value at `texts.path` from the message's root: with marks if `texts` asks for offsets or paths,
+/// and otherwise in `texts.style`. Then adds the line `end`, except after JSON.
 fn add_text<S: Space, W: Write, A: Allocator + Copy>(
     alloc: A,
     texts: &PartTexts,

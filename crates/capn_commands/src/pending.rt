@@ -22,14 +22,14 @@ const ROOM: usize = 2050 + CHUNK as usize;
 /// The state of a packed input that is unpacked while it is read.
 #[derive(Drop)]
 pub(crate) struct Pending {
-    /// A buffer whose first `len` bytes are those of an unfinished group.
+    /// A buffer that begins with the `len` bytes of an unfinished group.
     pub text: [u8; ROOM],
     pub len: usize,
-    /// The offset in the input at which the unfinished group begins.
+    /// The offset in the input at which the first group that is not unpacked begins.
     pub at: u64,
     /// The number of words that may still be unpacked.
     pub left: u32,
-    /// True if a group has more than `left` words. Input after such a group is dropped.
+    /// True if a group had more than `left` words. All later input is then dropped.
     pub is_long: bool,
 }
 
@@ -51,8 +51,8 @@ fn keep(text: &mut [u8], from: usize, to: usize)
     text.copy_within(from..to, 0);
 }
 
-/// Takes the next chunk `piece`, and appends the words of all complete groups to `words`. Stops at a group with more
-/// than `pending.left` words.
+/// Takes the next chunk `piece`, and appends the words of the groups that are now complete to `words`. Stops at a group
+/// with more than `pending.left` words. After such a group, nothing is appended.
 fn take_chunk<A: Allocator>(
     pending: &mut Pending,
     piece: &[u8],
@@ -108,10 +108,10 @@ fn end_pending<A: Allocator>(pending: &Pending, words: Vec<u8, A>) -> Result<Vec
 }
 
 /// Reads a packed input to its end, and returns the words that the input unpacks to. More than `most` words are
-/// refused.
+/// refused, and more than 2^32 bytes of input give `InputTooLong`.
 ///
-/// Only the words and an unfinished group are held. After a group with too many words, further input is read and
-/// dropped.
+/// Only the words, an unfinished group and one chunk are held. After a group with too many words, further input is
+/// read and dropped.
 pub fn read_words<R: Read, A: Allocator>(
     alloc: A,
     reader: &mut Watched<R>,

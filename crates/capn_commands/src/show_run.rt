@@ -14,12 +14,12 @@ use std::io::{Read, Write};
 /// says whether the text is in a style or has marks. An empty path shows the complete message.
 ///
 /// The line `end` follows each text, except in JSON. If nothing is at the path, the text is the line `none`, or in JSON
-/// an empty line. A message is refused if and only if its survey is refused, whatever is at the path. In a stream, the
-/// texts of all complete messages have been written before each read.
+/// an empty line. A message is refused if and only if the walk of the complete message is refused, whatever is at the
+/// path. In a stream, the texts of all complete messages have been written before each read.
 ///
-/// The first fault ends the run. A frame, a group or a message may be refused. `InputTooLong` is returned if the input
-/// has more bytes than a run takes. `Io` is returned if and only if the reader or the writer failed, and `Memory` if an
-/// allocation was refused.
+/// The first fault ends the run. A frame, a group or a message may be refused. `InputTooLong` is returned for a bare
+/// input of more than 2^32 bytes, and for any other input of more than 2^64 - 1 bytes, packed or unpacked. `Io` is
+/// returned if and only if the reader or the writer failed, and `Memory` if an allocation was refused.
 pub fn run_show<R: Read, W: Write, A: Allocator + Copy>(
     alloc: A,
     texts: &PartTexts,

@@ -29,7 +29,7 @@ pub(crate) const START: Position = Position {
     offset: 0,
 };
 
-/// Returns the packed text of the words `bytes`.
+/// Returns the packed text of `bytes`, or `NotWhole` if `bytes` are not complete words.
 fn packed<A: Allocator + Copy>(alloc: A, bytes: &[u8]) -> Result<Vec<u8, A>, ToolFault>
     ensures { Gives wholes.Packed bytes.now result }
 {
@@ -61,8 +61,8 @@ fn verdict<A: Allocator + Copy>(
 
 /// Reads all of an input that should be one frame, and returns the bytes that the command may need. For a stream these
 /// are the first bytes, at most one byte more than the longest frame of a message of `most` words. For a packed input
-/// these are the words that the input unpacks to. A packed input that unpacks to more words than the longest frame has
-/// is refused.
+/// these are the words that the input unpacks to. A packed input is refused if it unpacks to more words than the
+/// longest frame has.
 pub(crate) fn read_frame<R: Read, A: Allocator>(
     alloc: A,
     reader: &mut Watched<R>,
@@ -101,7 +101,7 @@ fn make_framed<R: Read, A: Allocator + Copy>(
 }
 
 /// Reads all of the input of `reader`, and returns the packed text of its words. The complete input is held. `NotWhole`
-/// is returned if the number of bytes is no multiple of eight.
+/// is returned if the number of bytes is no multiple of eight, and `InputTooLong` if that number is above 2^32.
 pub fn make_text<R: Read, A: Allocator + Copy>(
     alloc: A,
     reader: &mut Watched<R>,
@@ -129,8 +129,8 @@ fn make_trimmed<R: Read, A: Allocator + Copy>(
     Ok(canonical.bytes)
 }
 
-/// Reads a bare input from `reader`, and returns the verdict line of its message. The message is refused if it exceeds
-/// `limits`.
+/// Reads a bare input from `reader`, and returns a line that states the price of its message, the number of visits, and
+/// whether the bytes are canonical. The message is refused if it exceeds `limits`.
 pub fn make_verdict<R: Read, A: Allocator + Copy>(
     alloc: A,
     reader: &mut Watched<R>,

@@ -121,8 +121,8 @@ canonical_text (forms.After byte word) =
     codes "no: at byte " ++ (decimal byte ++ (codes ": " ++ (word_text word
     ++ codes ", canonical nothing, after the value")))
 
--- The line `lengths:`, with the length of a message's contents and that of its canonical bytes. The line is empty for
--- `None`.
+-- The line `lengths:`, with the length of a message's contents and the length of its canonical bytes. The line is empty
+-- for `None`.
 abbrev pub lengths_line : Option (ℕ × ℕ) → List ℕ
 lengths_line (Some lengths) =
     codes "lengths: " ++ (decimal lengths.0 ++ (codes " bytes, canonical " ++ (decimal lengths.1 ++ codes "\n")))

@@ -58,14 +58,14 @@ module _ (message : List (List ℕ)) (offset table : ℕ) where
     pub is : text ≡ with_byte_if holder
 
   -- `lines` has the `path` to the slot at which the walk stopped, the object that holds this slot, and the findings
-  -- about it.
+  -- about this slot.
   pub record AreLinesOf (limits : Bounds) (path : List ℕ) (stopped : Stopped) (lines : SlotLines) : Type 0 where
     pub numbers : lines.path.now ≡ path
     pub holder : IsHolderText path stopped.place lines.holder
     pub examined : lines.examined ≡ examined_at limits stopped
 
-  -- If the message has a root, the lines are `Some lines`, those of the slot at which the walk stopped. Otherwise they
-  -- are `None`.
+  -- For `Some lines`, the message has a root, and `lines` are the lines of the slot at which the walk stopped. For
+  -- `None`, the message has no root.
   abbrev pub AreLinesIf : Bounds → List ℕ → Stopped → Option SlotLines → Type 0
   AreLinesIf limits path stopped (Some lines) =
       (0 < length (segment_at message 0)) × AreLinesOf limits path stopped lines
@@ -76,8 +76,8 @@ module _ (message : List (List ℕ)) (offset table : ℕ) where
 abbrev pub head : List (List ℕ) → ℕ → ℕ → MessageHead
 head message index offset = record { index = index; offset = offset; segments = Some (segments_of message) }
 
--- `message` is refused within `limits`, as `stopped` says, and `text` has the lines that explain this. If the message
--- has a root, these lines include the lines of the slot at which the walk stopped.
+-- `message` is refused within `limits`, as `stopped` says, and `text` has the lines that explain the refusal. If the
+-- message has a root, these lines include the lines of the slot at which the walk stopped.
 pub record IsRefusalTold (message : List (List ℕ)) (limits : Bounds) (index offset table : ℕ) (stopped : Stopped)
     (text : List ℕ) : Type 0 where
   pub path : List ℕ

@@ -25,7 +25,7 @@ use Rattle.capn_diagnostics.specs.declared.examined.RowWords.{RowWords}
 use Rattle.capn_diagnostics.specs.declared.examined.Limit.{Limit}
 use Rattle.capn_diagnostics.specs.declared.examined.Limit.TheVariants as bounds
 
--- The number of words of the content of a pointer to a struct or list, and 0 for any other pointer.
+-- The length in words of the content of a struct pointer or list pointer, and 0 for any other pointer.
 abbrev pub words_told : Pointer → ℕ
 words_told (Node o a b) = a + b
 words_told (Many o width n) = content_words width n
@@ -77,13 +77,13 @@ module _ (message : List (List ℕ)) where
   told_there s w form =
       if nat_lt s (length message) then Some (record { segment = s; from = w; offset = pos 0; form = form }) else None
 
-  -- The reference of a landing pad with the given two words, or `None` if these words are not a valid pad.
+  -- The reference of a landing pad with the given two words, if they are a valid pad and the content's segment exists.
   abbrev pub told_two : Pointer → Pointer → Option Telling
   told_two (Far false w s) tag = if is_second_pad message tag then told_there s w tag else None
   told_two _ tag = None
 
-  -- The reference of a pointer at word `w` of segment `s`. If the pointer is far, the reference is that of its landing
-  -- pad, or `None` if the pad is not in its segment.
+  -- The reference of a pointer at word `w` of segment `s`. For a far pointer, the result is the reference of its
+  -- landing pad, or `None` if the pad is not in its segment, or has no reference.
   abbrev pub told_by : ℕ → ℕ → Pointer → Option Telling
   told_by s w (Far false v t) = if has_words t v 1 then told_near t v (pointer_in message t v) else None
   told_by s w (Far true v t) =
@@ -143,14 +143,13 @@ module _ (message : List (List ℕ)) where
   tag_told s from offset (Many o Rows n) = tag_from s n (begins from offset)
   tag_told s from offset _ = None
 
-  -- The place of the tag of the list of structs to which the reference `t` leads, or `None`. The list has to be in its
-  -- segment.
+  -- The place of a list's tag, if the reference `t` leads to a list of structs that is in its segment. Otherwise
+  -- `None`.
   abbrev pub tag_in : Option Telling → Option Place
   tag_in None = None
   tag_in (Some t) = tag_told t.segment t.from t.offset t.form
 
-  -- The place of the tag of the list of structs to which the slot at `at` leads, or `None`. The list has to be in its
-  -- segment.
+  -- The place of a list's tag, if the slot at `at` leads to a list of structs that is in its segment. Otherwise `None`.
   abbrev pub tag_at : Place → Option Place
   tag_at at = tag_in (told at)
 

@@ -91,7 +91,7 @@ abbrev pub limit_line : Option Limit → List ℕ
 limit_line (Some limit) = line (codes "limit: ") (limit_text limit)
 limit_line None = codes ""
 
--- The line of the `path` to a slot, and the lines of the findings `e` about this slot.
+-- The line of the `path` to a slot, the line of its `holder`, and the lines of the findings `e` about this slot.
 abbrev pub slot_lines : List ℕ → Option HolderText → Examined → List ℕ
 slot_lines path holder e =
     line (codes "way: ") (path_text path) ++ (line (codes "slot: ") (word_as_pointer e.slot) ++ (holder_line holder

@@ -9,7 +9,7 @@ use capn_words::{Place, Space};
 /// Returns the offset in bytes, in a stream, of the word at `at` of the message `space`.
 ///
 /// `offset` is the byte at which the message begins. `table` is the number of words of its table, and 0 for a bare
-/// segment. The call asks `space` for the length of each segment before the segment of the word.
+/// segment. The call asks `space` for the length of each segment that precedes the word's segment.
 #[tactic(auto, using(std::proofs::lemmas::List::Sums::sum_by_more_le, std::proofs::lemmas::List::Sums::fold_more))]
 pub fn place_byte<S: Space>(space: &S, offset: u64, table: u32, at: Place) -> u64
     requires segment { at.segment ≤ length (S.message space.now) }
@@ -27,7 +27,7 @@ pub fn place_byte<S: Space>(space: &S, offset: u64, table: u32, at: Place) -> u6
 }
 
 /// Returns the offset in bytes of the word at `at`, like `place_byte`. The place has to be in range, and the offset may
-/// pass 64 bits.
+/// need more than 64 bits.
 #[tactic(auto, using(crate::proofs::PlaceWithin::before_end, crate::proofs::PlaceWithin::has_segment))]
 pub(crate) fn long_place_byte<S: Space>(space: &S, offset: u64, table: u32, at: Place) -> u128
     requires { IsPlace (S.message space.now) at }

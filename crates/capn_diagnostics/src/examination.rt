@@ -101,9 +101,9 @@ fn placed_some<S: Space>(space: &S, offset: u64, table: u32, at: Option<Place>) 
 /// Examines the slot at which the walk over the message `space` was refused within `limits`.
 ///
 /// `offset` is the byte of the stream at which the message's table begins. `table` is the number of words of that
-/// table, and 0 for a bare segment. The place in `stopped` has to be a place of the message. This is so for each fault
-/// of a refused walk other than `NoRoot`. The call reads at most twelve words, asks for the length of each segment a
-/// few times, and takes no memory.
+/// table, and 0 for a bare segment. The place in `stopped` has to be a place of the message. Each fault of a refused
+/// walk other than `NoRoot` has such a place. The call reads at most twelve words, asks for the length of each segment
+/// a few times, and takes no memory.
 pub fn examine<S: Space>(
     space: &S,
     offset: u64,

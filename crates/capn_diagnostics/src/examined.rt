@@ -5,7 +5,7 @@ use crate::slot_text::SlotText;
 /// The landing pad of the pointer in a slot.
 #[derive(Clone, Copy, Debug, PartialEq, Eq)]
 pub enum Pad {
-    /// There is no pad to show: the pointer is not far, or its pad is not inside its segment.
+    /// There is no pad to show: the pointer is not far, or the words of the pad are not all inside the segment.
     Absent,
     /// A pad of one word.
     One(SlotText),

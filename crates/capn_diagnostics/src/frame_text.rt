@@ -9,7 +9,7 @@ use std::{fmt, str};
 /// newline, or as nothing.
 #[derive(Clone, Copy, Debug, PartialEq, Eq)]
 pub enum FrameKey {
-    /// Nothing, since the fault has no such line.
+    /// Nothing, for a fault that no sizes explain.
     Nothing,
     /// The number of bytes of a bare message that were read.
     There(u64),

@@ -42,7 +42,7 @@ impl fmt::Display for MessageHead {
     ghost output = { λ head. Some (head_lines head) };
 
     fn fmt<W: fmt::Write>(&self, f: &mut fmt::Formatter<W>) -> fmt::Result {
-        // Messages are numbered from 1, so the number of the greatest index passes 64 bits.
+        // Messages are numbered from 1, so the number for the greatest index needs more than 64 bits.
         let number = u128::from(self.index) + 1;
         let offset = self.offset;
         write!(

@@ -33,7 +33,7 @@ pub struct Explanation<A: Allocator = Global> {
 /// `stopped` has to be the error that [`survey`](capn_walk::survey) returns for this message within `limits`. `index`
 /// is the number of messages before this one. `offset` is the byte of the stream at which the message's table begins.
 /// `table` is the number of words of that table, and 0 for a bare segment. The call repeats the visits up to the
-/// refused one, but makes no survey. The call takes memory of `alloc` for the text and for the path. The path has at
+/// refused one, but makes no survey. The call takes memory from `alloc` for the text and for the path. The path has at
 /// most two numbers for each level of the depth limit. (Our own.)
 pub fn explain_stop<S: Space, A: Allocator + Copy>(
     alloc: A,
@@ -80,7 +80,7 @@ fn tell<S: Space, A: Allocator + Copy>(
     Ok(Explanation { stopped, text })
 }
 
-/// Writes all `lines` to a vector in memory of `alloc`.
+/// Writes all `lines` to a vector in memory from `alloc`.
 fn text_of<'w, A: Allocator>(alloc: A, lines: RefusedLines<'w>) -> Result<Vec<u8, A>, Memory>
     ensures { IfOk result (λ text. text.items ≡ refused_lines lines.entry.head lines.entry.stopped
         lines.entry.slot) }

@@ -9,8 +9,8 @@ use crate::telling::{Telling, has_words};
 use capn_target::Fault;
 use capn_words::{Place, Pointer, Space, Width};
 
-/// Returns the number of the word that lies `offset` words after word `from`. Returns `None` if that would be before
-/// word 0.
+/// Returns the number of the word that lies `offset` words after word `from`. Returns `None` if the number would be
+/// negative.
 fn begins(from: u64, offset: i32) -> Option<u64>
     requires { from ≤ 2 ^ 32 }
     ensures value { result ≡ spec.begins from offset }
@@ -38,8 +38,7 @@ fn tag_from<S: Space>(space: &S, segment: u32, span: u32, start: Option<u64>) ->
     }
 }
 
-/// Returns the place of the tag of the list of structs to which the reference `told` leads, if the list is inside its
-/// segment.
+/// Returns the place of a list's tag, if the reference `told` leads to a list of structs that is inside its segment.
 pub(crate) fn tag_in<S: Space>(space: &S, told: Option<Telling>) -> Option<Place>
     requires { IfSome told (λ t. t.from ≤ 2 ^ 32) }
     ensures value { result ≡ spec.tag_in (S.message space.now) told }

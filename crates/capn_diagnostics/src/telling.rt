@@ -91,7 +91,7 @@ fn told_there<S: Space>(space: &S, segment: u32, word: u32, form: Pointer) -> Op
 }
 
 /// Returns the reference of a landing pad with the words `first` and `second`. Returns `None` if they are not a valid
-/// pad.
+/// pad, or if the segment of the content does not exist.
 fn told_two<S: Space>(space: &S, first: Pointer, second: Pointer) -> Option<Telling>
     ensures value { result ≡ spec.told_two (S.message space.now) first second }
     ensures small { IfSome result (λ t. t.from ≤ 2 ^ 32) }
@@ -131,7 +131,7 @@ pub(crate) fn has_words<S: Space>(space: &S, segment: u32, word: u64, count: u64
     end <= segment_length(space, segment) as u64
 }
 
-/// Returns the reference of the landing pad of one word at `word` of `segment`. Returns `None` if the pad is not inside
+/// Returns the reference of the one-word landing pad at `word` of `segment`. Returns `None` if the pad is not inside
 /// its segment, or is no pointer to a struct or list.
 fn behind_one<S: Space>(space: &S, segment: u32, word: u32) -> Option<Telling>
     ensures value { result ≡ (if spec.has_words (S.message space.now) segment word 1
@@ -145,8 +145,8 @@ fn behind_one<S: Space>(space: &S, segment: u32, word: u32) -> Option<Telling>
     }
 }
 
-/// Returns the reference of the landing pad of two words at `word` of `segment`. Returns `None` if the pad is not
-/// inside its segment, or is not valid.
+/// Returns the reference of the two-word landing pad at `word` of `segment`. Returns `None` if the pad is not inside
+/// its segment, or is not valid, or if the segment of the content does not exist.
 fn behind_two<S: Space>(space: &S, segment: u32, word: u32) -> Option<Telling>
     ensures value { result ≡ (if spec.has_words (S.message space.now) segment word 2
         then spec.told_two (S.message space.now) (pointer_in (S.message space.now) segment word)
@@ -162,7 +162,7 @@ fn behind_two<S: Space>(space: &S, segment: u32, word: u32) -> Option<Telling>
     }
 }
 
-/// Returns the reference of the `pointer` at `at`. If `pointer` is far, returns the reference of its landing pad.
+/// Returns the reference, if there is one, of the `pointer` at `at`, or of its landing pad if `pointer` is far.
 pub(crate) fn told_by<S: Space>(space: &S, at: Place, pointer: Pointer) -> Option<Telling>
     ensures value { result ≡ spec.told_by (S.message space.now) at.segment at.word pointer }
     ensures small { IfSome result (λ t. t.from ≤ 2 ^ 32) }

@@ -36,8 +36,8 @@ HasToGrow count capacity buckets = (capacity ≤ count) ⊎ (buckets ≤ count /
 abbrev pub taken_for : Digests → List ℕ → ℕ
 taken_for s digest = slice_index_or s.taken (tag digest % length s.taken) 0
 
--- Inserting `digest` may need memory. Either the list or the table has to grow. Or the digest goes into the tree, since
--- each slot of its bucket is taken, or since the list is too long for a 32-bit index.
+-- Inserting `digest` may need memory: the list or the table has to grow, or the digest goes into the tree. It goes into
+-- the tree if each slot of its bucket is taken, or if the list is too long for a 32-bit index.
 abbrev pub MayGrow : Digests → List ℕ → Type 0
 MayGrow s digest =
     HasToGrow s.listed s.room (length s.taken) ⊎ ((16 ≤ taken_for s digest) ⊎ (2 ^ 32 - 1 ≤ s.listed))

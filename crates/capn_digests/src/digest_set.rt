@@ -13,9 +13,9 @@ use std::marker::Model;
 
 /// A set of digests that grows.
 ///
-/// The list takes 32 to 36 bytes for each of its digests and grows by an eighth. The table takes 17 to 34 bytes for
-/// each digest in the list. A bucket of the table has sixteen slots. The table doubles in place when the list has eight
-/// digests for each bucket. A digest that is in the tree, and not in the list, takes up to 72 bytes.
+/// The list grows by an eighth and 16 digests. It takes 32 to 36 bytes for each digest, and at most 512 bytes more. The
+/// table takes 17 to 34 bytes for each digest of a list of at least four. A bucket of the table has sixteen slots. The
+/// table doubles in place when the list has eight digests for each bucket. A digest in the tree takes up to 72 bytes.
 #[derive(Drop)]
 pub struct DigestSet<A: Allocator> {
     list: Vec<[u8; 32], A>,
@@ -63,9 +63,9 @@ impl<A: Allocator + Copy> DigestSet<A> {
     /// Inserts `digest`, and returns whether the set already had `digest`.
     ///
     /// `AllocError` is returned only if the set lacks `digest` and an allocation was refused. The list allocates if it
-    /// is full. The table allocates if the list has at least eight digests for each bucket. The tree allocates if the
-    /// bucket of `digest` is full, or if the list has 2^32 - 1 digests. After an error the set has the digests that it
-    /// had before.
+    /// is full. The table allocates if the list has at least eight digests for each bucket. The tree may allocate if
+    /// the bucket of `digest` is full, or if the list has 2^32 - 1 digests. After an error the set has the digests that
+    /// it had before.
     pub fn insert(&mut self, digest: [u8; 32]) -> Result<bool, AllocError>
         ensures answer { IfOk result (λ was. was ≡ set.contains self.old.seen digest) }
         ensures inserted { OnOk result (self.new.seen ≡ set.insert self.old.seen digest) }

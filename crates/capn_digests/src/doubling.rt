@@ -56,8 +56,8 @@ fn keep_each_own(heads: &mut [Head], table: &mut [[Slot; SLOTS]])
     }
 }
 
-/// Doubles the number of buckets, or makes the first bucket. If an allocation is refused, `heads` and `table` have the
-/// same items as before.
+/// Doubles the number of buckets, or makes the first bucket if there is none. If an allocation is refused, `heads` and
+/// `table` have the same items as before.
 #[inline(never)]
 fn double<A: Allocator>(
     heads: &mut Vec<Head, A>,
@@ -84,8 +84,8 @@ fn double<A: Allocator>(
     Ok(())
 }
 
-/// Allocates so that one more digest fits. A full list of `n` digests gets the capacity for `n / 8 + 16` more digests.
-/// The table doubles if the list has at least eight digests for each bucket.
+/// Makes room in `list` for one more digest. A full list of `n` digests gets the capacity for `n / 8 + 16` more. The
+/// table doubles if the list has at least eight digests for each bucket.
 ///
 /// `AllocError` is returned only if an allocation was refused, and only if the list is full or has at least eight
 /// digests for each bucket. After an error every digest is still found.

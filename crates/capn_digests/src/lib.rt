@@ -1,9 +1,9 @@
 //! A set of SHA-256 digests that grows.
 //!
 //! A [`DigestSet`] takes digests and reports for each whether it was inserted before. A set has three parts: a list of
-//! digests, a table of slots that says where in the list a digest may be, and a tree for the digests whose bucket
-//! of the table is full. A lookup therefore reads at most one bucket, sixteen digests and one path of the tree,
-//! whatever the digests are.
+//! digests, a table and a tree. The table has buckets of slots, which say where in the list a digest may be. The tree
+//! takes a digest if the bucket of the digest is full, or if the list has 2^32 - 1 digests. A lookup reads at most one
+//! bucket, sixteen digests and one path of the tree, whatever the digests are.
 //!
 //! ```text
 //! let mut digests = DigestSet::new(alloc);

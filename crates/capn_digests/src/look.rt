@@ -16,7 +16,7 @@ fn stands_at(list: &[[u8; 32]], at: u32, digest: &[u8; 32]) -> bool
     at < list.len() && list[at] == *digest
 }
 
-/// Tests whether `list` has `digest` at the index in some slot of `bucket` with the tag `tag`.
+/// Tests whether some slot of `bucket` has the tag `tag` and an index at which `list` has `digest`.
 #[inline(never)]
 pub(crate) fn is_among(
     bucket: &[Slot; SLOTS],

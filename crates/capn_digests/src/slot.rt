@@ -62,8 +62,7 @@ pub(crate) fn more_of(tag: u32) -> u16
 }
 
 impl Head {
-    /// Tests whether a digest with the tag `tag` may be in the bucket or in the tree. If `false`, there is no such
-    /// digest.
+    /// Returns `false` only if no digest with `tag`, a tag of this bucket, is in the bucket or in the tree.
     #[inline(always)]
     pub(crate) fn may_have(self, tag: u32) -> bool
         ensures marked { IsMarked self tag → result ≡ true }

@@ -29,8 +29,8 @@ module _ {A : Type 0} where
     lines = lines;
   }
 
-  -- `message` at `at` is accepted within `limits`, and `account` has its figures `m` (`IsMeasure`). `account.lines` are
-  -- the lines about its canonical form (`AreLinesOf`).
+  -- `message` at `at` is accepted within `limits`, and its figures are `m` (`IsMeasure`). `account` has these figures,
+  -- the head of `message` (`head_of`), and the lines about the canonical form of `message` (`AreLinesOf`).
   abbrev pub IsAccount : Form → Position → List (List ℕ) → Bounds → Account A → Type 0
   IsAccount form at message limits account =
       (m : MeasuredBare) × IsMeasure message limits m

@@ -75,8 +75,8 @@ ending_by outcomes.Accepted number first = Ok tt
 abbrev pub ending : Run Reporting → Result (Unit {0}) RunFault
 ending run = ending_by run.service.outcome run.service.order.number run.service.first
 
--- The lines of the message at `at`, which is refused with `refusal` before its walk. `came` has the bytes that were
--- read of this message.
+-- The lines of the message at `at`, which is refused with `refusal` before its walk. `came` has the bytes of this
+-- message that were read and kept.
 abbrev pub told_at : Explain → Position → Refusal → Came → List ℕ
 told_at order at refusal came = fault_lines order.limits at refusal came.rest came.group
 

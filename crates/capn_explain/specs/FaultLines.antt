@@ -32,7 +32,7 @@ frame_key frames.Memory most_words rest = keys.Nothing
 frame_key frames.Empty most_words rest = keys.Nothing
 frame_key frames.Failed most_words rest = keys.Nothing
 
--- The figures of a group that is cut off, at offset `at`, after the bytes `came`. Any other fault has no figures.
+-- The figures of the group at offset `at`, which is cut off after the bytes `came`. Any other fault has no figures.
 abbrev pub packed_key : UnpackFault → List ℕ → FrameKey
 packed_key (packings.Cut at) came = group at came
 packed_key packings.Memory came = keys.Nothing
@@ -44,8 +44,8 @@ abbrev pub bare_key : BareFault → FrameKey
 bare_key (bares.NotWhole bytes) = keys.There bytes
 bare_key (bares.TooLong words) = keys.There (min (8 * words) (2 ^ 64 - 1))
 
--- The figures that follow the name of a refusal. `rest` is the bytes that were read of the message, and `came` is the
--- bytes that were read of a group.
+-- The figures that follow the name of a refusal. `rest` is the bytes of the message that were read and kept, and
+-- `came` is the bytes of a group that were read and kept.
 abbrev pub key_of : Refusal → ℕ → List ℕ → List ℕ → FrameKey
 key_of (refusals.Frame fault) most_words rest came = frame_key fault most_words rest
 key_of (refusals.Packed fault) most_words rest came = packed_key fault came
@@ -59,7 +59,7 @@ frame_segments (frames.TooManySegments count) rest = None
 frame_segments _ rest = segments rest
 
 -- The segments of a message that is refused for its frame (`frame_segments`) or its packing (`segments rest`). For any
--- other refusal it is `None`.
+-- other refusal the result is `None`.
 abbrev pub segments_at : Refusal → List ℕ → Option SegmentsText
 segments_at (refusals.Frame fault) rest = frame_segments fault rest
 segments_at (refusals.Packed fault) rest = segments rest
@@ -69,8 +69,8 @@ segments_at _ rest = None
 abbrev pub head_at : Position → Refusal → List ℕ → MessageHead
 head_at at refusal rest = record { index = at.index; offset = at.offset; segments = segments_at refusal rest }
 
--- All lines of the message at `at`, which is refused with `refusal`. `rest` is the bytes that were read of the message,
--- and `came` is the bytes that were read of a group.
+-- All lines of the message at `at`, which is refused with `refusal`. `rest` is the bytes of the message that were read
+-- and kept, and `came` is the bytes of a group that were read and kept.
 abbrev pub fault_lines : Bounds → Position → Refusal → List ℕ → List ℕ → List ℕ
 fault_lines limits at refusal rest came =
     frame_lines (head_at at refusal rest) (refusal_text refusal) (key_of refusal limits.message_words rest came)

@@ -15,7 +15,7 @@ use Rattle.capn_serve.specs.FormRun.{MayNeedMemory}
 use Rattle.capn_serve.specs.WhatCame.{Came, TellsInput}
 
 -- The text for a fault that ended the loop over the messages. For `Refused` it is what `told` gives, where `came` has
--- the bytes that were read of the refused message. For any other fault it is empty.
+-- the bytes of the refused message that were read and kept. For any other fault it is empty.
 abbrev pub fault_text : (Position → Refusal → Came → List ℕ) → RunFault → Came → List ℕ
 fault_text told (faults.Refused at r) came = told at r came
 fault_text told faults.Memory came = []
@@ -29,8 +29,8 @@ pub record Finish (X : Type 0) : Type 0 where
   pub ending : X → Result (Unit {0}) RunFault
   pub told : Position → Refusal → Came → List ℕ
 
--- The fault and the result of a run whose faults have the type `E`. `of` gives the fault of the run for a fault of the
--- loop. `by` gives the result of the run from its last state and its ending.
+-- The fault and the result of a run whose faults have the type `E`. `of` gives the fault of the run for `Memory` or
+-- `Io`. `by` gives the result of the run from its last state and its ending.
 pub record Answer (X E : Type 0) : Type 0 where
   pub of : RunFault → E
   pub by : X → Result (Unit {0}) RunFault → Result (Unit {0}) E
@@ -79,8 +79,8 @@ module _ {X : Type 0} (f : Fold X) (x : X) (finish : Finish X) where
       × IfSome input (λ bytes. (messages : List ℕ) × AreMessages f x form bytes messages (Ok tt) y)
       × (finish.ending y ≡ Err faults.Memory)
 
-  -- The reader returned `bytes`, no more than `IsReadSoFar` and `IsNeededSoFar` allow. A prefix of the text of the
-  -- messages was written (`HasWritten`), or a prefix of that text and the text after it (`HasBegunClosing`).
+  -- The reader returned `bytes`, no more than `IsReadSoFar` and `IsNeededSoFar` allow. A prefix was written: either of
+  -- the messages' text (`HasWritten`), or of that text joined to the text after the messages (`HasBegunClosing`).
   pub record Begins (form : Form) (a b c d : Option (List ℕ)) : Type 0 where
     pub bytes : List ℕ
     pub read : Consumes a b bytes

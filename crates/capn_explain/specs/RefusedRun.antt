@@ -57,7 +57,7 @@ refused_finish order = record {
 }
 
 -- The fault of a run whose loop ended with `fault` after `messages` messages. It is `RefusedAfterSkipped` if `fault` is
--- `Refused` and the walk of an earlier message refused that message. Otherwise it is `Ended fault`.
+-- `Refused` and an earlier message was refused by its walk. In any other case it is `Ended fault`.
 abbrev pub fault_after : Option SkippedSoFar → ℕ → RunFault → ReportFault
 fault_after None messages fault = faults.Ended fault
 fault_after (Some skipped) messages run_faults.Memory = faults.Ended run_faults.Memory

@@ -99,8 +99,8 @@ abbrev pub ServesBy : Bool → Reporting → Position → List (List ℕ) → Li
 ServesBy true s at message text t = (text ≡ []) × (t ≡ s)
 ServesBy false s at message text t = TellsRefused s at message text t ⊎ TellsAccepted s at message text t
 
--- `message` at `at` takes the state `s` to `t` and writes `text`. If `message` is before the message to explain,
--- nothing changes (`ServesBy`).
+-- `message` at `at` takes the state `s` to `t` and writes `text`. If `s.order` has a number, and `message` comes before
+-- the message with that number, nothing changes (`ServesBy`).
 abbrev pub serves : Reporting → Position → List ℕ → List (List ℕ) → List ℕ → Reporting → Type 0
 serves s at frame message text t = ServesBy (is_before at s.order.number) s at message text t
 

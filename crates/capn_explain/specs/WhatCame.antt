@@ -43,8 +43,8 @@ announced rest = record {
   first = entries 8 (drop 4 rest);
 }
 
--- `announced rest`, if the table has at most `most_segments` segments, and `rest` has the sizes of all of them.
--- Otherwise it is `None`.
+-- `announced rest`, if the table has at most `most_segments` segments, and `rest` has the sizes of all these segments.
+-- Otherwise `None`.
 abbrev pub segments : List ℕ → Option SegmentsText
 segments rest =
     if nat_lt most_segments (announced_segments rest) then None

@@ -159,8 +159,8 @@ fn with_empty_line<A: Allocator>(mut lines: String<A>) -> Result<String<A>, RunF
     }
 }
 
-/// Returns the lines of the `refusal` that ended the loop over the messages at the position `at`. `begun` has the part
-/// of the refused message that was read. If `apart` is true, an empty line follows.
+/// Returns the lines of the `refusal` that ended the loop over the messages at the position `at`. `begun` has the
+/// bytes of the refused message that were read and kept. If `apart` is true, an empty line follows.
 fn refusal_lines<B: Allocator + Copy, A: Allocator>(
     alloc: A,
     order: &Explain,

@@ -24,8 +24,8 @@ fn first_run<A: Allocator + Copy>(alloc: A, order: Explain) -> Run<Reporter<A>>
     Run::new(Reporter::new(alloc, order))
 }
 
-/// Serves the messages of an input in `form`, within `limits`. If a message is refused before its walk, `begun` keeps
-/// the part of that message that was read.
+/// Serves the messages of an input in `form`, within `limits`. `begun` gets bytes of a message that is refused before
+/// its walk, as [`serve_form_with`] says.
 pub(crate) fn serve_messages<S: Service, R: Read, W: Write, A: Allocator + Copy>(
     alloc: A,
     form: Form,
@@ -64,11 +64,11 @@ pub(crate) fn serve_messages<S: Service, R: Read, W: Write, A: Allocator + Copy>
 ///
 /// Input is read as [`serve_form`] reads it. If the explained message is refused, the run ends with `Refused`, after
 /// its lines have been written. The other faults are `InputTooLong`, `Io` if and only if the reader or the writer
-/// failed, and `Memory` if an allocation on `alloc` was refused. If an allocation was refused for the account of the
-/// first message, the run ends with `Memory` only if there is no second message. After `InputTooLong` or `Memory` no
-/// explanation has been written. After `Io` at most a part of it has been written, because the lines are kept and
-/// written at the end. A run holds in memory what the loop over the messages holds, the canonical bytes of the
-/// explained message, the paths of its account, and the lines.
+/// failed, and `Memory` if an allocation on `alloc` was refused. Without a number, a refused allocation for the
+/// account of the first message ends the run with `Memory` only if there is no second message. After `InputTooLong` or
+/// `Memory` no explanation has been written. After `Io` at most a part of the explanation has been written, because the
+/// lines are kept and written at the end. A run holds in memory what the loop over the messages holds, the canonical
+/// bytes of the explained message, the paths of its account, and the lines.
 pub fn run_explain<R: Read, W: Write, A: Allocator + Copy>(
     alloc: A,
     order: Explain,

@@ -51,8 +51,8 @@ fn bare_key(fault: BareFault) -> FrameKey
     }
 }
 
-/// Returns the figures that follow the name of `refusal`. `rest` has the bytes that were read of the message, and
-/// `came` the bytes that were read of a group.
+/// Returns the figures that follow the name of `refusal`. `rest` has the bytes of the message that were read and
+/// kept, and `came` the bytes of a group that were read and kept.
 fn key_of(refusal: &Refusal, most_words: u32, rest: &[u8], came: &[u8]) -> FrameKey
     ensures { result ≡ spec.key_of refusal.now most_words rest.now came.now }
 {
@@ -75,8 +75,8 @@ fn frame_segments(fault: FrameFault, rest: &[u8]) -> Option<SegmentsText>
     }
 }
 
-/// Returns the segments of a message that is refused for its frame or its packing. `None` means another `refusal`, too
-/// many segments, or that `rest` does not have all their sizes.
+/// Returns the segments of a message that is refused for its frame or its packing. Returns `None` for any other
+/// `refusal`, for too many segments, and if `rest` does not have the sizes of all segments.
 fn segments_at(refusal: &Refusal, rest: &[u8]) -> Option<SegmentsText>
     ensures { result ≡ spec.segments_at refusal.now rest.now }
 {
@@ -87,8 +87,8 @@ fn segments_at(refusal: &Refusal, rest: &[u8]) -> Option<SegmentsText>
     }
 }
 
-/// Returns the lines of the message at `at`, which is refused before its walk. `rest` has the bytes that were read of
-/// the message, and `came` the bytes that were read of a group.
+/// Returns the lines of the message at `at`, which is refused before its walk. `rest` has the bytes of the message that
+/// were read and kept, and `came` the bytes of a group that were read and kept.
 pub(crate) fn fault_lines<A: Allocator>(
     alloc: A,
     limits: Limits,

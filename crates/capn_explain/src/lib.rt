@@ -1,9 +1,9 @@
 //! The command `explain`: the text about one message of an input, or about each refused message.
 //!
-//! [`run_explain`] carries out an [`Explain`] order with the service [`Reporter`], which finds the message to explain.
-//! This is the first refused message, or the one with a given number. The lines that explain it are written at the end.
+//! [`run_explain`] carries out an [`Explain`] order with the service [`Reporter`], which finds the message to explain:
+//! the first refused message, or the message with a given number. The lines about this message are written at the end.
 //! [`run_explain_refused`] carries out an [`ExplainRefused`] order with a [`RefusedReporter`], and explains every
-//! refused message. The loop over the messages is that of [`capn_serve`].
+//! refused message. Both runs use the loop over messages in [`capn_serve`].
 #![tactic(auto)]
 
 mod account;

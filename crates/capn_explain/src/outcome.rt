@@ -1,4 +1,4 @@
-//! The type `Outcome`, which says what message a run has explained so far.
+//! The type `Outcome`, which says which message a run has explained so far.
 
 use capn_serve::Position;
 use capn_walk::Stopped;

@@ -22,8 +22,8 @@ use std::marker::Model;
 ///
 /// The service walks each message. If the walk refuses the message, the service writes the lines that explain the
 /// message, and an empty line. A refused message does not end the run. The service keeps the number of messages that it
-/// has explained. Until the second message is served, the service also keeps the account of the first message, or the
-/// fact that an allocation was refused for that account.
+/// has explained. Until the second message is served, the service also keeps the account of an accepted first message,
+/// or the fact that an allocation was refused for that account.
 #[derive(Drop)]
 pub struct RefusedReporter<A: Allocator = Global> {
     alloc: A,

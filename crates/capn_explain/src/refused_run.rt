@@ -25,20 +25,20 @@ fn first_run<A: Allocator>(alloc: A, order: ExplainRefused) -> Run<RefusedReport
 /// Explains every refused message of the input of `reader`, within the limits of `order`. Writes the lines to `writer`,
 /// with an empty line after the lines of each message.
 ///
-/// A message that its walk refuses is explained with the lines that [`run_explain`](crate::run_explain) writes for the
-/// first refused message. The lines are written before more input is read, and then the next message is served. A
-/// message whose frame, packing or length is refused ends the run, and is explained last. If no message is refused, the
-/// text of `run_explain` is written, without an empty line. This text is the lines of the only message, or a line that
-/// shows the number of messages.
+/// A message that its walk refuses is explained with the lines that [`run_explain`](crate::run_explain) would write if
+/// this message were the first refused one. The lines are written before more input is read, and then the next message
+/// is served. A message whose frame, packing or length is refused ends the run, and is explained last. If no message is
+/// refused, the text of `run_explain` is written, without an empty line. This text is the lines of the only message, or
+/// a line that shows the number of messages.
 ///
 /// Input is read as [`serve_form_with`] reads it. The run ends with `Ok`, with `Skipped` if all of the input was read
 /// and messages were refused by their walk, or with the first fault. For a refused frame, group or bare input, the
 /// fault is `Ended` with the refusal and its position, or `RefusedAfterSkipped` if earlier messages were refused by
 /// their walk. Any other fault is `Ended` with `InputTooLong`, with `Io` if and only if the reader or the writer
-/// failed, or with `Memory` if an allocation on `alloc` was refused. If an allocation was refused for the account of
-/// the first message, the run ends with `Memory` only if there is no second message. A run holds in memory what the
-/// loop over the messages holds, the canonical bytes of the first message, the paths of one account, and the lines of
-/// that account.
+/// failed, or with `Memory` if an allocation on `alloc` was refused. A refused allocation for the account of the
+/// first message ends the run with `Memory` only if there is no second message. A run holds in memory what the loop
+/// over the messages holds, the canonical bytes of the first message, the paths of one account, and the lines of one
+/// message.
 pub fn run_explain_refused<R: Read, W: Write, A: Allocator + Copy>(
     alloc: A,
     order: ExplainRefused,

@@ -100,7 +100,7 @@ impl<B: Allocator + Copy> Reporter<B> {
         self.outcome
     }
 
-    /// Returns the lines of the message that has been explained.
+    /// Returns the lines of the message that has been explained, or no bytes if there is none.
     pub(crate) fn lines(&self) -> &[u8]
         ensures { result.now ≡ self.now.lines }
     {
@@ -158,8 +158,8 @@ impl<B: Allocator + Copy> Reporter<B> {
         }
     }
 
-    /// Walks `message`, which is not before the message to explain. Explains `message` if its walk refuses it, or if
-    /// the order has a number.
+    /// Walks `message`. If the order has a number, `message` does not come before that number. Explains `message` if
+    /// its walk refuses it, or if the order has a number.
     fn report_known<S: Space, A: Allocator + Copy>(
         &mut self,
         alloc: A,
@@ -179,7 +179,7 @@ impl<B: Allocator + Copy> Reporter<B> {
         }
     }
 
-    /// Skips `message` if the message to explain is a later one, and walks it otherwise.
+    /// Skips `message` if the order has a number, and `message` comes before that number. Otherwise walks `message`.
     fn report<S: Space, A: Allocator + Copy>(
         &mut self,
         alloc: A,

@@ -71,7 +71,7 @@ fn words_of(rest: &[u8]) -> u64
     total_of(sizes_of(rest), segments_of(rest))
 }
 
-/// Returns the least number of bytes that a frame beginning with `rest` can have.
+/// Returns the least number of bytes that a frame beginning with `rest` can have, but at most 2^64 - 1.
 fn least_of(rest: &[u8]) -> u64
     ensures is { result ≡ spec.least_length rest.now }
     ensures least { IsLeastOfFrame rest.now result }
@@ -80,8 +80,8 @@ fn least_of(rest: &[u8]) -> u64
     words_of(rest).saturating_mul(8).saturating_add(table)
 }
 
-/// Returns the figures of a frame that is cut off, of which `rest` was read: the number of bytes read, and the least
-/// number of bytes that the frame can have.
+/// Returns the figures of a frame that is cut off, of which `rest` was read. They are the number of bytes read, and the
+/// least number of bytes that the frame can have.
 pub(crate) fn there(rest: &[u8]) -> FrameKey
     ensures { result ≡ spec.there rest.now }
 {

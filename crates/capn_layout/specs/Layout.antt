@@ -26,8 +26,8 @@ own (links ts) = count ts
 own (rows bs) = 1 + count_rows bs * row_size bs
 own _ = 0
 
--- The number of words in a value's own content and in all contents below it. `sizes` and `sizes_in_rows` are the sums
--- of `size` for the values of slots and of rows. (Our own.)
+-- The number of words in a value's own content and in all contents below it. `sizes` and `sizes_in_rows` are sums of
+-- `size`: `sizes` for the values of slots, `sizes_in_rows` for the values in the slots of rows. (Our own.)
 abbrev mutual
   pub size : Tree → ℕ
   size (node ws ss) = own (node ws ss) + sizes ss
@@ -43,8 +43,8 @@ abbrev mutual
   sizes_in_rows no_bodies = 0
   sizes_in_rows (body ws ss bs) = sizes ss + sizes_in_rows bs
 
--- The pointer at word `from` to a list of `n` elements whose content starts at word `to`. The offset counts from the
--- word after the pointer. (Page: lists.)
+-- The pointer at word `from` to a list whose content starts at word `to`. The list has `n` elements of the given width,
+-- or `n` words of rows if the width is `Rows`. The offset counts from the word after the pointer. (Page: lists.)
 abbrev pub list_to : (from to : ℕ) → Width → (n : ℕ) → ℕ
 list_to from to width n = word_of (Many (pos (to - suc from)) width n)
 

@@ -46,8 +46,8 @@ module _ {S : Type 0} (has : S → ℕ → Tree → Type 0) where
   abbrev pub IsLaid : S → ℕ → ℕ → List ℕ → List ℕ → Type 0
   IsLaid source slot from p q = (v : Tree) → has source slot v → q ≡ laid v (set p from (point v from (length p)))
 
-  -- For any values in the first `number` slots of `source`, the buffer `q` is `p` after these values are laid out. The
-  -- pointers are written over the words from `first` on. (Our own.)
+  -- Let `ts` begin with the values of the first `number` slots of `source`. The buffer `q` is `p` after these values
+  -- are laid out, with their pointers written over the words from `first` on. (Our own.)
   abbrev pub AreLaid : S → ℕ → ℕ → List ℕ → List ℕ → Type 0
   AreLaid source number first p q = (ts : Trees) → number ≤ count ts
       → ((k : ℕ) → k < number → has source k (tree_at ts k)) → q ≡ laid_slots number ts first p
@@ -84,8 +84,8 @@ pub record IsBlock (v : Tree) (tag : List ℕ) (a b : ℕ) (bs : Bodies) : Type 
       ++ (row_contents a b bs (at + length tag) (at + length tag + count_rows bs * (a + b))
       ++ lays_in_rows bs (at + length tag + count_rows bs * (a + b)))
 
--- The buffer `q` is `p` after two steps. The pointer to `v` is written over word `from`. The tag of `v` and its rows
--- are appended, the first row at word `first`, with any words in place of the slots. (Our own.)
+-- The buffer `q` is `p` after two steps. The pointer to `v` is written over word `from`. The tag of `v`, if any, and
+-- the rows `bs` are appended, the first row at word `first`, with any words in place of the slots. (Our own.)
 pub record IsOpened (v : Tree) (bs : Bodies) (from : ℕ) (p q : List ℕ) (first a b : ℕ) : Type 0 where
   pub tag : List ℕ
   pub block : IsBlock v tag a b bs

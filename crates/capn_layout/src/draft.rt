@@ -1,4 +1,4 @@
-//! The functions that write words into a slice of bytes, one after the other. Any change here that alters canonical
+//! The functions that write words, one after the other, into a slice of bytes. Any change here that alters canonical
 //! bytes makes a new version of the canonical form. A function that appends takes the number of words written so far,
 //! `len`, and returns the new number.
 

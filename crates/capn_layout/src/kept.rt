@@ -74,7 +74,7 @@ fn kept_below<S: Space, L: Ledger>(
 }
 
 /// Returns the greatest number of words that a row keeps of the `size` words from its word `inset` on. There are
-/// `count` rows, one every `step` words from `start` on. `reads` counts each read and each row.
+/// `count` rows, one every `step` words from `start` on. `reads` counts each read and each loop turn.
 pub fn kept_each_counted<S: Space, L: Ledger>(
     space: CountedSpace<'_, S, L>,
     start: Place,

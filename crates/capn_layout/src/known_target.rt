@@ -63,8 +63,8 @@ pub fn target_at<S: Space, L: Ledger>(
     }
 }
 
-/// Returns the target of the pointer at `at`, which [`resolved`] finds. The result has a variable of its own, so that
-/// it takes space on the stack only in this function.
+/// Returns the target of the pointer at `at`, found by [`resolved`]. The result has a variable of its own, so that the
+/// result takes space on the stack only in this function.
 #[inline(always)]
 fn followed<S: Space, L: Ledger>(
     space: &CountedSpace<'_, S, L>,

@@ -1,5 +1,5 @@
-//! The canonical layout of values and messages: one segment with the objects in preorder. A struct is cut after the
-//! last word that is not zero and the last pointer that is not null, and all rows of a list are shortened to one size.
+//! The canonical layout of values and messages: one segment with the objects in preorder. The words of a struct are cut
+//! after the last nonzero word, and its pointers after the last non-null one. All rows of a list are cut to one size.
 //!
 //! - [`layout`] writes the canonical bytes of a tree. A tree with a capability has no canonical bytes, and is refused
 //!   with the index of the first capability.
@@ -7,17 +7,17 @@
 //!   place.
 //! - [`surveyed_length`] returns the number of words in the canonical bytes.
 //! - [`surveyed_layout_counted`] and [`surveyed_length_counted`] write and count the canonical bytes of a message whose
-//!   reads are counted. The cost of the message's value bounds the number of reads. [`surveyed_layout_into_counted`]
-//!   writes the bytes into a buffer.
+//!   reads are counted. The number of words that the walk pays bounds the number of reads.
+//!   [`surveyed_layout_into_counted`] writes the bytes into a buffer.
 //! - [`target_at`] returns the target of a pointer of a surveyed message, and tests nothing again.
 //! - [`Patch`] is a buffer of words, and of holes for words that are not known yet, such as the pointer to an object
 //!   that has no place yet. No layout uses a `Patch`.
 //! - [`list_pointer`], [`tag_word`] and [`bits_of`] give the words of a layout and the sizes of elements, for callers
 //!   that compare bytes with a layout.
 //!
-//! A tree and a message are laid out by one writer, which reads slots and the values of slots. The first pass counts
-//! the bytes. Then the memory for all bytes is allocated at once, and the result is `Memory` if that allocation is
-//! refused. The second pass writes the bytes.
+//! A tree and a message are laid out by one writer, which reads slots and the values of slots. Unless the caller gives
+//! a buffer, the memory for all bytes is allocated at once, and the result is `Memory` if that allocation is refused. A
+//! pass before the allocation counts the bytes, unless a message's price bounds them well enough.
 #![tactic(auto)]
 
 mod bits;

@@ -42,9 +42,9 @@ pub fn canonical_bytes<S: Source, A: Allocator>(
     Ok(bytes)
 }
 
-/// Writes the canonical bytes of the value in the first slot of `source` to `out`: the pointer to the value and then
-/// the value's content. Returns the number of words written. The other bytes of `out` stay as they were. The value is
-/// at most `depth` objects deep.
+/// Writes the canonical bytes of the value in the first slot of `source` to `out`: the pointer to the value, its
+/// content and everything below it. Returns the number of words written. The other bytes of `out` stay as they were.
+/// The value is at most `depth` objects deep.
 pub fn lay_root<S: Source>(source: &S, depth: u32, out: &mut [u8], reads: &mut S::Reads) -> usize
     requires ready { IsReadyIn S.has source.now 0 depth 1 (length out.old / 8) }
     requires short { length out.old ≤ 2 ^ 32 }
@@ -121,8 +121,8 @@ fn lay_slot<S: Source>(
 }
 
 /// Writes the pointer to a list of `count` structs over word `from`, and appends the list's content and everything
-/// below it. The structs are at most `depth` objects deep. The function is not inlined, so that its stack frame does
-/// not stay on the stack at each level of depth.
+/// below it. The list is at most `depth` objects deep. The function is not inlined, so that its stack frame does not
+/// stay on the stack at each level of depth.
 #[cycle(objects)]
 #[inline(never)]
 fn lay_list<S: Source>(

@@ -16,8 +16,8 @@ use crate::pointer_words::{list_pointer, struct_pointer, tag_word};
 use crate::source::Source;
 use capn_words::Width;
 
-/// An object whose own words are written: the word at which the first row begins, the end of all rows, and the numbers
-/// of words and of slots that are kept of each row.
+/// An object whose own words are written: the word at which the first row begins, the word after the last row, and the
+/// numbers of words and of slots that are kept of each row.
 #[derive(Clone, Copy)]
 pub struct Opened {
     pub first: usize,
@@ -92,8 +92,8 @@ pub fn open_links<S: Source>(
     }
 }
 
-/// Writes the pointer to the list of `count` structs `rows` over word `from`. Appends the tag and the kept words of
-/// each row, with words in place of the kept slots, after the first `len` words of `out`. Returns the opened list.
+/// Writes the pointer to the list of `count` structs `rows` over word `from`. Appends the tag, and then each row (its
+/// kept words, and words in place of its kept slots), after the first `len` words of `out`. Returns the opened list.
 ///
 /// All rows are shortened to the same size. The function is not inlined, so that its stack frame does not stay on the
 /// stack at each level of depth.

@@ -110,7 +110,7 @@ impl<A: Allocator> Patch<A> {
         Ok(())
     }
 
-    /// Appends `n` holes. Returns the place of the first hole, which is the length of the buffer before the call.
+    /// Appends `n` holes. Returns the length of the buffer before the call, the place of the first hole if `n` isn't 0.
     ///
     /// Returns `Memory` if an allocation was refused. The buffer is then unchanged.
     #[inline(always)]
@@ -153,7 +153,7 @@ impl<A: Allocator> Patch<A> {
         unmark(&mut self.holes, at);
     }
 
-    /// Returns the bytes of the words, if no hole is left.
+    /// Returns the bytes of the words. No hole may be left.
     ///
     /// The buffer is moved, so nothing is copied and no memory is allocated. An `Err`, which would return the buffer
     /// with `Memory`, never occurs.

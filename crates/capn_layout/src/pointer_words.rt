@@ -8,8 +8,8 @@ ghost use Rattle.capn_layout.specs.Layout.{list_to, struct_to};
 
 use capn_words::{Pointer, Width, join};
 
-/// Returns the pointer that leads from word `from` to the content at word `to` of a list of `count` elements of
-/// `width`.
+/// Returns the pointer at word `from` to a list of `count` elements of `width` whose content starts at word `to`. For
+/// `Width::Rows`, `count` is the number of words after the tag.
 #[inline(always)]
 pub fn list_pointer(from: usize, to: usize, width: Width, count: usize) -> u64
     requires order { from < to }
@@ -25,8 +25,8 @@ pub fn list_pointer(from: usize, to: usize, width: Width, count: usize) -> u64
     })
 }
 
-/// Returns the pointer that leads from word `from` to the content at word `to` of a struct with `words` words and
-/// `slots` slots. The pointer to a struct without words and without slots has offset -1.
+/// Returns the pointer at word `from` to a struct of `words` words and `slots` slots whose content starts at word `to`.
+/// The pointer to a struct without words and without slots has offset -1.
 #[inline(always)]
 pub fn struct_pointer(from: usize, to: usize, words: usize, slots: usize) -> u64
     requires order { from < to }

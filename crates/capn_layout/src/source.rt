@@ -66,8 +66,8 @@ pub trait Source: Drop {
         ensures is { (v : Tree) → has self.now slot v → IsItem packs are result v }
         ensures reads { spent reads.new ≤ spent reads.old + 9 };
 
-    /// Appends the words in which `numbers` are packed after the first `len` words of `out`. Bits past the last number
-    /// are 0. Returns the new number of words.
+    /// Appends `numbers`, packed in words, after the first `len` words of `out`. Bits past the last number are 0.
+    /// Returns the new number of words.
     fn append_numbers(
         numbers: &Self::Numbers,
         out: &mut [u8],

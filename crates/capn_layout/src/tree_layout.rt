@@ -42,8 +42,8 @@ impl Error for LayoutFault {}
 /// The greatest height of a tree.
 const MOST_HEIGHT: u32 = 256;
 
-/// Returns the canonical bytes of `tree`: one segment with the objects in preorder. A struct is cut after the last word
-/// that is not zero and the last pointer that is not null, and all rows of a list are shortened to one size.
+/// Returns the canonical bytes of `tree`: one segment with the objects in preorder. The words of a struct are cut after
+/// the last nonzero word, and its pointers after the last non-null one. All rows of a list are cut to one size.
 ///
 /// `Capability` is returned if and only if the tree has a capability, with the index of the first capability in
 /// preorder. The test is made before any memory is allocated. `Memory` is returned only if the one allocation on

@@ -9,7 +9,7 @@ use Rattle.capn_make.specs.declared.fault.MakeFault.{MakeFault}
 use Rattle.capn_make.specs.declared.fault.MakeFault.TheVariants as faults
 
 -- `ending` is the result of a run that reads the texts of `input` one after the other. It is `Ok` if `input` is the
--- texts of some values `vs`. It is a fault if the text after those of `vs` is refused with that fault.
+-- texts of some values `vs`. If the text after the texts of `vs` is refused, `ending` is the fault of that text.
 abbrev pub EndsEach : List ℕ → Result (Unit {0}) MakeFault → Type 0
 EndsEach input ending = (vs : List Tree) × (rest : List ℕ) × AreFirst vs input rest × EndsAfter vs rest ending
 
@@ -26,7 +26,7 @@ Ends forms.Packed input ending = EndsEach input ending
 Ends forms.Bare input ending = EndsOnly input ending
 
 -- The bytes of `input` that cause the fault are complete. If the fault is `NotText n`, line `n` of `input` has its
--- newline. `NoText` has no such bytes.
+-- newline. No bytes cause `NoText`, so `IsWhole` is false for that fault.
 abbrev pub IsWhole : List ℕ → MakeFault → Type 0
 IsWhole input faults.Memory = ⊤
 IsWhole input faults.Io = ⊤

@@ -89,14 +89,14 @@ abbrev pub RefusedIsStuck : Type 0
 RefusedIsStuck = (form : Form) (vs : List Tree) (input rest more : List ℕ) → (form ≡ forms.Bare → ⊥)
     → IsRefusedForGood form input → AreFirst vs input rest → IsStuck rest → IsStuck (rest ++ more)
 
--- If `input` begins with the texts of `vs`, at most one text in form `Bare`, and a run on `input` ends with `fault`,
--- then `fault` names no line before `line_after vs`.
+-- Let `input` begin with the texts of `vs`, which has at most one value in form `Bare`. If a run on `input` ends with
+-- `fault`, then `fault` names no line before `line_after vs`.
 abbrev pub RefusedAfter : Type 0
 RefusedAfter = (form : Form) (vs : List Tree) (input rest text : List ℕ) (fault : MakeFault) → AreFirst vs input rest
     → (form ≡ forms.Bare → length vs ≤ 1) → Makes form input text (Err fault) → IsFrom (line_after vs) fault
 
--- If `input` begins with the texts of `vs` and also with those of `ws`, and `IsUnended` holds for the bytes after the
--- texts of `ws`, then `line_after vs` is at most `line_after ws`.
+-- Let `input` begin with the texts of `vs`, and also with the texts of `ws`. If `IsUnended` holds for the bytes after
+-- the texts of `ws`, then `line_after vs` is at most `line_after ws`.
 abbrev pub UnendedIsLast : Type 0
 UnendedIsLast = (vs ws : List Tree) (input rest left : List ℕ) → AreFirst vs input rest → AreFirst ws input left
     → IsUnended left → line_after vs ≤ line_after ws

@@ -60,8 +60,8 @@ IsTextRefused line rest (faults.Capability n index) = (n ≡ line)
 IsTextRefused line rest (faults.Another n) = ⊥
 IsTextRefused line rest faults.NoText = ⊥
 
--- A run has the given result, if `rest` follows the texts of `vs` in its input. If the result is `Ok`, `rest` is empty.
--- If it is `Err fault`, the text at the front of `rest` is refused with `fault`.
+-- States the result of a run on an input that is the texts of `vs` and then `rest`. If the result is `Ok`, `rest` is
+-- empty. If it is `Err fault`, the text at the front of `rest` is refused with `fault`.
 abbrev pub EndsAfter : List Tree → List ℕ → Result (Unit {0}) MakeFault → Type 0
 EndsAfter vs rest (Ok u) = rest ≡ []
 EndsAfter vs rest (Err fault) = IsTextRefused (line_after vs) rest fault

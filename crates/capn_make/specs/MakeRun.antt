@@ -21,7 +21,7 @@ HasBegunEach form input c d = (vs : List Tree) × (rest : List ℕ) × (text : L
     × AreMade form vs text × HasBegun c d text
 
 -- Either nothing was written, or `input` is the text of some `v`, and a prefix of the canonical bytes of `v` was
--- written. The output is `c` before that, and `d` after it.
+-- written. The output is `c` before the writing, and `d` after the writing.
 abbrev pub HasBegunOne : List ℕ → Option (List ℕ) → Option (List ℕ) → Type 0
 HasBegunOne input c d = Appends c d [] ⊎ ((v : Tree) × AreFirst (v ∷ []) input [] × HasBegun c d (canon v))
 
@@ -82,11 +82,11 @@ abbrev pub AreInTime : Form → List ℕ → Type 0
 AreInTime form bytes = (n : ℕ) → (IsRefusedForGood form (take n bytes) → length bytes ≤ 4 * n + 65536)
     × (IsLostForGood form (take n bytes) → length bytes ≤ 4 * (n + few) + 65536)
 
--- The reader returned some `bytes`, and `AreInTime` holds for them. Its remaining input was `a` before that, and is `b`
--- after it.
+-- The reader returned some `bytes`, and `AreInTime` holds for them. `a` and `b` are the bytes left in the reader before
+-- and after the run.
 abbrev pub StopsInTime : Form → Option (List ℕ) → Option (List ℕ) → Type 0
 StopsInTime form a b = (bytes : List ℕ) × Consumes a b bytes × AreInTime form bytes
 
--- The reader returned at least one byte. Its remaining input was `a` before that, and is `b` after it.
+-- The reader returned at least one byte. `a` and `b` are the bytes left in the reader before and after the run.
 abbrev pub TakesBytes : Option (List ℕ) → Option (List ℕ) → Type 0
 TakesBytes a b = (bytes : List ℕ) × Consumes a b bytes × (bytes ≢ [])

@@ -40,9 +40,9 @@ fn holds_end(bytes: &[u8]) -> bool
     false
 }
 
-/// Returns `true` if `rest`, the bytes of an input that have no message yet, has to be parsed again. That is so if a
-/// line `end` may end after the first `before` bytes of `rest`, or if `rest` has at least four times `tested` bytes.
-/// `tested` is the length that `rest` had when it was last parsed.
+/// Returns `true` if `rest`, the bytes of an input that have no message yet, has to be parsed again. The reason is that
+/// a line `end` may end after the first `before` bytes of `rest`, or that `rest` has at least four times `tested`
+/// bytes. `tested` is the length that `rest` had when it was last parsed.
 pub(crate) fn is_due(rest: &[u8], before: usize, tested: usize) -> bool
     requires { before ≤ length rest.now }
     ensures due { result ≡ true

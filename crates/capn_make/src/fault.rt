@@ -21,7 +21,7 @@ pub enum MakeFault {
     Memory,
     /// The reader or the writer failed.
     Io,
-    /// The input has 2^64 bytes or more.
+    /// The input has 2^64 bytes or more. For `make_texts`, the bytes of the input's plain form count too.
     InputTooLong,
     /// The number of the first wrong line: no text with its line `end` can continue with that line. If a line is
     /// missing, the number is that of the line after the last.

@@ -9,8 +9,8 @@ ghost use Rattle.capn_make.specs.Laws.{OneDeciding, DecidedStay, UnendedIsStuck,
 use capn_canon::laws::canonicity;
 use capn_text::laws::{plain_forms, refusals, texts, whole_lines};
 
-/// States that [`crate::make`] parses the texts that [`capn_value::show`] writes for values, each with its line `end`.
-/// It writes exactly the messages of these values, in order. The values have to fit, be in range and have no
+/// States that [`crate::make`] parses the texts that [`capn_value::show`] writes for values, each with its line `end`,
+/// and writes exactly the messages of these values, in order. The values have to fit, be in range and have no
 /// capability.
 pub fn showing()
     ensures made { ShownAreMade }
@@ -32,8 +32,8 @@ pub fn making()
     refusals();
 }
 
-/// States that an input is refused whatever bytes follow, if the bytes that cause the fault are complete. These are a
-/// text with its line `end`, or a wrong line with its newline.
+/// States that an input is refused whatever bytes follow, if the bytes that cause the fault are complete: either a text
+/// with its line `end`, or a wrong line with its newline.
 pub fn refusing()
     ensures stays { FaultStays }
     ensures goes_on { RefusalStays }
@@ -45,8 +45,8 @@ pub fn refusing()
     whole_lines();
 }
 
-/// States that the complete texts at the front of some bytes have one list of values. If more bytes follow, the list of
-/// all these bytes begins with that list.
+/// States that the complete texts at the front of some bytes have one list of values, and that more bytes can only
+/// append values to the list.
 pub fn deciding()
     ensures one { OneDeciding }
     ensures stay { DecidedStay }

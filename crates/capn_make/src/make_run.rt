@@ -19,24 +19,24 @@ use std::io::{Read, Write};
 /// inverse of [`capn_value::show`].
 ///
 /// A run ends with `Ok`, or with the first fault. A text is refused with the first of `NotText`, `Misfit` and
-/// `Capability` that applies, and the messages of the texts before it have been written. In form `Bare` nothing is
-/// written after a refusal, and bytes after the first text are refused: with `NotText` if their first line begins no
-/// value, and otherwise with `Another`. An empty input is refused with `NoText` in form `Bare`, and gives `Ok` in the
-/// other forms. The fault is `Io` if and only if the reader or the writer failed. The fault is `Memory` if an
-/// allocation on `alloc` was refused, which happens only after some bytes were read. The fault is `InputTooLong` for an
-/// input of 2^64 bytes or more that is not refused earlier. To read so much takes centuries.
+/// `Capability` that applies, and the messages of the texts before it have been written. In form `Bare` a refused input
+/// has no output, and bytes after the first text are refused: with `NotText` if their first line begins no value, and
+/// otherwise with `Another`. An empty input is refused with `NoText` in form `Bare`, and gives `Ok` in the other forms.
+/// The fault is `Io` if and only if the reader or the writer failed. The fault is `Memory` if an allocation on `alloc`
+/// was refused, which happens only after some bytes were read. The fault is `InputTooLong` for an input of 2^64 bytes
+/// or more that is not refused earlier. To read so much takes centuries.
 ///
 /// A call of the reader returns at most 65,536 bytes. Form `Bare` writes only at the end of the input. In the other
 /// forms the messages of all complete texts are written before the next call, even if that call fails. The memory holds
 /// the unfinished text and the messages of one chunk. Once a text is complete, the memory also holds its value and the
 /// bytes written for that value. No memory is allocated for a length that a text only announces.
 ///
-/// An input that is refused whatever follows is not read to its end. A complete text that is refused, for example for a
-/// misfit, is refused in the chunk that has its end. A text that goes too deep, or a wrong line with its newline, may
-/// be found later. If the first n bytes are enough to refuse the input, at most 4 n + 65,536 bytes are read. A wrong
-/// line without its newline is also refused, once no bytes can mend it. Then at most 4 (n + 2,048) + 65,536 bytes are
-/// read, since only a line with the digits of a list has more than 2,048 bytes. To find such lines, an unfinished text
-/// is parsed again each time that it has grown to four times its length.
+/// An input that is refused whatever follows need not be read to its end. A complete text that is refused, for example
+/// for a misfit, is refused in the chunk that has its end. A text that goes too deep, or a wrong line with its newline,
+/// may be found later. If the first n bytes are enough to refuse the input, at most 4 n + 65,536 bytes are read. A
+/// wrong line without its newline is also refused, once no bytes can mend it. Then at most 4 (n + 2,048) + 65,536 bytes
+/// are read, since only a line with the digits of a list has more than 2,048 bytes. To find such lines, an unfinished
+/// text is parsed again each time that it has grown to four times its length.
 pub fn make<R: Read, W: Write, A: Allocator + Copy>(
     alloc: A,
     form: Form,
@@ -48,7 +48,7 @@ pub fn make<R: Read, W: Write, A: Allocator + Copy>(
     ensures made { Made form (R.remaining (inner_of reader.old)) (R.remaining (inner_of reader.new))
         (W.contents (inner_of writer.old)) (W.contents (inner_of writer.new)) (has_failed reader.new)
         (has_failed writer.new) result }
-    // However the run ended, `make` read little more than was needed to know that the input is refused.
+    // If some first bytes are enough to refuse the input, `make` read little beyond them, however the run ended.
     ensures stops { StopsInTime form (R.remaining (inner_of reader.old)) (R.remaining (inner_of reader.new)) }
     // `Memory` is returned only if some bytes were read.
     ensures memory { IsErrOf result MakeFault.Memory

@@ -67,7 +67,7 @@ fn is_whole(rest: &[u8], line: u64, fault: MakeFault) -> bool
     }
 }
 
-/// Returns `true` if `fault` is a wrong line and `cut` is not set, so that no more bytes can mend the line. The line
+/// Returns `true` if `fault` is a wrong line and `cut` is not set, so that no further bytes can mend the line. The line
 /// need not have its newline yet.
 fn is_lost(fault: MakeFault, cut: bool) -> bool
     ensures { result ≡ spec.is_lost fault cut }
@@ -175,8 +175,8 @@ impl<A: Allocator + Copy> Progress<A> {
 
     /// Looks at the bytes that were added to `rest` after its first `before` bytes. Parses `rest` again if a text may
     /// have ended, or if `rest` has at least four times the bytes that it had when it was last parsed. Writes the
-    /// messages of the complete texts, or keeps them in form `Bare`. Returns the fault of an input that is refused
-    /// whatever bytes follow.
+    /// messages of the complete texts, except in form `Bare`, which keeps them in `made`. Returns the fault of an input
+    /// that is refused whatever bytes follow, or of a run that cannot continue.
     pub(crate) fn look<W: Write>(
         &mut self,
         before: usize,
@@ -208,7 +208,7 @@ impl<A: Allocator + Copy> Progress<A> {
         Ok(())
     }
 
-    /// Parses `rest` at the end of the input, and writes the messages that are not written yet.
+    /// Parses `rest` at the input's end. Writes `made` after `Ok`, and also after a refusal if the form is not `Bare`.
     pub(crate) fn end<W: Write>(&mut self, writer: &mut Watched<W>) -> Result<(), MakeFault>
         requires { has_failed writer.old ≡ false }
         ensures { (input : List ℕ) (c : Option (List ℕ)) (before : ℕ)

@@ -1,8 +1,8 @@
 //! The trait of sinks, which take an input in chunks, and the loop of this crate that reads for them.
 //!
 //! This file uses nothing else of the crate, so that everything that reads an input can use it. The ghost members of a
-//! sink state what is true after the bytes that the sink took ([`Sink::takes`]) and at the end of an input
-//! ([`Sink::gives`]). The clauses of [`run`] follow from these statements.
+//! sink state what is true after the sink took some bytes ([`Sink::takes`]) and after a run ([`Sink::gives`]). The
+//! clauses of [`run`] follow from these statements.
 
 ghost use Rattle.std.specs.Prelude.{◌≡◌, ◌≢◌, ◌≤◌, ◌<◌, ◌+◌, ◌^◌, ◌++◌, ℕ, false, List, [], length};
 ghost use Rattle.std.specs.Prelude.{Option, Result, Err, MatchOption};
@@ -29,7 +29,7 @@ pub(crate) trait Sink {
     /// States that the sink took the given bytes. The two options are the contents of the writer before and after that.
     ghost takes: { Self → List ℕ → Option (List ℕ) → Option (List ℕ) → Type 0 };
 
-    /// States that a run with the given task read the first bytes, and left the second bytes in the input. The two
+    /// States that a run with the given task read the first list of bytes, and left the second in the input. The two
     /// options are the contents of the writer before and after the run. The last argument is the result of the run.
     ghost gives: { Self.Task → List ℕ → List ℕ → Option (List ℕ) → Option (List ℕ) → Result (Unit {0}) Self.Fault
         → Type 0 };
@@ -83,8 +83,8 @@ fn read_piece<R: Read>(reader: &mut Watched<R>, buffer: &mut [u8]) -> Option<usi
     }
 }
 
-/// Returns the sum of `taken` and `count`, the number of bytes that were read. Returns `None` if the sum is 2^64 or
-/// more, which takes centuries.
+/// Returns the number of bytes read so far, which is the sum of `taken` and `count`. Returns `None` if the sum is 2^64
+/// or more, which takes centuries.
 fn counted(taken: u64, count: usize) -> Option<u64>
     ensures { MatchOption result (2 ^ 64 ≤ taken + count) (λ sum. (sum ≡ taken + count) × (sum < 2 ^ 64)) }
 {
@@ -92,7 +92,7 @@ fn counted(taken: u64, count: usize) -> Option<u64>
 }
 
 /// Reads an input in chunks of at most 65,536 bytes, and has `sink` take each chunk before the next is read. Stops when
-/// `sink` returns a fault, when the reader fails, or when the input ends. The loop itself takes no memory.
+/// `sink` returns a fault, the reader fails, the input ends, or 2^64 bytes were read. The loop allocates no memory.
 pub(crate) fn run<S: Sink, R: Read, W: Write>(
     sink: &mut S,
     reader: &mut Watched<R>,

@@ -1,5 +1,5 @@
--- The text of a message with marks. A mark before each line shows the offset of the line's subject, the path to the
--- subject, or both. (Our own.)
+-- The text of a message with marks. A mark before each line has the offset of the slot, row, word or elements that the
+-- line shows, a path, or both. A word or an element has the path of the value or row that it belongs to. (Our own.)
 use Rattle.std.specs.Prelude.{◌≡◌, ℕ, zero, suc, ◌+◌, ◌*◌, ◌/◌, Bool, true, false, List, [], ◌∷◌, ◌++◌}
 use Rattle.std.specs.Prelude.{length, take, map, codes, if◌then◌else◌, refl}
 use Rattle.std.specs.Fmt.{decimal, digits}
@@ -27,7 +27,7 @@ abbrev pub below : List ℕ → ℕ → List ℕ
 below [] i = decimal i
 below (c ∷ path) i = (c ∷ path) ++ 46 ∷ decimal i
 
--- The name of `path` in a mark, which is `root` for the empty path.
+-- The name of `path` in a mark: `root` if `path` is empty, and otherwise `path` itself.
 abbrev pub path_name : List ℕ → List ℕ
 path_name [] = codes "root"
 path_name (c ∷ path) = c ∷ path
@@ -37,21 +37,21 @@ abbrev pub first_byte : Marks → ℕ
 first_byte marks = marks.offset + 8 * marks.table
 
 -- The offset in bytes of the word of `m` at `at`, if the first word of `m` lies at the offset `start`. Each word of `m`
--- before that word adds 8.
+-- before `at` adds 8.
 abbrev pub byte_of : ℕ → List (List ℕ) → Place → ℕ
 byte_of start m at = start + 8 * (total (take at.segment m) + at.word)
 
 -- ---- marks
 
--- The offset `lies` in digits and a tab, or no text if `offsets` is false.
+-- The digits of the offset `lies`, and then a tab. No text if `offsets` is false.
 abbrev pub offset_mark : Bool → ℕ → List ℕ
 offset_mark offsets lies = if offsets then decimal lies ++ 9 ∷ [] else []
 
--- The name of `path` and a tab, or no text if `ways` is false.
+-- The name of `path`, and then a tab. No text if `ways` is false.
 abbrev pub path_mark : Bool → List ℕ → List ℕ
 path_mark ways path = if ways then path_name path ++ 9 ∷ [] else []
 
--- The marks of a line whose subject lies at the offset `lies` and has the path `path`.
+-- The marks of a line that has the offset `lies` and the path `path`.
 abbrev pub mark : Marks → ℕ → List ℕ → List ℕ
 mark marks lies path = offset_mark marks.offsets lies ++ path_mark marks.ways path
 
@@ -73,8 +73,8 @@ module _ (marks : Marks) where
   marked_lines size line_of path first (x ∷ xs) =
       mark marks first path ++ (line_of x ++ marked_lines size line_of path (first + size) xs)
 
-  -- The line with marks that shows `digits`, the digits of a list, or no line if the list is empty. The first element
-  -- lies at the offset `first`.
+  -- The line with marks that shows `digits`, the digits of the elements of a list. No line if the list is empty. The
+  -- first element lies at the offset `first`.
   abbrev pub marked_digits : ℕ → List ℕ → ℕ → ℕ → List ℕ → List ℕ
   marked_digits level path first zero digits = []
   marked_digits level path first (suc n) digits = mark marks first path ++ line level digits
@@ -126,7 +126,7 @@ module _ (m : List (List ℕ)) (marks : Marks) where
     unmarked level path found (cap k) = line level (named (codes "capability") k)
 
     -- The lines of the values in consecutive slots, of which the first is item `i` of an object. The slot of item `i`
-    -- lies at `place i`, and its mark has the offset of that place.
+    -- lies at `place i`, and the mark of item `i` has the offset of that place.
     pub marked_slots : ℕ → List ℕ → (ℕ → Place) → ℕ → Trees → List ℕ
     marked_slots level path place i no_trees = []
     marked_slots level path place i (tree t ts) =

@@ -22,7 +22,7 @@ pub record There : Type 0 where
   pub value : Tree
   pub path : List ℕ
 
--- The line `none` for a path that leads nowhere, with an empty mark before it for each kind of mark that `marks` has.
+-- The line `none` for a path that leads nowhere, with a tab before it for each kind of mark that `marks` asks for.
 abbrev pub none_line : Marks → List ℕ
 none_line marks =
     (if marks.offsets then 9 ∷ [] else []) ++ ((if marks.ways then 9 ∷ [] else []) ++ line 0 (codes "none"))

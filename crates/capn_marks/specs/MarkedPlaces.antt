@@ -1,4 +1,4 @@
--- Statements that a property `Says` is true of a text with marks. For example, `Says` can be that the text was added.
+-- Statements about texts with marks. `Says` is a property of such a text, for example that the text was added.
 use Rattle.std.specs.Prelude.{◌≡◌, ◌≤◌, ℕ, Option, Some, None, ◌<◌, List, ◌++◌, length, take, slice_index}
 use Rattle.capn_words.specs.Message.{total}
 use Rattle.capn_words.specs.declared.space.Place.{Place}
@@ -19,7 +19,7 @@ pub record CountsBefore (m : List (List ℕ)) (before : List ℕ) : Type 0 where
   pub each : (s : ℕ) → s < length m → slice_index before s ≡ total (take s m)
 
 module _ (m : List (List ℕ)) where
-  -- `Says` is true of the lines with `marks` of each value that `found` shows, with the path `path` and the place `at`.
+  -- `Says` is true of the lines with `marks` of the value with the target `found`, the path `path` and the place `at`.
   abbrev pub IsThereMarked : Marks → List ℕ → Place → Target → (List ℕ → Type 0) → Type 0
   IsThereMarked marks path at found Says = (v : Tree) → Shows m found v
       → Says (mark marks (byte_at m marks at) path ++ unmarked m marks 0 path found v)

@@ -16,9 +16,9 @@ use std::io::Write;
 pub struct Annotated<'a, A: Allocator> {
     /// The marks that each line gets.
     pub marks: Marks,
-    /// The number of words of the message before each of its segments.
+    /// For each segment, the number of words of the message before that segment.
     pub before: &'a [u32],
-    /// The path to the value that is being written, as text.
+    /// The path to the value that is being written, as text, if `marks.ways` is true.
     pub path: Vec<u8, A>,
 }
 

@@ -1,9 +1,9 @@
-//! The text of a message with marks. Before each line stands the offset of the line's subject, the path to the subject,
-//! or both.
+//! The text of a message with marks. The marks before a line are the offset of the slot, row, word or elements that
+//! the line shows, a path, or both. A word or an element has the path of the value or row that it belongs to.
 //!
-//! [`show_marked`] surveys a message and appends the text of the value at a path. Without marks that text is the text
-//! that `capn_show::show_part` appends. Offsets are counted in bytes from the start of the stream, and
-//! [`Marks::offset`] is the offset of the message's table.
+//! [`show_marked`] surveys a message and appends the text of the value at a path. Without marks, `capn_show::show_part`
+//! appends the same text. Offsets are counted in bytes from the start of the stream, and [`Marks::offset`] is the
+//! offset of the message, including any table.
 #![tactic(auto)]
 
 mod annotated;

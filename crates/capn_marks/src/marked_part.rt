@@ -30,8 +30,8 @@ use std::io::Write;
 ///
 /// Without the marks, the text is what `capn_show::show_part` writes in lines. The message is surveyed within `limits`
 /// first. The caller can use one `text` for several calls. Whenever `text` has 65,536 bytes or more, it is written to
-/// `writer` and emptied. The path to the current line is allocated on `alloc`. If the message has several segments, 4
-/// bytes more are allocated for each segment.
+/// `writer` and emptied. The path to the current value is allocated on `alloc`. If the message has several segments, a
+/// vector with 4 bytes for each segment is allocated too.
 pub fn show_marked<S: Space, W: Write, A: Allocator + Copy>(
     alloc: A,
     text: &mut Vec<u8, A>,
@@ -45,7 +45,7 @@ pub fn show_marked<S: Space, W: Write, A: Allocator + Copy>(
     ensures shown { OnOk result (IsWritten (S.message message.now) limits
         (marked_at (S.message message.now) marks path.now)
         (outgoing W.contents writer.old text.old.items) (outgoing W.contents writer.new text.new.items)) }
-    // If the error is `Stopped`, the error has the stop of the survey, and nothing was added. If the error is `Io` or
+    // If `result` is `Stopped`, its field says why the survey stopped, and nothing was added. If `result` is `Io` or
     // `Memory`, the message is accepted, and the text breaks off: the writer failed, or an allocation was refused.
     ensures refused { IfErr result (λ fault. IsUnwritten (S.message message.now) limits
         (marked_at (S.message message.now) marks path.now) fault
@@ -60,8 +60,8 @@ pub fn show_marked<S: Space, W: Write, A: Allocator + Copy>(
     }
 }
 
-/// Follows `numbers` from the root, and appends to `text` the value found there, as text with `marks`. If the numbers
-/// lead to no value, the line `none` is appended.
+/// Appends to `text` the text with `marks` of the value to which `numbers` lead from the root. If `numbers` lead to no
+/// value, the line `none` is appended.
 fn mark_part<S: Space, W: Write, A: Allocator + Copy>(
     alloc: A,
     text: &mut Vec<u8, A>,
@@ -89,8 +89,8 @@ fn mark_part<S: Space, W: Write, A: Allocator + Copy>(
     mark_counted(alloc, text, writer, space, &before, marks, numbers, depth)
 }
 
-/// Follows `numbers` from the root, and appends to `text` the value found there, as text with `marks`. If the numbers
-/// lead to no value, the line `none` is appended. Element `s` of `before` is the number of words before segment `s`.
+/// Appends to `text` the text with `marks` of the value to which `numbers` lead from the root. If `numbers` lead to no
+/// value, the line `none` is appended. Element `s` of `before` is the number of words before segment `s`.
 fn mark_counted<S: Space, W: Write, A: Allocator>(
     alloc: A,
     text: &mut Vec<u8, A>,
@@ -155,8 +155,8 @@ fn mark_led<S: Space, W: Write, A: Allocator>(
     }
 }
 
-/// Follows `numbers` from the root, and writes them to `path`, which is empty at first. Returns the value to which
-/// `numbers` lead, or `None` if a number leads nowhere.
+/// Follows `numbers` from the root, and writes each number that leads to a value to `path`, which is empty at first.
+/// Returns the value to which `numbers` lead, or `None` if a number leads nowhere.
 fn lead<S: Space, A: Allocator>(
     path: &mut Vec<u8, A>,
     space: &S,

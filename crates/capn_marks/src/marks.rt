@@ -13,17 +13,17 @@ use itoa::Buffer;
 use std::alloc::Allocator;
 use std::io::Write;
 
-/// The marks that stand before each line of a text. The subject of a line is the value or the word that the line shows.
+/// The marks before each line of a text. The subject of a line is the slot, row, word or elements that the line shows.
 #[derive(Clone, Copy, Debug, PartialEq, Eq)]
 pub struct Marks {
     /// Set if a line begins with the offset of its subject, in decimal digits, and a tab.
     pub offsets: bool,
-    /// Set if the path to the subject of a line, and a tab, stand before the line. If there is an offset, the path
-    /// follows the offset.
+    /// Set if a line begins with the path of its subject and a tab, after the offset if there is one. A word or an
+    /// element has the path of the value or row that it belongs to.
     pub ways: bool,
     /// Set if a list of bytes that is a text is written between quotes, as in `capn_show::Style::Quoted`.
     pub quoted: bool,
-    /// The offset in bytes at which the message's table begins in its stream.
+    /// The offset in bytes at which the message, including any table, begins in its stream.
     pub offset: u64,
     /// The number of words of the table, or 0 if the message has no table.
     pub table: u32,
@@ -104,7 +104,7 @@ fn put_offset<W: Write, A: Allocator>(
     }
 }
 
-/// Returns the name of `path` in a mark, which is `root` for the empty path.
+/// Returns the name of `path` in a mark: `root` if `path` is empty, and otherwise `path` itself.
 #[inline(always)]
 fn path_name(path: &[u8]) -> &[u8]
     ensures { result.now ≡ spec.path_name path.now }
@@ -202,8 +202,7 @@ fn put_both<W: Write, A: Allocator>(
     }
 }
 
-/// Appends the `marks` of a line to `text`. The subject of the line lies at the byte offset `byte`, and `path` leads to
-/// the subject.
+/// Appends the `marks` of a line to `text`. The subject of the line has the byte offset `byte` and the path `path`.
 #[inline(always)]
 pub fn put_mark<W: Write, A: Allocator>(
     text: &mut Vec<u8, A>,

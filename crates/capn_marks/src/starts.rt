@@ -1,4 +1,4 @@
-//! The offsets, in bytes of a stream, of the words of a message, and the number of words before each segment.
+//! The offsets of a message's words in a stream, in bytes, and the number of words before each segment.
 
 ghost use Rattle.std.specs.Prelude.{◌≡◌, ◌≤◌, ◌<◌, ◌^◌, length, IfOk};
 ghost use Rattle.capn_words.specs.Message.{IsMessage, segment_at};

@@ -24,7 +24,7 @@ pub record Compares (message : List (List ℕ)) (limits : Bounds) (words canonic
   pub one : message ≡ words ∷ []
   pub bare : IsBare (canon value) canonical
 
--- The words and the canonical words of `message`, as in `Compares`, are in the relation `Apart`.
+-- `Compares` holds of `message` with some `words` and `canonical`, and `Apart` holds of these two lists.
 abbrev pub Compared : List (List ℕ) → Bounds → (List ℕ → List ℕ → Type 0) → Type 0
 Compared message limits Apart =
     (words : List ℕ) × (canonical : List ℕ) × Compares message limits words canonical × Apart words canonical

@@ -17,16 +17,16 @@ use capn_words::{Memory, Space, total_words};
 use std::alloc::Allocator;
 
 /// Returns the lines about the canonical form of the accepted message `space`. They say whether the message is
-/// canonical, and give the lengths of the message and of the canonical bytes.
+/// canonical, and may give the lengths of the message and of the canonical bytes (see [`CanonicalLines`]).
 ///
 /// `measured` is the result of [`measure`](capn_canon::measure) for `space` within `limits`, so the message isn't
 /// surveyed again. `offset` is the byte of the stream at which the message begins. `table` is the number of words of
 /// the message's segment table, or 0 for a bare message.
 ///
 /// Canonical bytes are laid out at most once, and only for a message of one segment that is not canonical. For a
-/// message of more segments, the canonical bytes are only counted. Memory is allocated as by
-/// [`mismatch`](crate::mismatch). `Memory` is returned only for a message of one segment that is not canonical, if an
-/// allocation on `alloc` was refused. (Our own.)
+/// message of more segments, the canonical bytes are at most counted. The call allocates what
+/// [`mismatch`](crate::mismatch) allocates. `Memory` is returned only for a message of one segment that is not
+/// canonical, if an allocation on `alloc` was refused. (Our own.)
 pub fn lines_of_measured<S: Space, A: Allocator + Copy>(
     alloc: A,
     space: &S,

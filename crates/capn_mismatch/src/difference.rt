@@ -38,7 +38,7 @@ pub enum Difference {
     },
 }
 
-/// Finds the first difference between the words of the first segment of the message `space` and the words of `other`.
+/// Finds the first difference between the words in the first segment of `space` and the words of `other`.
 pub fn first_difference<S: Space>(space: &S, other: &Bare<'_>) -> Difference
     requires message { IsMessage (S.message space.now) }
     requires other { IsMessage (other.now ∷ []) }

@@ -23,9 +23,9 @@ pub struct Step {
 /// Returns the likely slot of the object of `shape` at `start`: `word` is probably at that slot or below it. Returns
 /// `None` if no slot is likely.
 ///
-/// If one of the object's slots is at `word`, it is the likely slot. If `word` lies after the object, a binary search
-/// looks for the last slot whose target begins at or before `word`. In canonical bytes, the word then lies below that
-/// slot. The contract doesn't promise this, since the caller tests each slot.
+/// If one of the object's slots is at `word`, that slot is the likely slot. If `word` lies after the object, a binary
+/// search looks for the last slot whose target begins at or before `word`. In canonical bytes, the word then lies below
+/// that slot. The contract doesn't promise this, since the caller tests each slot.
 pub fn likely_step<S: Space>(space: &S, start: Place, shape: Shape, word: Place) -> Option<Step>
     requires content { IsContent (S.message space.now) start (extent shape) }
     requires rows { RowsFit shape }

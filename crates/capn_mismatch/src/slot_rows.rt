@@ -11,7 +11,7 @@ use capn_words::{Place, Width};
 pub struct SlotRows {
     /// The place at which the first row begins.
     pub at: Place,
-    /// The number of rows. A struct and a list of pointers are one row.
+    /// The number of rows: 1 for a struct or a list of pointers, and 0 for a list of numbers.
     pub count: u32,
     /// The number of data words of a row, which lie before the row's slots.
     pub words: u32,

@@ -17,7 +17,7 @@ use capn_words::Space;
 /// [`measure`](capn_canon::measure) returns.
 ///
 /// `surveyed` is the result of [`survey_depth`](capn_walk::survey_depth) for `space` within `limits`. A message of one
-/// segment is read once more, in one pass up to the word at which the message leaves the canonical form. No memory is
+/// segment is read once more, in one pass that ends where the message proves not to be canonical. No memory is
 /// allocated. (Our own.)
 pub fn measure_surveyed<S: Space>(space: &S, limits: Limits, surveyed: Measured) -> MeasuredBare
     requires survey { IsSurvey (S.message space.now) limits surveyed.survey }

@@ -52,8 +52,8 @@ pub fn finds(word: Place, at: Place, named: Result<Target, Fault>) -> Option<Wor
     }
 }
 
-/// Returns the kind of `word` if `word` is the tag of the list of structs `target`, or the last word of the list of
-/// small numbers `target`.
+/// Returns `Tag` if `target` is a list of structs with the tag at `word`. Returns `LastWord` if `target` is a list of
+/// small numbers with the last word at `word`. Otherwise returns `None`.
 fn found_in(word: Place, target: Target) -> Option<WordKind>
     ensures { result ≡ search.found_in word target }
 {

@@ -11,7 +11,7 @@ abbrev pub pack_text : PackFault → List ℕ
 pack_text pack.Memory = codes "out of memory"
 pack_text (pack.NotWhole n) = codes "NotWhole(" ++ decimal n ++ codes ")"
 
--- the displayed text of the reason why a packed text is not unpacked, with the offset of the group's tag
+-- the displayed text of a fault of unpacking, for `Cut` and `TooLong` with the offset of the group's tag
 abbrev pub unpack_text : UnpackFault → List ℕ
 unpack_text unpack.Memory = codes "out of memory"
 unpack_text (unpack.Cut at) = codes "Cut at " ++ decimal at

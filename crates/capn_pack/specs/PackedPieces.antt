@@ -37,7 +37,7 @@ abbrev pub advanced : ℕ → ℕ → ℕ
 advanced offset len = min (offset + len) (2 ^ 64 - 1)
 
 -- `before.rest` and then `piece` are complete groups and then `after.rest`. The words of the groups, appended to `old`,
--- give `new`. Neither state has failed.
+-- give `new`. The offset advances by the length of the groups (`advanced`). Neither state has failed.
 pub record Feeds (before : Held) (piece old new : List ℕ) (after : Held) : Type 0 where
   pub len : ℕ
   pub split : Splits (before.rest ++ piece) after.rest old new len

@@ -6,8 +6,8 @@ use Rattle.capn_pack.specs.declared.fault.UnpackFault.{UnpackFault}
 use Rattle.capn_pack.specs.declared.fault.UnpackFault.TheVariants.{Memory, Cut, TooLong, Failed}
 use Rattle.capn_pack.specs.Packed.{Group, IsGroup, group_text, group_words, texts, word_count}
 
--- The number of bytes of the head of a group with the tag `tag`. After the tag, the head has a count if `tag` is 0, a
--- word and a count if `tag` is 255, and otherwise the named bytes.
+-- The length in bytes of the head of a group, if the group's tag is `tag`. After the tag, the head has a count if `tag`
+-- is 0, a word and a count if `tag` is 255, and otherwise the named bytes.
 abbrev pub head_len : ℕ → ℕ
 head_len tag = if tag == 0 then 2 else (if tag == 255 then 10 else 1 + count_ones tag)
 
@@ -21,7 +21,7 @@ words_at rest =
     let tag = slice_index rest 0 in
     if tag == 0 then 1 + slice_index rest 1 else (if tag == 255 then 1 + slice_index rest 9 else 1)
 
--- The number of bytes that the head of the group at the front of `rest` gives, including the head.
+-- The number of bytes of the group at the front of `rest`, with its head. The head gives this number.
 abbrev pub len_at : List ℕ → ℕ
 len_at rest =
     let tag = slice_index rest 0 in
@@ -37,8 +37,8 @@ IsCut room rest = (0 < length rest)
 abbrev pub IsTooLong : ℕ → List ℕ → Type 0
 IsTooLong room rest = (0 < length rest) × HasHead rest × (room < words_at rest)
 
--- The first `at` bytes of the text `b` are complete groups of at most `max` words. `Fault` holds of the number `left`
--- of words that remain of `max`, and of the bytes `rest` after the groups.
+-- The first `at` bytes of the text `b` are complete groups, with at most `max` words in all. `Fault` holds of the
+-- number `left` of words that remain of `max`, and of the bytes `rest` after the groups.
 pub record Stands (Fault : ℕ → List ℕ → Type 0) (b : List ℕ) (max at : ℕ) : Type 0 where
   pub groups : List Group
   pub rest : List ℕ

@@ -17,8 +17,8 @@ StandsNext nexts.End room rest = rest ≡ []
 StandsNext nexts.Cut room rest = IsCut room rest × (length rest < most_group)
 StandsNext nexts.TooLong room rest = IsTooLong room rest
 
--- The first `taken` bytes are complete groups of `words` words, at most `max`. The groups' words, appended to `old`,
--- give `new`. `next` says what follows the groups, by `StandsNext`.
+-- The first `taken` bytes of `bytes` are complete groups with `words` words in all, at most `max`. The groups' words,
+-- appended to `old`, give `new`. `next` says what follows the groups, by `StandsNext`.
 pub record UnpacksSome (bytes : List ℕ) (max : ℕ) (old new : List ℕ) (taken words : ℕ) (next : Next) : Type 0 where
   pub groups : List Group
   pub each : AllByRecursion IsGroup groups

@@ -1,4 +1,4 @@
-//! The table of shuffles that bring the bytes named by a tag to the front of a word.
+//! The table of shuffles that move the bytes that a tag names to the front of a vector, after one lane for the tag.
 ghost use Rattle.std.specs.Prelude.{◌≡◌};
 ghost use Rattle.capn_pack.specs.inner.ShuffleRows.{gather_row};
 
@@ -266,8 +266,8 @@ static GATHERS: [[u8; 16]; 256] = [
     [128, 0, 1, 2, 3, 4, 5, 6, 7, 128, 128, 128, 128, 128, 128, 128],
 ];
 
-/// Returns, for each lane of a shuffle, the lane of the word that is read. From lane 1 on, the lanes get the bytes that
-/// `tag` names. Lane 0, and the lanes after those bytes, get zero.
+/// Returns, for each lane of a shuffle, the lane of the word to read, or 128 for a zero. From lane 1 on, the lanes get
+/// the bytes that `tag` names. Lane 0, and the lanes after those bytes, get zero.
 #[inline(always)]
 pub(crate) fn gather_places(tag: u8) -> u8x16
     ensures { result ≡ gather_row tag }

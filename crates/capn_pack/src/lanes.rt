@@ -33,7 +33,7 @@ fn window(bytes: &[u8]) -> u8x16
     u8x16::from_array(window)
 }
 
-/// Returns the word in which the bytes named by `tag` are the first of `lanes`, in order, and all other bytes are zero.
+/// Returns the word that has the first bytes of `lanes`, in order, as the bytes that `tag` names, and zeros elsewhere.
 #[inline(always)]
 fn spread_lanes(tag: u8, lanes: u8x16) -> [u8; 8]
     ensures named { IsNamedBy tag result }
@@ -43,7 +43,7 @@ fn spread_lanes(tag: u8, lanes: u8x16) -> [u8; 8]
     lanes.swizzle_dyn(places).extract::<0, 8>().to_array()
 }
 
-/// Returns the word in which the bytes named by `tag` are the first of `bytes`, in order, and all other bytes are zero.
+/// Returns the word that has the first bytes of `bytes`, in order, as the bytes that `tag` names, and zeros elsewhere.
 #[inline(always)]
 pub(crate) fn spread(tag: u8, bytes: &[u8]) -> [u8; 8]
     requires { count_ones tag ≤ length bytes.now }
@@ -53,9 +53,8 @@ pub(crate) fn spread(tag: u8, bytes: &[u8]) -> [u8; 8]
     spread_lanes(tag, window(bytes))
 }
 
-/// Returns the word in which the bytes named by `tag` are the first of `bytes`, in order, and all other bytes are zero.
-/// `bytes` has at least sixteen bytes, so they are read in place. [`spread`] accepts fewer bytes, and copies them
-/// first.
+/// Returns the word that has the first bytes of `bytes`, in order, as the bytes that `tag` names, and zeros elsewhere.
+/// `bytes` has at least sixteen bytes, which are read in place. [`spread`] accepts fewer, and copies those first.
 #[inline(always)]
 pub(crate) fn spread_far(tag: u8, bytes: &[u8]) -> [u8; 8]
     requires { 16 ≤ length bytes.now }

@@ -8,11 +8,11 @@ use crate::lanes::gather;
 use crate::runs::{raw_run, word_at, zero_run};
 use crate::signs::tag;
 
-/// The number of bytes that one store writes after the head of a raw group. The first of them are the words after the
-/// group's first word, at most seven.
+/// The number of bytes that one store writes after the head of a raw group. At the front of these bytes are the group's
+/// words after its first word, at most seven.
 const SPAN: usize = 64;
 
-/// The greatest number of bytes of a block that one group needs. The head of a raw group has ten.
+/// The number of free bytes that a block needs for one group. The head of a raw group has ten bytes.
 pub(crate) const ROOM: usize = 10 + SPAN;
 
 #[inline(always)]
@@ -31,9 +31,9 @@ fn store_pair(block: &mut [u8], at: usize, pair: [u8; 2])
     block[at..at + 2].copy_from_slice(&pair);
 }
 
-/// Packs the word at byte `at` of `bytes`, and the words after it that have at most one zero byte each, as a raw group.
-/// Writes the group to `block` at offset `fill`. Returns `None` if the group has more than eight words, or if fewer
-/// than [`SPAN`] bytes follow its first word.
+/// Packs the word at byte `at` of `bytes`, and the words after it as long as each has at most one zero byte, as a raw
+/// group. Writes the group to `block` at offset `fill`. Returns `None` if the group has more than eight words, or if
+/// fewer than [`SPAN`] bytes follow its first word.
 #[inline(always)]
 fn store_raw(bytes: &[u8], at: usize, block: &mut [u8], fill: usize) -> Option<Block>
     requires inside { at + 8 ≤ length bytes.now }
@@ -62,8 +62,8 @@ fn store_raw(bytes: &[u8], at: usize, block: &mut [u8], fill: usize) -> Option<B
     })
 }
 
-/// Writes `tag`, and the bytes of `word` that `tag` names, to `block` at offset `fill`. Returns the offset after the
-/// written bytes.
+/// Writes `tag`, and the bytes of `word` that `tag` names, to `block` at offset `fill`. Returns the offset after
+/// these bytes. The 16 bytes of `block` from `fill` on are overwritten.
 #[inline(always)]
 fn store_named(block: &mut [u8], fill: usize, word: [u8; 8], tag: u8) -> usize
     requires { fill + 16 ≤ length block.old }
@@ -93,7 +93,7 @@ fn store_zeros(bytes: &[u8], at: usize, block: &mut [u8], fill: usize) -> Block
 }
 
 /// Packs the words at byte `at` of `bytes` as the group that the packer chooses. Writes the group to `block` at offset
-/// `fill`. Returns `None` for a raw group that is long, or near the end of `bytes`.
+/// `fill`. Returns `None` for a raw group of more than eight words, or near the end of `bytes` (see [`store_raw`]).
 #[inline(always)]
 fn store_group(bytes: &[u8], at: usize, block: &mut [u8], fill: usize) -> Option<Block>
     requires inside { at + 8 ≤ length bytes.now }
@@ -114,8 +114,8 @@ fn store_group(bytes: &[u8], at: usize, block: &mut [u8], fill: usize) -> Option
     }
 }
 
-/// Packs the words from byte `start` of `bytes` on as the groups that the packer chooses. Writes the groups to `block`,
-/// until `block` is full. Stops before a raw group that is long, or near the end of `bytes`.
+/// Packs the words from byte `start` of `bytes` on as the groups that the packer chooses, and writes these to `block`.
+/// Stops at the end of `bytes`, if fewer than [`ROOM`] bytes of `block` are free, or if [`store_group`] returns `None`.
 pub(crate) fn store_groups(bytes: &[u8], start: usize, block: &mut [u8]) -> Block
     requires inside { start ≤ length bytes.now }
     requires room { ROOM ≤ length block.old }

@@ -37,9 +37,9 @@ fn put_zeros<A: Allocator>(
     Ok(at + 8 + 8 * more)
 }
 
-/// Packs the word at byte `at` of `bytes`, which has no zero byte, as a raw group. Up to 255 words after it are part of
-/// the group, as long as each has at most one zero byte. Appends the group to `out`. Returns the offset of the next
-/// word.
+/// Packs a raw group from byte `at` of `bytes` on. Its first word has no zero byte. Up to 255 words after the first are
+/// part of the group, as long as each has at most one zero byte. Appends the group to `out`. Returns the offset of the
+/// next word.
 #[inline(always)]
 fn put_raw<A: Allocator>(bytes: &[u8], at: usize, out: &mut Vec<u8, A>) -> Result<usize, AllocError>
     requires inside { at + 8 ≤ length bytes.now }
@@ -58,8 +58,8 @@ fn put_raw<A: Allocator>(bytes: &[u8], at: usize, out: &mut Vec<u8, A>) -> Resul
     Ok(end)
 }
 
-/// Packs the word at byte `at` of `bytes`, which has both zero and other bytes, as a group with the tag `tag`. Appends
-/// the group to `out`. Returns the offset of the next word.
+/// Packs the word at byte `at` of `bytes` as a group with the tag `tag`. The word has both zero and other bytes.
+/// Appends the group to `out`. Returns the offset of the next word.
 #[inline(always)]
 fn put_named<A: Allocator>(
     bytes: &[u8],

@@ -13,8 +13,8 @@ use std::alloc::{AllocError, Allocator};
 /// The length of the block that groups are written into, including [`ROOM`] for the last group.
 const BLOCK: usize = 4096 + ROOM;
 
-/// Packs `bytes`, which are whole words. Small groups are gathered in a block first, and long ones are appended one by
-/// one.
+/// Packs `bytes`, which are whole words. Groups are gathered in a block, which is appended to the text in one call. The
+/// group after each block, for example a raw group of more than eight words, is appended alone.
 fn pack_words<A: Allocator + Copy>(alloc: A, bytes: &[u8]) -> Result<Vec<u8, A>, AllocError>
     requires { length bytes.now % 8 ≡ 0 }
     ensures chosen { IfOk result (λ v. Chosen v.items bytes.now) }
@@ -39,12 +39,12 @@ fn pack_words<A: Allocator + Copy>(alloc: A, bytes: &[u8]) -> Result<Vec<u8, A>,
 /// Packs whole words and returns the one text that this packer chooses. (Page: packing. Where runs end is our own.)
 ///
 /// `bytes` are the bytes of the words, the least significant byte of each first. The text grows on `alloc` a
-/// logarithmic number of times. A growth reserves capacity for the text of the remaining words, as if they packed like
-/// the words that are packed already, but for at most 64 times the text so far. If doubling the capacity gives more,
+/// logarithmic number of times. Most growths reserve capacity for the text of the remaining words, as if they packed
+/// like the words before them. This capacity is at most 64 times the text so far. If doubling the capacity gives more,
 /// the capacity is doubled.
 ///
-/// Errors: `NotWhole` with the number of bytes, if that is no multiple of eight, before any allocation. `Memory` if an
-/// allocation was refused, which can happen only if `bytes` is not empty.
+/// Errors: `NotWhole` with the length of `bytes`, before any allocation, if the length is no multiple of eight.
+/// `Memory` if an allocation was refused, which can happen only if `bytes` is not empty.
 pub fn pack<A: Allocator + Copy>(alloc: A, bytes: &[u8]) -> Result<Vec<u8, A>, PackFault>
     // If `result` is `Ok`, the returned text is the packer's text of the words, and so a packed text of the words.
     ensures packed { IfOk result (λ v. Chosen v.items bytes.now) }

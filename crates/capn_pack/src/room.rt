@@ -3,13 +3,13 @@ ghost use Rattle.std.specs.Prelude.{◌≤◌, ◌+◌, ◌*◌, max, length};
 
 use std::alloc::Allocator;
 
-/// The limit of one growth of a text, as a multiple of the text so far.
+/// The limit of the estimate in [`text_room`], as a multiple of the text's length.
 const TIMES: usize = 64;
 
 /// Returns the number of bytes to reserve in `out` for `count` more bytes of text. The text and these bytes pack the
 /// first `at` of `all` bytes. If `out` has capacity for `count` more bytes, returns `count`. Otherwise returns `count`
-/// plus an estimate for the words after byte `at`, as if they packed like the words before byte `at`. The estimate is
-/// at most [`TIMES`] times the text so far.
+/// plus an estimate, as if the bytes after `at` packed like the bytes before `at`. The estimate is at most [`TIMES`]
+/// times the length of the text with the `count` bytes.
 #[inline(always)]
 pub(crate) fn text_room<A: Allocator>(
     out: &Vec<u8, A>,

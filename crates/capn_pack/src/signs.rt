@@ -4,10 +4,10 @@ ghost use Rattle.capn_pack.specs.Packed.{tag_of};
 
 use std::simd::prelude::*;
 
-/// Returns the tag of the word `bytes`, read from the sign bits of the word's lanes.
+/// Returns the tag of the word `bytes`, read from the sign bits of a comparison of the word's lanes with zero.
 ///
-/// The result equals the result of [`tag`](crate::tag). A test of this result for zero becomes one comparison of all
-/// eight bytes, so long runs of zero words are found faster.
+/// The result equals the result of [`tag`](crate::tag). The compiler turns a test of this result for zero into one
+/// comparison of eight bytes. Long runs of zero words are then found faster.
 #[inline(always)]
 pub(crate) fn tag(bytes: &[u8; 8]) -> u8
     ensures { result ≡ tag_of bytes.now }

@@ -267,7 +267,7 @@ static SPREADS: [[u8; 16]; 256] = [
     [0, 1, 2, 3, 4, 5, 6, 7, 128, 128, 128, 128, 128, 128, 128, 128],
 ];
 
-/// Returns, for each byte of a word with the tag `tag`, the lane to read, or 128 for a zero byte.
+/// Returns, for each byte of a word with the tag `tag`, the lane to read, or 128 for a zero. Eight more lanes are 128.
 #[inline(always)]
 pub(crate) fn spread_places(tag: u8) -> u8x16
     ensures { result ≡ spread_row tag }

@@ -43,8 +43,8 @@ fn take_groups<A: Allocator>(
     Ok(at)
 }
 
-/// The state of an unfinished group after more bytes: `Open` with the number of bytes that the group has now, or
-/// `Whole` with the number of bytes that the group got from the piece.
+/// The state of an unfinished group after more bytes. `Open` has the number of bytes that the group has now. `Whole`
+/// has the number of bytes that the group got from the piece.
 #[derive(Clone, Copy)]
 pub(crate) enum Joined {
     Open(usize),
@@ -96,7 +96,7 @@ pub(crate) struct Fed {
     pub taken: usize,
 }
 
-/// Unpacks `piece`, if no earlier group is unfinished. Appends the words of the complete groups to `out`, and copies
+/// Unpacks `piece`, before which no group is unfinished. Appends the words of the complete groups to `out`, and copies
 /// the bytes after those groups to `held`.
 fn feed_fresh<A: Allocator>(
     held: &mut [u8],

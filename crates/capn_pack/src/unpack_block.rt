@@ -10,10 +10,10 @@ use crate::room::words_room;
 use crate::unpack_group::Taken;
 use std::alloc::{AllocError, Allocator};
 
-/// The number of bytes that a block has after its limit. One store of this length writes up to eight zero or raw words.
+/// The number of bytes of a block after its limit: room for one store of eight words, of which only some may be kept.
 pub(crate) const SLACK: usize = 64;
 
-/// The number of bytes of text that one step may read: the head of a raw group and the words after it.
+/// The number of bytes of text that one step may read: the head of a raw group, and eight words after it.
 const REACH: usize = 10 + SLACK;
 
 #[inline(always)]
@@ -180,8 +180,8 @@ fn fill_steps(text: &[u8], from: Block, block: &mut [u8], steps: usize) -> Stret
     }
 }
 
-/// Returns a number of groups that surely fit after the progress `from`, if each has at most eight words. A text of
-/// `len` bytes has [`REACH`] bytes for each group, and a block has [`SLACK`] bytes up to `limit` for each group.
+/// Returns a number of groups of at most eight words that surely fit after the progress `from`. For each of these
+/// groups, a text of `len` bytes has [`REACH`] more bytes, and the block has [`SLACK`] more bytes up to `limit`.
 #[inline(always)]
 fn sure_steps(len: usize, limit: usize, from: Block) -> usize
     requires inside { from.at ≤ len }
@@ -193,7 +193,7 @@ fn sure_steps(len: usize, limit: usize, from: Block) -> usize
 }
 
 /// Fills `block` up to `limit` with the words of the groups of `text` after `from`, near the end of the text or of the
-/// block.
+/// block. Stops if [`fill_last`] returns `None`.
 #[inline(always)]
 fn fill_rest(text: &[u8], from: Block, block: &mut [u8], limit: usize) -> Block
     requires slack { limit + SLACK ≤ length block.old }
@@ -218,8 +218,8 @@ fn fill_rest(text: &[u8], from: Block, block: &mut [u8], limit: usize) -> Block
     Block { at, fill }
 }
 
-/// Fills `block` up to `limit` with the words of the first groups of `text`. Stops before a group that is too long for
-/// a block, or too near the end of `text` or of the block.
+/// Fills `block` up to `limit` with the words of the first groups of `text`. Stops before a group of more than eight
+/// words, and before a group that is too near the end of `text` or of the block.
 fn fill_block(text: &[u8], block: &mut [u8], limit: usize) -> Block
     requires { limit + SLACK ≤ length block.old }
     ensures within { result.fill ≤ limit }

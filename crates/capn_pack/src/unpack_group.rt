@@ -42,7 +42,8 @@ pub(crate) struct Taken {
     pub words: usize,
 }
 
-/// Reads the group of zero words at the front of `rest`. If the group has at most `room` words, appends them to `out`.
+/// Reads the group of zero words at the front of `rest`. If the group is complete and has at most `room` words, appends
+/// them to `out`.
 #[inline(always)]
 fn take_zeros<A: Allocator>(rest: &[u8], room: usize, out: &mut Vec<u8, A>) -> Result<Taken, Stop>
     requires some { 0 < length rest.now }
@@ -61,8 +62,8 @@ fn take_zeros<A: Allocator>(rest: &[u8], room: usize, out: &mut Vec<u8, A>) -> R
     Ok(Taken { bytes: 2, words })
 }
 
-/// Reads the group at the front of `rest`, whose tag names one to seven bytes. If `room` is at least 1, appends the
-/// group's word to `out`.
+/// Reads the group at the front of `rest`, whose tag names one to seven bytes. If the group is complete and `room` is
+/// at least 1, appends the group's word to `out`.
 fn take_named<A: Allocator>(rest: &[u8], room: usize, out: &mut Vec<u8, A>) -> Result<Taken, Stop>
     requires some { 0 < length rest.now }
     requires above { 0 < slice_index rest.now 0 }
@@ -85,7 +86,8 @@ fn take_named<A: Allocator>(rest: &[u8], room: usize, out: &mut Vec<u8, A>) -> R
     })
 }
 
-/// Reads the raw group at the front of `rest`. If the group has at most `room` words, appends them to `out`.
+/// Reads the raw group at the front of `rest`. If the group is complete and has at most `room` words, appends them to
+/// `out`.
 #[inline(always)]
 fn take_raw<A: Allocator>(rest: &[u8], room: usize, out: &mut Vec<u8, A>) -> Result<Taken, Stop>
     requires some { 0 < length rest.now }
@@ -113,7 +115,7 @@ fn take_raw<A: Allocator>(rest: &[u8], room: usize, out: &mut Vec<u8, A>) -> Res
     })
 }
 
-/// Reads the group at the front of `rest`. If the group has at most `room` words, appends them to `out`.
+/// Reads the first group of `rest`. If the group is complete and has at most `room` words, appends them to `out`.
 pub(crate) fn take_group<A: Allocator>(
     rest: &[u8],
     room: usize,

@@ -12,8 +12,8 @@ use std::alloc::Allocator;
 /// The length of the block that groups are read into, including its slack.
 const BLOCK: usize = 4096 + SLACK;
 
-/// Unpacks `bytes` to at most `max_words` words. Small groups are gathered in a block first, and long ones are appended
-/// one by one.
+/// Unpacks `bytes` to at most `max_words` words. The words of groups are gathered in a block, which is appended to the
+/// result in one call. The words of the group after each block are appended alone.
 fn unpack_groups<A: Allocator + Copy>(
     alloc: A,
     bytes: &[u8],
@@ -51,9 +51,9 @@ fn unpack_groups<A: Allocator + Copy>(
 ///
 /// Texts that the packer would not write are read too: tag bits that are set for zero bytes, short runs, any raw words.
 /// (Our own.) The empty text packs no words. The result grows on `alloc` a logarithmic number of times, and only for
-/// the words of complete groups within the maximum. A growth reserves capacity for at least those words. It reserves
-/// more for the text after those groups: at most twice the bytes of that text, and at most the maximum. If doubling the
-/// capacity gives more, the capacity is doubled.
+/// the words of complete groups within the maximum. A growth reserves capacity for the words of the groups that are
+/// appended next. More is reserved only up to twice the bytes of the text from these groups on, and only up to the
+/// maximum. If doubling the capacity gives more, the capacity is doubled.
 ///
 /// Errors: `Cut` if the head of a group is incomplete. Otherwise `TooLong` if the group and the groups before it have
 /// more than `max_words` words. Otherwise `Cut` if the raw words of the group are incomplete. `Cut` and `TooLong` have

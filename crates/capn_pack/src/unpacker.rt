@@ -11,7 +11,7 @@ use std::marker::Model;
 ///
 /// An unpacker stores the bytes of the unfinished group, at most 2,049, and the offset of that group's tag in the text.
 /// The buffer for those bytes is in the unpacker itself, so memory is taken only for the words of a piece. After any
-/// error each later call returns `Failed` and changes nothing.
+/// error each later `feed` and `finish` returns `Failed` and changes nothing.
 #[derive(Debug, Drop)]
 pub struct Unpacker {
     held: [u8; HELD],
@@ -56,8 +56,8 @@ impl Unpacker {
 
     /// Reads the next `piece` of the text. Appends to `out` the words of each group that becomes complete.
     ///
-    /// All of `piece` is read, and the bytes of an unfinished group are stored. There is no maximum of words, since the
-    /// length of the pieces bounds the number of words.
+    /// If the result is `Ok`, all of `piece` was read, and the bytes of an unfinished group are stored. There is no
+    /// maximum of words, since the length of the pieces bounds the number of words.
     ///
     /// Errors: `Memory` if an allocation for `out` was refused. In that case a prefix of the words was appended. A
     /// piece that completes no group takes no memory. `Failed` after an earlier error, and `out` is not changed.
@@ -75,7 +75,7 @@ impl Unpacker {
             × (self.new.failed ≡ true) }
         // An allocation can be refused only if a group became complete.
         ensures memory { IsErrOf result UnpackFault.Memory → NoGroupFirst (self.old.rest ++ piece.now) → ⊥ }
-        // After an error, each later call returns `Failed` and changes nothing.
+        // After an error, each later `feed` returns `Failed` and changes nothing.
         ensures failed { self.old.failed ≡ true → (result ≡ Err UnpackFault.Failed)
             × (out.new.items ≡ out.old.items) × (self.new ≡ self.old) }
         // If there was no earlier error, the only error is `Memory`.
@@ -99,7 +99,7 @@ impl Unpacker {
     }
 
     /// Returns the bytes of the unfinished group from its tag on, also after `Cut`. The result is empty if no group has
-    /// begun.
+    /// begun. After `Memory` the result is not specified.
     pub fn held(&self) -> &[u8]
         ensures { result.now ≡ self.now.rest }
     {

@@ -19,7 +19,7 @@ pub enum Next {
     /// A group that the end of the bytes cuts off. At most 2,049 bytes of the group come before that end. Further bytes
     /// may complete the group.
     Cut,
-    /// A group whose head gives it more words than are left of the maximum.
+    /// A group whose head gives more words than are left of the maximum.
     TooLong,
 }
 

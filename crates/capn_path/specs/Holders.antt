@@ -20,8 +20,8 @@ place s w = record { segment = s; word = w }
 abbrev pub row_start : ℕ → ℕ → ℕ → ℕ → ℕ
 row_start start a b row = start + 1 + row * (a + b)
 
--- `numbers` lead from an object to a slot that `holder` holds. `holder` is the object itself if that is a struct or a
--- list of pointers, and a row of the object if that is a list of structs.
+-- `numbers` lead from an object to a slot that `holder` holds. If the object is a struct or a list of pointers,
+-- `holder` is the object. If the object is a list of structs, `holder` is the row whose number is the first number.
 abbrev pub IsHeldIn : Target → List ℕ → Holder → Type 0
 IsHeldIn (targets.Content s start (shapes.Node a b) pads) numbers holder = holder ≡ Struct a b (place s start)
 IsHeldIn (targets.Content s start (shapes.Many width n) pads) numbers holder = holder ≡ Pointers n (place s start)

@@ -6,13 +6,13 @@ use Rattle.capn_path.specs.declared.holder.Holder.{Holder}
 use Rattle.capn_path.specs.Paths.{IsPathTo}
 use Rattle.capn_path.specs.Holders.{IsHolder}
 
--- at most one path leads to the slot that the walk of a message visits after `number` other visits
+-- the visit that the walk of a message makes after `number` other visits has at most one path, and at most one place
 abbrev pub PathsAreOne : Type 0
 PathsAreOne = (message : List (List ℕ)) (limits : Bounds) (number : ℕ) (path other : List ℕ) (at to : Place)
     → IsPathTo message limits number path at → IsPathTo message limits number other to → (path ≡ other) × (at ≡ to)
 
--- exactly one object holds the slot that the walk of a message visits after `number` other visits, unless that slot is
--- the root's slot
+-- if `path` leads to the slot of a visit and is not empty, then `path` leads to that slot only, and gives exactly one
+-- `holder` of that slot
 abbrev pub HoldersAreOne : Type 0
 HoldersAreOne = (message : List (List ℕ)) (limits : Bounds) (number : ℕ) (path : List ℕ) (to : Place)
     → IsPathTo message limits number path to → 0 < length path

@@ -1,5 +1,5 @@
--- The path to a slot: the numbers that lead to the slot from another slot. A walk makes a number of visits between the
--- two slots.
+-- The path to a slot: the numbers that lead to the slot from another slot. The definitions also count the visits that a
+-- walk makes between the two slots.
 use Rattle.std.specs.Prelude.{◌≡◌, ◌⊎◌, ℕ, zero, suc, ◌+◌, ◌-◌, ◌*◌, ◌<◌, ◌≤◌, List, [], ◌∷◌, ◌++◌, length, Ok}
 use Rattle.capn_words.specs.Message.{segment_at}
 use Rattle.capn_words.specs.declared.space.Place.{Place}
@@ -25,8 +25,8 @@ AreNumbersOf found k (slot ∷ []) = k ≡ slot
 AreNumbersOf found k numbers = ⊥
 
 -- `path` leads from the slot at `from` to the slot at `to`, by way of `slot`, a slot of the object that the slot at
--- `from` names. The numbers `rest` lead from `slot` to the slot at `to`. `between` counts the visit at `from`, the
--- visits of the slots `before` and of all slots below them, and the `later` visits.
+-- `from` names. The numbers `rest` lead from `slot` to the slot at `to`, after `later` visits. `between` counts the
+-- visit at `from`, the visits of the slots `before` and of all slots below them, and the `later` visits.
 pub record Descends (message : List (List ℕ)) (base depth : ℕ) (leads : Place → List ℕ → Place → ℕ → Type 0)
     (from : Place) (path : List ℕ) (to : Place) (between : ℕ) : Type 0 where
   pub found : Target

@@ -6,7 +6,7 @@ use Rattle.capn_target.specs.declared.target.Shape.TheVariants as shapes
 use Rattle.capn_walk.specs.Visits.{visits_of}
 use Rattle.capn_path.specs.Paths.{Leads}
 
--- `numbers`, the path from a struct or a list of pointers to its slot `k`, is the one number `k`
+-- `numbers` lead from a struct or a list of pointers to its slot `k`: the only number is `k`
 abbrev pub AreNumbers : ℕ → List ℕ → Type 0
 AreNumbers k numbers = numbers ≡ k ∷ []
 
@@ -26,7 +26,7 @@ AreNumbersIn (shapes.Many width n) = AreNumbers
 AreNumbersIn (shapes.Rows n a b span) = AreRowNumbers b
 
 -- `path` leads to the slot at `to` by way of `slot`, one of the slots `ps`. The numbers `rest` lead from `slot` to the
--- slot at `to`. `between` counts the visits of the slots `before` and of all slots below them, and the `later` visits.
+-- slot at `to`, after `later` visits. `between` is `later` plus the number of visits of `before` and all slots below.
 pub record DescendsTo (m : List (List ℕ)) (base depth : ℕ) (ps : List Place) (are : ℕ → List ℕ → Type 0)
     (path : List ℕ) (to : Place) (between : ℕ) : Type 0 where
   pub before : List Place

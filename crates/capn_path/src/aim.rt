@@ -8,7 +8,7 @@ ghost use Rattle.capn_target.specs.declared.target.Fault.{Fault as Faults};
 use capn_target::{Fault, Target};
 use capn_words::Place;
 
-/// The aim of a search. A search tests the slots that a walk visits, in preorder, up to the first find.
+/// The aim of a search: a test of the slots that a walk visits. The slots are tested in preorder, up to the first find.
 pub trait Aim: Drop {
     /// The type of a find.
     type Found: Drop;

@@ -61,8 +61,8 @@ pub fn holder_of<S: Space>(space: &S, path: &[u32]) -> Option<Holder>
     // If `result` is `None`, no object holds a slot to which `path` leads.
     ensures none { IfNone result
         ((to : Place) (holder : Holder) → IsHolder (S.message space.now) path.now to holder → ⊥) }
-    // If `path` leads to the slot of a visit, `result` is the holder of that slot. The visit can be the one at which a
-    // walk stopped.
+    // If `path` leads to the slot of a visit, `result` is the holder of that slot, or `None` if `path` is empty. The
+    // visit can be the one at which a walk stopped.
     ensures visit { (limits : Bounds) (number : ℕ) (to : Place)
         → IsPathTo (S.message space.now) limits number path.now to
         → IsHolderOrRoot (S.message space.now) path.now to result }

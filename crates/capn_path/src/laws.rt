@@ -2,12 +2,12 @@
 
 ghost use Rattle.capn_path.specs.Laws.{PathsAreOne, HoldersAreOne};
 
-/// States that at most one path leads to the slot that the walk of a message visits after a given number of visits.
+/// States that at most one path belongs to each visit of the walk of a message.
 pub fn paths()
     ensures { PathsAreOne }
 {}
 
-/// States that exactly one object holds the slot of a visit, unless that slot is the root's slot.
+/// States that each path to the slot of a visit gives exactly one object that holds the slot, unless the path is empty.
 pub fn holders()
     ensures { HoldersAreOne }
 {}

@@ -3,14 +3,14 @@
 //! A number leads from a struct to a slot, or from a list of pointers to an element. From a list of structs a number
 //! leads to a row, and the next number to a slot of the row. The path to the root's slot has no numbers.
 //!
-//! - [`path_of_refusal`] finds out whether and for which reason a message is refused, and the path to the slot at which
-//!   the walk stopped.
+//! - [`path_of_refusal`] surveys a message. If the message is refused, the result is the reason, and the path to the
+//!   slot at which the walk stopped.
 //! - [`path_of_stop`] finds the path to the slot at which a walk has stopped.
 //! - [`path_of_visit`] finds the path to the slot of a visit, given the number of the visit.
 //! - [`holder_of`] finds the object that holds the slot to which a path leads.
 //! - [`seek`] finds the first slot at which an [`Aim`] finds something, and the path to that slot.
-//! - Module [`laws`] states facts about paths: at most one path leads to the slot of a visit, and exactly one object
-//!   holds the slot of a visit other than the root's slot.
+//! - Module [`laws`] states facts about paths: each visit has at most one path, and each path to the slot of a visit
+//!   gives exactly one object that holds the slot, unless the path is empty.
 //!
 //! ```text
 //! if let Some(refused) = path_of_refusal(alloc, &message, limits)? {

@@ -47,8 +47,8 @@ pub fn seek<S: Space, G: Aim, A: Allocator + Copy>(
     }
 }
 
-/// Tests the slot at `at` and all slots below it, at most `depth` objects deep, up to the first find of `aim`. At first
-/// `path` leads to the slot at `at`. If something is found, `path` leads to the slot of the find.
+/// Tests the slot at `at` and all slots below it, at most `depth` objects deep, up to the first find of `aim`. The old
+/// `path` leads to the slot at `at`. If something is found, the new `path` leads to the slot of the find.
 #[cycle(seek)]
 fn seek_slot<S: Space, G: Aim, A: Allocator>(
     space: &S,

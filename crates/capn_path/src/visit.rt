@@ -48,8 +48,8 @@ impl Aim for Numbered {
 /// Returns `None` if there are at most `number` visits.
 ///
 /// The walk is repeated up to that slot, with at most four words read for each visit. Of `limits` only the depth is
-/// used. No prices are paid, and no budget applies. So `number` should be below the number of visits that a survey of
-/// `space` returned. Memory: the path, on `alloc`, with at most two numbers for each level of the depth limit.
+/// used. No prices are paid, and no budget bounds the work, so `number` should be below the number of visits that a
+/// survey of `space` returned. Memory: the path, on `alloc`, with at most two numbers per level of the depth limit.
 pub fn path_of_visit<S: Space, A: Allocator + Copy>(
     alloc: A,
     space: &S,
@@ -59,7 +59,7 @@ pub fn path_of_visit<S: Space, A: Allocator + Copy>(
     ensures found { IfOk result (λ r. IfSome r
         (λ v. IsVisited (S.message space.now) limits number v.path.items v.place)) }
     ensures none { IfOk result (λ r. IfNone r (IsNotVisited (S.message space.now) limits number)) }
-    // If `result` is an error, `number` is above 0. Visit 0 is of the root's slot, for whose path nothing is allocated.
+    // If `result` is an error, `number` is above 0. Visit 0 is the visit of the root's slot, whose path is empty.
     ensures memory { OnErr result (0 < number) }
 {
     if segment_length(space, Place::ROOT.segment) == 0 {

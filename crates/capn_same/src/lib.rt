@@ -6,9 +6,9 @@
 //! - [`PairTask`] is a task on two messages that reads each message at most a stated number of times. [`AskedFirst`]
 //!   and [`AskedSecond`] are the messages of a task. A reference to a `Space` can be either.
 //!
-//! Neither message is changed. If one of two structs is longer, the structs are the same only if the words past the end
-//! of the shorter struct are zero and the pointers past that end are null. The same rule holds for each row of a list
-//! of structs. So two rows can be the same although one of them is longer.
+//! Neither message is changed. If structs of different sizes are the same, each word that only one of them has is zero,
+//! and each pointer that only one of them has is null. The same rule holds for each row of a list of structs. So two
+//! rows can be the same although one of them is longer.
 #![tactic(auto)]
 
 mod asked_pair;

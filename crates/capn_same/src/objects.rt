@@ -207,8 +207,8 @@ fn is_same_row<S: Space, T: Space, L: Ledger, M: Ledger>(
     are_same_slots(a, slots_of(one), b, slots_of(two), depth, first, second)
 }
 
-/// Tests whether the values in the slots `one` of `a` are the same as the values in the slots `two` of `b`. Slots past
-/// the end of the shorter run count as null. The values are at most `depth` objects deep.
+/// Tests whether the values in the slots `one` of `a` are the same as the values in the slots `two` of `b`. The slots
+/// that the shorter run lacks count as null. The values are at most `depth` objects deep.
 #[cycle(sameness)]
 #[inline(never)]
 fn are_same_slots<S: Space, T: Space, L: Ledger, M: Ledger>(

@@ -4,7 +4,7 @@ ghost use Rattle.std.specs.Prelude.{◌≡◌, ◌+◌, ◌^◌, ◌<◌};
 
 use capn_words::Place;
 
-/// A run of consecutive words: the data words or the slots of a struct, or the elements of a list of pointers.
+/// A run of consecutive words: the data words of a struct, its slots, or the elements of a list of pointers.
 #[derive(Clone, Copy)]
 pub struct Run {
     pub start: Place,

@@ -63,8 +63,8 @@ pub fn are_zero<S: Space, L: Ledger>(
     true
 }
 
-/// Tests whether the words of the run `one` of `a` equal the words of the run `two` of `b`, one by one. Words past the
-/// end of a run count as 0.
+/// Tests whether the words of the run `one` of `a` equal the words of the run `two` of `b`, one by one. The words that
+/// the shorter run lacks count as 0.
 pub fn are_same<S: Space, T: Space, L: Ledger, M: Ledger>(
     a: &CountedSpace<'_, S, L>,
     one: Run,

@@ -1,4 +1,4 @@
--- The laws of the clauses of `canonical_into_form`. (Our own.)
+-- Laws about the clauses of `canonical_into_form`. (Our own.)
 use Rattle.std.specs.Prelude.{◌≡◌, ℕ, ◌+◌, ◌-◌, ◌<◌, ◌≤◌, List, length, Result, IfOk, IfErr, OnErr}
 use Rattle.capn_words.specs.Message.{most_segments}
 use Rattle.capn_stream.specs.Frames.{most_table_words}

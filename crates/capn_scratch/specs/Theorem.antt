@@ -19,8 +19,8 @@ AnsweredForm form bs limits scratch room r =
     IsOk r ↔ ((v : Tree) × Denotes form bs limits v × (first_cap v ≡ None) × HasScratch form bs scratch
     × (length (canon v) ≤ room))
 
--- `bs` are read as a message, and need at most `scratch` words of scratch. `new` is `old` with the canonical bytes of
--- that message at the beginning, and `c` has their length (`WrittenInto`).
+-- `bs` are read as a message, and need at most `scratch` words of scratch. `new` is `old` with its first bytes replaced
+-- by the canonical bytes of that message, and `c` has their number (`WrittenInto`).
 pub record WrittenForm (form : Form) (bs : List ℕ) (limits : Bounds) (scratch : ℕ) (old new : List ℕ)
     (c : CanonicalLength) : Type 0 where
   pub message : List (List ℕ)

@@ -38,8 +38,8 @@ fn of_stream(
     of_frame(bytes, scratch, 0, limits, out)
 }
 
-/// Unpacks the packed text `bytes` to `text`, a frame of `words` words. Writes the canonical bytes of the message in
-/// that frame to `out`.
+/// Unpacks the packed text `bytes` to the `words` words of `text`. Reads `text` as a frame, and writes the canonical
+/// bytes of the message in that frame to `out`.
 fn of_unpacked(
     bytes: &[u8],
     words: usize,
@@ -108,15 +108,15 @@ fn of_form(
 /// A frame of more than 64 segments needs one word for each segment but the last, after the unpacked words. Bare words
 /// and other frames need none. The contents of `scratch` after the call are not specified.
 ///
-/// The refusals are tested in this order, and each leaves `out` as it was. Packed bytes are unpacked first. `Packed`
-/// refuses those that [`canonicalise`](capn_canon::canonicalise) refuses by `Packed`, with the same fault. `NoScratch`
+/// The refusals are tested in this order, and each leaves `out` as it was. Packed bytes are unpacked first. If
+/// [`canonicalise`](capn_canon::canonicalise) refuses them with `Packed`, this call returns the same fault. `NoScratch`
 /// refuses packed bytes if `scratch` is too short for the unpacked words. Then the message is read. In the form `Bare`,
-/// `Bare` refuses bytes that are not bare words. In the other forms `Frame` refuses bytes that begin with no frame of
-/// at most `limits.message_words` words, and `Trailing` refuses bytes after the frame. `NoScratch` refuses a frame if
-/// `scratch` is too short for the ends of its segments. The number of words needed then includes the unpacked words.
-/// `Walk` refuses a message that is not accepted. `Capability` refuses a value with capabilities, with the index of the
-/// first in preorder. Last, `NoRoom` refuses an `out` that is too short, with the length of the canonical bytes. (Our
-/// own.)
+/// `Bare` refuses bytes that are not bare words. In the other forms `Frame` refuses bytes, unpacked for `Packed`, that
+/// begin with no frame of at most `limits.message_words` words, and `Trailing` refuses bytes after the frame.
+/// `NoScratch` refuses a frame if `scratch` is too short for the ends of its segments. The number of words needed then
+/// includes the unpacked words. `Walk` refuses a message that is not accepted. `Capability` refuses a value with
+/// capabilities, with the index of the first in preorder. Last, `NoRoom` refuses an `out` that is too short, with the
+/// length of the canonical bytes. (Our own.)
 pub fn canonical_into_form(
     form: Form,
     bytes: &[u8],
@@ -125,7 +125,7 @@ pub fn canonical_into_form(
     out: &mut [u8],
 ) -> Result<CanonicalLength, FormRefusal>
     // The theorem: `result` is `Ok` if and only if three conditions hold. The bytes denote a value without capabilities
-    // within the limits, `scratch` has as many words as the bytes need, and `out` has room for the canonical bytes.
+    // within the limits, `scratch` has the words that the bytes need, and `out` has room for the canonical bytes.
     ensures answered { AnsweredForm form bytes.now limits (length scratch.old) (length out.old) result }
     // If `result` is `Ok`, the canonical bytes are at the beginning of `out`, and the bytes after them are as before.
     ensures written { IfOk result (λ c. WrittenForm form bytes.now limits (length scratch.old) out.old out.new c) }
@@ -133,7 +133,7 @@ pub fn canonical_into_form(
     ensures refused { IfErr result (λ e. IsFormRefused form bytes.now limits (length scratch.old) (length out.old) e) }
     // If `result` is an `Err`, `out` is as it was.
     ensures unchanged { OnErr result (out.new ≡ out.old) }
-    // The walk pays at most the budget, also if the message is refused.
+    // The walk pays at most the budget, even if the message is refused.
     ensures bounded { MatchResult result (λ c. IsBounded limits.budget c.paid c.visits)
         (λ e. IsFormPaidWithin limits.budget e) }
 {

@@ -34,7 +34,7 @@ fn end_at(ends: &[[u8; 8]], index: usize) -> u32
     u64::from_le_bytes(ends[index]) as u32
 }
 
-/// Returns the word of the message at which `segment` begins, from the `ends` of the segments.
+/// Returns the word of the message at which `segment` begins. `ends` are the ends of all segments but the last.
 pub(crate) fn start_of(ends: &[[u8; 8]], segment: usize) -> u32
     requires inside { segment ≤ length ends.now }
     requires small { slice_index (0 ∷ numbers ends.now) segment < 2 ^ 32 }
@@ -47,8 +47,8 @@ pub(crate) fn start_of(ends: &[[u8; 8]], segment: usize) -> u32
     }
 }
 
-/// Returns the word of the message at which `segment` ends, from the `ends` of all segments but the last. The last
-/// segment ends with the message, which has `words` words.
+/// Returns the number of words of the message up to the end of `segment`. `ends` are the ends of all segments but the
+/// last. The last segment ends with the message, which has `words` words.
 pub(crate) fn end_of(ends: &[[u8; 8]], words: u32, segment: usize) -> u32
     requires inside { segment ≤ length ends.now }
     requires small { slice_index (numbers ends.now ++ words ∷ []) segment < 2 ^ 32 }

@@ -30,8 +30,8 @@ pub(crate) fn write<S: Space>(
     Ok(written)
 }
 
-/// Writes the canonical bytes of the message of the frame `bytes` to `out`. `words` are the words after the segment
-/// table. `count` is the number of segments without the last. The ends of those segments are written to `ends`.
+/// Writes the canonical bytes of the message in the frame `bytes` to `out`. `words` are the words after the segment
+/// table. `count` is one less than the number of segments. The ends of all segments but the last are written to `ends`.
 fn of_cut(
     bytes: &[u8],
     words: Bare<'_>,
@@ -52,9 +52,9 @@ fn of_cut(
     write(&message, limits, out)
 }
 
-/// Writes the canonical bytes of the message of the frame `bytes` to `out`, for [`of_frame`]. `bytes` begin with a
-/// complete frame, which ends at byte `end`. `words` are the words after the segment table, and `count` is the number
-/// of segments without the last.
+/// Writes the canonical bytes of the message in the frame `bytes` to `out`, for [`of_frame`]. `bytes` begin with a
+/// complete frame, which has `end` bytes. `words` are the words of the frame after the segment table, and `count` is
+/// one less than the number of segments.
 fn of_words(
     bytes: &[u8],
     words: Bare<'_>,
@@ -87,7 +87,7 @@ fn of_words(
     of_cut(bytes, words, count, scratch, limits, out)
 }
 
-/// Writes the canonical bytes of the message of the frame `bytes` to `out`, for [`of_frame`]. `bytes` begin with a
+/// Writes the canonical bytes of the message in the frame `bytes` to `out`, for [`of_frame`]. `bytes` begin with a
 /// complete frame, and `head` is what its segment table announces.
 fn of_whole(
     bytes: &[u8],
@@ -121,9 +121,9 @@ fn of_whole(
     }
 }
 
-/// Writes the canonical bytes of the message of the frame `bytes` to `out`. The ends of more than 64 segments are kept
-/// in `scratch`. `NoScratch` reports `before` words more than the frame needs. If a packed text was unpacked to the
-/// frame, `before` is the number of words of the frame.
+/// Writes the canonical bytes of the message in the frame `bytes` to `out`. If there are more than 64 segments, the
+/// ends of all but the last are kept in `scratch`. `NoScratch` reports `before` words more than the frame needs.
+/// `before` is the number of words in `bytes` if a packed text was unpacked to `bytes`, else 0.
 pub(crate) fn of_frame(
     bytes: &[u8],
     scratch: &mut [[u8; 8]],

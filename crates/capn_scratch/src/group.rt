@@ -110,7 +110,7 @@ fn store_zeros(out: &mut [u8], at: usize, count: usize)
     out[at..end].fill(0);
 }
 
-/// Returns the next byte of an unpacked word: byte `next` of `bytes` if the last bit of `left` is set, else zero.
+/// Returns the next byte of an unpacked word: byte `next` of `bytes` if the lowest bit of `left` is set, else 0.
 fn byte_of(left: u8, bytes: &[u8], next: usize) -> u8
     requires { next + count_ones left ≤ length bytes.now }
     ensures none { left % 2 ≡ 0 → result ≡ 0 }
@@ -119,8 +119,8 @@ fn byte_of(left: u8, bytes: &[u8], next: usize) -> u8
     if left % 2 == 0 { 0 } else { bytes[next] }
 }
 
-/// Returns the word that `tag` and `bytes` unpack to. The bytes of the word that `tag` names are the first of `bytes`,
-/// in order. The other bytes of the word are zero.
+/// Returns the word that `tag` and `bytes` unpack to. Each set bit of `tag` names a byte of the word. The named
+/// bytes are the first of `bytes`, in order. The other bytes of the word are zero.
 fn spread(tag: u8, bytes: &[u8]) -> [u8; 8]
     requires { count_ones tag ≤ length bytes.now }
     ensures named { IsNamedBy tag result }

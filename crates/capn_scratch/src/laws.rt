@@ -14,8 +14,8 @@ pub fn decision()
 
 /// States that `NoScratch` is returned only if the scratch has fewer words than the bytes need. The number in
 /// `NoScratch` is above the number of words of the scratch. It is at most a number of words that is enough for every
-/// input in the form. That number is 0 for bare words and 4,095 for a stream. For a packed text it is 6,144 more than
-/// the limit on message words.
+/// input in the form: 0 for bare words, 4,095 for a stream, and 6,144 more than the limit on message words for a packed
+/// text.
 pub fn enough()
     ensures bounded { ScratchIsBounded }
     ensures lacking { LackingIsNotHaving }

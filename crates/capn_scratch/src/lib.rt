@@ -2,8 +2,8 @@
 //!
 //! [`canonical_into_form`] writes the canonical bytes of the value that bytes denote, in any of the three forms, into a
 //! buffer of the caller. The caller also lends words, the scratch. The scratch holds the words that a packed text
-//! unpacks to, and the ends of more than 64 segments. If the scratch is too short, the refusal has the number of words
-//! needed. [`FormRefusal`] has no variant for memory.
+//! unpacks to, and the ends of the segments if there are more than 64. If the scratch is too short for the words or for
+//! the ends, the refusal has the number of words needed so far. [`FormRefusal`] has no variant for memory.
 //!
 //! ```text
 //! let mut scratch = [[0; 8]; 512];
@@ -16,9 +16,9 @@
 //! ```
 //!
 //! For any bytes, form, limits, scratch and buffer, the call succeeds if and only if three conditions hold. The bytes
-//! denote a value without capabilities within the limits, the scratch has as many words as the bytes need, and the
-//! buffer has room for the canonical bytes. The call then writes exactly the canonical bytes. Otherwise it returns the
-//! first refusal, and the buffer is as it was. The clauses state this, by the definitions of `specs/Theorem.antt`,
+//! denote a value without capabilities within the limits, the scratch has the words that the bytes need, and the buffer
+//! has room for the canonical bytes. The call then writes exactly the canonical bytes. Otherwise it returns the first
+//! refusal, and the buffer is as it was. The clauses state this, by the definitions of `specs/Theorem.antt`,
 //! `specs/FormRefusal.antt` and `specs/Needs.antt`. [`laws`] states that the clauses allow only one result. For each
 //! form it also states a number of words that is enough for every input.
 //!

@@ -9,9 +9,9 @@ use capn_pack::UnpackFault;
 
 /// Returns the number of words, at most `max_words`, that the packed text `bytes` unpacks to. Nothing is written.
 ///
-/// Each refusal has the offset of a group's tag. The tests of a group are made in this order. `Cut` refuses a group
-/// whose head is incomplete. `TooLong` refuses a group with which the text has more than `max_words` words. `Cut`
-/// refuses a group whose raw words are incomplete. `Memory` and `Failed` are never returned.
+/// Each refusal has the offset of a group's tag. The head of a group is all of the group but the raw words after its
+/// count. `Cut` refuses an incomplete head. Then `TooLong` refuses a group that takes the text over `max_words` words.
+/// Then `Cut` refuses incomplete raw words. `Memory` and `Failed` are never returned.
 pub(crate) fn unpacked_words(bytes: &[u8], max_words: usize) -> Result<usize, UnpackFault>
     ensures found { IfOk result (λ n. (text : List ℕ) × Packs bytes.now text × (length text ≡ 8 * n)) }
     ensures within { IfOk result (λ n. n ≤ max_words) }
@@ -33,9 +33,9 @@ pub(crate) fn unpacked_words(bytes: &[u8], max_words: usize) -> Result<usize, Un
     Ok(max_words - room)
 }
 
-/// Unpacks the packed text `bytes` to the beginning of `out`, if it unpacks to at most `max_words` words. Returns the
-/// number of words written. The bytes of `out` after those words are not specified. If the result is an `Err`, no byte
-/// of `out` is specified.
+/// Unpacks the packed text `bytes` to the beginning of `out`, if the text unpacks to at most `max_words` words. Returns
+/// the number of words written. The bytes of `out` after those words are not specified. If the result is an `Err`, no
+/// byte of `out` is specified.
 ///
 /// The refusals are those of [`unpacked_words`].
 pub(crate) fn unpack_into(

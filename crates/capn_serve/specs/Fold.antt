@@ -138,7 +138,7 @@ module _ {X : Type 0} (f : Fold X) where
   Leaves x fault y = (x ≡ y) ⊎ RefusesOne x fault
 
   -- `ending` is the end of a run in the state `y`. If the first argument is `true`, `y` is `done`, and `ending` is
-  -- `Ok`. If it is `false`, `rest` begins with no complete frame or with a refused message.
+  -- `Ok`. If the first argument is `false`, `EndsUnframed` or `EndsRefused` holds for `rest`.
   abbrev pub EndsBy : Bool → X → List ℕ → Option RunFault → Result (Unit {0}) RunFault → Type 0
   EndsBy true y rest behind ending = ending ≡ Ok tt
   EndsBy false y rest behind ending = EndsUnframed y rest behind ending ⊎ EndsRefused y rest ending

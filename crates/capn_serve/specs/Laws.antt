@@ -1,4 +1,4 @@
--- Laws of the definitions, without any function. (Our own.)
+-- A law that follows from the definitions alone. (Our own.)
 use Rattle.std.specs.Prelude.{◌≡◌, ℕ, List, Result}
 use Rattle.capn_serve.specs.declared.fault.RunFault.{RunFault}
 use Rattle.capn_serve.specs.declared.pick.Range.{Range}

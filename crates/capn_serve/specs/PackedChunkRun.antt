@@ -80,14 +80,14 @@ module _ {X : Type 0} (f : Fold X) where
     pub size : length stream + after.left ≡ before.left
     pub told : Tells f x (before.rest ++ stream) after.rest old new y
 
-  -- The packed bytes begin with some complete groups, which unpack to `stream`. Messages at the start of
+  -- `before.group.rest ++ bytes` begin with some complete groups, which unpack to `stream`. Messages at the start of
   -- `before.rest ++ taken_of before.left stream` were served.
   abbrev pub ReachesPacked : X → Pending → List ℕ → Outgoing → Outgoing → X → Type 0
   ReachesPacked x before bytes old new y = (stream : List ℕ) × packing.Begins (before.group.rest ++ bytes) [] stream
       × (rest : List ℕ) × Tells f x (before.rest ++ taken_of before.left stream) rest old new y
 
-  -- The packed bytes begin with some complete groups, which unpack to `stream`. A run over `before.rest` and the first
-  -- `before.left` bytes of `stream` stopped with `fault`, and left the state `last`.
+  -- `before.group.rest ++ bytes` begin with some complete groups, which unpack to `stream`. A run over `before.rest`
+  -- and the first `before.left` bytes of `stream` stopped with `fault`, and left the state `last`.
   abbrev pub HaltsPacked : X → Pending → List ℕ → Outgoing → Outgoing → Bool → RunFault → X → Type 0
   HaltsPacked x before bytes old new failed fault last = (stream : List ℕ)
       × packing.Begins (before.group.rest ++ bytes) [] stream
@@ -105,8 +105,8 @@ module _ {X : Type 0} (f : Fold X) where
   ServesPacked x before bytes old new failed (Err fault) held framer left y =
       HaltsPacked x before bytes old new failed fault y
 
--- A packed input ended at the position `at`, before a complete frame. `rest` are the bytes of an unfinished message,
--- and `group` those of an unfinished group. `ending` is the end of the run, and is not `Io`.
+-- A packed input ended, with no complete frame at the position `at`. `rest` are the bytes of an unfinished message, and
+-- `group` are the bytes of an unfinished group. `ending` is the end of the run, and is not `Io`.
 abbrev pub EndsPacked : Position → List ℕ → ℕ → List ℕ → ℕ → Result (Unit {0}) RunFault → Type 0
 EndsPacked at group offset rest most ending = (e : FrameFault) × (e ≢ frames.Memory)
     × frame_rules.IsFrameRefused rest most e × (ending ≡ end_of at e (cut_group at group offset))

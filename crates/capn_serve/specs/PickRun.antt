@@ -14,7 +14,7 @@ use Rattle.capn_serve.specs.StreamRun as streams
 use Rattle.capn_serve.specs.StreamRun.{TakesBytes, first_run, has_more, taken_of}
 use Rattle.capn_serve.specs.PackedRun as packings
 
--- The greatest number of bytes that a run serves of its input, and of the words that a packed input unpacks to.
+-- The greatest number of bytes that a run serves. In a packed input this limit holds for packed and for unpacked bytes.
 abbrev pub most_taken : ℕ
 most_taken = 2 ^ 64 - 1
 

@@ -23,7 +23,7 @@ text_of_skipped skipped =
     decimal skipped.refused ++ (codes " of " ++ (decimal skipped.messages
     ++ (codes " messages refused, the first is " ++ place_text skipped.first)))
 
--- ---- examples: the third of twelve messages is the first of three that are skipped, and it stays the first
+-- Two examples: the text for 3 skipped messages of 12, and a second skipped message, after which `first` is unchanged.
 
 three_of_twelve : text_of_skipped (record { refused = 3; messages = 12; first = record { index = 2; offset = 40 } })
     ≡ codes "3 of 12 messages refused, the first is 3 at 40"

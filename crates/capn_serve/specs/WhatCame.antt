@@ -58,8 +58,8 @@ module _ {X : Type 0} (f : Fold X) (x : X) where
     pub words : (at : Position) (n : ℕ) → fault ≡ faults.Refused at (refusals.Frame (frames.TooManyWords n))
         → (stream : List ℕ) × packing.Begins bytes [] stream × HoldsTable (taken_of limit stream) n came.rest y
 
-  -- `came` holds the bytes of the message or group at which a run over `input` stopped with `fault`. Nothing is stated
-  -- if the form is `Bare`, or if `fault` is the refusal of a complete message.
+  -- `TellsStream` or `TellsGroups` states what `came` holds of the message or group at which a run over `input` stopped
+  -- with `fault`. Nothing is stated if the form is `Bare`, or if `fault` is the refusal of a complete message.
   abbrev pub TellsInput : Form → List ℕ → RunFault → Came → X → Type 0
   TellsInput forms.Stream input fault came y =
       IsOwnRefusal f fault ⊎ TellsStream (taken_of most_stream input) fault came.rest y

@@ -75,9 +75,9 @@ fn serve_bare<S: Service, W: Write, A: Allocator + Copy>(
 /// Reads a bare input to its end, in chunks of at most 65,536 bytes, and serves the input as one message. If the
 /// service is finished at the start, nothing is read.
 ///
-/// The input itself is the frame that the service gets. An input of more than 2^32 bytes ends the run as
-/// `InputTooLong`. Any other input whose length is no multiple of 8 bytes, or that has more than 2^28 + 1 words, is
-/// refused at its start. The service may refuse the message too. `Io` is returned if and only if the reader or the
+/// The input itself is the frame that the service gets. An input of more than 2^32 bytes ends the run with
+/// `InputTooLong`. Any other input is refused at offset 0 if its length is no multiple of 8 bytes, or if it has more
+/// than 2^28 + 1 words. The service may refuse the message too. `Io` is returned if and only if the reader or the
 /// writer failed, and `Memory` if an allocation was refused. Nothing is written before the input has ended. In memory
 /// the run holds up to 2^28 + 1 words of the input, the text that is not written yet, and what the service holds.
 pub fn run_bare<S: Service, R: Read, W: Write, A: Allocator + Copy>(

@@ -36,9 +36,9 @@ impl<A: Allocator + Copy> Begun<A> {
         }
     }
 
-    /// Returns the bytes of the message at which the run ended. If no message had begun, the slice is empty. If the
-    /// message is cut off, the slice has all bytes that were read of that message. If the message has too many words,
-    /// the slice has at least the segment table with its padding.
+    /// Returns the bytes that the run holds of the message at which it ended. If no message had begun, the slice is
+    /// empty. If the message is cut off, the slice has all bytes that were read of that message. If the message has too
+    /// many words, the slice has at least the segment table with its padding.
     pub fn message(&self) -> &[u8]
         ensures { result.now ≡ self.now.rest }
     {

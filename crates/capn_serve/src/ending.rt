@@ -13,7 +13,7 @@ use std::io::Write;
 pub trait Ending {
     ghost use Rattle.std.specs.Prelude.{ℕ, List};
 
-    /// The text of the fault, which follows `capn: ` on its line.
+    /// The text of the fault, which follows `capn: ` in the error line.
     ghost text: { Self → List ℕ };
 
     /// The exit status of a run that the fault ends.

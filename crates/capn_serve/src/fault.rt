@@ -1,4 +1,4 @@
-//! The faults that end a run over a stream, and the faults of a service.
+//! The faults that end a run over an input, and the faults of a service.
 
 ghost use Rattle.std.specs.Prelude.{◌≡◌, ◌≢◌, ◌⊎◌};
 ghost use Rattle.capn_target.specs.declared.target.Fault.TheVariants as walk_faults;
@@ -24,8 +24,8 @@ pub enum ServeFault {
     Refused(Refusal),
 }
 
-/// Returns the fault of a message after its survey has ended with `stopped`. The fault is `Memory` if an allocation was
-/// refused, and otherwise the refusal of the message.
+/// Returns the fault of a message whose walk ended with `stopped`. The fault is `Memory` if an allocation was refused,
+/// and otherwise the refusal of the message.
 pub fn fault_of_stop(stopped: Stopped) -> ServeFault
     ensures { ((stopped.fault ≡ walk_faults.Memory) × (result ≡ serve_faults.Memory))
         ⊎ ((stopped.fault ≢ walk_faults.Memory) × (result ≡ serve_faults.Refused (refusals.Walk stopped))) }
@@ -36,14 +36,14 @@ pub fn fault_of_stop(stopped: Stopped) -> ServeFault
     }
 }
 
-/// The reason why a run over a stream ends before all of its input was served.
+/// The reason why a run over a stream or a bare input does not end with `Ok`.
 #[derive(Clone, Copy, Debug, PartialEq, Eq)]
 pub enum RunFault {
     /// An allocation was refused.
     Memory,
     /// The reader or the writer failed.
     Io,
-    /// The input has more bytes than a run may serve.
+    /// The input has, or unpacks to, more bytes than a run may serve.
     InputTooLong,
     /// The message at this position is refused, or no message can begin there.
     Refused(Position, Refusal),

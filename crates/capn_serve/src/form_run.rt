@@ -25,9 +25,9 @@ use std::io::{Read, Write};
 /// Serves the messages of an input in `form`, and leaves the bytes of an unfinished message in `begun`. The other
 /// arguments are those of [`serve_form`].
 ///
-/// If the run ends because a frame or a packed group is cut off, `begun` holds all bytes that were read of that
-/// unfinished message and group. If a frame has too many words, `begun` holds at least the segment table of that frame.
-/// If the input is bare, `begun` stays as it was. Otherwise the earlier content of `begun` is dropped.
+/// If the run ends because a frame or a packed group is cut off, `begun` holds all bytes that were read of the
+/// unfinished message and of the unfinished group. If a frame has too many words, `begun` holds at least the segment
+/// table of the frame. A bare input leaves `begun` unchanged. Any other input drops the earlier content of `begun`.
 pub fn serve_form_with<S: Service, R: Read, W: Write, A: Allocator + Copy>(
     alloc: A,
     form: Form,
@@ -78,8 +78,8 @@ pub fn serve_form_with<S: Service, R: Read, W: Write, A: Allocator + Copy>(
 }
 
 /// Serves the messages of an input in `form`. `most` is the greatest number of words of a message in a frame. A stream
-/// may have up to 2^64 - 1 bytes. A packed stream may also unpack to up to 2^64 - 1 bytes. The faults are those of
-/// `run_stream`, `run_packed` and `run_bare`.
+/// may have up to 2^64 - 1 bytes. In a packed stream this limit holds for the packed and for the unpacked bytes. The
+/// faults are those of `run_stream`, `run_packed` and `run_bare`.
 pub fn serve_form<S: Service, R: Read, W: Write, A: Allocator + Copy>(
     alloc: A,
     form: Form,

@@ -4,7 +4,7 @@
 //!
 //! An intake serves each message once the last byte of that message is read. The ghost member [`Intake::takes`] states
 //! what an intake holds after some bytes, and [`Intake::gives`] states how a run over some bytes ends. The clauses of
-//! [`serve_pieces`] use both members to state what every run promises.
+//! [`serve_pieces`] use both members to state the effect of a run.
 
 ghost use Rattle.std.specs.Prelude.{◌≡◌, ◌≤◌, ℕ, Bool, false, List, length, Option, Result};
 ghost use Rattle.capn_words.specs.Message.{most_message_words};
@@ -22,15 +22,15 @@ use std::io::{Read, Write};
 
 /// The state of a run that gets its input in chunks, and serves each message once that message is complete.
 pub(crate) trait Intake<A: Allocator + Copy> {
-    /// States the effect of some bytes on an intake and on the state of a fold. The first two arguments are the intake
-    /// and the state of the fold before the bytes, and the next two are those after the bytes. The other arguments are
-    /// the bytes, and the writer's content before and after the bytes.
+    /// States the effect of some bytes on an intake and on the state of a fold. The arguments are the fold with the
+    /// type of its states, the intake and the state before the bytes, the intake and the state after the bytes, the
+    /// bytes, and the writer's content before and after the bytes.
     ghost takes: { (X : Type 0) → Fold X → Self → X → Self → X → List ℕ → Option (List ℕ) → Option (List ℕ)
         → Type 0 };
 
-    /// States how a run ends for a fold. The first two arguments are the intake and the state of the fold before the
-    /// run, and the next two are those after the run. The other arguments are the bytes that were served, whether the
-    /// input has more bytes, the writer's content before and after the run, and the result of the run.
+    /// States how a run ends for a fold. The arguments are the fold with the type of its states, the intake and the
+    /// state before the run, the intake and the state after the run, the bytes that were served, whether the input has
+    /// more bytes, the writer's content before and after the run, and the result of the run.
     ghost gives: { (X : Type 0) → Fold X → Self → X → Self → X → List ℕ → Bool → Option (List ℕ) → Option (List ℕ)
         → Result (Unit {0}) RunFault → Type 0 };
 

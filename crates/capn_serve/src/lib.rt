@@ -1,4 +1,4 @@
-//! The read loop over the messages of an input: reads it in chunks, and hands each message to a service.
+//! The loops that read an input in chunks, and hand each message of the input to a service.
 //!
 //! A [`Service`] is a fold over messages, and is itself the state of that fold. A [`Run`] is a service with the
 //! position of the next message. [`run_stream`], [`run_packed`] and [`run_bare`] are the loops over the three forms.

@@ -10,11 +10,10 @@ use capn_words::Watched;
 use std::io::Write;
 use std::marker::Model;
 
-/// The greatest number of bytes of a line that are not written yet.
+/// The greatest number of unwritten bytes that a line can hold.
 const ROOM: usize = 256;
 
-/// The bytes of a line that are not written yet. They are at most 256 bytes in an array, so that no memory is
-/// allocated.
+/// The bytes of a line that are not written yet, at most 256. They are in an array, so no memory is allocated.
 #[derive(Drop)]
 pub struct Line {
     bytes: [u8; ROOM],
@@ -73,8 +72,8 @@ impl Line {
         self.filled = 0;
     }
 
-    /// Appends `part` to the line. If the array cannot take `part`, the bytes before `part` and then `part` are written
-    /// to `errors`.
+    /// Appends `part` to the line. If `part` does not fit into the array, the unwritten bytes and then `part` are
+    /// written to `errors`.
     pub fn put<E: Write>(&mut self, part: &[u8], errors: &mut Watched<E>)
         ensures { Says part.now (way self.old (E.contents (inner_of errors.old)) (has_failed errors.old))
             (way self.new (E.contents (inner_of errors.new)) (has_failed errors.new)) }

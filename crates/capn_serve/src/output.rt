@@ -10,7 +10,7 @@ use capn_words::Watched;
 use std::alloc::Allocator;
 use std::io::Write;
 
-/// A text of at least this many bytes is written at once. A shorter text may be written later.
+/// The least number of bytes of a text that is written at once. A shorter text may be written later.
 pub(crate) const ENOUGH: usize = 65_536;
 
 /// Writes all of `text`. If the writer fails, a prefix of `text` was written, and `Io` is returned.

@@ -1,4 +1,4 @@
-//! The state of a packed stream between two slices: an unfinished group, an unfinished message and a limit.
+//! The state of a packed stream after a part of its bytes: an unfinished group, an unfinished message and a limit.
 
 ghost use Rattle.std.specs.Prelude.{◌≡◌, ◌≤◌, [], false};
 ghost use Rattle.capn_words.specs.Message.{most_message_words};
@@ -7,7 +7,7 @@ use capn_pack::Unpacker;
 use capn_stream::Framer;
 use std::alloc::Allocator;
 
-/// The state of a packed stream between two of its slices.
+/// The state of a packed stream between two slices. A slice is at most 512 bytes of the stream.
 #[derive(Drop)]
 pub(crate) struct Packed<A: Allocator + Copy> {
     /// The unpacker, which holds an unfinished group.

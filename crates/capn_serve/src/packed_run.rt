@@ -31,7 +31,7 @@ use std::io::{Read, Write};
 const SLICE: usize = 512;
 
 /// Serves each message that is complete after the unpacked bytes `packed.part`, until the service is finished. At most
-/// `packed.left` of these bytes are served. If there are more bytes, and the service is not finished, the run ends as
+/// `packed.left` of these bytes are served. If there are more bytes, and the service is not finished, the run ends with
 /// `InputTooLong`.
 fn serve_part<S: Service, W: Write, A: Allocator + Copy>(
     alloc: A,
@@ -147,7 +147,7 @@ fn end_of_packed<A: Allocator + Copy>(at: Position, packed: &mut Packed<A>) -> R
     }
 }
 
-/// The intake of a packed stream, which serves the messages of each chunk before the next chunk is read.
+/// A [`Packed`] as the [`Intake`] of a packed stream. The messages of a chunk are served before the next chunk is read.
 impl<A: Allocator + Copy> Intake<A> for Packed<A> {
     ghost use Rattle.capn_serve.specs.inner.Intakes.{GivesPacked, TakesPacked};
 
@@ -219,10 +219,10 @@ pub(crate) fn packed_into<S: Service, R: Read, W: Write, A: Allocator + Copy>(
 /// The run ends with `Ok`, or with the first fault. `Refused` has the position of a frame or a message that is refused.
 /// If a group is cut off at the end of the input, `Refused` has the position of the message that has begun or would
 /// begin. `InputTooLong` means that there are more packed or unpacked bytes than may be served. `Io` is returned if and
-/// only if the reader or the writer failed, and `Memory` if an allocation was refused. The texts of the messages before
-/// the fault have been written. Before `Memory` a prefix of one more text may have been written too. In memory the run
-/// holds an unfinished message, the unpacked bytes of a slice, the texts of a chunk that are not written yet, and what
-/// the service holds.
+/// only if the reader or the writer failed, and `Memory` if an allocation was refused. Unless the writer failed, the
+/// texts of the messages before the fault have been written. Before `Memory` a prefix of one more text may have been
+/// written too. In memory the run holds an unfinished message, the unpacked bytes of a slice, the texts of a chunk that
+/// are not written yet, and what the service holds.
 pub fn run_packed<S: Service, R: Read, W: Write, A: Allocator + Copy>(
     alloc: A,
     most: u32,

@@ -18,9 +18,9 @@ pub struct Pick {
     pub form: StreamForm,
     /// The limits of a message. Only the greatest number of words is used.
     pub limits: Limits,
-    /// The number of the first message that is picked, counted from 1.
+    /// The number of the first message that is picked, counted from 1. The number 0 is taken as 1.
     pub from: u64,
-    /// The number of the last message that is picked. If this number is less than `from`, no message is picked.
+    /// The number of the last message that is picked. If this number is 0 or less than `from`, no message is picked.
     pub to: u64,
 }
 

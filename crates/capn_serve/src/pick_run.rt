@@ -23,15 +23,15 @@ use std::io::{Read, Write};
 /// before it. No range ends before its first number. Of `limits` only the greatest number of words of a message is
 /// used. No message is walked. Once the last picked message is complete, the run ends with `Ok`, and does not read
 /// again. Before each read, all picked messages that are complete by then have been written. If the stream has fewer
-/// messages than the ranges name, those that exist are written. If `ranges` are empty, nothing is read.
+/// messages than the ranges name, the picked messages that exist are written. If there is no range, nothing is read.
 ///
 /// In memory the run holds an unfinished message and less than 65,536 bytes of short frames. For a packed stream it
 /// also holds what [`run_packed`](crate::run_packed) holds. A long frame is written without another copy. The cost of a
 /// message does not depend on the number of ranges. The run ends with `Ok`, or with the first fault before the end of
 /// the last picked message. `Refused` has the position of the message at which a frame or a packed group is refused.
 /// `InputTooLong` means that the input has, or unpacks to, 2^64 bytes or more. `Io` is returned if and only if
-/// the reader or the writer failed, and `Memory` if an allocation was refused. The picked frames before the fault have
-/// been written.
+/// the reader or the writer failed, and `Memory` if an allocation was refused. Unless the writer failed, the picked
+/// frames before the fault have been written.
 pub fn run_only<R: Read, W: Write, A: Allocator + Copy>(
     alloc: A,
     form: StreamForm,

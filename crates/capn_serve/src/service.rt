@@ -17,12 +17,12 @@ use std::io::Write;
 
 /// A fold over the messages of a stream. The service is itself the state of the fold.
 pub trait Service {
-    /// The text that a message writes. The arguments are the state, the message's position, frame and segments, the
-    /// text, and the next state.
+    /// States which text is written for a message. The arguments are the state, the message's position, frame and
+    /// segments, the text, and the next state.
     ghost serves: { Self → Position → List ℕ → List (List ℕ) → List ℕ → Self → Type 0 };
 
-    /// The refusal of a message. The arguments are the state, the message's position, frame and segments, and the
-    /// refusal.
+    /// States that a message is refused. The arguments are the state, the message's position, frame and segments, and
+    /// the refusal.
     ghost refuses: { Self → Position → List ℕ → List (List ℕ) → Refusal → Type 0 };
 
     /// Tests, for a state and the position of the next message, whether the service is finished. A finished service
@@ -31,8 +31,9 @@ pub trait Service {
 
     /// Tests whether the service is finished before the next message, which is at the position `at`.
     ///
-    /// A run calls this function before each read and after each message. After `true` nothing more is read or served,
-    /// and the run ends with `Ok`. A service that serves all messages always returns `false`.
+    /// A run over a stream calls this function before each read and after each message, and a run over a bare input
+    /// once at its start. After `true` nothing more is read or served, and the run ends with `Ok`, or with `Io` if the
+    /// writer fails. A service that serves all messages always returns `false`.
     fn is_done(&self, at: Position) -> bool
         ensures { result ≡ done self.now at };
 

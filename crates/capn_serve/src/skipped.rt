@@ -32,8 +32,8 @@ pub struct Skipped {
     pub first: Position,
 }
 
-/// Counts the message at `at` as skipped, in addition to the skipped messages in `so_far`. The position of the first
-/// skipped message stays the same.
+/// Counts the message at `at` as skipped, in addition to the skipped messages in `so_far`. If `so_far` is `None`, the
+/// message at `at` is the first.
 pub fn one_more(so_far: Option<SkippedSoFar>, at: Position) -> SkippedSoFar
     ensures { result ≡ spec.one_more so_far at }
 {

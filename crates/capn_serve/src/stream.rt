@@ -62,8 +62,8 @@ fn add_framed<S: Service, W: Write, A: Allocator + Copy>(
 }
 
 /// Serves the complete messages at the start of `bytes`, until the service is finished, and copies none of them.
-/// Returns the number of bytes of the served messages. If no complete message follows them, the framer finds out the
-/// reason later.
+/// Returns the number of bytes of the served messages. Serving also stops where no complete message begins, and the
+/// framer finds out the reason later.
 #[inline(always)]
 fn serve_whole<S: Service, W: Write, A: Allocator + Copy>(
     alloc: A,

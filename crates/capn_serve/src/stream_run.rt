@@ -20,8 +20,7 @@ use capn_words::Watched;
 use std::alloc::Allocator;
 use std::io::{Read, Write};
 
-/// Ends a run at the end of its input. Returns `Ok` between two messages, or a fault at the position `at` if a frame is
-/// cut off.
+/// Ends a run at the end of its input: with `Ok` if `framer` is empty, or a fault at `at` because a frame is cut off.
 pub(crate) fn end_of_input<A: Allocator + Copy>(
     at: Position,
     framer: &Framer<A>,
@@ -35,7 +34,8 @@ pub(crate) fn end_of_input<A: Allocator + Copy>(
     Err(RunFault::Refused(at, Refusal::Frame(FrameFault::Cut)))
 }
 
-/// The intake of a stream that is not packed, which serves the messages of each chunk before the next chunk is read.
+/// A framer as the [`Intake`] of a stream that is not packed. The messages of a chunk are served before the next chunk
+/// is read.
 impl<A: Allocator + Copy> Intake<A> for Framer<A> {
     ghost use Rattle.capn_serve.specs.inner.Intakes.{GivesStream, TakesStream};
 
@@ -97,9 +97,9 @@ pub(crate) fn stream_into<S: Service, R: Read, W: Write, A: Allocator + Copy>(
 /// find out whether the input is longer. Once the service is finished, nothing more is read or served. The run ends
 /// with `Ok`, or with the first fault. `Refused` has the position of a frame or a message that is refused.
 /// `InputTooLong` means that the input has more than `limit` bytes. `Io` is returned if and only if the reader or the
-/// writer failed, and `Memory` if an allocation was refused. The texts of the messages before the fault have been
-/// written. Before `Memory` a prefix of one more text may have been written too. In memory the run holds an unfinished
-/// message, the texts of a chunk that are not written yet, and what the service holds.
+/// writer failed, and `Memory` if an allocation was refused. Unless the writer failed, the texts of the messages before
+/// the fault have been written. Before `Memory` a prefix of one more text may have been written too. In memory the run
+/// holds an unfinished message, the texts of a chunk that are not written yet, and what the service holds.
 pub fn run_stream<S: Service, R: Read, W: Write, A: Allocator + Copy>(
     alloc: A,
     most: u32,

@@ -6,8 +6,8 @@ ghost use Rattle.capn_serve.specs.Table as spec;
 use capn_canon::Form;
 use capn_words::Space;
 
-/// Returns the length, in words, of the segment table of `message` in an input in `form`. In a bare input a message has
-/// no table, and the length is 0.
+/// Returns the number of words of the segment table of `message`. `form` is the form of the input. In a bare input a
+/// message has no table, and the number is 0.
 pub fn table_words<S: Space>(form: Form, message: &S) -> u32
     ensures { result ≡ spec.table_words form (S.message message.now) }
 {

@@ -20,14 +20,14 @@ abbrev pub named_by : Result Target Fault → Target
 named_by (Ok found) = found
 named_by (Err e) = targets.Nil
 
--- The place to which step `i` from a target leads: that of slot `i`, of element `i`, or of the first word of row `i`.
+-- The place to which step `i` leads from a target: slot `i`, element `i`, or the first word of row `i`.
 abbrev pub step_at : Target → ℕ → Place
 step_at (targets.Content s w (shapes.Rows n a b span) pads) i =
     begin (row_of (targets.Content s w (shapes.Rows n a b span) pads) i)
 step_at found i = step_place found i
 
--- The target to which step `i` from a target in the message `m` leads: that of slot `i` or of element `i`, or the row
--- `i` itself.
+-- The target to which step `i` leads from a target in the message `m`: the target of the pointer in slot `i` or in
+-- element `i`, or row `i` itself.
 abbrev pub step_to : List (List ℕ) → Target → ℕ → Target
 step_to m (targets.Content s w (shapes.Rows n a b span) pads) i =
     row_of (targets.Content s w (shapes.Rows n a b span) pads) i

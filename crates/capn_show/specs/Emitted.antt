@@ -73,8 +73,8 @@ plain_rule quoted = line_rule quoted (λ m at. 0) (λ path i. path) (λ byte pat
 -- ---- lists without pointers
 
 module _ (rule : Rule) where
-  -- The mark and the text `piece_of x` of each item, from item `i` on, and then the text `end`. Item `i` lies at the
-  -- byte `first`, and each item takes `size` bytes.
+  -- The mark and the text `piece_of x` of each item `x`, from item `i` on, and then the text `end`. Item `i` lies at
+  -- the byte `first`, and each item takes `size` bytes.
   abbrev pub emitted_items : ℕ → (ℕ → List ℕ) → List ℕ → List ℕ → ℕ → ℕ → List ℕ → List ℕ
   emitted_items size piece_of end path i first [] = end
   emitted_items size piece_of end path i first (x ∷ xs) =
@@ -91,8 +91,8 @@ module _ (rule : Rule) where
   emitted_each width size level path first =
       emitted_items size (λ n. rule.piece level (pieces.Number width n)) (rule.piece level pieces.EndItems) path 0 first
 
-  -- The line of `digits` of a list whose first element lies at the byte `first`. If the list has no elements, only the
-  -- piece `NoDigits`.
+  -- The line of `digits` of a list whose first element lies at the byte `first`, or only the piece `NoDigits` if the
+  -- list has no elements.
   abbrev pub emitted_digits : ℕ → List ℕ → ℕ → ℕ → List ℕ → List ℕ
   emitted_digits level path first zero digits = rule.piece level pieces.NoDigits
   emitted_digits level path first (suc n) digits =

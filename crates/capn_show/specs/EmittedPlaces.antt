@@ -1,4 +1,4 @@
--- Statements that a property `Says` holds of the text of a value of a message. For instance, `Says` states that the
+-- Statements that a property `Says` holds of the text of a value in a message. For instance, `Says` states that the
 -- text was added to the output.
 use Rattle.std.specs.Prelude.{◌≡◌, ℕ, ◌+◌, ◌*◌, List, ◌++◌, length}
 use Rattle.capn_words.specs.declared.space.Place.{Place}

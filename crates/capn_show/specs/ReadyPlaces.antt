@@ -161,6 +161,6 @@ module _ (m : List (List ℕ)) where
   IsThereShown style found Says = (v : Tree) → Shows m found v → Says (part_in style (Some v))
 
   -- `Says` holds of the text in `style` of the value at `path` from the root. If there is no such value, the text is
-  -- one line.
+  -- `part_in style None`.
   abbrev pub IsPartShown : Style → List ℕ → (List ℕ → Type 0) → Type 0
   IsPartShown style path Says = (v : Tree) → IsAt m root v → Says (styled style path v)

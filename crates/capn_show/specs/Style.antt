@@ -1,4 +1,4 @@
--- The properties of a style, and the text, in a style, of the value to which a path of numbers leads. (Our own.)
+-- The properties of a style, and the text in a style of the value at a path of numbers. (Our own.)
 use Rattle.std.specs.Prelude.{◌≡◌, ℕ, List, [], ◌∷◌, ◌++◌, Bool, true, false, Option, Some, None, codes, refl}
 use Rattle.std.specs.Str.{chars, is_utf8}
 use Rattle.capn_value.specs.NumberWidth.{byte}
@@ -32,7 +32,7 @@ is_quoted styles.Quoted = true
 is_quoted styles.Json = false
 is_quoted styles.JsonText = false
 
--- For `Some t`, the text of `t` in a style. For `None`, one line.
+-- For `Some t`, the text of `t` in a style. For `None`, the line `none`, or an empty line in JSON.
 abbrev pub part_in : Style → Option Tree → List ℕ
 part_in styles.Lines part = part_text part
 part_in styles.Quoted None = line 0 (codes "none")
@@ -42,7 +42,7 @@ part_in styles.Json (Some t) = json_line t
 part_in styles.JsonText None = 10 ∷ []
 part_in styles.JsonText (Some t) = json_line_by text_or_digits t
 
--- The text in `style` of the value at `path` from `t`. If there is no such value, the text is one line.
+-- The text in `style` of the value at `path` from `t`. If there is no such value, the text is `part_in style None`.
 abbrev pub styled : Style → List ℕ → Tree → List ℕ
 styled style path t = part_in style (at_path t path)
 

@@ -21,8 +21,8 @@ use capn_words::{Place, Space, Watched, Width};
 use std::alloc::Allocator;
 use std::io::Write;
 
-/// Appends the line of digits of the list of `count` bytes at `start` to `text`, at this `level`. The line has its
-/// mark, the piece `Digits`, the digits and the piece `EndDigits`. An empty list gets only the piece `NoDigits`.
+/// Appends the digits of the `count` bytes at `start` to `text`, as one line at this `level`: a mark, the piece
+/// `Digits`, the digits and the piece `EndDigits`. If `count` is 0, only the piece `NoDigits` is appended.
 pub fn show_bytes<S: Space, W: Write, A: Allocator, E: Emitter>(
     text: &mut Vec<u8, A>,
     writer: &mut Watched<W>,

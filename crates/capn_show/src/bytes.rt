@@ -73,7 +73,7 @@ fn quoted_front<W: Write, A: Allocator>(
     put(text, writer, b"\"")
 }
 
-/// Appends the line of the list `bytes` to `text`, at this `level`, with the bytes between quotes as a text.
+/// Appends the list `bytes` to `text`, as one line at this `level`, with the bytes between quotes.
 pub fn show_quoted<W: Write, A: Allocator>(
     text: &mut Vec<u8, A>,
     writer: &mut Watched<W>,

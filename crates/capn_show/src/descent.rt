@@ -1,4 +1,4 @@
-//! One step of a path, from the target of a pointer to a value below it.
+//! One step of a path: from the target of a pointer to a value below that target.
 
 ghost use Rattle.std.specs.Prelude.{◌≡◌, ℕ, IfNone, IfSome, None, Ok};
 ghost use Rattle.capn_words.specs.Message.{IsMessage, IsPlace};

@@ -68,8 +68,8 @@ pub trait Emitter {
         ensures is { result ≡ (rule self.now).lies (S.message space.now) at }
         ensures small { result < 2 ^ 66 };
 
-    /// Appends the mark of an item to `text`. `number` is the number of items before this one in the same object, and
-    /// `byte` is the offset of the item. The mark may also show the path that the emitter stores.
+    /// Appends the mark of an item to `text`. `number` is the number of items of the same kind before this one in the
+    /// same object, and `byte` is the offset of the item. The mark may also show the path that the emitter stores.
     fn put_mark<W: Write, A: Allocator>(
         &self,
         text: &mut Vec<u8, A>,

@@ -105,7 +105,7 @@ fn bare_run(json: bool, bytes: &[u8]) -> usize
 }
 
 /// Appends `bytes` to `text` as they are written between quotes, in JSON if `json` is set, else in lines. Each turn of
-/// the loop appends a run of bytes that need no escape, and then the byte after the run.
+/// the loop appends a run of bytes that need no escape, and then the byte after the run, if there is one.
 pub fn put_escapes<W: Write, A: Allocator>(
     text: &mut Vec<u8, A>,
     writer: &mut Watched<W>,

@@ -10,16 +10,15 @@ use thiserror::Error;
 /// The reason why the text of a message is not written, or is written incompletely.
 #[derive(Clone, Copy, Debug, PartialEq, Eq, Error)]
 pub enum ShowFault {
-    /// The message is not accepted within the limits, or an allocation of the survey was refused. Nothing was added to
-    /// the text.
+    /// The message is not accepted within the limits. Nothing was added to the text.
     #[error("{0}")]
     Stopped(Stopped),
-    /// The writer failed. The bytes to write were the stored text, and then the message's text. The writer may have
-    /// accepted some of these bytes, from the first on.
+    /// The writer failed. The bytes to write were the stored text and then the message's text. The writer may have
+    /// accepted a prefix of these bytes.
     #[error("the writer failed")]
     Io,
-    /// An allocation for the stored text was refused. Some bytes at the front of the message's text may have been added
-    /// to the stored text.
+    /// An allocation for the stored text, or for its marks, was refused. A prefix of the message's text may have been
+    /// added to the stored text.
     #[error("out of memory")]
     Memory,
 }
@@ -29,7 +28,7 @@ pub enum ShowFault {
 pub enum Broken {
     /// The writer failed.
     Io,
-    /// An allocation for the stored text was refused.
+    /// An allocation for the stored text, or for its marks, was refused.
     Memory,
 }
 

@@ -85,8 +85,7 @@ pub fn put_value<W: Write, A: Allocator>(
     put_plain(text, writer, n)
 }
 
-/// Returns `true` if the numbers of a list of this `width` are written between quotes. That is so only for 64-bit
-/// numbers.
+/// Returns `true` if a list of this `width` has its numbers between quotes, as only lists of 64-bit numbers do.
 pub fn is_quoted(width: Width) -> bool
     ensures { result ≡ places.is_quoted width }
 {

@@ -2,10 +2,10 @@
 //!
 //! [`show_message`] surveys a message within limits, and writes nothing if the message is refused. The text of an
 //! accepted message is what `capn_value::show` writes for the value that `capn_walk::walk` returns. The text is written
-//! slot by slot, in the order of the walk. Each line is added to a text of the caller, so that small texts of many
-//! messages make one write. When that text has 65,536 bytes or more, it is written and emptied, so its memory does not
-//! grow with a message. [`show_part`] writes the value at a path of numbers from the root, in one of four styles. JSON
-//! is written by `json.rt` and the files whose names begin with `json`.
+//! slot by slot, in the order of the walk. Each line is added to a buffer of the caller, so that the small texts of
+//! many messages are written at once. When the buffer has 65,536 bytes or more, it is written and emptied, so large
+//! messages need no larger buffer. [`show_part`] writes the value at a path of numbers from the root, in one of four
+//! styles. JSON is written by `json.rt` and the files whose names begin with `json`.
 //!
 //! ```text
 //! let mut text = Vec::new(alloc);

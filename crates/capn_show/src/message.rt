@@ -18,8 +18,7 @@ use std::io::Write;
 ///
 /// The message is surveyed first, and nothing is added for a message that is refused. The caller keeps `text` between
 /// calls. Whenever `text` has 65,536 bytes or more, it is written to `writer` and emptied. After the last call, the
-/// caller writes the bytes that are still in `text`. A call takes memory only for `text` and for the survey. Up to a
-/// depth of 64, the survey takes none.
+/// caller writes the bytes that are still in `text`. A call takes memory only for `text`.
 pub fn show_message<S: Space, W: Write, A: Allocator, B: Allocator + Copy>(
     alloc: B,
     text: &mut Vec<u8, A>,

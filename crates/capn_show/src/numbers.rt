@@ -20,8 +20,8 @@ use capn_words::{Place, Space, Watched, Width};
 use std::alloc::Allocator;
 use std::io::Write;
 
-/// Returns element `i` of a list with elements of this `width`, whose content starts at `start`. An element has 1, 8,
-/// 16, 32 or 64 bits.
+/// Returns element `i` of the list whose content starts at `start`. Each element has this `width`: 1, 8, 16, 32 or 64
+/// bits.
 pub fn number_at<S: Space>(space: &S, start: Place, width: Width, i: u32) -> u64
     requires message { IsMessage (S.message space.now) }
     requires there { IsContent (S.message space.now) start (i / seen.per_word width + 1) }
@@ -36,8 +36,8 @@ pub fn number_at<S: Space>(space: &S, start: Place, width: Width, i: u32) -> u64
     digit(width, word, i % many)
 }
 
-/// Appends the mark of an item to `text`, and then `piece`, at this `level`. `number` is the number of items before
-/// this one in the same object, and `byte` is the offset of the item.
+/// Appends the mark of an item to `text`, and then `piece`, at this `level`. `number` is the number of items of the
+/// same kind before this one in the same object, and `byte` is the offset of the item.
 #[inline(always)]
 fn put_item<W: Write, A: Allocator, E: Emitter>(
     text: &mut Vec<u8, A>,

@@ -57,8 +57,8 @@ pub fn show_part<S: Space, W: Write, A: Allocator, B: Allocator + Copy>(
     }
 }
 
-/// Appends the text of the value at `path` to `text`. If there is no value at `path`, appends the line that stands for
-/// no value.
+/// Appends the text of the value at `path` to `text`, in this `style`. If there is no value at `path`, appends the line
+/// `none`, or an empty line in JSON.
 fn write_part<S: Space, W: Write, A: Allocator>(
     text: &mut Vec<u8, A>,
     writer: &mut Watched<W>,

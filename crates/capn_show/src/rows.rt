@@ -24,8 +24,8 @@ pub struct Size {
     pub slots: u16,
 }
 
-/// Appends the values in `count` consecutive slots to `text`, and then the piece `EndItems`. The first slot is at
-/// `first`.
+/// Appends the marks and texts of the values in `count` consecutive slots to `text`, and then the piece `EndItems`. The
+/// first slot is at `first`.
 #[cycle(slots)]
 #[inline(always)]
 pub fn show_slots<S: Space, W: Write, A: Allocator, E: Emitter>(
@@ -61,8 +61,8 @@ pub fn show_slots<S: Space, W: Write, A: Allocator, E: Emitter>(
     emitter.put_piece(text, writer, level, Piece::EndItems)
 }
 
-/// Appends the text of the value in the slot at `at` to `text`. The slot has this `number` in its object, and `number`
-/// ends the path of `emitter` while the value is written.
+/// Appends the mark and the text of the value in the slot at `at` to `text`. The slot has this `number` in its object,
+/// and `number` ends the path of `emitter` while the value is written.
 #[cycle(slots)]
 fn show_below<S: Space, W: Write, A: Allocator, E: Emitter>(
     text: &mut Vec<u8, A>,
@@ -94,8 +94,8 @@ fn show_below<S: Space, W: Write, A: Allocator, E: Emitter>(
     Ok(())
 }
 
-/// Appends the text of `count` rows of this `size` to `text`, and then the piece `EndItems`. The first row is at
-/// `first`.
+/// Appends the marks and texts of `count` rows of this `size` to `text`, and then the piece `EndItems`. The first row
+/// is at `first`.
 #[cycle(slots)]
 pub fn show_rows<S: Space, W: Write, A: Allocator, E: Emitter>(
     text: &mut Vec<u8, A>,
@@ -133,8 +133,8 @@ pub fn show_rows<S: Space, W: Write, A: Allocator, E: Emitter>(
     emitter.put_piece(text, writer, level, Piece::EndItems)
 }
 
-/// Appends the text of the row that starts at `start` to `text`. The row has this `number` in its list, and `number`
-/// ends the path of `emitter` while the row is written.
+/// Appends the mark and the text of the row that starts at `start` to `text`. The row has this `number` in its list,
+/// and `number` ends the path of `emitter` while the row is written.
 #[cycle(slots)]
 #[inline(always)]
 fn show_row<S: Space, W: Write, A: Allocator, E: Emitter>(

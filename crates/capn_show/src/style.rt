@@ -14,7 +14,7 @@ pub enum Style {
     /// One line of JSON, in which every list of bytes is written in digits.
     Json,
     /// One line of JSON, in which a list of bytes that is a text is written as a string. The last byte of a text is
-    /// zero, and those before it are well-formed UTF-8 without control characters other than tab, newline and carriage
+    /// zero. The bytes before it are well-formed UTF-8 without control characters other than tab, newline and carriage
     /// return.
     JsonText,
 }

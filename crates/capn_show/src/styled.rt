@@ -87,7 +87,7 @@ fn show_json<S: Space, W: Write, A: Allocator, const QUOTED: bool>(
     end_line(text, writer)
 }
 
-/// Appends the line that stands for no value to `text`, in this `style`.
+/// Appends the text for a path without a value to `text`: the line `none`, or an empty line in a JSON `style`.
 pub fn show_nothing<W: Write, A: Allocator>(
     text: &mut Vec<u8, A>,
     writer: &mut Watched<W>,

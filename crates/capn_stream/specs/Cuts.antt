@@ -8,7 +8,7 @@ abbrev pub cut : ℕ → List ℕ → List ℕ → List (List ℕ)
 cut from [] ws = drop from ws ∷ []
 cut from (end ∷ ends) ws = take (end - from) (drop from ws) ∷ cut end ends ws
 
--- `ends` never decrease, all are at least `from`, and the last is at most `len`
+-- the numbers `from`, then `ends`, and then `len` never decrease
 abbrev pub AreRising : ℕ → List ℕ → ℕ → Type 0
 AreRising from [] len = from ≤ len
 AreRising from (end ∷ ends) len = (from ≤ end) × AreRising end ends len

@@ -24,7 +24,7 @@ pub record IsHeld (message : List (List ℕ)) (most : ℕ) : Type 0 where
   pub few : length message ≤ most_segments
   pub room : total message ≤ most
 
--- the number of words of `message`, but at most 2^64 - 1, since segments that share their words can have more in all
+-- the number of words of `message`, but at most 2^64 - 1. Segments that share memory can have more words in all.
 abbrev pub counted_words : List (List ℕ) → ℕ
 counted_words message = min (total message) (2 ^ 64 - 1)
 

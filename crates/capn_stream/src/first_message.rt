@@ -16,7 +16,7 @@ use std::alloc::Allocator;
 ///
 /// The message borrows `bytes`. Memory is taken from `alloc` only for the ends of more than 64 segments. The errors are
 /// tested in this order: `Empty`; `Cut` within the count; `TooManySegments`; `Cut` within the table or its padding;
-/// `TooManyWords` with the sum of the sizes, if that is above `max_words`; `Cut` within the contents. `Memory` is
+/// `TooManyWords` with the sum of the sizes, if the sum is above `max_words`; `Cut` within the contents. `Memory` is
 /// tested last, and is returned only if an allocation was refused. `Failed` is never returned. Padding is ignored.
 /// (Page: serialization over a stream. The order of the tests is our own.)
 pub fn first<'a, A: Allocator + Copy>(
@@ -46,9 +46,9 @@ pub fn first<'a, A: Allocator + Copy>(
 /// Reads the message of one segment whose frame is first in `bytes`. Returns the message and the number of bytes of the
 /// frame.
 ///
-/// If the message has one segment and at most `max_words` words, the message and the number are those of [`first`].
-/// Otherwise the result is `None`, and [`first`] returns a message of more segments or an error. Takes no memory.
-/// (Page: serialization over a stream.)
+/// If [`first`] returns a message of one segment, `first_bare` returns the same message and the same number. If
+/// [`first`] returns a message of more segments or an error, the result is `None`. Takes no memory. (Page:
+/// serialization over a stream.)
 #[inline(always)]
 pub fn first_bare<'a>(bytes: &'a [u8], max_words: u32) -> Option<(Bare<'a>, usize)>
     requires { max_words ≤ most_message_words }

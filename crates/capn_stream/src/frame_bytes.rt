@@ -62,9 +62,9 @@ fn put_contents<S: Space, A: Allocator>(text: &mut Vec<u8, A>, space: &S) -> Res
 
 /// Returns the frame of the message `space`: its table, padding of zeros, and its contents.
 ///
-/// A call of [`first`](crate::first) with the result returns the message. Memory is taken from `alloc` once, for
-/// exactly the frame. `Memory` is returned only if that allocation was refused. (Page: serialization over a stream.
-/// Zeros as padding are our own.)
+/// From the result, [`first`](crate::first) returns the message, unless `max_words` is too small or an allocation is
+/// refused. Memory is taken from `alloc` once, for exactly the frame. `Memory` is returned only if that allocation was
+/// refused. (Page: serialization over a stream. Zeros as padding are our own.)
 pub fn frame<S: Space, A: Allocator + Copy>(alloc: A, space: &S) -> Result<Vec<u8, A>, Memory>
     ensures exact { IfOk result (λ text. text.items ≡ frame_text (S.message space.now)) }
     ensures frames { IfOk result (λ text. Frames text.items (S.message space.now)) }

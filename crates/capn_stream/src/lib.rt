@@ -12,9 +12,9 @@
 //! If the bytes begin with a frame within the limits, `first` returns the message, or `Memory` if an allocation was
 //! refused. Otherwise `first` returns the reason why the bytes are refused. No memory is allocated for segments that a
 //! table announces but that are missing. [`laws`] states that bytes begin with at most one frame, and are refused for
-//! at most one reason other than `Memory`. [`table`] reads only a table, for a caller that keeps the ends of the
-//! segments in its own way. [`Segments`] is a message whose segments lie apart in memory, as a builder keeps them. It
-//! is read like a [`Framed`], and takes no memory.
+//! at most one reason other than `Memory`. [`table`] reads only a table, for a caller that stores the ends of the
+//! segments itself. [`Segments`] is a message whose segments lie apart in memory, as a builder keeps them. It is read
+//! like a [`Framed`], and takes no memory.
 #![tactic(auto)]
 
 mod ends;

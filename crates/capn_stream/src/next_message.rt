@@ -79,7 +79,7 @@ fn receive<R: Read, A: Allocator + Copy>(
 /// No single read requests more than 16,384 bytes, nor more than the current part of the message still needs. The
 /// message grows on `alloc` with the bytes that were read, never by what its table announces.
 ///
-/// Returns `None` exactly if the input ends between messages. Errors: `Memory` if an allocation was refused, which can
+/// Returns `None` only if the input ends between messages. Errors: `Memory` if an allocation was refused, which can
 /// happen only if the input is not at its end. `Io` exactly if the reader fails. `Frame` with `TooManySegments`,
 /// `TooManyWords` or `Cut`. After an error the reader is within the message, and never beyond it. For `TooManySegments`
 /// the reader is after the 4 bytes of the count, for `TooManyWords` after the table and its padding, for `Cut` at the

@@ -1,4 +1,4 @@
-//! The bytes of words of 8 bytes each, borrowed without a copy.
+//! The bytes of 8-byte words, borrowed without a copy.
 
 ghost use Rattle.std.specs.Prelude.{◌≡◌, ◌+◌, ◌*◌, ◌<◌, ◌≤◌, ◌^◌, [], length, take, drop, All, slice_index_or};
 ghost use Rattle.capn_words.specs.Message.{AreBytes, word_number};

@@ -55,8 +55,8 @@ impl<'a> Segments<'a> {
     /// Reads `segments` as a message. Each segment is a list of words of 8 bytes, the least significant byte first, and
     /// may be empty. Nothing is copied.
     ///
-    /// Errors: `Empty` if there are no segments. `TooManySegments` with the number of segments, if that is above 4,096.
-    /// `TooManyWords` with the number of words in all segments, if that is above `max_words`. (Our own: the limits.)
+    /// Errors: `Empty` if there are no segments. `TooManySegments` with the number of segments, if above 4,096.
+    /// `TooManyWords` with the number of words in all segments, if above `max_words`. (Our own: the limits.)
     pub fn new(segments: &'a [&'a [[u8; 8]]], max_words: u32) -> Result<Segments<'a>, SegmentsFault>
         requires { max_words ≤ most_message_words }
         // `ReadsSegments` states the meaning of `result`. If `segments` are within the limits, their words are

@@ -50,8 +50,8 @@ pub(crate) fn part_left(stage: Stage, bytes: &[u8]) -> usize
 /// The number of bytes that are reserved with the first bytes of a frame, so that a small frame allocates once.
 const FIRST_ROOM: usize = 64;
 
-/// Reserves [`FIRST_ROOM`] bytes if `bytes` is empty and `count` is above 0. Otherwise does nothing, so that `bytes`
-/// grows by the rule of vectors from then on.
+/// Reserves [`FIRST_ROOM`] bytes if `bytes` is empty and `count` is above 0. Otherwise does nothing, and each later
+/// growth of `bytes` is left to the vector.
 #[inline]
 fn make_room<A: Allocator>(bytes: &mut Vec<u8, A>, count: usize) -> Result<(), AllocError>
     ensures same { bytes.new.items ≡ bytes.old.items }
@@ -83,7 +83,7 @@ fn fill_to<A: Allocator>(
     Ok(count)
 }
 
-/// Reads `bytes`, which is the count of a frame, and returns the announced number of segments.
+/// Returns the number of segments that `bytes`, the count of a frame, announces, or `TooManySegments` above 4,096.
 fn read_count(bytes: &[u8]) -> Result<usize, FrameFault>
     requires { length bytes.now ≡ 4 }
     ensures counted { IfOk result (λ n. HasCount bytes.now × (n ≡ announced_segments bytes.now)) }

@@ -85,7 +85,7 @@ pub struct Head {
 /// Reads the table at the front of `bytes`, and returns its numbers if the frame is complete and has at most
 /// `max_words` words.
 ///
-/// The tests and their order are those of [`first`](crate::first). The call takes no memory, and never returns
+/// [`first`](crate::first) makes the same tests in the same order. The call takes no memory, and never returns
 /// `Memory`. (Page: serialization over a stream. The order of the tests is our own.)
 pub fn read_head(bytes: &[u8], max_words: u32) -> Result<Head, FrameFault>
     requires { max_words ≤ most_message_words }

@@ -3,7 +3,7 @@ use Rattle.std.specs.Prelude.{ℕ, List, codes}
 use Rattle.capn_target.specs.declared.target.Fault.{Fault}
 use Rattle.capn_target.specs.declared.target.Fault.TheVariants as walks
 
--- the name of a fault
+-- the displayed text of a fault, which is the name of its variant
 abbrev pub fault_name : Fault → List ℕ
 fault_name walks.NoRoot = codes "NoRoot"
 fault_name walks.RootKind = codes "RootKind"

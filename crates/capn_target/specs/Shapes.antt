@@ -25,7 +25,8 @@ extent (shapes.Node data_words pointers) = data_words + pointers
 extent (shapes.Many width n) = content_words width n
 extent (shapes.Rows n data_words pointers span) = 1 + span
 
--- a composite list has the form `Rows`, and its rows are within the words that its pointer gives
+-- the form is not `Many` with the width `Rows`. If the form is `Rows`, the rows are within the words that the list's
+-- pointer gives.
 abbrev pub RowsFit : Shape → Type 0
 RowsFit (shapes.Rows n data_words pointers span) = n * (data_words + pointers) ≤ span
 RowsFit (shapes.Many Rows n) = ⊥
@@ -47,8 +48,7 @@ pub record IsContent (message : List (List ℕ)) (at : Place) (n : ℕ) : Type 0
   pub exists : at.segment < length message
   pub within : at.word + n ≤ length (segment_at message at.segment)
 
--- if the target is content, the content lies within its segment of `message`, and the rows of a composite list are
--- within the words that its pointer gives
+-- if the target is content, the content lies within its segment of `message`, and `RowsFit` holds of the form
 abbrev pub IsInMessage : List (List ℕ) → Target → Type 0
 IsInMessage message (targets.Content s start shape pads) =
     IsContent message (record { segment = s; word = start }) (extent shape) × RowsFit shape

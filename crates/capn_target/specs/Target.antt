@@ -1,4 +1,4 @@
--- The target of the pointer at a place of a message, or the first fault of that slot.
+-- The target of the pointer at a place of a message, or the first fault of that pointer.
 use Rattle.std.specs.Prelude.{ℕ, ◌+◌, ◌-◌, ◌*◌, ◌/◌, nat_lt, ◌==◌, ℤ, pos, negsuc, Bool, true, false, List, length}
 use Rattle.std.specs.Prelude.{slice_index, Result, Ok, Err, if◌then◌else◌}
 use Rattle.capn_words.specs.Message.{segment_at}
@@ -39,8 +39,8 @@ content_words W64 n = n
 content_words Link n = n
 content_words Rows n = 1 + n
 
--- The index of the word that an offset leads to, counted from the word after a pointer at `word`. An index before word
--- 0 is the fault `Range`. (Our own.)
+-- The index of the word that `offset` leads to. The offset counts from the word after a pointer at `word`. An index
+-- below 0 is the fault `Range`. (Our own.)
 abbrev pub content_start : (word : ℕ) (offset : ℤ) → Result ℕ Fault
 content_start w (pos n) = Ok (w + 1 + n)
 content_start w (negsuc n) = if nat_lt w n then Err faults.Range else Ok (w - n)
@@ -83,7 +83,7 @@ module _ (message : List (List ℕ)) where
   list_from s (Err e) pads width n = Err e
 
   -- The struct or list that the given pointer leads to, or the fault. The pointer is at `word` of the segment, and is
-  -- the slot itself or a landing pad of one word.
+  -- the slot's own pointer or a landing pad of one word.
   abbrev pub target_from : (segment word pads : ℕ) → Pointer → Result Target Fault
   target_from s w pads (Node o data_words pointers) = struct_from s (content_start w o) pads data_words pointers
   target_from s w pads (Many o width n) = list_from s (content_start w o) pads width n

@@ -44,7 +44,7 @@ module _ (message : List (List ℕ)) where
   IsPad s word n = (s < length message) × Lies s word n
 
   -- the pointer at `at` is a struct or list pointer, and leads by its own offset to the content of the form `shape` at
-  -- word `start` of segment `s`
+  -- word `start` of segment `s`, which is the pointer's own segment
   pub record Near (at : Place) (s start : ℕ) (shape : Shape) (pads : ℕ) : Type 0 where
     pub offset : LeadsTo at.word (pointer_in message at.segment at.word) start
     pub content : Describes (pointer_in message at.segment at.word) s start shape

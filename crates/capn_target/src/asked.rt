@@ -1,10 +1,10 @@
 //! The trait `Asked`, a message on which one task can be run, and whose reads are counted.
 //!
-//! A call that gets an [`Asked`] in place of a `Space` can run only one task on the message, since the `Asked` is
-//! moved. The task, a [`CountedTask`], gets the message as a value whose reads are counted, and reads at most as often
-//! as the message allows. The body of a call with the condition `requires work { M.allows message n }` is proved for
-//! every message that allows n reads, including one that allows no more than n. So the condition bounds the work of the
-//! call. A reference to a `Space` allows any number of reads, so callers have nothing to prove.
+//! A call that gets an [`Asked`] can run only one task on the message, since the `Asked` is moved. The task, a
+//! [`CountedTask`] or a [`CountedWriter`], gets the message as a value whose reads are counted, and reads at most as
+//! often as the message allows. A call can have the condition `requires work { M.allows message n }`. The body of the
+//! call is then proved for every message that allows `n` reads, including messages that allow no more. So the condition
+//! bounds the call's work. A reference to a `Space` allows any number of reads, so callers have nothing to prove.
 
 ghost use Rattle.std.specs.Prelude.{◌≡◌, ℕ, ◌+◌, ◌<◌, ◌≤◌, List};
 
@@ -18,7 +18,7 @@ pub trait CountedTask {
     /// The type of the task's result.
     type Told;
 
-    /// The relation between a message and the result of the task on it.
+    /// The relation between a message and the result of the task on that message.
     ghost tells: { Self → List (List ℕ) → Self.Told → Type 0 };
 
     /// The greatest number of reads and turns of loops that the task counts, for any message.

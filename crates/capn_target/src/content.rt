@@ -10,7 +10,7 @@ use crate::target::{Fault, Shape, Target};
 use capn_words::{Place, Space, Width};
 use std::sync::ledger::Ledger;
 
-/// Returns the number of words of `segment`, or 0 if there is no such segment.
+/// Returns the number of words of `segment`, or 0 if there is no such segment. Counts in `reads` as one read.
 #[tactic(auto, using(crate::proofs::shared::Segments::length_of_none, crate::proofs::shared::Segments::length_of_some))]
 #[inline(always)]
 pub fn segment_length<S: Space, L: Ledger>(
@@ -24,8 +24,8 @@ pub fn segment_length<S: Space, L: Ledger>(
     space.words(segment, reads).unwrap_or(0)
 }
 
-/// Returns the number of words of `segment`. Reads nothing if `segment` equals `known`. The segment `known` has `size`
-/// words.
+/// Returns the number of words of `segment`, or 0 if there is no such segment. The segment `known` has `size` words. If
+/// `segment` equals `known`, reads nothing. Otherwise counts in `reads` as one read.
 #[inline(always)]
 pub fn size_of<S: Space, L: Ledger>(
     space: &CountedSpace<'_, S, L>,
@@ -128,7 +128,7 @@ pub fn node_at<S: Space, L: Ledger>(
 
 /// Returns the list of `count` elements whose content begins at word `start` of `segment`, which has `size` words. The
 /// landing pad of the list's pointer has `pads` words. Returns `Range` if the content ends past the segment, otherwise
-/// the fault of the tag word if there is one.
+/// the fault of the tag word if there is one. Counts in `reads` as at most one read.
 #[inline(always)]
 pub fn many_at<S: Space, L: Ledger>(
     space: &CountedSpace<'_, S, L>,

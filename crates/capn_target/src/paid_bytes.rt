@@ -24,7 +24,7 @@ impl<'s> Model for PaidBytes<'s> {
 }
 
 impl<'s> PaidBytes<'s> {
-    /// Wraps `bytes`, each of which can be read once.
+    /// Wraps `bytes`. Each byte can be read once.
     #[inline(always)]
     pub(crate) fn of(bytes: &'s [u8]) -> PaidBytes<'s>
         ensures { result ≡ bytes.now }

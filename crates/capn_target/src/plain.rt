@@ -1,5 +1,5 @@
-//! The calls that find the target of a slot step by step, for any `Space`, without a count of reads. `resolve` calls
-//! the `resolve` of [`counted`](crate::counted) with a new ledger. The other calls read the `Space` directly.
+//! The calls that find the target of a slot step by step, for any `Space`. `resolve` calls the `resolve` of
+//! [`counted`](crate::counted) with a new ledger. The other calls read the `Space` directly.
 
 ghost use Rattle.std.specs.Prelude.{◌≡◌, ◌<◌, length, IfOk};
 ghost use Rattle.capn_words.specs.Message.{segment_at, IsPlace};
@@ -22,11 +22,11 @@ pub fn segment_length<S: Space>(space: &S, segment: u32) -> u32
     space.words(segment).unwrap_or(0)
 }
 
-/// Finds the target of the pointer at `at`, or the first fault of that slot.
+/// Finds the target of the pointer at `at`, or the first fault of that pointer.
 ///
-/// The place has to be in range. The errors are `Reserved` to `TagOverrun`, tested in this order: the word itself, the
-/// landing pad, the range of the content, the tag word of a composite list. Reads at most four words and takes no
-/// memory. (Page: structs, lists, inter-segment pointers, capabilities. The order of the tests is our own.)
+/// The place has to be in range. The errors are `Reserved` to `TagOverrun`. The tests are made in this order: the word
+/// itself, the landing pad, the range of the content, the tag word of a composite list. Reads at most four words and
+/// takes no memory. (Page: structs, lists, inter-segment pointers, capabilities; the order is our own.)
 #[inline(always)]
 pub fn resolve<S: Space>(space: &S, at: Place) -> Result<Target, Fault>
     requires { IsPlace (S.message space.now) at }
@@ -47,7 +47,7 @@ pub fn pointer_at<S: Space>(space: &S, segment: u32, word: u32) -> Pointer
     split(space.word(Place { segment, word }))
 }
 
-/// Finds the target of the pointer at `at`, or the first fault of that slot, with a count in the new ledger `blank`.
+/// Finds the target of the pointer at `at`, or the first fault of that pointer, with a count in the new ledger `blank`.
 #[inline(always)]
 fn resolve_with_ledger<S: Space, L: Ledger>(
     space: &S,

@@ -1,12 +1,12 @@
 //! The type `CountedSpace`, a message that can be read only by calls that count their reads.
 //!
 //! A function that gets a [`CountedSpace`] in place of a `Space` can read the message only by the calls of
-//! `CountedSpace`, each of which counts. A condition on [`Reads`] therefore bounds the reads of a body, whatever the
-//! body returns. It is proved that each read is counted. The fields are private to this file, no other ledger fits the
-//! type, and no call returns a slice or a `Space`. [`PaidBytes`] are read once, and an [`OnlySegment`] is read by calls
-//! that count in the same ledger. Work on a copy of what was read is not counted. The turns of a loop are counted only
-//! if the author of the loop calls [`Reads::tick`]. A loop that omits the call is accepted, and its turns are then
-//! unbounded.
+//! `CountedSpace`, each of which counts. A condition on [`Reads`] therefore bounds the reads of the function, whatever
+//! the function returns. It is proved that each read is counted. The fields are private to this file, no other ledger
+//! fits the type, and no call returns a slice or a `Space`. [`PaidBytes`] are read once, and an [`OnlySegment`] is read
+//! by calls that count in the ledger of the message. Work on a copy of what was read is not counted. The turns of a
+//! loop are counted only if the author of the loop calls [`Reads::tick`]. A loop that omits the call is accepted, and
+//! its turns are then unbounded.
 
 ghost use Rattle.std.specs.Prelude.{◌≡◌, ◌≢◌, ◌+◌, ◌/◌, ◌<◌, ◌≤◌, [], ◌∷◌, length, IfSome, IfNone};
 ghost use Rattle.capn_words.specs.Message.{IsMessage, IsPlace, IsRange, word_at, words_of, bytes_at};
@@ -16,8 +16,8 @@ use capn_words::{Bare, Place, Space};
 use std::marker::{Model, PhantomData};
 use std::sync::ledger::{Blank, Book, Ledger, Share};
 
-/// The number of reads of one message, and of the turns of loops that were counted with them. The value has size 0 at
-/// run time, and no call lowers the number.
+/// The number of counted reads of one message and of counted turns of loops. The value has size 0 at run time, and no
+/// call lowers the number.
 #[derive(Drop)]
 pub struct Reads<L: Ledger> {
     book: Book<L>,
@@ -141,8 +141,7 @@ impl<'s, S: Space, L: Ledger> CountedSpace<'s, S, L> {
     }
 
     /// Returns the `len` bytes from the start of the word at `at` on. Unlike with [`Space::bytes`], each byte can be
-    /// read only once. Counts in `reads` as one read for each 8 bytes, and as one read for fewer than 8 bytes at the
-    /// end.
+    /// read only once. Counts in `reads` as one read for each 8 bytes, and as one read for a rest of 1 to 7 bytes.
     #[inline(always)]
     pub fn bytes(&self, at: Place, len: usize, reads: &mut Reads<L>) -> PaidBytes<'s>
         requires { IsRange self.now at len }
@@ -154,8 +153,8 @@ impl<'s, S: Space, L: Ledger> CountedSpace<'s, S, L> {
     }
 
     /// Returns the words of the only segment of the message, or `None` if there are more segments. Reads of those words
-    /// are faster than reads of the message, and are counted in the same ledger. This call counts at most three reads
-    /// in `reads`.
+    /// are faster than reads of the message, and are counted in the ledger of the message. This call counts at most
+    /// three reads in `reads`.
     #[inline(always)]
     pub fn only_segment(&self, reads: &mut Reads<L>) -> Option<OnlySegment<'s, L>>
         ensures one { IfSome result (λ words. self.now ≡ words ∷ []) }
@@ -194,8 +193,8 @@ impl<'s, L: Ledger> Model for OnlySegment<'s, L> {
 }
 
 impl<'s, L: Ledger> OnlySegment<'s, L> {
-    /// Returns the message whose only segment has these words. The reads of that message are counted in the same
-    /// ledger.
+    /// Returns the message whose only segment has the words of `self`. Reads of the message are counted in the ledger
+    /// `L`.
     #[inline(always)]
     pub fn space(&self) -> CountedSpace<'_, Bare<'s>, L>
         ensures { result ≡ self.now ∷ [] }

@@ -12,11 +12,11 @@ use crate::target::{Fault, Target};
 use capn_words::{Place, Pointer, Space, split};
 use std::sync::ledger::Ledger;
 
-/// Finds the target of the pointer at `at`, or the first fault of that slot.
+/// Finds the target of the pointer at `at`, or the first fault of that pointer.
 ///
-/// The place has to be in range. The errors are `Reserved` to `TagOverrun`, tested in this order: the word itself, the
-/// landing pad, the range of the content, the tag word of a composite list. Counts at most eight reads in `reads`.
-/// Takes no memory. (Page: structs, lists, inter-segment pointers, capabilities. The order of the tests is our own.)
+/// The place has to be in range. The errors are `Reserved` to `TagOverrun`. The tests are made in this order: the word
+/// itself, the landing pad, the range of the content, the tag word of a composite list. Counts at most eight reads in
+/// `reads`. Takes no memory. (Page: structs, lists, inter-segment pointers, capabilities; the order is our own.)
 #[tactic(auto, unfolding(crate::specs::Target::target))]
 #[inline(always)]
 pub fn resolve<S: Space, L: Ledger>(
@@ -85,8 +85,8 @@ pub fn pointer_at<S: Space, L: Ledger>(
 }
 
 /// Returns the content that the struct or list pointer `pointer` leads to, or the fault of that content. The pointer is
-/// at `word` of `segment`, which has `size` words. The pointer is the slot itself if `pads` is 0, and a landing pad of
-/// one word if `pads` is 1. Returns `BadPad` if `pointer` is neither a struct pointer nor a list pointer.
+/// at `word` of `segment`, which has `size` words. The pointer is the slot's own pointer if `pads` is 0, and a landing
+/// pad of one word if `pads` is 1. Returns `BadPad` if `pointer` is neither a struct pointer nor a list pointer.
 #[inline(always)]
 pub fn near<S: Space, L: Ledger>(
     space: &CountedSpace<'_, S, L>,

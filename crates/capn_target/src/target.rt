@@ -34,7 +34,7 @@ pub enum Shape {
     },
 }
 
-/// The target of a pointer.
+/// The target of a pointer: null, a capability, or content.
 #[derive(Clone, Copy, Debug, PartialEq, Eq)]
 pub enum Target {
     /// Null.
@@ -45,7 +45,7 @@ pub enum Target {
     Content {
         /// The number of the segment.
         segment: u32,
-        /// The index in the segment of the content's first word. For a composite list that word is the tag word.
+        /// The index, within the segment, of the content's first word, which for a composite list is the tag word.
         start: u32,
         /// The form and size of the content.
         shape: Shape,
@@ -55,8 +55,8 @@ pub enum Target {
 }
 
 /// The reason why a slot is refused. The tests of one slot are made in the order of the variants, and the first test
-/// that fails gives the fault. There is one exception: for a landing pad of two words, the segment of the content is
-/// looked up after the pad's words are tested. (Our own.)
+/// that fails gives the fault. There are two exceptions: `RootKind` is tested after `TagOverrun`, and for a landing pad
+/// of two words, the segment of the content is looked up after the pad's words are tested. (Our own.)
 #[derive(Clone, Copy, Debug, PartialEq, Eq)]
 pub enum Fault {
     /// Segment 0 has no word, so there is no root.

@@ -1,4 +1,4 @@
--- Laws of the texts of values: a text has at most one value, and at most one first wrong line.
+-- Laws of the texts of values: a text is the text of at most one value, and has at most one first wrong line.
 use Rattle.std.specs.Prelude.{◌≡◌, ◌<◌, ◌≤◌, ℕ, List, [], ◌∷◌, ◌++◌}
 use Rattle.std.specs.List.{AllByRecursion}
 use Rattle.capn_value.specs.Tree.{Tree}
@@ -10,8 +10,8 @@ use Rattle.capn_text.specs.Showable.{IsShowable}
 use Rattle.capn_text.specs.Streams.{end_line, ended_lines, stream_text, ended_text, BeginsAs, IsFirstWrong}
 use Rattle.capn_text.specs.Streams.{GoesTooDeep}
 
--- Let the text of `v` and the bytes `x` after it equal the text of `w` and the bytes `y` after it, both at `level`. If
--- both values are showable, `v` equals `w`, and `x` equals `y`.
+-- Let the text of `v`, followed by `x`, equal the text of `w`, followed by `y`, both at `level`. If both values are
+-- showable, `v` equals `w`, and `x` equals `y`.
 abbrev pub TextsAreApart : Type 0
 TextsAreApart = (level : ℕ) (v w : Tree) (x y : List ℕ) → IsShowable v → IsShowable w
     → shown level v ++ x ≡ shown level w ++ y → (v ≡ w) × (x ≡ y)
@@ -35,7 +35,7 @@ abbrev pub StreamGoesOn : Type 0
 StreamGoesOn = (vs : List Tree) (v : Tree) (rest : List ℕ)
     → stream_text (vs ++ v ∷ []) ++ rest ≡ stream_text vs ++ (show_text v ++ (end_line ++ rest))
 
--- If lines `m` and `n` are both the first wrong line of `text`, as `spell` writes values, `m` equals `n`.
+-- If lines `m` and `n` are both the first wrong line of `text`, for values written by `spell`, `m` equals `n`.
 abbrev pub OneWrongLine : Type 0
 OneWrongLine = (spell : Tree → List ℕ) (m n : ℕ) (text : List ℕ) → IsFirstWrong spell m text
     → IsFirstWrong spell n text → m ≡ n

@@ -39,12 +39,12 @@ is_there None = false
 abbrev pub is_quoted : List ℕ → Bool
 is_quoted text = is_there (quoted_at text)
 
--- The number of lines of the plain form of the line `text`: 2 if it has bytes between quotes, and 1 otherwise.
+-- The number of lines of the plain form of the line `text`: 2 if `text` has bytes between quotes, and 1 otherwise.
 abbrev pub lines_of : List ℕ → ℕ
 lines_of text = cond (is_quoted text) 2 1
 
--- If the line `text` has bytes between quotes, the list of one number, `n + 1`: that of the line of digits. Otherwise
--- the empty list. The plain form of `text` begins at line `n`.
+-- The plain form of the line `text` begins at line `n`. If `text` has bytes between quotes, the result has one element:
+-- `n + 1`, the number of the line of digits. Otherwise the result is empty.
 abbrev pub digits_of : ℕ → List ℕ → List ℕ
 digits_of n text = cond (is_quoted text) ((n + 1) ∷ []) []
 

@@ -25,7 +25,7 @@ OnePlain = (text a b : List ℕ) → length text < 2 ^ 64 → IsPlain text a →
 abbrev pub PlainIsFound : Type 0
 PlainIsFound = (text : List ℕ) → length text < 2 ^ 64 → IsPlain text (plain text)
 
--- If `text` has fewer than 2^64 bytes and `n` is at least 1, line `n` of its plain form belongs to its line
--- `own_line text n`.
+-- If `text` has fewer than 2^64 bytes, and `n` is at least 1, line `n` of the plain form of `text` belongs to line
+-- `own_line text n` of `text`.
 abbrev pub OwnLineIsFound : Type 0
 OwnLineIsFound = (text : List ℕ) (n : ℕ) → length text < 2 ^ 64 → 0 < n → IsOwnLine text n (own_line text n)

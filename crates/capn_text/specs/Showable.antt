@@ -1,4 +1,4 @@
--- Values whose numbers a text can show: each number is in the range of its type, and each count fits 64 bits.
+-- Values whose numbers a text can show: each number is in the range of its type, and each count fits into 64 bits.
 use Rattle.std.specs.Prelude.{◌<◌, ◌^◌, length, ⊤}
 use Rattle.capn_value.specs.InRange.{AllBelow}
 use Rattle.capn_value.specs.NumberWidth.{bits_in}

@@ -44,7 +44,7 @@ BeginsAs text v = IsShowable v × (front : List ℕ) × (rest : List ℕ) × (mo
     × (show_text v ≡ front ++ more) × (0 < ended_lines front)
 
 -- Line `n` is the first wrong line of `text`. For some showable value `v` of at most 256 levels, `spell v` and `text`
--- have the same lines before line `n`. For no showable value `w` do `spell w` and `text` have the same first `n` lines.
+-- have the same lines before line `n`. For each showable `w`, `spell w` and `text` differ in their first `n` lines.
 abbrev pub IsFirstWrong : (Tree → List ℕ) → ℕ → List ℕ → Type 0
 IsFirstWrong spell n text = (k : ℕ) × (n ≡ k + 1)
     × (v : Tree) × IsShowable v × (height v ≤ most_height) × (first_lines k (spell v) ≡ first_lines k text)
@@ -58,7 +58,7 @@ Names e n = (e ≡ faults.Line n) ⊎ (e ≡ faults.Cut n)
 abbrev pub few : ℕ
 few = 2048
 
--- `text` without its last bytes, at most `few` of them, is a prefix of `ended_text v` for some value `v`. `v` is
+-- `text` with at most `few` bytes removed from its end is a prefix of `ended_text v` for some value `v`. `v` is
 -- showable and in range, and has at most 256 levels.
 abbrev pub MayGoOn : List ℕ → Type 0
 MayGoOn text = (front : List ℕ) × (last : List ℕ) × (text ≡ front ++ last) × (length last ≤ few)

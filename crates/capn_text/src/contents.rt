@@ -49,8 +49,8 @@ fn low_at<'t, A: Allocator>(head: Head, text: &'t [u8]) -> Result<(Value<A>, &'t
     }
 }
 
-// Reads the lines of a value after its first line, `head`, which was at this `level`. The values in it have a height of
-// at most `room`.
+// Reads the lines of a value after its first line, `head`, which was at this `level`. The values below this value have
+// a height of at most `room`.
 #[cycle(value_at)]
 #[tactic(auto, using(crate::proofs::ValueOfParts::steps_and_views))]
 fn content_at<'t, A: Allocator + Copy>(

@@ -11,15 +11,15 @@ use std::alloc::{AllocError, AllocFailed};
 pub enum TextFault {
     /// An allocation was refused.
     Memory,
-    /// The number of the first wrong line, counted from 1. The lines before it begin the text of some value. No text of
-    /// a value has those lines and then the wrong line. If a line is missing, the number is that of the line after the
-    /// last line. [`crate::Texts`] returns this fault only if the line is wrong whatever bytes follow.
+    /// The number of the first wrong line, counted from 1. The lines before the wrong line begin the text of some
+    /// value, but no text of a value goes on with the wrong line. If a line is missing, the number is the number of the
+    /// line after the last line. [`crate::Texts`] returns this fault only if the line is wrong whatever bytes follow.
     Line(u64),
     /// The number, counted from 1, of the first line that is wrong if no bytes follow. More bytes may complete the
     /// text.
     Cut(u64),
-    /// The text is that of a value that fits into no message. The misfit is also `Tall` if the text goes deeper than
-    /// any value that fits, whatever bytes follow.
+    /// The text is the text of a value that fits into no message. The misfit is also `Tall` if the text goes deeper
+    /// than any value that fits, whatever bytes follow.
     Misfit(Misfit),
 }
 

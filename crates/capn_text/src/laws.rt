@@ -5,17 +5,18 @@ ghost use Rattle.capn_text.specs.Laws.{OneWrongLine, WrongIsNotDeep, DeepIsHigh}
 ghost use Rattle.capn_text.specs.Laws.{WrongLineStays, NoTextGoesOn, DeepStays, NoBeginningComes};
 ghost use Rattle.capn_text.specs.PlainLaws.{QuotedIsPlain, OnePlain, PlainIsFound, OwnLineIsFound};
 
-/// States that no text of a showable value is a prefix of the text of another showable value. Each value that fits and
-/// is in range is showable. A text is the text of at most one value that fits and is in range.
+/// States that no text of a showable value is a prefix of the text of another showable value. A showable value has
+/// numbers in range, and counts below 2^64, or below 2^32 for elements without bits. Each value that fits and is in
+/// range is showable. A text is the text of at most one value that fits and is in range.
 pub fn texts()
     ensures apart { TextsAreApart }
     ensures showable { FittingIsShowable }
     ensures one { OneValue }
 {}
 
-/// States that a stream of texts is that of at most one list of showable values. A stream, followed by a text and its
-/// line `end`, is a stream with one more value. A loop over [`crate::Texts::read_next`] uses this law: the input is the
-/// stream of the values that were read, and then the bytes that are left.
+/// States that a stream of texts is the stream of at most one list of showable values. A stream, followed by a text and
+/// its line `end`, is a stream with one more value. A loop over [`crate::Texts::read_next`] uses this law to prove that
+/// the input is the stream of the values that were read, and then the bytes that are left.
 pub fn streams()
     ensures one { OneStream }
     ensures goes_on { StreamGoesOn }
@@ -29,8 +30,8 @@ pub fn refusals()
     ensures high { DeepIsHigh }
 {}
 
-/// States that facts about the complete lines of a text hold whatever bytes follow. One fact is that one of these lines
-/// is the first wrong line. Other facts are that the text goes too deep, and that the first line begins no value.
+/// States that later bytes do not change what the complete lines of a text decide: which line is the first wrong one,
+/// that no text with its line `end` comes before it, that the text goes too deep, that the first line begins no value.
 pub fn whole_lines()
     ensures wrong { WrongLineStays }
     ensures none { NoTextGoesOn }

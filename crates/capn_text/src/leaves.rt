@@ -55,8 +55,8 @@ pub fn leaf_at<'t, A: Allocator>(
     }
 }
 
-/// Returns the stop for a `text` that does not begin with a line of `count` bits. The stop is `Cut` if more bytes can
-/// complete the line, and `Left` otherwise.
+/// Returns the stop for a `text` that does not begin with a line of `count` bits. The stop is `Cut` or `Left`. If it
+/// is `Left`, the line cannot be completed, whatever bytes follow.
 fn stop_in_bits(level: u32, count: u64, text: &[u8]) -> Stop
     requires level { level ≤ 600 }
     requires none { tokens.row_line_at tokens.bit_at level count text.now ≡ None }
@@ -127,8 +127,8 @@ fn bit_digits_at<A: Allocator>(
     Ok((items, rest))
 }
 
-/// Returns the stop for a `text` that does not begin with a line of `count` bytes. The stop is `Cut` if more bytes can
-/// complete the line, and `Left` otherwise.
+/// Returns the stop for a `text` that does not begin with a line of `count` bytes. The stop is `Cut` or `Left`. If
+/// it is `Left`, the line cannot be completed, whatever bytes follow.
 fn stop_in_bytes(level: u32, count: u64, text: &[u8]) -> Stop
     requires level { level ≤ 600 }
     requires none { tokens.row_line_at tokens.byte_at level count text.now ≡ None }

@@ -29,9 +29,9 @@ use std::alloc::Allocator;
 /// Reads `text` as the tree for which [`capn_value::show`] writes this text.
 ///
 /// Returns [`TextFault::Line`] if `text` is not the text of a value. Returns [`TextFault::Misfit`] if `text` is the
-/// text of a value that fits into no message. A text of more than 256 levels is `Tall`, whatever bytes follow. Returns
-/// [`TextFault::Memory`] if an allocation is refused. Takes time linear in the text. Takes memory of `alloc` for the
-/// tree, up to twice as much for lists while they grow. The stack holds at most 257 values.
+/// text of a value that fits into no message. A text that goes deeper than 256 levels is `Tall`, even if a later line
+/// is wrong. Returns [`TextFault::Memory`] if an allocation is refused. Takes time linear in the text. Takes memory of
+/// `alloc` for the tree, up to twice as much for lists while they grow. The stack holds at most 257 values.
 pub fn read<A: Allocator + Copy>(alloc: A, text: &[u8]) -> Result<Tree<A>, TextFault>
     // If a tree is returned, `text` is its text.
     ensures found { IfOk result (λ t. text.now ≡ show_text t) }
@@ -46,8 +46,8 @@ pub fn read<A: Allocator + Copy>(alloc: A, text: &[u8]) -> Result<Tree<A>, TextF
     ensures begun { IfErr result (λ e. e ≢ faults.Line 1 → (v : trees.Tree) × BeginsAs text.now v) }
     // If the fault is `Line`, that line is the first wrong line of `text`.
     ensures first { IfErr result (λ e. (n : ℕ) → e ≡ faults.Line n → IsFirstWrong show_text n text.now) }
-    // If the fault is a misfit, there are two cases. Either `text` is the text of a value of at most 256 levels with
-    // that misfit, or `text` goes too deep whatever bytes follow.
+    // If the fault is a misfit, there are two cases. In one, `text` is the text of a value of at most 256 levels with
+    // that misfit. In the other, the misfit is `Tall`, and `text` goes too deep.
     ensures misfit { IfErr result (λ e. (m : Misfit) → e ≡ faults.Misfit m →
         ((m ≡ Tall) × GoesTooDeep text.now) ⊎ ((v : trees.Tree) × InRange v × IsShowable v
         × (height v ≤ most_height) × (text.now ≡ show_text v) × (misfit v ≡ Some m))) }
@@ -64,7 +64,7 @@ pub fn read<A: Allocator + Copy>(alloc: A, text: &[u8]) -> Result<Tree<A>, TextF
     Ok(tree)
 }
 
-// Converts a `Cut` line to a wrong `Line`, since no bytes follow. Returns any other `fault` as it is.
+// Converts the fault `Cut` to the fault `Line`, since no bytes follow. Returns any other `fault` unchanged.
 fn ended(fault: TextFault) -> TextFault
     ensures memory { fault ≡ faults.Memory → result ≡ faults.Memory }
     ensures line { (n : ℕ) → result ≡ faults.Line n → Names fault n }
@@ -122,8 +122,8 @@ pub fn first_value<A: Allocator + Copy>(
     // for any bytes `more`.
     ensures none { IfErr result (λ e. (n : ℕ) → e ≡ faults.Line n → (more : List ℕ) → (v : trees.Tree)
         (rest : List ℕ) → IsShowable v → height v ≤ most_height → text.now ++ more ≢ show_text v ++ rest) }
-    // If the fault is `Cut`, `text` without its last bytes, at most 2,048, is a prefix of the text and line `end` of
-    // some value.
+    // If the fault is `Cut`, `text` with at most 2,048 bytes removed from its end is a prefix of the text and line
+    // `end` of some value.
     ensures open { IfErr result (λ e. (n : ℕ) → e ≡ faults.Cut n → MayGoOn text.now) }
     // If bytes follow the value that was read, the line after the value is the first wrong line for texts without the
     // line `end`. If that line is not `end`, it is also the first wrong line for texts with the line `end`.

@@ -113,8 +113,8 @@ pub fn next_line(text: &[u8]) -> Option<(&[u8], &[u8])>
 
 /// Returns the plain form of `text`. In `text`, a list of bytes may stand between quotes, as a line `bytes N "T"` or
 /// `bytes "T"`. Such a line becomes the lines that [`capn_value::show`] writes for the bytes of T. Any other line stays
-/// as it is. T has at least one byte. Its bytes are from 0x20 to 0x7e, except that the last may be zero. In T a quote
-/// is `\"`, a backslash `\\`, a last zero `\0`. (Our own.)
+/// as it is. T has N bytes, at least one. Its bytes are from 0x20 to 0x7e, except that the last may be zero. In T a
+/// quote is `\"`, a backslash `\\`, a last zero `\0`. (Our own.)
 ///
 /// Takes time linear in the text. Takes memory of `alloc` for the plain form, up to twice as much while it grows, and
 /// for the bytes of one line.

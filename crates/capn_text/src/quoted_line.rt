@@ -144,8 +144,8 @@ fn begins(whole: &[u8], front: &[u8]) -> bool
     }
 }
 
-/// Returns `true` if `rest` may follow `bytes ` on a line with bytes between quotes. Then `rest` is empty, or begins
-/// with a quote or a digit.
+/// Returns `true` if `rest` may follow `bytes ` on a line with bytes between quotes: if `rest` is empty, or begins with
+/// a quote or a digit.
 fn may_follow(rest: &[u8]) -> bool
     ensures { result ≡ beginnings.may_follow rest.now }
 {

@@ -54,7 +54,7 @@ impl<'t> Texts<'t> {
     }
 
     /// Creates a reader of `input`, the bytes of a longer input from the beginning of `line` on. Returns `None` if the
-    /// number of the last line of `input` might pass 64 bits. Takes no memory.
+    /// number of the last line of `input` might exceed 64 bits. Takes no memory.
     pub fn from_line(input: &'t [u8], line: u64) -> Option<Texts<'t>>
         ensures found { IfSome result (λ t. t ≡ record { rest = input.now; line = line }) }
         ensures only { line + length input.now < 2 ^ 64 → IsSome result }
@@ -115,10 +115,10 @@ impl<'t> Texts<'t> {
     /// Reads the next text. Returns its tree, or `None` at the end of the input.
     ///
     /// A text is read together with its line `end`. If another line stands in place of `end`, the fault names that
-    /// line, even if the value is a misfit. A text of more than 256 levels is `Tall`, whatever bytes follow. After an
-    /// error the reader has not moved, so the next call begins with the same text. The line of an error is counted over
-    /// the complete input. A misfit belongs to the text that begins at [`Texts::line`]. A call takes memory of `alloc`
-    /// for the tree, and up to twice as much for lists while they grow.
+    /// line, even if the value fits into no message. A text that goes deeper than 256 levels is `Tall`, even if a later
+    /// line is wrong. After an error the reader has not moved, so the next call begins with the same text. The line of
+    /// an error is counted over the complete input. A misfit belongs to the text that begins at [`Texts::line`]. A call
+    /// takes memory of `alloc` for the tree, and up to twice as much for lists while they grow.
     pub fn read_next<A: Allocator + Copy>(&mut self, alloc: A) -> Result<Option<Tree<A>>, TextFault>
         // If a tree is returned, its text and the line `end` were next, and the bytes after `end` are left. If `None`
         // is returned, no bytes were left.
@@ -157,8 +157,8 @@ impl<'t> Texts<'t> {
         // If the fault is `Line`, that line is the first wrong line whatever bytes follow the input.
         ensures lost { IfErr result (λ e. (n : ℕ) → e ≡ faults.Line n → (more : List ℕ) →
             IsWrongAt self.old.line (self.old.rest ++ more) n) }
-        // If the fault is `Cut`, the input without its last bytes, at most 2,048, is a prefix of the text and line
-        // `end` of some value.
+        // If the fault is `Cut`, the input with at most 2,048 bytes removed from its end is a prefix of the text and
+        // line `end` of some value.
         ensures open { IfErr result (λ e. (n : ℕ) → e ≡ faults.Cut n → MayGoOn self.old.rest) }
         // If the fault is a misfit, there are two cases. In one, the text and line `end` of a value of at most 256
         // levels with that misfit are next. In the other, the misfit is `Tall`, and the input goes too deep.

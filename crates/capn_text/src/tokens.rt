@@ -157,7 +157,7 @@ pub fn bit_at(text: &[u8]) -> Result<(bool, &[u8]), Stop>
     }
 }
 
-// Reads the eight bytes of a word in hexadecimal digits, the most significant first.
+// Reads the eight bytes of a word at the front of `text`, in hexadecimal digits, the most significant byte first.
 fn eight_at(text: &[u8]) -> Result<([u8; 8], &[u8]), Stop>
     ensures { Gives (λ x. (x.0, x.1.now)) result (tokens.many tokens.byte_at 8 text.now) }
 {
@@ -189,8 +189,8 @@ pub fn is_short(text: &[u8]) -> bool
     text.len() < FEW
 }
 
-/// Returns the stop for a `text` that does not begin with the expected line. Such a line has at most [`FEW`] bytes. The
-/// stop is `Cut` if `text` has fewer bytes, so that more may complete the line, and `Left` otherwise.
+/// Returns the stop for a `text` that does not begin with the expected line, which has at most [`FEW`] bytes. The stop
+/// is `Cut` if `text` has fewer than [`FEW`] bytes, since more bytes may complete the line, and `Left` otherwise.
 pub fn stop_in(text: &[u8]) -> Stop
     ensures { result ≡ spec.stop_in text.now }
 {

@@ -180,8 +180,8 @@ impl<A: Allocator + Copy> Unquoter<A> {
     }
 
     /// Reads the next chunk, `piece`. Appends to `out` the plain form of each line that ends in `piece`. Also appends
-    /// the arrived bytes of the unfinished line, if its first bytes, at most 1,024, show that it has no bytes between
-    /// quotes. After an error the state of the converter is unspecified.
+    /// the bytes of the unfinished line that have arrived, if at most 1,024 bytes at its front show that the line has
+    /// no bytes between quotes. After an error the state of the converter is unspecified.
     pub fn push(&mut self, piece: &[u8], out: &mut Vec<u8, A>) -> Result<(), AllocError>
         ensures quiet { OnOk result (ended_lines self.new.front ≡ 0) }
         ensures empty { OnOk result (self.new.through ≡ true → self.new.front ≡ []) }

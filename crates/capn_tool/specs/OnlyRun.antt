@@ -13,8 +13,8 @@ abbrev pub NeedsMemory : Option (List ℕ) → Option (List ℕ) → Option (Lis
 NeedsMemory a b c d reader_failed writer_failed r = (r ≡ Err faults.Memory)
     × (b ≡ a) × (d ≡ c) × (reader_failed ≡ false) × (writer_failed ≡ false)
 
--- The effect of a run that picks the messages in the list of `only`. Memory was refused for the ranges, or the run
--- picked the messages with the result `r`.
+-- The effect of a run that picks the messages of `only.list`, if that text is a list. Memory was refused for the
+-- ranges, or the run picked the messages with the result `r`.
 abbrev pub OnlyPicked : Only → Option (List ℕ) → Option (List ℕ) → Option (List ℕ) → Option (List ℕ) → Bool → Bool
     → Result (Unit {0}) RunFault → Type 0
 OnlyPicked only a b c d reader_failed writer_failed r = (ranges : List Range) → ranges_in only.list.now ≡ Some ranges

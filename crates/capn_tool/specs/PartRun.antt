@@ -71,8 +71,8 @@ abbrev pub NeedsMemory : Show → Option (List ℕ) → Option (List ℕ) → Op
 NeedsMemory show a b c d reader_failed writer_failed r = (is_some show.path ≡ true) × (r ≡ Err faults.Memory)
     × (b ≡ a) × (d ≡ c) × (reader_failed ≡ false) × (writer_failed ≡ false)
 
--- The effect of a run of `show` with the result `r`. Memory was refused for the numbers of the path of `show`, or the
--- values at that path were shown.
+-- The effect of a run of `show` with the result `r`, if `show.path` is a path or `None`. Memory was refused for the
+-- numbers of the path, or the values at the path were shown.
 abbrev pub PartsShown : Show → Option (List ℕ) → Option (List ℕ) → Option (List ℕ) → Option (List ℕ) → Bool → Bool
     → Result (Unit {0}) ToolFault → Type 0
 PartsShown show a b c d reader_failed writer_failed r = (path : List ℕ) → numbers_of show.path ≡ Some path

@@ -61,20 +61,20 @@ EndsRunOrder name io Runs = EndsOrder name (λ order. RunsFlushed io (Runs order
 abbrev pub EndsMessage : List Text → Course → Course → Course → ℕ → Type 0
 EndsMessage = EndsOrder (λ command. invocations.Message command) CarriesOut ReportsEnding status_of
 
--- The words mean that messages or values in them are to be shown. That run was carried out, and its outcome decides
--- what was written to `errors`, and the exit status.
+-- The words mean a run that shows messages or values in them. The run was carried out, and its outcome decides what was
+-- written to `errors`, and the exit status.
 abbrev pub EndsShow : List Text → Course → Course → Course → ℕ → Type 0
 EndsShow = EndsRunOrder (λ show. invocations.Show show) faults.Io PartsShown ReportsEnding status_of
 
--- The words mean that one message is to be explained. That run was carried out, and its outcome decides what was
--- written to `errors`, and the exit status.
+-- The words mean a run that explains one message. The run was carried out, and its outcome decides what was written to
+-- `errors`, and the exit status.
 abbrev pub EndsExplain : List Text → Course → Course → Course → ℕ → Type 0
 EndsExplain =
     EndsRunOrder (λ explain. invocations.Explain (explanations.One explain)) run_faults.Io Explained WritesPickEnding
     pick_status
 
--- The words mean that every refused message is to be explained. That run was carried out, and its outcome decides what
--- was written to `errors`, and the exit status.
+-- The words mean a run that explains every refused message. The run was carried out, and its outcome decides what was
+-- written to `errors`, and the exit status.
 abbrev pub EndsExplainRefused : List Text → Course → Course → Course → ℕ → Type 0
 EndsExplainRefused =
     EndsRunOrder (λ refused. invocations.Explain (explanations.Refused refused)) (report_faults.Ended run_faults.Io)
@@ -86,19 +86,19 @@ abbrev pub EndsArchive : List Text → Course → Course → Course → ℕ → 
 EndsArchive =
     EndsRunOrder (λ archive. invocations.Archive archive) archive_faults.Io Archived WritesArchiveEnding archive_status
 
--- The words mean that duplicates are to be omitted or counted. That run was carried out, and its outcome decides what
--- was written to `errors`, and the exit status.
+-- The words mean a run that omits or counts duplicates. The run was carried out, and its outcome decides what was
+-- written to `errors`, and the exit status.
 abbrev pub EndsUniq : List Text → Course → Course → Course → ℕ → Type 0
 EndsUniq =
     EndsRunOrder (λ uniq. invocations.Uniq uniq) archive_faults.Io Deduplicated WritesArchiveEnding archive_status
 
--- The words mean that accepted messages are to be written. That run was carried out, and its outcome decides what was
--- written to `errors`, and the exit status.
+-- The words mean a run that writes accepted messages. The run was carried out, and its outcome decides what was written
+-- to `errors`, and the exit status.
 abbrev pub EndsFilter : List Text → Course → Course → Course → ℕ → Type 0
 EndsFilter =
     EndsRunOrder (λ filter. invocations.Filter filter) archive_faults.Io Filtered WritesArchiveEnding archive_status
 
--- The words mean that messages are to be compared. The run had the result `found`, and the flush of the output gave
+-- The words mean a run that compares messages. The run had the result `found`, and the flush of the output gave
 -- `outcome`. `outcome` decides what was written to `errors`, and `found` and `outcome` decide the exit status.
 pub record EndsCmp (words : List Text) (input output errors : Course) (status : ℕ) : Type 0 where
   pub order : CmpOrder
@@ -109,24 +109,24 @@ pub record EndsCmp (words : List Text) (input output errors : Course) (status : 
   pub told : WritesEnding cmp_text outcome errors.before errors.after errors.failed
   pub is : status ≡ cmp_status found outcome
 
--- The words mean that messages are to be picked by a range of numbers. That run was carried out, and its outcome
--- decides what was written to `errors`, and the exit status.
+-- The words mean a run that picks messages by a range of numbers. The run was carried out, and its outcome decides what
+-- was written to `errors`, and the exit status.
 abbrev pub EndsPick : List Text → Course → Course → Course → ℕ → Type 0
 EndsPick =
     EndsRunOrder (λ pick. invocations.Pick pick) run_faults.Io (λ pick. Picks pick.limits.message_words pick pick.form)
     WritesPickEnding pick_status
 
--- The words mean that the messages of a list are to be picked. That run was carried out, and its outcome decides what
--- was written to `errors`, and the exit status.
+-- The words mean a run that picks the messages of a list. The run was carried out, and its outcome decides what was
+-- written to `errors`, and the exit status.
 abbrev pub EndsOnly : List Text → Course → Course → Course → ℕ → Type 0
 EndsOnly = EndsRunOrder (λ only. invocations.Only only) run_faults.Io OnlyPicked WritesPickEnding pick_status
 
--- The words mean that a stream is to be packed or unpacked. That run was carried out, and its outcome decides what was
+-- The words mean a run that packs or unpacks a stream. The run was carried out, and its outcome decides what was
 -- written to `errors`, and the exit status.
 abbrev pub EndsFlow : List Text → Course → Course → Course → ℕ → Type 0
 EndsFlow = EndsRunOrder (λ flow. invocations.Flow flow) flow_faults.Io Flowed WritesFlowEnding flow_status
 
--- The words mean that messages are to be made from texts. That run was carried out, and its outcome decides what was
+-- The words mean a run that makes messages from texts. The run was carried out, and its outcome decides what was
 -- written to `errors`, and the exit status.
 abbrev pub EndsMake : List Text → Course → Course → Course → ℕ → Type 0
 EndsMake =

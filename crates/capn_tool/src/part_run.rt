@@ -28,8 +28,8 @@ fn one_frame(show: &Show) -> Option<StreamForm>
 }
 
 /// Writes the text of messages, or of the value at a path from each root, in a style or with marks. [`run_show`] shows
-/// each message of an input, and [`serve_one`] shows the one message of an input in a frame. Memory is allocated for
-/// the numbers of a path.
+/// each message of an input, and [`serve_one`] shows the message of an input that has to be exactly one frame. Memory
+/// is allocated for the numbers of a path.
 pub fn show_parts<R: Read, W: Write, A: Allocator + Copy>(
     alloc: A,
     show: &Show,

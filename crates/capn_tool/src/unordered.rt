@@ -46,7 +46,7 @@ fn show_version<W: Write>(writer: &mut Watched<W>) -> Result<(), ToolFault>
     flush_after(Ok(()), ToolFault::Io, writer)
 }
 
-/// Writes the text about a mistake in `said`, or the error line of `Memory` if there was no memory for the text.
+/// Writes `said`, the text about a mistake, or the error line of `Memory` if there was no memory for the text.
 fn tell_said<E: Write>(alloc: Global, said: Result<String, AllocError>, errors: &mut Watched<E>)
     requires { has_failed errors.old ≡ false }
     ensures text { IfOk said (λ text. WritesLine (string_bytes text)

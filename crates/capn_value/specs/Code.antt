@@ -17,8 +17,8 @@ use Rattle.capn_value.specs.declared.value.Value.{Cap}
 use Rattle.capn_value.specs.declared.value.Body.{Body}
 use Rattle.capn_value.specs.contracts.value.Value as stored
 
--- This block is about the `Value` of a tree, and about the lists of a tree as lists of values. `bits_from` turns
--- numbers into bits.
+-- This block turns a tree into a `Value`, and the lists in a tree into lists of values. `bits_from` turns numbers into
+-- bits.
 module _ (A : Type 0) (bits_from : List ℕ → List Bool) where
   -- the `Value` of a list of the numbers `xs`
   abbrev pub numbers_of : NumberWidth → List ℕ → Value A

@@ -35,8 +35,8 @@ abbrev mutual
   greatest_in_rows no_bodies = 0
   greatest_in_rows (body ws slots bs) = max (greatest slots) (greatest_in_rows bs)
 
--- the cost of the rows of a composite list without the list's pointer and tag: the number of their words, or the number
--- of rows if the rows have no words
+-- the price of a composite list's rows, without the tag: the number of data words and slots of all rows, or, if there
+-- are neither words nor slots, the number of rows
 unfoldable pub rows_price : Bodies → ℕ
 rows_price bs = cond (row_words bs == 0) (count_rows bs) (row_words bs)
 

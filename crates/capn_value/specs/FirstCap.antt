@@ -4,8 +4,8 @@ use Rattle.std.specs.Option.{option_or}
 use Rattle.capn_value.specs.Tree.{Tree, node, links, rows, cap, Trees}
 use Rattle.capn_value.specs.Tree.{no_trees, tree, Bodies, no_bodies, body}
 
--- The index of the first capability in preorder. In preorder a value is followed by the values in its slots, rows or
--- elements, in order. All values below one of these come before the next one.
+-- The index of the first capability in preorder. In preorder, a value comes before the values in its slots, rows or
+-- elements. These values follow in order, and all values below one of them come before the next one.
 abbrev mutual
   pub first_cap : Tree → Option ℕ
   first_cap (cap k) = Some k

@@ -77,8 +77,8 @@ abbrev pub is_root : Tree → Bool
 is_root (cap k) = false
 is_root _ = true
 
--- The first of the six misfits that the value has. All of the value is tested for one misfit before the next. Cost is
--- counted by the plain tariff, so a value that is cheap enough by the strict tariff is never `Costly`.
+-- The first misfit that the value has, or `None`. The whole value is tested for each misfit in turn. Cost is counted by
+-- the plain tariff, so a value that is cheap enough by the strict tariff is never `Costly`.
 unfoldable pub misfit : Tree → Option Misfit
 misfit t =
     cond (anywhere is_wide t) (Some Wide)

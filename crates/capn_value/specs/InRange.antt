@@ -9,8 +9,8 @@ use Rattle.capn_value.specs.Tree.{no_trees, tree, Bodies, no_bodies, body}
 abbrev pub AllBelow : ℕ → List ℕ → Type 0
 AllBelow most xs = AllByRecursion (λ x. x < most) xs
 
--- words are below 2^64, counts of `voids` and indices of capabilities are below 2^32, and the numbers of a list are
--- below the bound of their width (a bit is 0 or 1)
+-- words are below 2^64; counts of `voids` and indices of capabilities are below 2^32; the numbers of a list are below
+-- the bound of their width (a bit is 0 or 1)
 abbrev mutual
   pub InRange : Tree → Type 0
   InRange nil = ⊤

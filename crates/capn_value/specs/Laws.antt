@@ -31,12 +31,12 @@ FittingIsSixFacts = (t : Tree) → Fits t ↔ IsFit t
 abbrev pub MisfitIsFirst : Type 0
 MisfitIsFirst = (t : Tree) (k : Misfit) → (misfit t ≡ Some k) ↔ IsFirst k t
 
--- values are the same if and only if the getters agree on them along every path
+-- two values are the same if and only if all getters return the same for both along every path
 abbrev pub SameExactlyToGetters : Type 0
 SameExactlyToGetters = (v w : Tree) → Same v w ↔ ((p : List Step) → get v p ≡ get w p)
 
--- values are the same if and only if the functions from paths to results are equal, so that anything computed from the
--- getters is equal too
+-- two values are the same if and only if their functions from paths to results are equal, so that anything computed
+-- from the getters is equal too
 abbrev pub SameToReaders : Type 0
 SameToReaders = (v w : Tree) → Same v w ↔ (get v ≡ get w)
 

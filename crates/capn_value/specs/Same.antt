@@ -3,7 +3,7 @@ use Rattle.std.specs.Prelude.{ℕ, ◌≡◌, List, ⊤, slice_index}
 use Rattle.capn_value.specs.Tree.{Tree, nil, node, voids, numbers, links, rows, cap, Trees}
 use Rattle.capn_value.specs.Tree.{no_trees, tree, Bodies, no_bodies, body}
 
--- for each `i`, word `i` of `ws` equals word `i` of `vs`, if words past the end are 0
+-- for each `i`, word `i` of `ws` equals word `i` of `vs`, where words past the end count as 0
 abbrev pub SameWords : List ℕ → List ℕ → Type 0
 SameWords ws vs = (i : ℕ) → slice_index ws i ≡ slice_index vs i
 
@@ -24,7 +24,7 @@ abbrev mutual
   Same (cap j) (cap k) = j ≡ k
   Same _ _ = ⊥
 
-  -- the slots at each index are the same, if slots past the end of a list are null
+  -- the slots at each index are the same, where slots past the end of a list count as null
   pub SameSlots : Trees → Trees → Type 0
   SameSlots no_trees ts = AllNull ts
   SameSlots (tree s ss) no_trees = (s ≡ nil) × SameSlots ss no_trees

@@ -64,7 +64,7 @@ numbers_lines _ level xs = number_lines level xs
 abbrev pub body_line : ℕ → ℕ → ℕ → List ℕ
 body_line level w s = line level (codes "struct " ++ (decimal w ++ 32 ∷ decimal s))
 
--- the text of a value: a first line with its kind and size, then its words and the values below it, one level deeper
+-- the text of a value: a first line, and then the lines of its words, numbers, rows, slots and elements, indented more
 abbrev mutual
   pub shown : ℕ → Tree → List ℕ
   shown level nil = line level (codes "null")

@@ -13,7 +13,7 @@ abbrev pub trees : List Tree → Trees
 trees [] = no_trees
 trees (t ∷ ts) = tree t (trees ts)
 
--- a list of words and slots as `Bodies`
+-- a list of bodies as `Bodies`, where each body is given by its words and its slots
 abbrev pub rows_from : List (List ℕ × Trees) → Bodies
 rows_from [] = no_bodies
 rows_from (b ∷ bs) = body b.0 b.1 (rows_from bs)

@@ -3,8 +3,8 @@ use Rattle.std.specs.Prelude.{ℕ, ◌+◌, max, List, [], ◌∷◌, take, Bool
 use Rattle.capn_value.specs.Tree.{Tree, nil, node, voids, numbers, links, rows, cap, Trees}
 use Rattle.capn_value.specs.Tree.{no_trees, tree, Bodies, no_bodies, body, front, is_null}
 
--- The number of elements that trimming keeps of a list, if it keeps `n` of the elements after the first. The result is
--- 0 if `n` is 0 and the first element is zero or null, which `empty` says. Otherwise the result is `n` + 1.
+-- The number of elements that trimming keeps of a list, if trimming keeps `n` of the elements after the first. `empty`
+-- says whether the first element is zero or null. The result is 0 if `n` is 0 and `empty` is true, and else `n` + 1.
 abbrev pub kept_behind : Bool → ℕ → ℕ
 kept_behind empty n = cond (empty && (n == 0)) 0 (n + 1)
 

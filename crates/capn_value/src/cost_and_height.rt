@@ -58,8 +58,8 @@ fn oct_words(xs: &[u64]) -> usize
     xs.len()
 }
 
-// Returns the cost of the rows `bodies` of a list, without the list's pointer and tag, but at most `DEAR`. `words` is
-// the number of words of all rows together, but at most `DEAR`.
+// Returns the price of the rows `bodies` of a list, without the list's tag and the values in the slots, but at most
+// `DEAR`. `words` is the number of data words and slots of all rows together, but at most `DEAR`.
 #[tactic(auto, using(std::proofs::lemmas::Grind::common_steps, crate::proofs::shared::Prices::prices))]
 fn capped_rows_price<A: Allocator>(bodies: &[Body<A>], words: usize) -> usize
     requires { words ≡ min (row_words (rows_of bodies.now)) sizes.dear }
@@ -123,7 +123,7 @@ fn capped_costs<A: Allocator>(items: &[Value<A>], base: usize) -> usize
     sum
 }
 
-// The number of words of all rows together, and the cost of the values in their slots. Each is at most `DEAR`.
+// The number of data words and slots of all rows together, and the cost of the values in the slots, each up to `DEAR`.
 #[derive(Drop)]
 struct RowSums {
     words: usize,

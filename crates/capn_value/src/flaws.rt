@@ -41,8 +41,8 @@ impl Flaws {
     }
 }
 
-/// Returns the first misfit of `v`, or `None`. If the result is `None`, the numbers in `v` are also in the range of
-/// their types.
+/// Returns the first misfit that `v` has, in the order of the variants of [`Misfit`], or `None` if `v` fits into a
+/// message. If the result is `None`, the numbers in `v` are also in the range of their types.
 #[tactic(auto, unfolding(crate::specs::Fits::misfit))]
 pub fn misfit<A: Allocator>(v: &Value<A>) -> Option<Misfit>
     ensures reason { result ≡ fits.misfit (tree_of v.now) }
@@ -118,7 +118,7 @@ fn flaws_of_rows<A: Allocator>(bodies: &[Body<A>]) -> Flaws
     found
 }
 
-// Finds the flaws that `v` has by itself.
+// Finds the flaws of `v` itself, without those of the values below `v`.
 #[tactic(auto, using(std::proofs::lemmas::Grind::common_steps, crate::specs::Views::views))]
 fn own_flaws<A: Allocator>(v: &Value<A>) -> Flaws
     ensures wide { result.wide ≡ fits.is_wide (tree_of v.now) }

@@ -8,7 +8,7 @@ use crate::sameness::is_null;
 use crate::value::{Body, Value};
 use std::alloc::Allocator;
 
-/// Returns the number of `words` of a data section that trimming keeps: all up to the last word that is not 0.
+/// Returns the number of words that trimming keeps of the data section `words`: all up to the last non-zero word.
 #[tactic(auto, using(std::proofs::lemmas::Grind::common_steps, crate::proofs::Kept::kept))]
 pub fn kept_words(words: &[u64]) -> usize
     ensures { result ≡ cut.kept_words words.now }
@@ -20,7 +20,7 @@ pub fn kept_words(words: &[u64]) -> usize
     n
 }
 
-/// Returns the number of `slots` of a pointer section that trimming keeps: all up to the last slot that is not null.
+/// Returns the number of slots that trimming keeps of the pointer section `slots`: all up to the last non-null slot.
 #[tactic(auto, using(std::proofs::lemmas::Grind::common_steps, crate::specs::Views::views, crate::proofs::Kept::kept))]
 pub fn kept_slots<A: Allocator>(slots: &[Value<A>]) -> usize
     ensures { result ≡ cut.kept_slots (trees_of slots.now) }

@@ -2,8 +2,8 @@
 //! the value in a message is no part of the value.
 //!
 //! A [`Value`] may be built from any parts. A [`Tree`] is a value that fits into a message. [`Tree::new`] makes a tree
-//! of a value, or returns the value with the first [`Misfit`]. Contracts see both as one mathematical tree, without
-//! capacities, addresses or allocators.
+//! of a value, or returns the value with the first [`Misfit`]. In contracts, a value or a tree is a mathematical tree,
+//! without capacities, addresses or allocators.
 //!
 //! - [`same`] tests whether two values are equal up to trailing zero words and trailing null slots of structs.
 //! - [`trim`] cuts off trailing zero words and trailing null slots of structs. Two trees are the same if and only if
@@ -11,7 +11,7 @@
 //! - [`first_cap`] finds the first capability, [`copy`] copies a tree, and [`show`] writes its text.
 //! - [`laws`] states what holds of the definitions apart from any call.
 //!
-//! Only `trim`, `copy` and `show` take memory.
+//! Of the calls on values and trees, only `trim`, `copy` and `show` take memory.
 //!
 //! ```rust
 //! let root = Value::Node(Body {

@@ -3,8 +3,8 @@
 use std::error::Error;
 use std::fmt;
 
-/// The reason why a value fits into no message. (Our own.) The variants are in the order of the tests. Each test looks
-/// at all of the value before the next test begins.
+/// The reason why a value fits into no message. (Our own.) If a value has several misfits, the one that comes first
+/// among these variants is reported, wherever in the value the misfits lie.
 #[derive(Clone, Copy, Debug, PartialEq, Eq)]
 pub enum Misfit {
     /// A struct has more than 65,535 data words or slots.

@@ -8,7 +8,7 @@ ghost use Rattle.capn_value.specs.Fits as fits;
 use crate::value::{Body, Value};
 use std::alloc::Allocator;
 
-/// Tests whether `v` is a struct, or a list of structs, with more words or slots than a pointer can count.
+/// Tests whether `v` is a struct that has more words or slots than a pointer can count, or a list with such a row.
 #[tactic(auto, using(std::proofs::lemmas::Grind::common_steps, crate::specs::Views::views))]
 pub fn is_wide<A: Allocator>(v: &Value<A>) -> bool
     ensures { result ≡ fits.is_wide (tree_of v.now) }
@@ -42,7 +42,7 @@ fn has_wide_row<A: Allocator>(bodies: &[Body<A>]) -> bool
 /// The greatest number of elements that a list pointer can count.
 const MOST_ELEMENTS: usize = 536_870_911;
 
-/// Tests whether `v` is a list with more elements, or with more words in its rows, than a list pointer can count.
+/// Tests whether `v` is a list with more elements, or with more words in all rows, than a list pointer can count.
 #[tactic(auto, using(std::proofs::lemmas::Grind::common_steps, crate::specs::Views::views))]
 pub fn is_long<A: Allocator>(v: &Value<A>) -> bool
     ensures { result ≡ fits.is_long (tree_of v.now) }
@@ -74,7 +74,7 @@ fn has_long_rows<A: Allocator>(bodies: &[Body<A>]) -> bool
     words > MOST_ELEMENTS
 }
 
-/// Tests whether `v` is a composite list with two rows of different sizes.
+/// Tests whether `v` is a composite list with two rows that differ in their number of words or of slots.
 #[tactic(auto, using(std::proofs::lemmas::Grind::common_steps, crate::specs::Views::views))]
 pub fn is_ragged<A: Allocator>(v: &Value<A>) -> bool
     ensures { result ≡ fits.is_ragged (tree_of v.now) }

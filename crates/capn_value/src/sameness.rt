@@ -44,7 +44,7 @@ fn are_null<A: Allocator>(items: &[Value<A>]) -> bool
     true
 }
 
-// Tests whether word i of `a` equals word i of `b` for each i. Past the end of a section, each word is 0.
+// Tests whether word `i` of `a` equals word `i` of `b` for each `i`, where words past the end count as 0.
 fn test_words(a: &[u64], b: &[u64]) -> bool
     ensures { result ≡ test_words a.now b.now }
 {
@@ -88,7 +88,7 @@ fn test_bodies<A: Allocator, B: Allocator>(a: &Body<A>, b: &Body<B>) -> bool
         && test_slots(a.slots.as_slice(), b.slots.as_slice())
 }
 
-// Tests whether slot i of `a` is the same as slot i of `b` for each i. Past the end of a section, each slot is null.
+// Tests whether slot `i` of `a` is the same as slot `i` of `b` for each `i`, where slots past the end are null.
 #[cycle(sameness)]
 #[tactic(auto, using(std::proofs::lemmas::Grind::common_steps, crate::proofs::Apart::apart))]
 fn test_slots<A: Allocator, B: Allocator>(a: &[Value<A>], b: &[Value<B>]) -> bool

@@ -3,8 +3,8 @@
 ghost use Rattle.std.specs.Prelude.{◌≡◌, ◌≤◌};
 ghost use Rattle.capn_value.specs.Cost as sizes;
 
-/// The rule for the price of a visit. A price counts the words of the content that the visited slot leads to, and one
-/// for each element of a list whose elements have no size. (Our own, after the page's security considerations.)
+/// The rule for the price of a visit: what content costs in addition to its size and its landing pads. The size is the
+/// number of words, plus one for each element without size. (Our own, after the page's security considerations.)
 #[derive(Clone, Copy, Debug, PartialEq, Eq)]
 pub enum Tariff {
     /// Each content costs 1 in addition to its size.

@@ -117,7 +117,7 @@ fn push_bits<A: Allocator>(out: &mut String<A>, bits: &[bool]) -> Result<(), All
     Ok(())
 }
 
-// Appends a digit for each of `bits`. The digits are put together first, so that `out` is extended only once.
+// Appends a digit for each of `bits` to `out`. The digits are put together first, so that `out` is extended only once.
 fn push_block<A: Allocator>(out: &mut String<A>, bits: &[bool]) -> Result<(), AllocError>
     requires { length bits.now ≤ 64 }
     ensures { OnOk result (string_bytes out.new ≡ string_bytes out.old ++ text.digits_of bits.now) }

@@ -47,8 +47,8 @@ impl<A: Allocator> Model for Tree<A> {
 }
 
 impl<A: Allocator> Tree<A> {
-    /// Makes a tree of `value` if it fits. Otherwise returns `value` unchanged and its first misfit. The misfit may lie
-    /// in a value below `value`. Takes no memory, whatever the height of `value`.
+    /// Makes a tree of `value` if `value` fits, and else returns `value` unchanged and its first misfit. The misfit may
+    /// lie in a value below `value`. Takes no memory, whatever the height of `value`.
     #[tactic(auto, unfolding(crate::specs::Fits::Fits))]
     pub fn new(value: Value<A>) -> Result<Tree<A>, (Value<A>, Misfit)>
         ensures ok { IfOk result (λ t. t ≡ tree_of value) }
@@ -143,8 +143,8 @@ pub fn copy<A: Allocator + Copy, B: Allocator>(alloc: A, tree: &Tree<B>) -> Resu
     Ok(Tree { value })
 }
 
-/// Returns the text of `tree`, which is not trimmed first. The text has a line for each value and each data word,
-/// indented by two spaces for each level. (Our own.)
+/// Returns the text of `tree`, untrimmed. Each value, row, data word, and number of 16, 32 or 64 bits has a line. All
+/// bits or bytes of a list share one line. Lines are indented by two spaces for each level. (Our own.)
 ///
 /// Returns `Memory` only if an allocation was refused. Takes the memory of one string.
 #[tactic(auto, using(crate::proofs::shared::Fitting::fit_parts))]

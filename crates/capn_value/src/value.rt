@@ -49,8 +49,8 @@ pub struct Body<A: Allocator = Global> {
 
 /// Returns the index of the first capability of `v` in preorder, or `None` if there is none.
 ///
-/// In preorder a value is followed by the values in its slots, rows or elements, in order. All values below one of them
-/// come before the next one. (Our own.) Takes no memory.
+/// In preorder, a value comes before the values in its slots, rows or elements. These values follow in order, and all
+/// values below one of them come before the next one. (Our own.) Takes no memory.
 #[cycle(first_cap)]
 pub fn first_cap<A: Allocator>(v: &Value<A>) -> Option<u32>
     ensures { result ≡ caps.first_cap (tree_of v.now) }

@@ -150,7 +150,7 @@ fn anew_body<A: Allocator + Copy, B: Allocator>(
     Ok(Body { words, slots })
 }
 
-// Copies the first `most` of `items` into memory of `alloc`. If `cut` is true, each copy is trimmed.
+// Copies at most `most` of `items`, from the front, into memory of `alloc`. If `cut` is true, each copy is trimmed.
 #[cycle(anew)]
 fn anew_front<A: Allocator + Copy, B: Allocator>(
     alloc: A,

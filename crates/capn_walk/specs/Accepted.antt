@@ -36,8 +36,7 @@ pub record IsWithin (budget : ℕ) (vs : List Visit) : Type 0 where
   pub paid : paid_of vs ≤ budget
 
 -- a walk that has paid `before` words stops with `fault` at the given visit, which is of the slot at `at`. Either the
--- visit fails with `fault`. Or the sum of `before` and the visit's price is above `budget`, and `fault` is
--- `OverBudget`.
+-- visit fails with `fault`, or `fault` is `OverBudget` and the sum of `before` and the visit's price is above `budget`.
 abbrev pub IsStopHere : (budget before : ℕ) → Visit → Place → Fault → Type 0
 IsStopHere budget before (fails p e) at fault = (p ≡ at) × (e ≡ fault)
 IsStopHere budget before (pays p n) at fault = (p ≡ at) × (faults.OverBudget ≡ fault) × (budget < before + n)
@@ -98,8 +97,8 @@ pub record IsValueOf (message : List (List ℕ)) (limits : Bounds) (v : Tree) : 
   pub accepted : IsAccepted message limits
   pub is : IsAt message root v
 
--- `message` is refused with `fault`. Either segment 0 has no word, and `fault` is `NoRoot`. Or the walk stops at visit
--- number `visits`, of the slot at `at`, and `paid` words were paid before that visit.
+-- `message` is refused with `fault`. If segment 0 has no word, `fault` is `NoRoot`, `at` is `root`, and `paid` and
+-- `visits` are 0. Otherwise the walk stops at visit number `visits`, of the slot at `at`, after `paid` words are paid.
 abbrev pub IsWalkRefused : List (List ℕ) → Bounds → Fault → Place → (paid visits : ℕ) → Type 0
 IsWalkRefused message limits fault at paid visits =
     ((length (segment_at message 0) ≡ 0) × (fault ≡ faults.NoRoot) × (at ≡ root) × (paid ≡ 0) × (visits ≡ 0))

@@ -1,4 +1,4 @@
--- The text of the stop of a walk, as it is displayed. (Our own.)
+-- The displayed text of the stop of a walk. (Our own.)
 use Rattle.std.specs.Prelude.{ℕ, List, ◌++◌, codes}
 use Rattle.std.specs.Fmt.{decimal}
 use Rattle.capn_target.specs.Display.{fault_name}

@@ -61,8 +61,8 @@ index_of message limits = entries message limits.depth root
 abbrev pub filled : {A : Type 0} → List A → List A → List A
 filled es room = take (length room) es ++ drop (length es) room
 
--- `message` is accepted, and `new` is `old` with the message's index written over the first items of `old`. `t` has the
--- number of words that the walk pays, and the number of visits. The index has an entry for each visit.
+-- `message` is accepted, and `new` is `old` with as much of the message's index as fits (`filled`). `t` has the number
+-- of words that the walk pays, and the number of visits. The index has an entry for each visit.
 pub record IsIndexed (message : List (List ℕ)) (limits : Bounds) (old new : List Entry) (t : Indexed) : Type 0 where
   pub accepted : IsAccepted message limits
   pub entries : new ≡ filled (index_of message limits) old
@@ -70,9 +70,9 @@ pub record IsIndexed (message : List (List ℕ)) (limits : Bounds) (old new : Li
   pub counts : t.visits ≡ number_of_visits message limits
   pub each : length (index_of message limits) ≡ number_of_visits message limits
 
--- `message` is accepted, and `new` is `old` with the message's index, each entry in `form`, written over the first
--- items of `old`. `t` has the number of words that the walk pays, and the number of visits. The index has an entry for
--- each visit.
+-- `message` is accepted, and `new` is `old` with as much of the message's index as fits, each entry in `form`
+-- (`filled`). `t` has the number of words that the walk pays, and the number of visits. The index has an entry for each
+-- visit.
 pub record IsIndexedAs {A : Type 0} (form : Entry → A) (message : List (List ℕ)) (limits : Bounds) (old new : List A)
     (t : Indexed) : Type 0 where
   pub accepted : IsAccepted message limits
@@ -83,7 +83,7 @@ pub record IsIndexedAs {A : Type 0} (form : Entry → A) (message : List (List �
 
 -- ---- the reader of an index
 
--- the target that is a list of elements of `width`, with the place and the number of elements of entry `e`
+-- the target that is a list of elements of `width`, with the place and the count that entry `e` gives
 abbrev pub elements : Entry → Width → Target
 elements e width = targets.Content e.segment e.start (shapes.Many width e.count) 0
 
@@ -127,13 +127,14 @@ entry_at es i = get_or es i (entry_of targets.Nil 1)
 abbrev pub slots_at : List Entry → ℕ → List Place
 slots_at es i = slots_below (entry_target (entry_at es i))
 
--- the index of the entry `j` slots after entry `i`, where each step from slot to slot adds the span of an entry
+-- the index of the entry `j` slots after entry `i`, where each step to the next slot adds the span of the earlier entry
 abbrev pub beside : List Entry → ℕ → ℕ → ℕ
 beside es i zero = i
 beside es i (suc j) = beside es (i + (entry_at es i).span) j
 
--- the content of entry `i` lies in a segment of `message`. The entries from index `i + 1` on, one span apart, describe
--- the targets of that content's slots (`kept_of`). The span of entry `i` ends where these entries end, and within `es`.
+-- The content of entry `i` lies in a segment of `message`. The entries from index `i + 1` on, one span apart, describe
+-- the targets of that content's slots (`kept_of`). The span of entry `i` covers entry `i` and the spans of
+-- these entries, but nothing else, and does not go past the end of `es`.
 pub record IsReadable (message : List (List ℕ)) (es : List Entry) (i : ℕ) : Type 0 where
   pub inside : IsInMessage message (entry_target (entry_at es i))
   pub below : (j : ℕ) → j < length (slots_at es i) → (beside es (i + 1) j < i + (entry_at es i).span)
@@ -154,7 +155,7 @@ place_of (pays at n) = at
 place_of (fails at e) = at
 
 -- the index of an accepted message has one entry for each visit, in the order of the visits. Each entry describes the
--- target of the slot that its visit visits (`kept_of`).
+-- target of the visited slot (`kept_of`).
 abbrev pub IndexesFollowVisits : Type 0
 IndexesFollowVisits = (message : List (List ℕ)) (limits : Bounds) → IsAccepted message limits
     → map (λ e. Ok (entry_target e)) (index_of message limits)

@@ -1,5 +1,5 @@
--- The value that each entry of an index describes. It is read from the entries and the message's words; no pointer is
--- read.
+-- The value that each entry of an index describes. The value is read from the entries and the message's words. No
+-- pointer is read.
 use Rattle.std.specs.Prelude.{◌≡◌, ◌↔◌, ℕ, suc, ◌+◌, ◌*◌, ◌<◌, List, length, Ok, ⊤}
 use Rattle.capn_words.specs.Message.{IsPlace}
 use Rattle.capn_words.specs.declared.space.Place.{Place}

@@ -43,7 +43,7 @@ RowsHaveOneValue = (message : List (List ℕ)) (bs cs : Bodies) (words slots seg
     → count_rows bs ≡ count_rows cs
     → RowsAt message words slots segment word bs → RowsAt message words slots segment word cs → bs ≡ cs
 
--- the numbers of a value at a place of a message are in range
+-- each number of a value at a place of a message is in the range of its type
 abbrev pub ValuesAreInRange : Type 0
 ValuesAreInRange = (message : List (List ℕ)) (at : Place) (v : Tree) → IsMessage message → IsAt message at v → InRange v
 

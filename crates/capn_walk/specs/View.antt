@@ -19,7 +19,7 @@ use Rattle.capn_walk.specs.Visits.{price, slots}
 use Rattle.capn_walk.specs.Accepted.{root, may_be_root}
 use Rattle.capn_walk.specs.ValueAt.{element, words_from}
 
--- a message, the target that a step found, and the greatest number of objects on a path below that target
+-- a message, the target that a step found, and the number of levels of objects that the limits allow below that target
 pub record Seen : Type 0 where
   pub message : List (List ℕ)
   pub found : Target
@@ -46,7 +46,7 @@ abbrev pub IsEntered : Result Target Fault → Type 0
 IsEntered (Ok (targets.Content s start shape pads)) = ⊤
 IsEntered _ = ⊥
 
--- the target of the root pointer, or `RootKind` if the root may not have that target
+-- the target or the fault of the root pointer, or `RootKind` if the root may not have that target
 abbrev pub rooted : Result Target Fault → Result Target Fault
 rooted (Ok found) = if may_be_root found then Ok found else Err faults.RootKind
 rooted (Err e) = Err e
@@ -115,7 +115,7 @@ step_place (targets.Content s start (shapes.Node a b) pads) i = record { segment
 step_place (targets.Content s start shape pads) i = record { segment = s; word = start + i }
 step_place _ i = root
 
--- the words from the start of the target's content up to the end of its segment, or no words if the target has no
+-- the words from the start of the target's content up to the end of the segment, or no words if the target has no
 -- content
 abbrev pub content_of : List (List ℕ) → Target → List ℕ
 content_of message (targets.Content s start shape pads) = words_from message s start

@@ -16,8 +16,8 @@ pub data Visit : Type 0 where
   pays : Place → ℕ → Visit
   fails : Place → Fault → Visit
 
--- the price of an object without landing pads: the sum of `base` and the object's size in words. An element or a row of
--- size 0 counts as a word. (Our own.)
+-- the price of an object, not counting landing pads: the sum of `base` and the object's size in words. An element or a
+-- row of size 0 counts as a word. (Our own.)
 abbrev pub price : (base : ℕ) → Shape → ℕ
 price base (shapes.Node data_words pointers) = base + data_words + pointers
 price base (shapes.Many W0 n) = base + n

@@ -18,15 +18,15 @@ pub struct Entry {
     pub start: u32,
     /// The index of the segment that has the content, or 0 if the target has no content.
     pub segment: u32,
-    /// The number of elements of a list, the number of rows of a composite list, or the index of a capability. For null
-    /// and for a struct, 0.
+    /// The number of elements of a list, the number of rows of a composite list, or the index of a capability. The
+    /// count of null and of a struct is 0.
     pub count: u32,
     /// The number of entries for the slot and all slots below it. The entry of the next slot of the same object is
     /// `span` entries further on.
     pub span: u32,
-    /// The number of data words of a struct, or of each row of a composite list. For any other target, 0.
+    /// The number of data words of a struct, or of each row of a composite list, or 0 for any other target.
     pub words: u16,
-    /// The number of pointers of a struct, or of each row of a composite list. For any other target, 0.
+    /// The number of pointers of a struct, or of each row of a composite list, or 0 for any other target.
     pub slots: u16,
     /// The kind of the slot's target.
     pub kind: Kind,
@@ -120,7 +120,7 @@ pub struct Indexed {
     /// The number of words paid: the sum of the prices of all visits.
     pub paid: u32,
     /// The number of visits, which is the number of entries of the complete index. Fewer entries are written if the
-    /// room is too small.
+    /// room is too small for all entries.
     pub visits: u32,
 }
 

@@ -7,8 +7,8 @@ use crate::entry::Entry;
 
 /// A form of index entries, which determines the item that a room holds for each entry.
 ///
-/// A slot's entry is written first, then the entries of the slots below it, and then the slot's span is set. No item is
-/// read, and nothing is written past the end of the room.
+/// A slot's entry is written first, with span 1. If there are slots below that slot, their entries follow, and then the
+/// slot's span is set. No item is read, and nothing is written past the end of the room.
 pub trait EntryForm {
     /// The type of item that a room holds for an entry.
     type Item;

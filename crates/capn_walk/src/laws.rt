@@ -15,9 +15,9 @@ pub fn views_show_values()
 {}
 
 /// States the laws of values. An accepted message has a value at its root. There is at most one value at a place, one
-/// list of values in consecutive slots, and one list of bodies in consecutive rows. Numbers are in range. The value of
-/// an accepted message fits in a message, and costs at most the number of words that the walk pays. The least depth
-/// limit with which a message is accepted is the height of the message's value.
+/// list of values in consecutive slots, and one list of bodies in consecutive rows. Each number of a value is in the
+/// range of its type. The value of an accepted message fits in a message, and costs at most the number of words that
+/// the walk pays. The least depth limit with which a message is accepted is the height of the message's value.
 pub fn values()
     ensures readable { laws.AcceptedAreReadable }
     ensures one { laws.PlacesHaveOneValue }

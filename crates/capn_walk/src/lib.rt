@@ -4,10 +4,10 @@
 //! - [`resolve`] finds the target of the pointer at a place, or the first fault of that pointer. A target is null, a
 //!   capability, or content that lies inside its segment. Landing pads are followed.
 //! - [`walk`] returns the value that a message denotes and the number of words paid. If the walk stops at a fault or a
-//!   limit, the place and the reason are returned. The price of a visit is paid before any content is read. So a
-//!   message with cycles or shared objects costs at most the budget.
-//! - [`survey`] pays the same prices and refuses the same messages as [`walk`], and makes no tree. [`survey_depth`]
-//!   also finds the least depth limit that admits the message.
+//!   limit, the place and the reason are returned. The price of a visit is paid before any content except a list's tag
+//!   is read. So a message with cycles or shared objects costs at most the budget.
+//! - [`survey`] pays the same prices and refuses the same messages as [`walk`], but does not make the value.
+//!   [`survey_depth`] also finds the least depth limit that admits the message.
 //! - [`index`] and [`index_into`] make an entry for each visit of a slot. With the entries the message can be read in
 //!   place without further tests. [`index_into_form`] writes the entries in another [`EntryForm`].
 //! - [`survey_of`] and [`survey_depth_of`] survey without an allocator, and read the message only through calls that
@@ -16,8 +16,8 @@
 //!   message whose reads are counted. The budget bounds the number of reads.
 //! - [`View`] steps from one object to the objects below, and pays from a [`Meter`] for each step.
 //!
-//! A walk refuses a message in three places: for the fault of a pointer in `capn_target/src/slot_target.rt`, for a
-//! limit on depth or price in `step.rt`, and for its root in `message_walk.rt`.
+//! A message is refused in `capn_target` for the fault of a pointer, in `step.rt` for a limit on depth or price, and in
+//! `message_walk.rt` or `view.rt` for a root that is missing or is a capability.
 //!
 //! A message can be any `Space`: a bare segment, a framed message, or a message that owns its segments.
 //!

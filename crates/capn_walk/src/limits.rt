@@ -16,9 +16,9 @@ const USUAL_WORDS: u32 = 8_388_608;
 /// The usual limit on depth.
 const USUAL_DEPTH: u32 = 64;
 
-/// The limits of a reader: the greatest number of words of one framed message (from 1 to 2^28), the greatest number of
-/// words that a walk pays (at most 2^28), the greatest depth of objects (from 1 to 256, where the root object has depth
-/// 1), and the tariff by which visits are priced. (Page: security considerations; the ranges are our own.)
+/// The limits of a reader, and the tariff by which visits are priced. The greatest number of words of one framed
+/// message is from 1 to 2^28, and the greatest number of words that a walk pays is at most 2^28. The greatest depth of
+/// objects is from 1 to 256, where the root has depth 1. (Page: security considerations; the ranges are our own.)
 #[derive(Clone, Copy, Debug, PartialEq, Eq)]
 pub struct Limits {
     message_words: u32,
@@ -42,8 +42,8 @@ impl Model for Limits {
 }
 
 impl Limits {
-    /// Returns the limits `message_words`, `budget` and `depth`, with the strict prices. Returns `None` exactly if one
-    /// of the three numbers is out of range.
+    /// Returns the limits `message_words`, `budget` and `depth`, with the strict prices. Returns `None` if and
+    /// only if at least one of the three numbers is out of range.
     pub fn new(message_words: u32, budget: u32, depth: u32) -> Option<Limits>
         ensures some { IsSome result ↔ AreLimits message_words budget depth }
         ensures message_words { IfSome result (λ l. l.message_words ≡ message_words) }

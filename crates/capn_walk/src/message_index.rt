@@ -71,15 +71,14 @@ pub fn index_into<M: Asked>(
     // The message has to allow 13 * (budget + 1) + 1 reads and turns of the loop, and one more read that starts the
     // count. No more can occur. A reference to a `Space` allows any number.
     requires work { M.allows space (13 * (limits.budget + 1) + 1 + 1) }
-    // If `result` is `Ok`, the message is accepted, and `room` has the message's index, or as much of the index as
-    // fits.
+    // If `result` is `Ok`, the message is accepted, and `room` has as much of the message's index as fits.
     ensures found { IfOk result (λ t. IsIndexed (M.message space) limits room.old room.new t) }
     // An accepted message gives `Ok`. Any error is the stop of the walk.
     ensures only { IsAccepted (M.message space) limits → IsOk result }
     ensures refused { IfErr result (λ s. IsWalkRefused (M.message space) limits s.fault s.place s.paid s.visits) }
     // If `result` is an error, `room` is unchanged, except for the entries of the visits before the refused visit.
     ensures kept { IfErr result (λ s. drop (s.visits - 1) room.new ≡ drop (s.visits - 1) room.old) }
-    // No more than the budget is paid, and the visits are at most one more than the words paid.
+    // No more than the budget is paid, and the number of visits is at most the number of words paid, plus one.
     ensures bounded { MatchResult result (λ t. IsBounded limits.budget t.paid t.visits)
         (λ s. IsBounded limits.budget s.paid s.visits) }
 {
@@ -104,8 +103,7 @@ pub fn index_into_form<M: Asked, F: EntryForm>(
     // The message has to allow 13 * (budget + 1) + 1 reads and turns of the loop, and one more read that starts the
     // count. No more can occur. A reference to a `Space` allows any number.
     requires work { M.allows space (13 * (limits.budget + 1) + 1 + 1) }
-    // If `result` is `Ok`, the message is accepted, and `room` has the message's index in `form`, or as much of the
-    // index as fits.
+    // If `result` is `Ok`, the message is accepted, and `room` has as much of the message's index in `form` as fits.
     ensures found { IfOk result (λ t.
         IsIndexedAs (F.written form.now) (M.message space) limits room.old room.new t) }
     // An accepted message gives `Ok`. Any error is the stop of the walk.
@@ -113,7 +111,7 @@ pub fn index_into_form<M: Asked, F: EntryForm>(
     ensures refused { IfErr result (λ s. IsWalkRefused (M.message space) limits s.fault s.place s.paid s.visits) }
     // If `result` is an error, `room` is unchanged, except for the entries of the visits before the refused visit.
     ensures kept { IfErr result (λ s. drop (s.visits - 1) room.new ≡ drop (s.visits - 1) room.old) }
-    // No more than the budget is paid, and the visits are at most one more than the words paid.
+    // No more than the budget is paid, and the number of visits is at most the number of words paid, plus one.
     ensures bounded { MatchResult result (λ t. IsBounded limits.budget t.paid t.visits)
         (λ s. IsBounded limits.budget s.paid s.visits) }
 {
@@ -123,8 +121,8 @@ pub fn index_into_form<M: Asked, F: EntryForm>(
 /// Writes the index of the message `space` to `room`, each entry in `form`, and counts reads and loop turns in `reads`.
 /// The results are those of [`index_into_form`].
 ///
-/// The count grows by at most thirteen for each visit, including a refused visit, plus one. So the budget bounds the
-/// work for any message. No memory is allocated.
+/// The count grows by at most thirteen for each visit, including a refused visit, plus one in all. So the budget bounds
+/// the work for any message. No memory is allocated.
 pub fn index_into_counted<S: Space, L: Ledger, F: EntryForm>(
     space: &CountedSpace<'_, S, L>,
     limits: Limits,
@@ -132,18 +130,17 @@ pub fn index_into_counted<S: Space, L: Ledger, F: EntryForm>(
     room: &mut [F::Item],
     reads: &mut Reads<L>,
 ) -> Result<Indexed, Stopped>
-    // If `result` is `Ok`, the message is accepted, and `room` has the message's index in `form`, or as much of the
-    // index as fits.
+    // If `result` is `Ok`, the message is accepted, and `room` has as much of the message's index in `form` as fits.
     ensures found { IfOk result (λ t. IsIndexedAs (F.written form.now) space.now limits room.old room.new t) }
     // An accepted message gives `Ok`. Any error is the stop of the walk.
     ensures only { IsAccepted space.now limits → IsOk result }
     ensures refused { IfErr result (λ s. IsWalkRefused space.now limits s.fault s.place s.paid s.visits) }
     // If `result` is an error, `room` is unchanged, except for the entries of the visits before the refused visit.
     ensures kept { IfErr result (λ s. drop (s.visits - 1) room.new ≡ drop (s.visits - 1) room.old) }
-    // No more than the budget is paid, and the visits are at most one more than the words paid.
+    // No more than the budget is paid, and the number of visits is at most the number of words paid, plus one.
     ensures bounded { MatchResult result (λ t. IsBounded limits.budget t.paid t.visits)
         (λ s. IsBounded limits.budget s.paid s.visits) }
-    // The count of reads and turns grows by at most thirteen for each visit, plus one.
+    // The count of reads and turns grows by at most thirteen for each visit, plus one in all.
     ensures reads { MatchResult result (λ t. reads.new ≤ reads.old + 13 * t.visits + 1)
         (λ s. reads.new ≤ reads.old + 13 * s.visits + 1) }
     // The budget bounds the count, for any message and any result.
@@ -176,13 +173,11 @@ fn index_counted<S: Space, A: Allocator + Copy, L: Ledger>(
     limits: Limits,
     reads: &mut Reads<L>,
 ) -> Result<Index<A>, Stopped>
-    // If `result` is `Ok`, the message is accepted, and `result` has the message's entries and the number of words that
-    // the walk pays.
+    // If `result` is `Ok`, the message is accepted, and `result` has the entries and the number of words paid.
     ensures accepted { OnOk result (IsAccepted space.now limits) }
     ensures entries { IfOk result (λ x. x.entries.items ≡ index_of space.now limits) }
     ensures pays { IfOk result (λ x. x.paid ≡ paid space.now limits) }
-    // An accepted message gives `Ok`, unless an allocation was refused. Any error other than `Memory` is the stop of
-    // the walk.
+    // An accepted message gives `Ok`, unless an allocation was refused. Any other error is the stop of the walk.
     ensures only { (v : Tree) → IsValueOf space.now limits v → IfErr result (λ s. s.fault ≡ Memory) }
     ensures refused { IfErr result (λ s.
         (s.fault ≡ Memory)
@@ -190,7 +185,7 @@ fn index_counted<S: Space, A: Allocator + Copy, L: Ledger>(
     // Only the vector of entries is allocated, and only after the survey has accepted the message. So if the fault is
     // `Memory`, the message is accepted.
     ensures no_memory { IfErr result (λ s. s.fault ≡ Memory → IsAccepted space.now limits) }
-    // No more than the budget is paid, and the visits are at most one more than the words paid.
+    // No more than the budget is paid, and the number of visits is at most the number of words paid, plus one.
     ensures bounded { MatchResult result (λ x. IsBounded limits.budget x.paid (length x.entries.items))
         (λ s. IsBounded limits.budget s.paid s.visits) }
     // For each visit the survey adds at most fourteen reads and turns, and writing the entries adds at most thirteen.
@@ -251,13 +246,11 @@ pub fn index<M: Asked, A: Allocator + Copy>(
     // The message has to allow 27 * (budget + 1) + 2 reads and turns of the loops in both passes together, and one
     // more read that starts the count. No more can occur. A reference to a `Space` allows any number.
     requires work { M.allows space (27 * (limits.budget + 1) + 2 + 1) }
-    // If `result` is `Ok`, the message is accepted, and `result` has the message's entries and the number of words that
-    // the walk pays.
+    // If `result` is `Ok`, the message is accepted, and `result` has the entries and the number of words paid.
     ensures accepted { OnOk result (IsAccepted (M.message space) limits) }
     ensures entries { IfOk result (λ x. x.entries.items ≡ index_of (M.message space) limits) }
     ensures pays { IfOk result (λ x. x.paid ≡ paid (M.message space) limits) }
-    // An accepted message gives `Ok`, unless an allocation was refused. Any error other than `Memory` is the stop of
-    // the walk.
+    // An accepted message gives `Ok`, unless an allocation was refused. Any other error is the stop of the walk.
     ensures only { (v : Tree) → IsValueOf (M.message space) limits v → IfErr result (λ s. s.fault ≡ Memory) }
     ensures refused { IfErr result (λ s.
         (s.fault ≡ Memory)
@@ -265,7 +258,7 @@ pub fn index<M: Asked, A: Allocator + Copy>(
     // Only the vector of entries is allocated, and only after the survey has accepted the message. So if the fault is
     // `Memory`, the message is accepted.
     ensures no_memory { IfErr result (λ s. s.fault ≡ Memory → IsAccepted (M.message space) limits) }
-    // No more than the budget is paid, and the visits are at most one more than the words paid.
+    // No more than the budget is paid, and the number of visits is at most the number of words paid, plus one.
     ensures bounded { MatchResult result (λ x. IsBounded limits.budget x.paid (length x.entries.items))
         (λ s. IsBounded limits.budget s.paid s.visits) }
 {

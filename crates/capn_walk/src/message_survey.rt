@@ -62,7 +62,7 @@ pub fn survey_of<M: Asked>(space: M, limits: Limits) -> Result<Surveyed, Stopped
         ⊎ IsWalkRefused (M.message space) limits s.fault s.place s.paid s.visits) }
     // `Memory` is never the fault, since nothing is allocated.
     ensures no_memory { IfErr result (λ s. s.fault ≢ Memory) }
-    // No more than the budget is paid, and the visits are at most one more than the words paid.
+    // No more than the budget is paid, and the number of visits is at most the number of words paid, plus one.
     ensures bounded { MatchResult result (λ s. IsBounded limits.budget s.paid s.visits)
         (λ s. IsBounded limits.budget s.paid s.visits) }
 {
@@ -91,7 +91,7 @@ pub fn survey<S: Space, A: Allocator + Copy>(
         ⊎ IsWalkRefused (S.message space.now) limits s.fault s.place s.paid s.visits) }
     // `Memory` is never the fault, since nothing is allocated.
     ensures no_memory { IfErr result (λ s. s.fault ≢ Memory) }
-    // No more than the budget is paid, and the visits are at most one more than the words paid.
+    // No more than the budget is paid, and the number of visits is at most the number of words paid, plus one.
     ensures bounded { MatchResult result (λ s. IsBounded limits.budget s.paid s.visits)
         (λ s. IsBounded limits.budget s.paid s.visits) }
 {
@@ -102,8 +102,8 @@ pub fn survey<S: Space, A: Allocator + Copy>(
 /// [`survey`]. A read returns a word, the length of a segment, or the number of segments. The survey reads the message
 /// in no other way.
 ///
-/// The count grows by at most fourteen for each visit, including a refused visit, plus one. So the budget bounds the
-/// work for any message. No memory is allocated.
+/// The count grows by at most fourteen for each visit, including a refused visit, plus one in all. So the budget bounds
+/// the work for any message. No memory is allocated.
 pub fn survey_counted<S: Space, L: Ledger>(
     space: &CountedSpace<'_, S, L>,
     limits: Limits,
@@ -121,10 +121,10 @@ pub fn survey_counted<S: Space, L: Ledger>(
         ⊎ IsWalkRefused space.now limits s.fault s.place s.paid s.visits) }
     // `Memory` is never the fault, since nothing is allocated.
     ensures no_memory { IfErr result (λ s. s.fault ≢ Memory) }
-    // No more than the budget is paid, and the visits are at most one more than the words paid.
+    // No more than the budget is paid, and the number of visits is at most the number of words paid, plus one.
     ensures bounded { MatchResult result (λ s. IsBounded limits.budget s.paid s.visits)
         (λ s. IsBounded limits.budget s.paid s.visits) }
-    // The count of reads and turns grows by at most fourteen for each visit, plus one.
+    // The count of reads and turns grows by at most fourteen for each visit, plus one in all.
     ensures reads { MatchResult result (λ s. reads.new ≤ reads.old + 14 * s.visits + 1)
         (λ s. reads.new ≤ reads.old + 14 * s.visits + 1) }
     // The budget bounds the count, for any message and any result.
@@ -191,7 +191,7 @@ pub fn survey_depth_of<M: Asked>(space: M, limits: Limits) -> Result<Measured, S
         ⊎ IsWalkRefused (M.message space) limits s.fault s.place s.paid s.visits) }
     // `Memory` is never the fault, since nothing is allocated.
     ensures no_memory { IfErr result (λ s. s.fault ≢ Memory) }
-    // No more than the budget is paid, and the visits are at most one more than the words paid.
+    // No more than the budget is paid, and the number of visits is at most the number of words paid, plus one.
     ensures bounded { MatchResult result (λ m. IsBounded limits.budget m.survey.paid m.survey.visits)
         (λ s. IsBounded limits.budget s.paid s.visits) }
 {
@@ -223,7 +223,7 @@ pub fn survey_depth<S: Space, A: Allocator + Copy>(
         ⊎ IsWalkRefused (S.message space.now) limits s.fault s.place s.paid s.visits) }
     // `Memory` is never the fault, since nothing is allocated.
     ensures no_memory { IfErr result (λ s. s.fault ≢ Memory) }
-    // No more than the budget is paid, and the visits are at most one more than the words paid.
+    // No more than the budget is paid, and the number of visits is at most the number of words paid, plus one.
     ensures bounded { MatchResult result (λ m. IsBounded limits.budget m.survey.paid m.survey.visits)
         (λ s. IsBounded limits.budget s.paid s.visits) }
 {
@@ -253,10 +253,10 @@ pub fn survey_depth_counted<S: Space, L: Ledger>(
         ⊎ IsWalkRefused space.now limits s.fault s.place s.paid s.visits) }
     // `Memory` is never the fault, since nothing is allocated.
     ensures no_memory { IfErr result (λ s. s.fault ≢ Memory) }
-    // No more than the budget is paid, and the visits are at most one more than the words paid.
+    // No more than the budget is paid, and the number of visits is at most the number of words paid, plus one.
     ensures bounded { MatchResult result (λ m. IsBounded limits.budget m.survey.paid m.survey.visits)
         (λ s. IsBounded limits.budget s.paid s.visits) }
-    // The count of reads and turns grows by at most fourteen for each visit, plus one.
+    // The count of reads and turns grows by at most fourteen for each visit, plus one in all.
     ensures reads { MatchResult result (λ s. reads.new ≤ reads.old + 14 * s.survey.visits + 1)
         (λ s. reads.new ≤ reads.old + 14 * s.visits + 1) }
     // The budget bounds the count, for any message and any result.

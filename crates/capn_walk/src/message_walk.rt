@@ -52,15 +52,15 @@ impl<A: Allocator + Copy> CountedTask for WalkTask<A> {
 /// words paid, and the number of visits.
 ///
 /// Slots are visited in preorder. A slot is visited each time that a pointer leads to the object with the slot. The
-/// price of a visit is paid before any content is read or allocated. So even a hostile message, with cycles or shared
-/// objects, costs at most the budget.
+/// price of a visit is paid before any content except a list's tag is read, and before any is allocated. So even a
+/// hostile message, with cycles or shared objects, costs at most the budget.
 ///
 /// If segment 0 has no word, the error is `NoRoot` at 0:0, with `paid` 0 and `visits` 0. Any other error except
-/// `Memory` comes from the first visit that is a fault or brings the sum of the prices above the budget. The error has
-/// the place of the visited slot, the number of words paid before the visit, and the number of the visit. At one visit
-/// the faults of `resolve` come first, then `RootKind`, `TooDeep` and `OverBudget`. `Memory` is returned only if an
-/// allocation was refused, in place of any later result. With the fault `Memory`, `paid` is at most the budget, and
-/// `visits` is at most `paid + 1`.
+/// `Memory` comes from the first visit that meets a fault or brings the sum of the prices above the budget. The error
+/// has the place of the visited slot, the number of words paid before the visit, and the number of visits, including
+/// this visit. At one visit the faults of `resolve` come first, then `RootKind`, `TooDeep` and `OverBudget`. `Memory`
+/// is returned only if an allocation was refused, in place of any later result. With the fault `Memory`, `paid` is at
+/// most the budget, and `visits` is at most `paid + 1`.
 ///
 /// Memory: the tree, on `alloc`. The stack holds at most as many objects as the depth limit. (Page: security
 /// considerations; the tariffs and the order of the faults are our own.)
@@ -91,7 +91,7 @@ pub fn walk<M: Asked, A: Allocator + Copy>(
     ensures memory { IfErr result (λ s. s.fault ≡ Memory →
         IsEntered (stepped_to_root (M.message space) (base limits.tariff) limits.depth limits.budget)) }
 
-    // No more than the budget is paid, and the visits are at most one more than the words paid.
+    // No more than the budget is paid, and the number of visits is at most the number of words paid, plus one.
     ensures bounded { MatchResult result (λ w. IsBounded limits.budget w.paid w.visits)
         (λ s. IsBounded limits.budget s.paid s.visits) }
 
@@ -103,11 +103,11 @@ pub fn walk<M: Asked, A: Allocator + Copy>(
 }
 
 /// Reads the value that the message `space` denotes within `limits`, and counts reads and loop turns in `reads`. The
-/// results are those of [`walk`]. A read of bytes counts one for each word of those bytes. The loops are those over
-/// slots and over rows.
+/// results are those of [`walk`]. A read of bytes counts one for each word of those bytes. The counted loops are the
+/// loops over slots and over rows.
 ///
-/// The count grows by at most ten for each visit, including a refused visit, plus two for each word paid, plus one. So
-/// the budget bounds the work for any message. Memory: the tree, on `alloc`.
+/// The count grows by at most ten for each visit, including a refused visit, plus two for each word paid, plus one in
+/// all. So the budget bounds the work for any message. Memory: the tree, on `alloc`.
 pub fn walk_counted<S: Space, A: Allocator + Copy, L: Ledger>(
     alloc: A,
     space: &CountedSpace<'_, S, L>,
@@ -132,7 +132,7 @@ pub fn walk_counted<S: Space, A: Allocator + Copy, L: Ledger>(
     ensures memory { IfErr result (λ s. s.fault ≡ Memory →
         IsEntered (stepped_to_root space.now (base limits.tariff) limits.depth limits.budget)) }
 
-    // No more than the budget is paid, and the visits are at most one more than the words paid.
+    // No more than the budget is paid, and the number of visits is at most the number of words paid, plus one.
     ensures bounded { MatchResult result (λ w. IsBounded limits.budget w.paid w.visits)
         (λ s. IsBounded limits.budget s.paid s.visits) }
 
@@ -140,7 +140,7 @@ pub fn walk_counted<S: Space, A: Allocator + Copy, L: Ledger>(
     ensures thrifty { IfOk result (λ w. cost (base limits.tariff) w.tree ≤ w.paid) }
     ensures low { IfOk result (λ w. height w.tree ≤ limits.depth) }
 
-    // The count of reads and turns grows by at most ten for each visit, plus two for each word paid, plus one.
+    // The count of reads and turns grows by at most ten for each visit, plus two for each word paid, plus one in all.
     ensures reads { MatchResult result (λ w. reads.new ≤ reads.old + 10 * w.visits + 2 * w.paid + 1)
         (λ s. reads.new ≤ reads.old + 10 * s.visits + 2 * s.paid + 1) }
     // The budget bounds the count, for any message and any result.

@@ -1,4 +1,4 @@
-//! The sizes of a target: its elements, data words and slots.
+//! The sizes of a target: the numbers of elements, data words and slots.
 
 ghost use Rattle.std.specs.Prelude.{◌≡◌};
 ghost use Rattle.capn_walk.specs.View as seen;

@@ -1,4 +1,4 @@
-//! The slots of an object that a survey or an index has still to visit.
+//! The slots of an object that a survey or an index still has to visit.
 
 ghost use Rattle.std.specs.Prelude.{◌≡◌, ℕ, ◌-◌, ◌<◌, ◌≤◌, ◌+◌, ◌*◌, ◌^◌, [], ◌∷◌, ◌↔◌, IsTrue};
 ghost use Rattle.capn_walk.specs.Visits.{slots};
@@ -18,7 +18,7 @@ pub struct SlotsLeft {
     pub next: u32,
     /// The number of remaining slots of the current row.
     pub left: u32,
-    /// The number of rows after the current row.
+    /// The number of rows after the current row, or 0 if the rows have no slots.
     pub rows: u32,
     /// The number of data words of each row after the current row.
     pub words: u16,

@@ -15,7 +15,7 @@ use capn_words::{Place, Space};
 use std::sync::ledger::Ledger;
 
 /// Returns the price of a step to `target`. The limits still allow `depth` levels of objects and a price of `left`
-/// words. Each content costs `base` in addition to its size. Content is refused with `TooDeep` if `depth` is 0, else
+/// words. Each object costs `base` in addition to its size. Content is refused with `TooDeep` if `depth` is 0, else
 /// with `OverBudget` if its price exceeds `left`. A target without content costs nothing.
 #[inline(always)]
 pub fn price_within(target: Target, depth: u32, left: u32, base: u32) -> Result<u32, Fault>

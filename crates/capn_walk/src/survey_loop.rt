@@ -94,7 +94,7 @@ fn stopped(fault: Fault, place: Place, paid: u32, visits: u32) -> Stopped
 }
 
 /// Visits the slots of `first` and all slots below them. If `DEEP` is true, also finds how deep the objects are. The
-/// depth is computed from the least number of levels that remained at any content.
+/// depth is computed from the least number of levels that remained at a visit of content.
 ///
 /// The complete stack is initialised before the first visit. So a smaller stack is used if `limit` is at most 64.
 #[inline(always)]

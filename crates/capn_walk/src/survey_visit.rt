@@ -1,5 +1,5 @@
-//! One visit of a slot, without the slot's value. The result is the price of the visit and the slots below the visited
-//! slot, or a fault. A far pointer to a landing pad of one word is resolved here, without `resolve`.
+//! One visit of a slot, without the slot's value. The result is a fault, or the price of the visit with the capability
+//! or the slots below the visited slot. A far pointer to a landing pad of one word is resolved without `resolve`.
 
 ghost use Rattle.std.specs.Prelude.{◌≡◌, ◌≢◌, ℕ, ◌≤◌, ◌+◌, ◌-◌, ◌∷◌, ◌↔◌, [], length, IsTrue, IfOk, IfErr, false, max};
 ghost use Rattle.capn_words.specs.Message.{segment_at, word_at, IsMessage, IsPlace};
@@ -25,14 +25,14 @@ use std::sync::ledger::Ledger;
 pub struct Visited {
     /// The price of the visit.
     pub price: u32,
-    /// The index of the capability that the slot names, if it names one.
+    /// The index of the capability that the slot names, or `None` if the slot names no capability.
     pub capability: Option<u32>,
     /// The slots below the visited slot.
     pub below: SlotsLeft,
 }
 
 /// Visits the slot at `at`, whose `pointer` names a near struct, in a segment of `size` words. The limits still allow
-/// `depth` levels of objects and a price of `left` words. Each content costs `base` in addition to its size.
+/// `depth` levels of objects and a price of `left` words. Each object costs `base` in addition to its size.
 #[inline(always)]
 pub fn visit_struct<S: Space, L: Ledger>(
     space: &CountedSpace<'_, S, L>,

@@ -20,7 +20,7 @@ use capn_target::{Fault, Shape, Target, resolve, segment_length};
 use capn_words::{Place, Space, Width};
 use std::marker::Model;
 
-/// A slot of a message: null, a capability, or an object whose words are read in place.
+/// A view of a slot or a row of a message: null, a capability, or an object whose words are read in place.
 #[derive(Debug, Drop)]
 pub struct View<'s, S: Space> {
     space: &'s S,
@@ -42,7 +42,7 @@ impl<'s, S: Space> Model for View<'s, S> {
 
 impl<'s, S: Space> View<'s, S> {
     /// Returns the view of the root of the message `space`, or the fault of the step to the root. `depth` is the limit
-    /// on depth. The price of the step is paid from `meter`, by the meter's tariff.
+    /// on depth. If there is no fault, the price of the step is paid from `meter`, by the meter's tariff.
     pub fn root(space: &'s S, meter: &mut Meter, depth: u32) -> Result<View<'s, S>, Fault>
         ensures found { MatchResult result
             (λ v. seen.stepped_to_root (S.message space.now) (base meter.old.tariff) depth (left_of meter.old)
@@ -78,8 +78,8 @@ impl<'s, S: Space> View<'s, S> {
         }
     }
 
-    /// Returns the view of slot `i` of a struct, or of element `i` of a list of pointers, or the fault of the step. The
-    /// price of the step is paid from `meter`, by the meter's tariff.
+    /// Returns the view of slot `i` of a struct, or of element `i` of a list of pointers, or the fault of the step. If
+    /// there is no fault, the price of the step is paid from `meter`, by the meter's tariff.
     pub fn slot(&self, i: u32, meter: &mut Meter) -> Result<View<'s, S>, Fault>
         requires { i < seen.steps_in self.now.found }
         ensures found { MatchResult result

@@ -21,17 +21,17 @@ pub struct Walked<A: Allocator = Global> {
     pub visits: u32,
 }
 
-/// The place and the reason at which a walk stopped.
+/// The stop of a walk: the reason, the place, the number of words paid, and the number of visits.
 #[derive(Clone, Copy, Debug, PartialEq, Eq)]
 pub struct Stopped {
-    /// The fault.
+    /// The reason for the stop.
     pub fault: Fault,
-    /// The place of the visited slot, even if the fault is in a landing pad. For the fault `Memory` the place is near
-    /// the object for which an allocation was refused, but no contract states that place.
+    /// The place of the visited slot, even if the fault is in a landing pad, or 0:0 for `NoRoot`. No contract states
+    /// the place if the fault is `Memory`.
     pub place: Place,
-    /// The number of words paid for the visits before the refused visit.
+    /// The number of words paid for the visits before the refused visit. For `Memory`, only a bound is stated.
     pub paid: u32,
-    /// The number of visits, including the refused visit.
+    /// The number of visits, including the refused visit: 0 for `NoRoot`. For `Memory`, only a bound is stated.
     pub visits: u32,
 }
 

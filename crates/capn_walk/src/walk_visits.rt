@@ -26,7 +26,7 @@ use std::alloc::Allocator;
 use std::sync::ledger::Ledger;
 
 /// Reads the value of the slot at `at`. The limits still allow `depth` levels of objects and a price of `left` words.
-/// Each content costs `base` in addition to its size. For speed, near structs and near lists have a match arm each.
+/// Each object costs `base` in addition to its size. For speed, near structs and near lists have a match arm each.
 #[cycle(walk)]
 #[inline(always)]
 fn walk_slot<S: Space, A: Allocator + Copy, L: Ledger>(
@@ -113,7 +113,7 @@ fn walk_elsewhere<S: Space, A: Allocator + Copy, L: Ledger>(
 }
 
 /// Reads the value of the slot at `at`, whose target is `target`. The limits still allow `depth` levels of objects and
-/// a price of `left` words. The price of the visit is paid before any content is read.
+/// a price of `left` words. The price of the visit is paid before any content except a list's tag is read.
 #[cycle(walk)]
 #[inline(always)]
 pub fn walk_target<S: Space, A: Allocator + Copy, L: Ledger>(
@@ -164,8 +164,8 @@ pub fn walk_target<S: Space, A: Allocator + Copy, L: Ledger>(
     }
 }
 
-/// Reads the object that the slot at `at` names, with everything below it. The content has the shape `shape` and starts
-/// at `start`. The object's own price has been paid.
+/// Reads the object that the slot at `at` names, and everything below the object. The content has the shape `shape` and
+/// starts at `start`. The object's own price has been paid.
 #[cycle(walk)]
 #[inline(always)]
 fn object<S: Space, A: Allocator + Copy, L: Ledger>(

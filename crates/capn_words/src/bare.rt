@@ -78,7 +78,7 @@ impl<'a> Bare<'a> {
     /// Errors: `NotWhole` with the number of bytes, if that is no multiple of 8. Otherwise `TooLong` with the number of
     /// words, if that is above 2^28 + 1. (Our own: the limit.)
     pub fn new(bytes: &'a [u8]) -> Result<Bare<'a>, BareFault>
-        // `ReadsBare` states the meaning of `result`. If `bytes` are the bytes of the words `ws`, `result` is `Ok ws`.
+        // `ReadsBare` states the meaning of `result`. If `IsBare` holds of `bytes` and `ws`, `result` is `Ok ws`.
         ensures exact { ReadsBare bytes.now result }
         ensures only { (ws : List ℕ) → IsBare bytes.now ws → result ≡ Ok ws }
     {

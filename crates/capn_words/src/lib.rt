@@ -4,10 +4,10 @@
 //! - `Space` is a message whose words and bytes can be read at a `Place`. A function over any `Space` is written and
 //!   proved once. `Bare` is the `Space` of one borrowed segment.
 //! - `Watched` is a reader or a writer that remembers whether a call on it has failed.
-//! - `laws` states that bytes are read as one segment in at most one way, or refused for at most one reason.
+//! - `laws` states that bytes are read as one segment in at most one way, and are refused for at most one reason.
 //! - `Memory` is the error of all crates for an allocation that was refused.
 //!
-//! No call takes memory. A message has 1 to 4,096 segments and at most 2^28 + 1 words in all.
+//! No call itself takes memory. A message has 1 to 4,096 segments and at most 2^28 + 1 words in all.
 //!
 //! ```text
 //! let bare = Bare::new(input)?;

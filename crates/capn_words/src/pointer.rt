@@ -49,7 +49,7 @@ pub enum Pointer {
         offset: i32,
         /// The kind of the list's elements.
         width: Width,
-        /// The number of elements, or for `Rows` the number of words without the tag word. It is below 2^29.
+        /// The number of elements, or for `Rows` the number of words without the tag word. The count is below 2^29.
         count: u32,
     },
     /// A far pointer, which refers to a landing pad in a segment.
@@ -156,7 +156,7 @@ fn fields_of(word: u64) -> Pointer
     }
 }
 
-/// Reads `word` as a pointer. The result is the one pointer whose fields fit and add up to `word`.
+/// Reads `word` as a pointer. The result is the one pointer whose fields fit their bits and add up to `word`.
 ///
 /// Every word is a pointer: only the word 0 is `Nil`, and a word of no known kind is `Reserved`. `join` of the result
 /// returns `word`. (Page: structs, lists, inter-segment pointers, capabilities.)

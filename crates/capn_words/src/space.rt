@@ -25,8 +25,8 @@ impl Place {
 
 /// A message whose words and bytes can be read in place. No call takes memory. (Page: messages.)
 ///
-/// A function over any `Space` that needs the bounds of the message calls `segments`. The prover then knows the bounds
-/// for every later call on the same value.
+/// A function over any `Space` calls `segments` if its proof needs the bounds of the message. The prover then knows the
+/// bounds for every later call on the same value.
 pub trait Space {
     /// The segments of the message, each as the list of its words.
     ghost message: { Self → List (List ℕ) };

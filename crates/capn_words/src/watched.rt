@@ -9,9 +9,9 @@ use std::io::{ErrorKind, Read, Result, Write};
 
 /// A reader or a writer, with a flag that says whether a call on it has failed. (Our own.)
 ///
-/// A call that returns an error sets the flag. A write also sets the flag if `buf` is not empty and the writer returns
-/// 0. `Interrupted` counts as an error, and so does the error of a flush. Every call is passed on to the inner reader
-/// or writer, also after a failure.
+/// A call that returns an error sets the flag. A write of at least one byte also sets the flag if the writer returns 0.
+/// `Interrupted` counts as an error, and so does the error of a flush. Every call is passed on to the inner reader or
+/// writer, also after a failure.
 #[derive(Debug, Drop)]
 pub struct Watched<T> {
     inner: T,
@@ -30,7 +30,7 @@ impl<T> Watched<T> {
         }
     }
 
-    /// Tests whether a call has returned an error, or a write has returned 0 for a `buf` that is not empty.
+    /// Tests whether a call has returned an error, or a write of at least one byte has returned 0.
     pub fn failed(&self) -> bool
         ensures { result ≡ has_failed self.now }
     {
@@ -47,8 +47,8 @@ impl<T> Watched<T> {
 }
 
 impl<R: Read> Watched<R> {
-    /// Reads into `buf` with the inner reader, and returns the reader's result. This is the number of bytes that were
-    /// read to the start of `buf`, or an error. An error sets the flag.
+    /// Reads into `buf` with the inner reader, and returns the reader's result: the number of bytes that were read to
+    /// the start of `buf`, or an error. An error sets the flag.
     pub fn read(&mut self, buf: &mut [u8]) -> Result<usize>
         ensures bound { ReadsAtMost result buf.new }
         ensures bytes { ReadConsumes (R.remaining (inner_of self.old)) (R.remaining (inner_of self.new))
@@ -62,9 +62,8 @@ impl<R: Read> Watched<R> {
 }
 
 impl<W: Write> Watched<W> {
-    /// Writes `buf` with the inner writer, and returns the writer's result. This is the number of bytes that were
-    /// written from the start of `buf`, or an error. An error sets the flag. The number 0 sets the flag too, if `buf`
-    /// is not empty.
+    /// Writes `buf` with the inner writer, and returns the writer's result: the number of bytes that were written from
+    /// the start of `buf`, or an error. An error sets the flag. The number 0 sets the flag too, if `buf` is not empty.
     pub fn write(&mut self, buf: &[u8]) -> Result<usize>
         ensures bound { WritesAtMost result buf.now }
         ensures bytes { WriteAppends (W.contents (inner_of self.old)) (W.contents (inner_of self.new))

@@ -1,5 +1,4 @@
-//! `cut_each`: cuts the message of a case at each byte, and compares the answer for each prefix with the answer that
-//! the definitions give.
+//! `cut_each`: cuts the message of a case at each byte, and compares the answer for each prefix with the right one.
 
 use crate::messages::{canonical_text, paid_text, true_limits_at};
 use crate::refusals::told;
@@ -30,7 +29,7 @@ fn tree_text(alloc: Global, paid: u32, tree: &Tree) -> Result<String> {
     }
 }
 
-/// Returns the answer for a bare message: that its length is wrong, or what follows from its walk.
+/// Returns the answer for the bare message `bytes`: that its length is no multiple of 8, or the result of its walk.
 fn bare_text(alloc: Global, bytes: &[u8], limits: Limits) -> Result<String> {
     let length = bytes.len();
     let Ok(space) = Bare::new(bytes) else {
@@ -49,7 +48,7 @@ fn bare_text(alloc: Global, bytes: &[u8], limits: Limits) -> Result<String> {
 
 /// Returns the end of the group that starts at offset `at`, or `None` if the group is cut. A group of zeros has two
 /// bytes. A group of raw words has ten bytes, and eight for each further word. Any other group has its tag, and a byte
-/// for each bit that is set in it.
+/// for each bit that is set in the tag.
 fn group_end(text: &[u8], at: usize) -> Option<usize> {
     let len = match *text.get(at)? {
         0 => 2,
@@ -72,8 +71,8 @@ fn last_group(text: &[u8]) -> usize {
     at
 }
 
-/// Tests whether an unpacker that is fed `text` at once returns what `unpack` returns for the whole groups of `text`.
-/// If `text` is cut, the unpacker must report the right place.
+/// Tests whether an unpacker that is fed `text` in one call returns what `unpack` returns for the whole groups of
+/// `text`. The unpacker and `unpack` must report the start of a cut group, if there is one, and otherwise no cut.
 fn is_unpacked(alloc: Global, text: &[u8]) -> bool {
     let at = last_group(text);
     let mut unpacker = Unpacker::new();
@@ -94,7 +93,7 @@ fn is_unpacked(alloc: Global, text: &[u8]) -> bool {
     is_whole && cut_of(ending) == cut && cut_of(unpack(alloc, text, MOST_MESSAGE_WORDS)) == cut
 }
 
-/// Returns the offset at which `answer` says that packed bytes are cut.
+/// Returns the offset at which `answer` says that packed bytes are cut, if it says so.
 fn cut_of<T: Drop>(answer: Result<T, UnpackFault>) -> Option<u64> {
     match answer {
         Err(UnpackFault::Cut { at }) => Some(at),
@@ -102,7 +101,7 @@ fn cut_of<T: Drop>(answer: Result<T, UnpackFault>) -> Option<u64> {
     }
 }
 
-/// Returns the answer for the packed bytes `text`, found by their groups. If the last group is cut, the answer says so.
+/// Returns the answer for the packed bytes `text`. If the last group is cut, the answer is the start of the group.
 /// Otherwise it is the answer for the unpacked stream.
 fn packed_text(alloc: Global, text: &[u8], limits: Limits) -> Result<String> {
     if !is_unpacked(alloc, text) {
@@ -118,7 +117,7 @@ fn packed_text(alloc: Global, text: &[u8], limits: Limits) -> Result<String> {
     }
 }
 
-/// Returns the number in the four bytes of a table at `at`.
+/// Returns the number in the four bytes at offset `at` of a frame's table, or `None` if `bytes` are too short.
 fn entry_at(bytes: &[u8], at: usize) -> Option<u64> {
     let low = *bytes.get(at)? as u64;
     let next = *bytes.get(at.saturating_add(1))? as u64;
@@ -127,7 +126,7 @@ fn entry_at(bytes: &[u8], at: usize) -> Option<u64> {
     Some(low | next << 8 | third << 16 | high << 24)
 }
 
-/// Returns the sum of the `count` sizes in a table.
+/// Returns the sum of the `count` segment sizes in the table of a frame, or `None` if `bytes` are too short.
 fn sizes_of(bytes: &[u8], count: u64) -> Option<u64> {
     let mut sum = 0u64;
     for segment in 1..=count {
@@ -158,7 +157,7 @@ fn frame_refusal(bytes: &[u8], limits: Limits) -> Option<FrameRefusal> {
         return Some(FrameRefusal::TooManySegments(count));
     }
     let table = count.saturating_add(2) / 2;
-    // Sizes are summed only if all are there, because each prefix of a long table is tested here.
+    // Sizes are summed only if all are there, which saves time: each prefix of a long table is tested.
     if (bytes.len() as u64) < count.saturating_add(1).saturating_mul(4) {
         return Some(FrameRefusal::Cut);
     }
@@ -191,8 +190,8 @@ fn refusal_text(alloc: Global, refusal: FrameRefusal) -> Result<String> {
     }
 }
 
-/// Returns the right answer for a prefix of a message. The definitions give it for bare bytes, for a cut group, and for
-/// a refused frame of a stream. Otherwise it is the answer of `canonicalise` for the stream.
+/// Returns the right answer for `bytes`, a prefix of a message. For bare bytes, a cut group and a refused frame of a
+/// stream, the answer is found without `canonicalise`. Otherwise it is the answer of `canonicalise` for the stream.
 fn due_text(alloc: Global, form: Form, bytes: &[u8], limits: Limits) -> Result<String> {
     match form {
         Form::Bare => bare_text(alloc, bytes, limits),
@@ -204,7 +203,7 @@ fn due_text(alloc: Global, form: Form, bytes: &[u8], limits: Limits) -> Result<S
     }
 }
 
-/// Checks that a cut message has the answer that is right for it.
+/// Checks that `canonicalise` gives the right answer for `start`, a prefix of a message.
 fn cut_once(alloc: Global, form: Form, start: &[u8], limits: Limits) -> Result<()> {
     let told = canonical_text(alloc, form, start, limits)?;
     let due = due_text(alloc, form, start, limits)?;
@@ -216,8 +215,8 @@ fn cut_once(alloc: Global, form: Form, start: &[u8], limits: Limits) -> Result<(
     }
 }
 
-/// Cuts the message of a case at each byte, if the case is one of `canonicalise`, and checks the answer for each
-/// prefix. A case of packed bytes that exceed their limit is left out.
+/// If the case calls `canonicalise`, cuts its message at each byte and checks the answer for each prefix. A case whose
+/// packed bytes are refused as too long is left out.
 pub(crate) fn cut_each(alloc: Global, words: &[&str], answer: &str) -> Result<()> {
     let (tariff, words) = tariff_and_call(words);
     if word_at(words, 0)? != "canonicalise" || answer.starts_with("packed: TooLong") {

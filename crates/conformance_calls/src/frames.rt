@@ -21,7 +21,7 @@ pub(crate) fn limit_at(words: &[&str], at: usize) -> Result<u32>
     Ok(limit)
 }
 
-/// Returns the bytes of each segment, each after a space.
+/// Returns the bytes of each segment as `digits_of` writes them, with a space before each segment.
 pub(crate) fn segments_text<S: Space>(alloc: Global, space: &S) -> Result<String> {
     let mut text = String::new(alloc);
     for segment in 0..space.segments() {

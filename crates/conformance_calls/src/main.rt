@@ -1,10 +1,10 @@
-//! Answers to the cases of standard input that are calls of libraries, from packed bytes to canonical ones. A case has
-//! two lines: its name, and a call. A space separates the words of a call. Bytes are hexadecimal, and `-` stands for
-//! none. A call after the word `plain` pays by the plain tariff, any other by the strict one. The answers must equal
-//! the stored output, which no run of this program wrote. Each call is made once with enough memory, and then once for
-//! each of its allocations, with that allocation refused. A message is also cut at each byte. The line of a case is
-//! printed only if three things hold. The call reported each refused allocation, it gave its answer afterwards, and its
-//! answer for each prefix is the one that the definitions give.
+//! Answers the cases of standard input that call the libraries. A case has two lines: its name, and a call. A space
+//! separates the words of a call. Bytes are hexadecimal, and `-` stands for none. A call after the word `plain` pays by
+//! the plain tariff, any other by the strict one. The answers must equal the stored output, which no run of this
+//! program wrote. Each call is made once with enough memory, and then with one allocation refused: with each in turn,
+//! or with about 64 of them after the word `few`. The message of `canonicalise` is also cut at each byte. The answer is
+//! printed only if the call reported each refused allocation, gave its answer afterwards, and gave the right answer for
+//! each prefix.
 #![tactic(auto)]
 
 mod cuts;

@@ -11,7 +11,7 @@ use capn_words::{Bare, MOST_MESSAGE_WORDS, Space};
 use conformance_cases::{Heap, MEMORY, bytes_at, digits_of, form_at, number_at};
 use std::alloc::Global;
 
-/// Reads three numbers from word `at` of the line on, as limits.
+/// Reads the limits in three words of the line, from word `at` on. Returns `None` if they are not valid.
 fn limits_at(words: &[&str], at: usize) -> Result<Option<Limits>> {
     let message_words = number_at(words, at)?;
     let budget = number_at(words, at.saturating_add(1))?;
@@ -19,7 +19,7 @@ fn limits_at(words: &[&str], at: usize) -> Result<Option<Limits>> {
     Ok(Limits::new(message_words, budget, depth))
 }
 
-/// Reads limits that must be valid, with the prices of `tariff`.
+/// Reads the limits, which must be valid, from word `at` of the line on, with the prices of `tariff`.
 pub(crate) fn true_limits_at(words: &[&str], at: usize, tariff: Tariff) -> Result<Limits> {
     match limits_at(words, at)? {
         Some(limits) => Ok(limits.with_tariff(tariff)),
@@ -69,8 +69,8 @@ fn is_layout_of_each(heap: &Heap, tree: &Tree<&Heap>, bytes: &[u8]) -> Result<bo
     )
 }
 
-/// Checks that `bytes` are the layout of the tree that a walk of the message makes. Returns `false` if an allocation
-/// was refused.
+/// Checks that `bytes` are the layout of the tree that a walk of `space` makes. Returns `false` if an allocation was
+/// refused.
 fn is_layout_of<S: Space>(heap: &Heap, space: &S, limits: Limits, bytes: &[u8]) -> Result<bool> {
     match walk(heap, space, limits) {
         Ok(walked) => {
@@ -116,7 +116,7 @@ fn is_layout_in_form(
     }
 }
 
-/// Returns the line of canonical bytes and their price.
+/// Returns the line of the canonical `bytes` and their price `paid`.
 pub(crate) fn paid_text(alloc: Global, paid: u32, bytes: &[u8]) -> Result<String> {
     let digits = digits_of(alloc, bytes)?;
     Ok(format!(in alloc; "paid {paid}, {digits}")?)
@@ -135,8 +135,8 @@ pub(crate) fn canonical_text(
     }
 }
 
-/// Returns the line of canonical bytes, or `MEMORY` if an allocation was refused. The bytes must be the layout of the
-/// tree of the input, of its copy, and of its trimmed form.
+/// Returns the line of canonical bytes, or `MEMORY` if an allocation was refused. The bytes must be the layout of three
+/// trees: the tree of `input`, a copy of that tree, and the trimmed tree.
 fn laid_text(
     alloc: Global,
     heap: &Heap,
@@ -152,8 +152,8 @@ fn laid_text(
     }
 }
 
-/// Answers `canonicalise FORM MESSAGE_WORDS BUDGET DEPTH BYTES`. The canonical bytes must be the layout of the tree
-/// that a walk makes, of its copy, and of its trimmed form.
+/// Answers `canonicalise FORM MESSAGE_WORDS BUDGET DEPTH BYTES`. The canonical bytes must be the layout of three trees:
+/// the tree that a walk makes, a copy of that tree, and the trimmed tree.
 pub(crate) fn canonicalise_answer(
     alloc: Global,
     heap: &Heap,
@@ -169,7 +169,7 @@ pub(crate) fn canonicalise_answer(
     }
 }
 
-/// Returns the word that says whether the canonical bytes `once` are their own canonical bytes.
+/// Returns the answer of `again` for the canonical bytes `once`: whether they are their own canonical bytes.
 fn again_text(heap: &Heap, once: &[u8], limits: Limits) -> &'static str {
     match canonicalise(heap, Form::Bare, once, limits) {
         Ok(again) if again.bytes.as_slice() == once => "again",
@@ -222,7 +222,7 @@ fn equal_at(
     equal_text(first, canonical)
 }
 
-/// Returns `equal` if each message after the first equals it, and otherwise the word for the next one that does not.
+/// Returns the first answer of `equal_at` that is not `equal`, for the messages after the first, or else `equal`.
 fn equal_each(alloc: Global, heap: &Heap, words: &[&str], first: &[u8]) -> Result<&'static str> {
     for pair in 1..words.len() / 2 {
         let text = equal_at(alloc, heap, words, 2 * pair + 1, first)?;

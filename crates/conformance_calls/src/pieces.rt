@@ -11,7 +11,7 @@ use capn_words::{MOST_MESSAGE_WORDS, Watched};
 use conformance_cases::{Heap, MEMORY, bytes_at, digits_of, number_at, push_told, word_at};
 use std::alloc::Global;
 
-/// Returns the line of a message, by the bytes of its segments.
+/// Returns the line of `message`, which shows the bytes of each segment.
 fn message_text(alloc: Global, message: &Stored<&Heap>) -> Result<String> {
     let segments = segments_text(alloc, message)?;
     Ok(format!(in alloc; "message{segments}")?)
@@ -37,7 +37,7 @@ fn fed_text(framer: &mut Framer<&Heap>, alloc: Global, piece: &[u8]) -> Result<S
     }
 }
 
-/// Returns the line of the message that a framer has, or `none`.
+/// Takes the message of `framer` and returns its line, or returns `none` if there is no message.
 fn taken_text(framer: &mut Framer<&Heap>, alloc: Global) -> Result<String> {
     match framer.take() {
         Some(message) => message_text(alloc, &message),
@@ -45,8 +45,8 @@ fn taken_text(framer: &mut Framer<&Heap>, alloc: Global) -> Result<String> {
     }
 }
 
-/// Does the step of a framer that word `at` of the line names, and returns its answer. The bytes to feed are those of
-/// the next word.
+/// Lets `framer` do the step that word `at` of the line names, and returns the answer. The next word holds the bytes to
+/// feed.
 fn framer_text(
     framer: &mut Framer<&Heap>,
     alloc: Global,
@@ -64,7 +64,7 @@ fn framer_text(
     }
 }
 
-/// Checks that a framer fails at every call, after an allocation was refused.
+/// Checks that a framer fails at `feed` and `finish`, and has no message, after an allocation was refused.
 fn has_to_fail(framer: &mut Framer<&Heap>) -> Result<()> {
     match (framer.feed(&[0]), framer.finish(), framer.take()) {
         (Err(FrameFault::Failed), Err(FrameFault::Failed), None) => Ok(()),
@@ -72,7 +72,7 @@ fn has_to_fail(framer: &mut Framer<&Heap>) -> Result<()> {
     }
 }
 
-/// Does a step of a framer and appends its answer. Returns whether an allocation was refused.
+/// Does the step at word `at` and appends its answer to `text`. Returns whether an allocation was refused.
 fn framer_step(
     framer: &mut Framer<&Heap>,
     alloc: Global,
@@ -85,7 +85,7 @@ fn framer_step(
     Ok(told.as_str() == MEMORY)
 }
 
-/// Returns the answers of a framer to all steps, or to those up to the one at which an allocation was refused.
+/// Returns the answers of `framer` to the steps of the line. A step that has an allocation refused is the last.
 fn framer_steps(framer: &mut Framer<&Heap>, alloc: Global, words: &[&str]) -> Result<String> {
     let mut text = String::new(alloc);
     let mut is_piece = false;
@@ -113,7 +113,7 @@ fn rest_of(bytes: &[u8], at: usize) -> &[u8] {
     if at <= bytes.len() { &bytes[at..] } else { &[] }
 }
 
-/// Appends the line of the message that a framer has, if it has one.
+/// Takes the message of `framer`, if it has one, and appends the message's line to `text`.
 fn push_taken(framer: &mut Framer<&Heap>, alloc: Global, text: &mut String) -> Result<()> {
     match framer.take() {
         Some(message) => push_message(alloc, &message, text),
@@ -121,7 +121,7 @@ fn push_taken(framer: &mut Framer<&Heap>, alloc: Global, text: &mut String) -> R
     }
 }
 
-/// Feeds `piece`, and appends the line of each message that becomes whole.
+/// Feeds `piece`, and appends the line of each message that becomes whole. Returns the first fault, if there is one.
 fn feed_all(
     framer: &mut Framer<&Heap>,
     alloc: Global,
@@ -163,7 +163,7 @@ fn feed_pieces(
     Ok(framer.finish())
 }
 
-/// Returns the lines of the messages that a framer makes of `bytes`, and then the line of its ending.
+/// Returns the lines of the messages that `framer` makes of `bytes`, fed `size` at a time, and then `Ok` or the fault.
 fn pieces_text(
     framer: &mut Framer<&Heap>,
     alloc: Global,
@@ -180,7 +180,7 @@ fn pieces_text(
     Ok(text)
 }
 
-/// Answers `pieces SIZE MOST_WORDS BYTES` by the messages of the bytes, fed `SIZE` at a time, and the ending.
+/// Answers `pieces SIZE MOST_WORDS BYTES` by the messages of `BYTES`, fed `SIZE` at a time, and `Ok` or the fault.
 pub(crate) fn pieces_answer(alloc: Global, heap: &Heap, words: &[&str]) -> Result<String> {
     let size = number_at(words, 1)? as usize;
     let limit = limit_at(words, 2)?;
@@ -195,7 +195,7 @@ fn push_read(alloc: Global, message: &Stored<&Heap>, text: &mut String) -> Resul
     Ok(true)
 }
 
-/// Appends what is read next, a message or the ending. Returns whether it was a message.
+/// Reads a message and appends its line. If none is read, appends `Ok` or the fault. Returns whether one was read.
 fn read_next(
     reader: &mut Watched<&[u8]>,
     alloc: Global,
@@ -220,7 +220,7 @@ fn read_next(
     Ok(false)
 }
 
-/// Answers `read MOST_WORDS BYTES` by the messages that are read from the bytes, and the ending.
+/// Answers `read MOST_WORDS BYTES` by the messages that are read from `BYTES`, and then `Ok` or the fault.
 pub(crate) fn read_answer(alloc: Global, heap: &Heap, words: &[&str]) -> Result<String> {
     let limit = limit_at(words, 1)?;
     let bytes = bytes_at(alloc, words, 2)?;
@@ -243,7 +243,7 @@ fn written_text(alloc: Global, message: &Stored<&Heap>) -> Result<String> {
     }
 }
 
-/// Answers `write BYTES` by what is written for the first message that is read from the bytes.
+/// Answers `write BYTES` by the bytes that `write_message` writes for the first message in `BYTES`.
 pub(crate) fn write_answer(alloc: Global, heap: &Heap, words: &[&str]) -> Result<String> {
     let bytes = bytes_at(alloc, words, 1)?;
     let mut reader = Watched::new(bytes.as_slice());

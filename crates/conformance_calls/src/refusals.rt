@@ -6,7 +6,7 @@ use conformance_cases::MEMORY;
 use std::alloc::Global;
 use std::fmt::Display;
 
-/// Displays `fault`. A refused allocation is displayed as `Memory`, by which the check of allocations recognises it.
+/// Displays `fault`, with `Memory` in place of `out of memory` at its end. The check of allocations looks for `Memory`.
 pub(crate) fn told<E: Display + Drop>(alloc: Global, fault: E) -> Result<String> {
     let text = format!(in alloc; "{fault}")?;
     match text.as_str().strip_suffix("out of memory") {
@@ -15,7 +15,7 @@ pub(crate) fn told<E: Display + Drop>(alloc: Global, fault: E) -> Result<String>
     }
 }
 
-/// Displays the reason why a walk that was called directly stopped.
+/// Displays the reason why a walk or a survey stopped. A refused allocation is displayed as `Memory` alone.
 pub(crate) fn stop_told(alloc: Global, stopped: Stopped) -> Result<String> {
     match stopped.fault {
         Fault::Memory => Ok(String::from_str(alloc, MEMORY)?),

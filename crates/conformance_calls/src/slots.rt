@@ -46,7 +46,7 @@ fn resolve_text<S: Space>(alloc: Global, space: &S, at: Place) -> Result<String>
     }
 }
 
-/// Returns the answer of `resolve` at the place `at` of the first message.
+/// Returns the answer of `resolve` at the place `at` of the first message in `stream`.
 fn resolve_in_frame(alloc: Global, heap: &Heap, stream: &[u8], at: Place) -> Result<String> {
     match first(heap, stream, MOST_MESSAGE_WORDS) {
         Ok((space, _)) => resolve_text(alloc, &space, at),
@@ -54,7 +54,7 @@ fn resolve_in_frame(alloc: Global, heap: &Heap, stream: &[u8], at: Place) -> Res
     }
 }
 
-/// Returns the answer of `resolve` at the place `at` of a bare message.
+/// Returns the answer of `resolve` at the place `at` of the bare message `bytes`.
 fn resolve_in_bare(alloc: Global, bytes: &[u8], at: Place) -> Result<String> {
     match Bare::new(bytes) {
         Ok(space) => resolve_text(alloc, &space, at),

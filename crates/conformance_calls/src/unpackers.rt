@@ -6,7 +6,7 @@ use capn_pack::{UnpackFault, Unpacker};
 use conformance_cases::{Heap, MEMORY, bytes_at, cut_short, digits_of, push_told, word_at};
 use std::alloc::Global;
 
-/// Checks that an unpacker fails at every call, after an allocation was refused.
+/// Checks that `feed` and `finish` of an unpacker fail after an allocation was refused.
 fn unpacker_has_to_fail(unpacker: &mut Unpacker, alloc: Global) -> Result<()> {
     let mut unpacked = Vec::new(alloc);
     match (unpacker.feed(&[0, 0], &mut unpacked), unpacker.finish()) {
@@ -25,8 +25,8 @@ fn fed_text(unpacker: &mut Unpacker, alloc: Global, heap: &Heap, piece: &[u8]) -
     }
 }
 
-/// Does the step of an unpacker that word `at` of the line names, and returns its answer. The bytes to feed are those
-/// of the next word.
+/// Lets `unpacker` do the step that word `at` of the line names, and returns the answer. The next word holds the bytes
+/// to feed.
 fn unpacker_text(
     unpacker: &mut Unpacker,
     alloc: Global,
@@ -47,7 +47,7 @@ fn unpacker_text(
     }
 }
 
-/// Does a step of an unpacker and appends its answer. Returns whether an allocation was refused.
+/// Does the step at word `at` and appends its answer to `text`. Returns whether an allocation was refused.
 fn unpacker_step(
     unpacker: &mut Unpacker,
     alloc: Global,

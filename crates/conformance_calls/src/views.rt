@@ -13,7 +13,7 @@ use capn_words::{Bare, MOST_MESSAGE_WORDS, Space};
 use conformance_cases::{Heap, bytes_at, digits_of, form_at, number_at, push_told, word_at};
 use std::alloc::Global;
 
-/// Steps to a slot of a struct, or to an element of a list of pointers.
+/// Steps from `view` to slot `index` of a struct, or to element `index` of a list of pointers.
 fn slot_of<'s, S: Space>(
     view: &View<'s, S>,
     index: u32,
@@ -30,7 +30,7 @@ fn slot_of<'s, S: Space>(
     }
 }
 
-/// Returns a row of a list of structs.
+/// Returns row `index` of `view`, a list of structs.
 fn row_of<'s, S: Space>(view: &View<'s, S>, index: u32) -> Result<View<'s, S>> {
     match view.kind() {
         Kind::Rows if index < view.len() => Ok(view.row(index)),
@@ -38,7 +38,7 @@ fn row_of<'s, S: Space>(view: &View<'s, S>, index: u32) -> Result<View<'s, S>> {
     }
 }
 
-/// Returns a data word of a struct.
+/// Returns data word `index` of `view`, a struct.
 fn word_of<S: Space>(view: &View<'_, S>, index: u32) -> Result<u64> {
     if index < view.words() as u32 {
         Ok(view.word(index))
@@ -47,7 +47,7 @@ fn word_of<S: Space>(view: &View<'_, S>, index: u32) -> Result<u64> {
     }
 }
 
-/// Returns an element of a list of numbers.
+/// Returns element `index` of `view`, a list of numbers.
 #[tactic(auto, using(crate::proofs::Numbers::numbers_and_others))]
 fn number_of<S: Space>(view: &View<'_, S>, index: u32) -> Result<u64> {
     match view.kind() {
@@ -58,7 +58,7 @@ fn number_of<S: Space>(view: &View<'_, S>, index: u32) -> Result<u64> {
     }
 }
 
-/// Returns the view whose number is word `at` of the line.
+/// Returns the view whose number is word `at` of the line `words`.
 fn view_at<'v, 's, S: Space>(
     views: &'v [View<'s, S>],
     words: &[&str],
@@ -70,7 +70,7 @@ fn view_at<'v, 's, S: Space>(
     }
 }
 
-/// Returns the answer for a step to a view: the words paid so far, or the fault. Appends the view to `views`.
+/// Returns as text the price paid so far, after the fault if `step` is one. If `step` is a view, appends it to `views`.
 fn step_text<'s, S: Space>(
     alloc: Global,
     step: Result<View<'s, S>, Fault>,
@@ -90,7 +90,7 @@ fn step_text<'s, S: Space>(
     }
 }
 
-/// Returns the kind and the sizes of `view` as text.
+/// Returns the kind and the sizes of `view` as text, or the index of its capability.
 fn shape_text<S: Space>(alloc: Global, view: &View<'_, S>) -> Result<String> {
     let len = view.len();
     let words = view.words();
@@ -104,7 +104,7 @@ fn shape_text<S: Space>(alloc: Global, view: &View<'_, S>) -> Result<String> {
     }
 }
 
-/// Does the step that word `at` of the line names, from the view in the next word, and returns its answer.
+/// Does the step that word `at` of the line names, from the view that the next word names. Returns the answer.
 fn step_answer<'s, S: Space>(
     alloc: Global,
     words: &[&str],

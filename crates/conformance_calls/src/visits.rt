@@ -18,7 +18,7 @@ fn walk_text<S: Space>(alloc: Global, heap: &Heap, space: &S, limits: Limits) ->
         Ok(walked) => {
             let paid = walked.paid;
             let visits = walked.visits;
-            // One call is cheaper to check than fields that are dropped one by one.
+            // One call of `drop` is cheaper for the prover than fields that are dropped one by one.
             drop(walked);
             Ok(format!(in alloc; "paid {paid}, visits {visits}")?)
         }

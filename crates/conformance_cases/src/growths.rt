@@ -7,8 +7,7 @@ use test_allocator::Refusing;
 /// The allocator for the call of a case. Memory for the case itself, such as its text, is never refused.
 pub type Heap = Refusing<Global>;
 
-/// The end of the answer for a call that reported a refused allocation. The bytes that it had written by then come
-/// before it.
+/// The end of the answer for a call that reported a refused allocation, after the bytes that the call had written.
 pub const MEMORY: &str = "Memory";
 
 /// A program that answers cases.
@@ -23,7 +22,7 @@ pub fn cut_short(alloc: Global, written: &[u8]) -> Result<String> {
     Ok(format!(in alloc; "{digits}{MEMORY}")?)
 }
 
-/// Returns an answer without the status at its start, if it has one.
+/// Returns the answer `text` without the status at its start, if there is one.
 fn behind_status(text: &str) -> &str {
     match text.strip_prefix("status 0, ") {
         Some(rest) => rest,
@@ -31,7 +30,8 @@ fn behind_status(text: &str) -> &str {
     }
 }
 
-/// Tests whether `told`, the answer with a refused allocation, is a prefix of `want` followed by `MEMORY`.
+/// Tests whether `told`, the answer with a refused allocation, is `MEMORY` after a prefix of `want`. The status of
+/// `want` may be left out.
 fn is_cut_short(told: &str, want: &str) -> bool {
     match told.strip_suffix(MEMORY) {
         Some(begun) => want.starts_with(begun) || behind_status(want).starts_with(begun),
@@ -39,8 +39,8 @@ fn is_cut_short(told: &str, want: &str) -> bool {
     }
 }
 
-/// Refuses allocation `number` of a call. The call must report a refused allocation and nothing else. Called again
-/// without a refusal, it must give the answer `want`.
+/// Makes a call with allocation `number` refused. The call must report the refusal. The same call without a refusal
+/// must then give the answer `want`.
 fn refuse<C: Answers>(
     alloc: Global,
     calls: &C,

@@ -91,8 +91,8 @@ fn flow_told(alloc: Global, outcome: Result<(), FlowFault>, written: &[u8]) -> R
     }
 }
 
-/// Answers `archive COUNT WORD .. BYTES`, a run whose input may have any length, by its status, its output, and the
-/// line on standard error.
+/// Answers `archive COUNT WORD .. BYTES` by the status, the output, and the lines on standard error of a run. A command
+/// line that means an `Invocation::Message` is an error here, because the call `run` answers it.
 pub(crate) fn archive_answer(alloc: Global, heap: &Heap, words: &[&str]) -> Result<String> {
     let line = command_line(alloc, words)?;
     let input = bytes_at(alloc, words, line.len().saturating_add(1))?;
@@ -167,7 +167,7 @@ pub(crate) fn archive_answer(alloc: Global, heap: &Heap, words: &[&str]) -> Resu
     }
 }
 
-/// Answers `order COUNT WORD ..` by the status of a command line that means no invocation of the whole program.
+/// Answers `order COUNT WORD ..` by the status for a command line that `invocation_of` refuses.
 pub(crate) fn order_answer(alloc: Global, words: &[&str]) -> Result<String> {
     let line = command_line(alloc, words)?;
     match invocation_of(alloc, line.as_slice()) {

@@ -1,8 +1,8 @@
-//! Answers to the cases of standard input that are runs: the invocation that a command line means, the output of a run,
-//! and its status. A case has two lines: its name, and a call. A space separates the words of a call. Bytes are
-//! hexadecimal, and `-` stands for none. The answers must equal the stored output, which no run of this program wrote.
-//! Each call is made once with enough memory, and then once for each of its allocations, with that allocation refused.
-//! The line of a case is printed only if the call reported each refused allocation, and gave its answer afterwards.
+//! Answers the cases of standard input that are runs of the program, by the output and the status of each run. A case
+//! has two lines: its name, and a call. A space separates the words of a call. Bytes are hexadecimal, and `-` stands
+//! for none. The answers must equal the stored output, which no run of this program wrote. Each call is made once with
+//! enough memory, and then with each allocation refused in turn, or with about 64 of them after the word `few`. The
+//! answer is printed only if the call reported each refused allocation, and gave its answer afterwards.
 #![tactic(auto)]
 
 mod archives;

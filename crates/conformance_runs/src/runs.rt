@@ -6,8 +6,8 @@ use capn_words::Watched;
 use conformance_cases::{Heap, bytes_at, cut_short, digits_of, number_at, word_at};
 use std::alloc::Global;
 
-/// Returns the command line of a case: the program's name, and the words after the first two. Word 1 is the number of
-/// these words.
+/// Returns the command line of a case: the program's name, and then the words from word 2 on. Word 1 gives their
+/// number.
 pub(crate) fn command_line<'a>(alloc: Global, words: &[&'a str]) -> Result<Vec<&'a str>> {
     let count = number_at(words, 1)? as usize;
     let mut line = Vec::new(alloc);
@@ -50,7 +50,7 @@ pub(crate) fn tool_told(
     }
 }
 
-/// Answers `usage COUNT WORD ..` by the status of a command line that means no command.
+/// Answers `usage COUNT WORD ..` by the status for a command line that `command_of` refuses.
 pub(crate) fn usage_answer(alloc: Global, words: &[&str]) -> Result<String> {
     let line = command_line(alloc, words)?;
     match command_of(alloc, line.as_slice()) {

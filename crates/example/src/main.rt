@@ -1,9 +1,9 @@
-//! An example of the libraries. It prints the digest of the canonical bytes of each message of standard input. It also
-//! says whether the message has the same value as the last one that was not refused.
+//! An example of the libraries. For each message of standard input, it prints the SHA-256 of the canonical bytes. It
+//! also says whether the message has the same value as the last one that was not refused.
 //!
-//! Canonical bytes are made to sign, hash and compare messages: they are equal if and only if the values are, up to
-//! trailing zero words and trailing null pointers. A program that reads messages from strangers sets limits first. The
-//! example reports a refused message in plain words.
+//! Canonical bytes serve to sign, hash and compare messages. The canonical bytes of two messages are equal if and only
+//! if their values are equal up to trailing zero words and trailing null pointers. A program that reads messages from
+//! strangers sets limits first. The example reports a refused message in plain words.
 #![tactic(auto)]
 
 use anyhow::Result;

@@ -6,8 +6,7 @@ ghost use Rattle.std.specs.Prelude.{◌≡◌, ◌⊎◌, ◌+◌, ◌-◌, ◌^
 /// The allocations that are refused, and the figures of those requested so far.
 #[derive(Clone, Copy)]
 pub(crate) struct Account {
-    /// The number of allocations up to the one that is refused, which is counted too. With 0 none is refused by its
-    /// number.
+    /// The number of allocations still to come, up to and including the refused one. At 0, none is refused by number.
     pub left: u64,
     /// The greatest size in bytes of an allocation that is not refused for its size.
     pub most: usize,

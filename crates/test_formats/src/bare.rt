@@ -1,4 +1,4 @@
-//! Tests of one segment, read as a bare message and through the trait of all messages.
+//! Tests of one segment, read as a bare message and through `Space`, the trait of all messages.
 
 use capn_words::{Bare, BareFault, Place, Space, total_words};
 

@@ -1,4 +1,4 @@
-//! Tests of frames: bare messages written as frames, frames read as bare messages, and framers that were fed nothing.
+//! Tests of frames: bare messages written as frames, frames read as bare messages, and the bytes that a framer holds.
 
 ghost use Rattle.std.specs.Prelude.{◌≤◌};
 ghost use Rattle.capn_words.specs.Message.{most_message_words};
@@ -43,7 +43,7 @@ fn a_framer_holds_the_table_that_it_refuses(rt: HostRuntime) {
     assert_eq!(rt; framer.feed(&FRAMED), Err(FrameFault::Failed));
 }
 
-/// Returns the size in words and in bytes of the message of one segment at the start of `bytes`.
+/// Returns the number of words of the one-segment message at the start of `bytes`, and the byte length of its frame.
 fn bare_sizes(bytes: &[u8], max_words: u32) -> Option<(Option<u32>, usize)>
     requires { max_words ≤ most_message_words }
 {

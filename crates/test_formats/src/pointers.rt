@@ -87,7 +87,7 @@ fn lists_of_each_width(rt: HostRuntime) {
     }
 }
 
-/// Words of far pointers, each with whether its landing pad is double, and with the word and the segment of the pad.
+/// Words of far pointers, each with a flag for a double landing pad, and with the word and the segment of the pad.
 const FARS: [(u64, bool, u32, u32); 2] = [
     (0x0000_0001_0000_0002, false, 0, 1),
     (0xffff_ffff_ffff_fffe, true, 0x1fff_ffff, 0xffff_ffff),

@@ -1,4 +1,4 @@
-//! Tests of reading a message: the number of bytes requested of the reader, and those left to it after a refusal.
+//! Tests of reading a message: the number of bytes that a call requests of the reader, and the number read in all.
 
 use capn_stream::{FrameFault, ReadFault, read_message};
 use capn_words::{MOST_MESSAGE_WORDS, Watched};
@@ -59,7 +59,7 @@ fn a_call_asks_for_no_more_than_16_384_bytes(rt: HostRuntime) -> Result<(), Fail
 }
 
 /// Streams that are refused, each with the reason and the number of bytes read. If the table is wrong, nothing is read
-/// after the bytes that show it. A stream that is cut is read to its end.
+/// after the bytes that show the error. A stream that is cut is read to its end.
 const REFUSED: [(&[u8], FrameFault, usize); 8] = [
     (
         &[0, 0x10, 0, 0, 1, 0, 0, 0, 2, 0, 0, 0],

@@ -12,8 +12,8 @@ use std::alloc::Global;
 /// The canonical bytes, or the reason why there are none.
 pub(crate) type Answer = Result<Canonical, Refusal>;
 
-/// Returns the result of all calls on the message of `stream`. If the message is not read, or a call contradicts its
-/// walk, returns the name of the call.
+/// Returns the result that all calls give for the message of `stream`. If the message is not read, or a call disagrees
+/// with the others, the error is the name of that call.
 pub(crate) fn agreed(alloc: Global, stream: &[u8], limits: Limits) -> Result<Answer, &'static str> {
     let Ok((space, _)) = first(alloc, stream, 268_435_456) else {
         return Err("first");
@@ -77,8 +77,8 @@ fn is_same(one: &Answer, other: &Answer) -> bool {
     }
 }
 
-// Tests whether canonical bytes, read as a bare message under the same limits, are canonical and are their own
-// canonical bytes.
+// Tests whether the canonical bytes in `answer`, read as a bare message under `limits`, are canonical and are their own
+// canonical bytes. Returns `true` if `answer` is a refusal.
 fn is_own(alloc: Global, answer: &Answer, limits: Limits) -> bool {
     let Ok(canonical) = answer else {
         return true;
@@ -98,8 +98,8 @@ fn segment_of<S: Space>(space: &S) -> &[u8] {
     }
 }
 
-/// Tests whether `is_canonical` agrees with a comparison of `bytes` with their canonical bytes. A refusal must be the
-/// same for both calls.
+/// Tests whether `is_canonical` returns `true` if and only if `canonicalise` returns `bytes` unchanged. A refusal must
+/// be the same for both calls.
 pub(crate) fn is_told(alloc: Global, bytes: &[u8], limits: Limits) -> bool {
     let told = is_canonical(alloc, bytes, limits);
     match canonicalise(alloc, Form::Bare, bytes, limits) {

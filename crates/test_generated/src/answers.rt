@@ -1,4 +1,4 @@
-//! Tests of whether the mismatch and the walk of a stream agree with its survey.
+//! Tests that compare the mismatch and the walk of a stream with its survey.
 
 use crate::writing::message;
 use capn_answers::{Mismatch, Walked, mismatch_and_survey_in, walk_in};

@@ -31,8 +31,7 @@ const CANONICAL: [&str; 22] = [
     "0100000051000000ff03000000000000",
 ];
 
-// Tests whether `is_canonical` agrees with a comparison of canonical bytes, for each byte of `bytes` changed to each
-// value.
+// Changes each byte of `bytes` to each value, one byte at a time. Tests whether `is_told` holds for all results.
 fn are_told(alloc: Global, bytes: &mut [u8], limits: Limits) -> bool {
     for at in 0..bytes.len() {
         for change in 0..=255u8 {
@@ -48,7 +47,7 @@ fn are_told(alloc: Global, bytes: &mut [u8], limits: Limits) -> bool {
 
 #[test]
 fn every_byte_changed(rt: HostRuntime) -> Result<(), Fail> {
-    // The budget is small, because a changed byte can make a pointer lead in circles.
+    // The budget is small, because a changed byte can make a cycle of pointers.
     let limits = Limits::new(1_000, 4_000, 64).unwrap_or(Limits::usual());
     for digits in &CANONICAL {
         let Ok(mut bytes) = hex::decode(rt.alloc(), digits) else {

@@ -1,4 +1,4 @@
-//! Tests of hostile messages: random words that are pointers to anywhere.
+//! Tests of hostile messages, whose words are random pointers, tag words and numbers.
 
 use crate::agreement::{Answer, agreed};
 use crate::random::Random;
@@ -18,15 +18,15 @@ fn any_index(random: &mut Random, count: u64, greatest: u64) -> u64 {
     }
 }
 
-// Returns a place of a message, mostly one inside it.
+// Returns a place, mostly one in a message of `segments` segments of `words` words each.
 fn any_place(random: &mut Random, segments: u64, words: u64) -> At {
     let segment = any_index(random, segments, 0xffff_ffff);
     let word = any_index(random, words, 0x1fff_ffff);
     At { segment, word }
 }
 
-// Returns the offset field of a pointer at word `pointer`: to any word of the segment, or at an end of the field's
-// range.
+// Returns the offset field of a pointer at word `pointer`. Mostly the offset leads to one of the segment's `words`
+// words, or to the word after the last. Rarely it is 2^29 - 2 or -2^29.
 fn any_offset(random: &mut Random, words: u64, pointer: u64) -> u64 {
     match random.below(24) {
         0 => offset_to(0x1fff_ffff, 0),
@@ -45,7 +45,7 @@ fn any_size(random: &mut Random, greatest: u64) -> u64 {
     }
 }
 
-// Returns the tag word of a composite list. Its count is small, or so great that it reads as a negative offset.
+// Returns the tag word of a composite list. Its row count is small, or so great that it would be a negative offset.
 fn any_tag(random: &mut Random) -> u64 {
     let count = any_size(random, 0x3fff_ffff);
     let words = any_size(random, 0xffff);
@@ -63,7 +63,7 @@ fn any_list(random: &mut Random) -> u64 {
     list(code, count)
 }
 
-// Returns the word at word `at` of a segment, in a message of `segments` segments of `words` words each.
+// Returns a word to write at word `at` of a segment, in a message of `segments` segments of `words` words each.
 fn any_word(random: &mut Random, segments: u64, words: u64, at: u64) -> u64 {
     match random.below(32) {
         0..=12 => {
@@ -119,7 +119,7 @@ fn message(alloc: Global, random: &mut Random) -> Result<Vec<u8>, AllocError> {
     segments.stream(alloc)
 }
 
-// Returns limits with a small budget, and with a depth that mostly allows few objects.
+// Returns limits with a small budget. Their depth is 1 to 6 objects half the time, and otherwise 64 or 70.
 fn any_limits(random: &mut Random) -> Limits {
     let budget = match random.below(8) {
         0 => 0,
@@ -134,7 +134,7 @@ fn any_limits(random: &mut Random) -> Limits {
     Limits::new(1_000, budget, depth).unwrap_or(Limits::usual())
 }
 
-// Returns the bit that stands for `answer`: the first bit if the message has a value, otherwise the bit of its fault.
+// Returns the bit that stands for `answer`: the bit of the fault if the walk stopped, and otherwise the first bit.
 fn ending_of(answer: &Answer) -> u32 {
     let Err(Refusal::Walk(stopped)) = answer else {
         return 1;
@@ -155,7 +155,7 @@ fn ending_of(answer: &Answer) -> u32 {
     }
 }
 
-// Returns the bit of the ending of the message of `seed`, and asserts that all calls agree on the message.
+// Asserts that all calls agree on the message of `seed`, and returns the bit of `ending_of` for their answer.
 fn ending(rt: &impl Abort, alloc: Global, seed: u64) -> Result<u32, AllocError> {
     let mut random = Random::new(seed);
     let stream = message(alloc, &mut random)?;
@@ -168,9 +168,9 @@ fn ending(rt: &impl Abort, alloc: Global, seed: u64) -> Result<u32, AllocError> 
     Ok(0)
 }
 
-// All calls agree on messages with cycles, near and far, overlaps, shared rows, tags and offsets at the ends of their
-// ranges, and landing pads that point to pads. They agree in each result, and in the place, the price and the visits of
-// each refusal. Every ending occurs except a refused allocation.
+// All calls agree on messages with cycles of near and of far pointers, overlaps, shared rows, extreme tags and offsets,
+// and landing pads that point to pads. They agree in each result, and in the place, the price and the visits of each
+// refusal. Every ending occurs except a refused allocation.
 #[test]
 fn a_hundred_thousand_messages(rt: HostRuntime) -> Result<(), Fail> {
     let mut met = 0;

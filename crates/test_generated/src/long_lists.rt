@@ -1,4 +1,4 @@
-//! Tests of a list of very many pointers. Results about its last pointer do not run out of memory.
+//! Tests of a list of very many pointers. Calls that report its last pointer do not run out of memory.
 
 use capn_answers::{Mismatch, Walked, mismatch_and_survey_in, walk_in};
 use capn_canon::Form;

@@ -1,4 +1,4 @@
-//! `Segments`: the segments of a message, written word by word, with pointers into them and their frame.
+//! `Segments`: the segments of a message, written word by word, and calls that make pointers, tag words and streams.
 
 ghost use Rattle.std.specs.Prelude.{◌≡◌, [], length, map, replicate, slice_index_or, IfOk};
 
@@ -44,7 +44,7 @@ impl Segments {
         }
     }
 
-    /// Appends `word` to `segment`.
+    /// Appends `word` to `segment`, if the message has that segment.
     pub(crate) fn push(&mut self, segment: u64, word: u64) -> Result<(), AllocError> {
         match self.segments.get_mut(segment as usize) {
             Some(words) => Ok(words.push(word)?),
@@ -52,7 +52,7 @@ impl Segments {
         }
     }
 
-    /// Replaces the word at `at` by `word`.
+    /// Replaces the word at `at`, if there is one, by `word`.
     pub(crate) fn set(&mut self, at: At, word: u64) {
         if let Some(words) = self.segments.get_mut(at.segment as usize) {
             if let Some(place) = words.get_mut(at.word as usize) {

@@ -36,7 +36,7 @@ fn is_read(alloc: Global, tree: &Tree, read: Option<Tree>, text: &[u8]) -> bool 
     }
 }
 
-// Tests whether the text of `tree` is read back as `tree`. Appends the text to `stream`.
+// Tests whether the text of `tree` is read back as `tree`. Appends the text and a line `end` to `stream`.
 fn joins(alloc: Global, tree: &Tree, stream: &mut Vec<u8>) -> Result<bool, AllocError> {
     let Ok(text) = show(alloc, tree) else {
         return Ok(false);

@@ -12,7 +12,7 @@ struct Object {
 }
 
 // A message that is being written, and its slots that have no pointer yet. `value` decides what the message says, and
-// `layout` decides where its objects lie. So the value does not depend on the number of segments.
+// `layout` decides where its objects lie. So the message's value does not depend on the number of segments.
 #[derive(Drop)]
 struct Writing {
     value: Random,
@@ -115,7 +115,7 @@ impl Writing {
         })
     }
 
-    // Points `slot` to `object`, directly or by a landing pad of one word or of two. A direct pointer to an empty
+    // Points `slot` to `object`, directly or by a landing pad, which has one or two words. A direct pointer to an empty
     // struct gets the offset -1, because with the offset 0 it would be null.
     fn point(&mut self, slot: At, object: Object) -> Result<(), AllocError> {
         let to = object.at;
@@ -174,8 +174,8 @@ impl Writing {
     }
 }
 
-/// Returns the stream of the message of `seed` in `count` segments. Its value is the same for every `count`. Below the
-/// struct or the list at its root there are fewer than 40 objects.
+/// Returns the stream of the message of `seed` in `count` segments. The value of the message is the same for every
+/// `count`. Below the struct or the list at its root there are fewer than 40 objects.
 pub(crate) fn message(alloc: Global, seed: u64, count: u64) -> Result<Vec<u8>, AllocError> {
     let mut writing = Writing {
         value: Random::new(seed),

@@ -46,7 +46,7 @@ const STREAMS: [&str; 33] = [
     "0000000002000000000000000100000005000000000000000000000003000000000000000200000005000000000000000000000000000000",
 ];
 
-/// The frames of the messages that are read from a stream, and the result at the end of the stream.
+/// The frames of the messages that are read from a stream, and the fault that ended the reading, or `Ok`.
 #[derive(Drop)]
 struct Told {
     frames: Vec<u8>,
@@ -77,7 +77,7 @@ fn push_frame<S: Space>(
     }
 }
 
-/// Reads the messages of `bytes` by `first`, one by one, and returns how the stream ends.
+/// Appends the frame of each message that `first` reads from `bytes`. Returns the first fault, or `Ok` at the end.
 fn take_each(alloc: Global, bytes: &[u8], frames: &mut Vec<u8>) -> Result<(), FrameFault> {
     let mut at = 0usize;
     for _ in 0..=bytes.len() {
@@ -93,7 +93,7 @@ fn take_each(alloc: Global, bytes: &[u8], frames: &mut Vec<u8>) -> Result<(), Fr
     Err(FrameFault::Memory)
 }
 
-/// Feeds `piece` to `framer`, and takes each message that becomes whole.
+/// Feeds `piece` to `framer`, and appends the frame of each message that becomes whole.
 fn feed_piece(
     framer: &mut Framer,
     alloc: Global,
@@ -114,7 +114,8 @@ fn feed_piece(
     Ok(())
 }
 
-/// Reads the messages of `bytes` by a framer that is fed `size` bytes at a time, and returns how the stream ends.
+/// Appends the frame of each message that a framer reads from `bytes`, fed `size` at a time. Returns the first fault,
+/// or the result of `finish`.
 fn feed_each(
     alloc: Global,
     bytes: &[u8],
@@ -140,7 +141,7 @@ fn told_at_once(alloc: Global, bytes: &[u8]) -> Told {
     Told { frames, ending }
 }
 
-/// Reads the messages of `bytes` by a framer that is fed `size` bytes at a time.
+/// Returns the frames and the ending that a framer gives for `bytes`, fed `size` at a time.
 fn told_in_pieces(alloc: Global, bytes: &[u8], size: usize) -> Told {
     let mut frames = Vec::new(alloc);
     let ending = feed_each(alloc, bytes, size, &mut frames);
@@ -182,7 +183,7 @@ fn twice(alloc: Global, digits: &str) -> Result<Vec<u8>, Fail> {
     Ok(bytes)
 }
 
-/// Each stream is written twice in a row, and the result is cut at every byte. So the cut is in the first copy, or in
+/// A framer reads every prefix of two copies of each stream as `first` does. The prefix ends in the first copy, or in
 /// the second after a whole one.
 #[test]
 fn streams_cut_at_every_byte(rt: HostRuntime) -> Result<(), Fail> {
@@ -203,8 +204,8 @@ pub(crate) fn long_table(alloc: Global, count: u32) -> Result<Vec<u8>, Fail> {
     Ok(bytes)
 }
 
-/// A long table is cut at every byte. The longest table allowed is cut in its first words and in its last. A longer one
-/// is refused at its fourth byte.
+/// A long table is cut at every byte. The longest table allowed is cut in its first words and in its last words. A
+/// longer table is refused at its fourth byte.
 #[test]
 fn long_tables_cut_at_every_byte(rt: HostRuntime) -> Result<(), Fail> {
     let long = long_table(rt.alloc(), 512)?;

@@ -12,8 +12,8 @@ use std::io::{self, Read};
 use std::process::Abort;
 use test_allocator::Refusing;
 
-/// A reader whose calls fill the buffer. Each begins with `first`, and leaves the rest of the buffer as it is, which is
-/// zeros if nothing else was put there.
+/// A reader whose next `left` calls report a full buffer. Each of them writes `first` to the start of the buffer, and
+/// leaves the rest unchanged. The rest is zero if nothing was written there.
 #[derive(Drop)]
 struct Pieces<'a> {
     first: &'a [u8],
@@ -52,7 +52,7 @@ enum Order {
     One(MessageText, Form),
 }
 
-/// Returns the result of a command to which no allocation above `ROOM` is allowed.
+/// Returns the result of `order` over `pieces` chunks, each begun by `first`, with allocations above `ROOM` refused.
 fn outcome_of(alloc: Global, order: Order, first: &[u8], pieces: u64) -> Result<(), ToolFault> {
     let limits = Limits::new(WORDS, 1_000, 64).unwrap_or(Limits::usual());
     let command = match order {

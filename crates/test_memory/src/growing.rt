@@ -23,7 +23,7 @@ fn is_whole(alloc: Global, stream: &[u8], segments: u32) -> bool {
     }
 }
 
-/// A message of any allowed number of segments is read if there is memory.
+/// Messages of 2 to 4,096 segments are read if there is memory. No message may have more segments.
 #[test]
 fn each_number_of_segments(rt: HostRuntime) -> Result<(), Fail> {
     for count in 2..=4_096u32 {
@@ -53,8 +53,8 @@ fn many_segments(alloc: Global) -> Result<Vec<u8>, AllocError> {
     Ok(stream)
 }
 
-/// Returns the number of allocations that reading the message of `stream` takes, and the greatest size of one. Returns
-/// both for writing its frame, too.
+/// Returns the number and the greatest size of the allocations that it takes to read the message of `stream`, and then
+/// of those that it takes to write its frame.
 fn framed_growths(alloc: Global, stream: &[u8]) -> Option<((u64, usize), (u64, usize))> {
     let heap = Refusing::nth(alloc, 0);
     let (message, _) = first(&heap, stream, MOST).ok()?;
@@ -70,8 +70,8 @@ fn framed_growths(alloc: Global, stream: &[u8]) -> Option<((u64, usize), (u64, u
     }
 }
 
-/// A message of many segments takes four bytes for each segment, whatever it holds. Its frame takes one allocation of
-/// its length.
+/// To read a message takes four bytes for each segment, whatever the segment holds. To write its frame takes one
+/// allocation of the frame's length.
 #[test]
 fn growths_of_many_segments(rt: HostRuntime) -> Result<(), Fail> {
     let stream = many_segments(rt.alloc())?;
@@ -126,8 +126,8 @@ fn voids_by_the_million(rt: HostRuntime) -> Result<(), Fail> {
     Ok(())
 }
 
-/// Returns the number of allocations of `check` over a packed input that begins with an empty message, and the greatest
-/// size of one.
+/// Returns the number and the greatest size of the allocations of `check` over packed bytes. Their first message must
+/// be refused because it has no words.
 fn priced_growths(alloc: Global, packed: &[u8]) -> Option<(u64, usize)> {
     let heap = Refusing::nth(alloc, 0);
     let command = Command::Check(Form::Packed, limits(64));

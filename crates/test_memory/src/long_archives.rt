@@ -11,8 +11,8 @@ use std::io::{self, Read, Write};
 use std::test::Fail;
 use test_allocator::Refusing;
 
-/// A reader that gives `len` bytes at each of `left` calls, and then `last`. Each call writes only `row` to the buffer,
-/// and leaves the rest as it is, which is zeros if nothing else was put there.
+/// A reader that gives `len` bytes at each of `left` calls, and then `last`. Each of the `left` calls writes only
+/// `row`, and leaves the rest of the buffer unchanged. The rest is zero if nothing was written there.
 #[derive(Drop)]
 struct Rows<'a> {
     row: &'a [u8],
@@ -132,7 +132,7 @@ fn twenty_thousand_that_differ_are_kept(rt: HostRuntime) -> Result<(), Fail> {
 /// The number of rows that are packed, each of 65,536 bytes.
 const PACKED: u64 = 49;
 
-/// Counts the allocations of packing `row`, `PACKED` times.
+/// Counts the allocations that it takes to pack `PACKED` copies of `row`.
 fn packed_growths(alloc: Global, row: &[u8]) -> Option<u64> {
     let heap = Refusing::nth(alloc, 0);
     let mut reader = Watched::new(Rows {
@@ -158,8 +158,8 @@ fn row_of(alloc: Global, last: u64) -> Result<Vec<u8>, AllocError> {
     Ok(row)
 }
 
-/// A dense word at the end of a row is held back, which takes one allocation more for each row. Code that unpacks its
-/// output to find the last group of each row takes two more, and the test fails for it.
+/// A word without zero bytes at the end of a row is held back, which takes one more allocation for each row. The test
+/// fails for code that unpacks its output to find the last group of each row, which takes two more.
 #[test]
 fn nothing_that_was_packed_is_unpacked(rt: HostRuntime) -> Result<(), Fail> {
     let sparse = row_of(rt.alloc(), 1)?;

@@ -64,7 +64,7 @@ const EMPTY: [u8; 16] = [0, 0, 0, 0, 1, 0, 0, 0, 0, 0, 0, 0, 0, 0, 0, 0];
 /// The number of `EMPTY` frames in a row of 65,536 bytes.
 const IN_A_ROW: u32 = 4_096;
 
-/// The number of rows in the stream of `EMPTY` frames, which then has 200,704 of them.
+/// The number of rows in the stream of 200,704 `EMPTY` frames.
 const ROWS: u64 = 49;
 
 /// Returns a packed frame, which unpacks to 65,536 bytes: one segment of 8,191 zero words.
@@ -80,7 +80,7 @@ fn packed_zeros(alloc: Global) -> Result<Vec<u8>, AllocError> {
 /// The number of frames of `packed_zeros` in a row of at most 65,536 bytes.
 const PACKED_IN_A_ROW: u32 = 978;
 
-/// The number of such rows that unpack to more than 1 GiB.
+/// The number of rows of `packed_zeros` that unpack to more than 1 GiB.
 const PACKED_ROWS: u64 = 17;
 
 /// The number of bytes that the packed rows unpack to.
@@ -114,7 +114,7 @@ struct Demand {
     written: u64,
 }
 
-/// Returns the demand of a run over `row`, `left` times, or `None` if the run does not end with `Ok`.
+/// Returns the demand of a run over `left` copies of `row`, or `None` if the run fails or finds a difference.
 fn taken(alloc: Global, order: Order, form: Form, row: &[u8], left: u64) -> Option<Demand> {
     let heap = Refusing::nth(alloc, 0);
     let limits = Limits::new(MOST, 8_388_608, 64)?;
@@ -252,7 +252,7 @@ fn two_hundred_thousand_canonical_messages(rt: HostRuntime) -> Result<(), Fail> 
     Ok(())
 }
 
-/// `cmp` keeps the canonical bytes of the first message only.
+/// `cmp` keeps only the canonical bytes of the first message.
 #[test]
 fn two_hundred_thousand_messages_of_one_value(rt: HostRuntime) -> Result<(), Fail> {
     let is_right = writes(rt.alloc(), Order::Cmp, 0)?;

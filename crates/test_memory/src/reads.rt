@@ -8,8 +8,8 @@ use std::test::Fail;
 use test_allocator::Refusing;
 
 /// Reads a message while allocation `number` is refused. Returns whether there was no allocation with that number, and
-/// the number of bytes left to the reader. The number of bytes is `None` if the call ended wrongly. It has to read the
-/// message if no allocation was refused, and otherwise to report `Memory`.
+/// the number of bytes left to the reader. The number of bytes is `None` if the call ended wrongly. The call has to
+/// read the message if no allocation was refused, and otherwise to report `Memory`.
 fn left_by(alloc: Global, stream: &[u8], number: u64) -> (bool, Option<usize>) {
     let short = Refusing::nth(alloc, number);
     let mut reader = Watched::new(stream);
@@ -25,7 +25,7 @@ fn left_by(alloc: Global, stream: &[u8], number: u64) -> (bool, Option<usize>) {
     (is_spared, None)
 }
 
-/// No byte of the next message is read if an allocation is refused for the one before.
+/// If an allocation for a message is refused, no byte of the next message is read.
 #[test]
 fn no_byte_of_the_next_message_is_read(rt: HostRuntime) -> Result<(), Fail> {
     let mut twice = stream_of_65(rt.alloc())?;

@@ -15,8 +15,8 @@ use std::process::Abort;
 use std::test::Fail;
 use test_allocator::Refusing;
 
-/// The words of a message in segments of 15, 2 and 1 words. Its root is a struct with a data word, a text, two rows,
-/// two pointers, and a double-far pointer to a struct.
+/// The words of a message in segments of 15, 2 and 1 words. Its root is a struct of a data word and four slots: a text,
+/// a list of two rows, a list of two pointers, and a double-far pointer to a struct.
 const CONTENTS: [u64; 18] = [
     0x4_0001_0000_0000,
     5,
@@ -174,7 +174,7 @@ pub(crate) fn answer(of: &Subject, short: &Refusing<Global>, call: Call) -> Answ
 }
 
 /// Calls `call` while allocation `number` is refused, and then once more. Returns whether there was no allocation with
-/// that number, and both outcomes. If there was one, the second call has enough memory.
+/// that number, and both outcomes. If an allocation was refused, the second call has enough memory.
 fn answers(of: &Subject, call: Call, number: u64) -> (bool, Answer, Answer) {
     let short = Refusing::nth(of.alloc, number);
     let first = answer(of, &short, call);
@@ -183,14 +183,13 @@ fn answers(of: &Subject, call: Call, number: u64) -> (bool, Answer, Answer) {
     (is_spared, first, again)
 }
 
-/// Tests whether `call` takes memory. A survey takes none, whatever the depth, nor does a check or a survey of bare
-/// words.
+/// Tests whether `call` takes memory. A survey, a check, and a survey of bare words take none, whatever the depth.
 fn takes_memory(call: Call) -> bool {
     !matches!(call, Call::Survey | Call::Check | Call::Account(Form::Bare))
 }
 
 /// Refuses each allocation of `call` in turn, until none is left to refuse. With a refused allocation the call has to
-/// return `Memory`, and with enough memory what is right. A call that takes no memory has no allocation to refuse.
+/// return `Memory`, and with enough memory the right result. A call that takes no memory has no allocation to refuse.
 fn refuse_each(rt: &impl Abort, of: &Subject, name: &str, call: Call) {
     for number in 1..1_000u64 {
         match answers(of, call, number) {
@@ -213,7 +212,7 @@ fn each_call(rt: HostRuntime) -> Result<(), Fail> {
 }
 
 /// Shows two messages, each with the text `text`, while allocation `number` is refused. Returns whether there was no
-/// allocation with that number, and the outcome. It is `Right` if both texts are written. It is `Memory` if an
+/// allocation with that number, and the outcome. The outcome is `Right` if both texts are written. It is `Memory` if an
 /// allocation is refused after the first text and perhaps a prefix of the second.
 fn shows_twice(alloc: Global, twice: &[u8], text: &[u8], number: u64) -> (bool, Answer) {
     let short = Refusing::nth(alloc, number);
@@ -274,7 +273,7 @@ fn ends_by(alloc: Global, command: &Command, input: &[u8], number: u64) -> (bool
     (is_spared, outcome == want)
 }
 
-/// Counts the allocations of a run. Returns `None` if one of them is refused and the run does not end with `Memory`.
+/// Counts the allocations of a run. Returns `None` if `ends_by` finds a wrong ending, or after 999 refused allocations.
 fn growths_of(alloc: Global, command: &Command, input: &[u8]) -> Option<u64> {
     for number in 1..1_000u64 {
         match ends_by(alloc, command, input, number) {

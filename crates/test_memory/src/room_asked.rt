@@ -19,8 +19,7 @@ fn bare_of(alloc: Global, root: u64, len: usize) -> Result<Vec<u8>, AllocError> 
     Ok(bytes)
 }
 
-/// Tests whether a bare message of `len` bytes is shown, and no allocation is above the size of four chunks and twice
-/// its bytes.
+/// Tests whether a bare message of `len` bytes is shown without an allocation of more than 256 KiB plus twice `len`.
 fn follows_its_input(alloc: Global, root: u64, len: usize) -> Result<bool, AllocError> {
     let input = bare_of(alloc, root, len)?;
     let most = len.saturating_mul(2).saturating_add(262_144);
@@ -42,10 +41,10 @@ fn room_for_a_bare_input(rt: HostRuntime) -> Result<(), Fail> {
 /// The root pointer to a list of 4 MiB of bytes.
 const LONG: u64 = 0x200_0002_0000_0001;
 
-/// The length in bytes of the bare message of that list.
+/// The length in bytes of the bare message with the root `LONG`.
 const LONG_LEN: usize = 4_194_312;
 
-/// Twice the greatest size of a text that is held: a text that is not yet long enough to be written, and one chunk.
+/// Twice the greatest size of a text that is held: up to 65,536 bytes that wait to be written, and a run of 4,096.
 const ROOM: usize = 2 * (65_536 + 4_096);
 
 /// Returns the length of the text of a message in `style`, if no allocation is above `ROOM`.

@@ -1,4 +1,4 @@
-//! Calls that are tested with refused allocations: canonical bytes, texts of faults, and runs.
+//! Calls for canonical bytes, texts of faults, and runs, to be tested with refused allocations.
 
 use crate::subject::{Answer, Subject, judged, limits, wanting};
 use capn_canon::{

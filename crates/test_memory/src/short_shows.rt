@@ -1,4 +1,4 @@
-//! Calls that are tested with refused allocations: texts with marks, and messages made from texts.
+//! Calls that show messages with marks or make messages from texts, to be tested with refused allocations.
 
 use crate::subject::{Answer, Subject, judged, limits, wanting};
 use capn_canon::Form;

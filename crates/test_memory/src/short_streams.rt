@@ -1,4 +1,4 @@
-//! Calls that are tested with refused allocations: on streams and packed bytes.
+//! Calls on streams and packed bytes, to be tested with refused allocations.
 
 use crate::subject::{Answer, MOST, Subject, judged, judged_message, wanting};
 use capn_pack::{PackFault, UnpackFault, Unpacker, pack, unpack};
@@ -22,8 +22,8 @@ pub(crate) fn frame_answer(of: &Subject, short: &Refusing<Global>) -> Answer {
     }
 }
 
-/// Returns the outcome of feeding the stream to `framer`. After a refused allocation the framer must fail at every
-/// call.
+/// Returns the outcome of feeding the stream to `framer`. After a refused allocation the framer must have no message,
+/// and must fail when it is fed again.
 fn fed_answer(of: &Subject, framer: &mut Framer<&Refusing<Global>>) -> Answer {
     match framer.feed(of.stream) {
         Ok(_) => match framer.take() {

@@ -1,4 +1,4 @@
-//! Calls that are tested with refused allocations: on texts that are read.
+//! Calls that read texts, to be tested with refused allocations.
 
 use crate::short_values::judged_tree;
 use crate::subject::{Answer, Subject, wanting};

@@ -1,4 +1,4 @@
-//! Calls that are tested with refused allocations: on messages and their values.
+//! Calls on messages and their values, to be tested with refused allocations.
 
 use crate::subject::{Answer, Subject, judged, limits, wanting};
 use capn_canon::{LayoutFault, Patch, layout};
@@ -90,7 +90,7 @@ pub(crate) fn growths_of_four(alloc: Global) -> Result<u64, AllocError> {
     Ok(heap.count())
 }
 
-/// Returns the outcome of a list of two items, which is right if it has them.
+/// Returns the outcome of `items`, which is right if the list has the items 7 and 8.
 pub(crate) fn items_answer(short: &Refusing<Global>) -> Answer {
     match items(short) {
         Ok(items) => judged(items.as_slice() == [7, 8].as_slice()),

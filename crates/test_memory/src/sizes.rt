@@ -62,7 +62,7 @@ fn through_each(rt: &impl Abort, alloc: Global, segment: &[u8]) -> Result<(), Fa
     stream_through_each(rt, alloc, stream.as_slice())
 }
 
-/// Checks that no call on the message of `stream` takes an allocation of more than eight times its bytes and 512 KiB.
+/// Checks each call on the message of `stream`. No allocation may exceed 512 KiB plus eight times the stream's length.
 pub(crate) fn stream_through_each(
     rt: &impl Abort,
     alloc: Global,
@@ -88,7 +88,7 @@ fn a_wide_struct_through_each_call(rt: HostRuntime) -> Result<(), Fail> {
     through_each(&rt, rt.alloc(), data.as_slice())
 }
 
-/// Each call is checked with 256 structs, each below the one before. That is the greatest depth that a limit allows.
+/// Each call is checked with structs that are nested 256 deep. That is the greatest depth that a limit allows.
 #[test]
 fn the_greatest_height_through_each_call(rt: HostRuntime) -> Result<(), Fail> {
     let deep = chain(rt.alloc(), 255)?;

@@ -40,8 +40,8 @@ pub(crate) fn limits(depth: u32) -> Limits {
 /// The canonical pointer to an empty struct.
 const EMPTY: u64 = 0xffff_fffc;
 
-/// Returns a chain of `levels` structs of two slots, each in the first slot of the one before. The remaining slots
-/// point to empty structs, and the last one is `last`.
+/// Returns a chain of `levels` structs of two slots, each in the first slot of the one before. The second slot of the
+/// last struct is `last`. The slots that remain point to empty structs.
 fn chain_to(alloc: Global, levels: u32, last: u64) -> Result<Vec<u8>, AllocError> {
     let mut words = Vec::new(alloc);
     words.push(0x2_0000_0000_0000)?;

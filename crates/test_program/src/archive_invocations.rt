@@ -287,7 +287,7 @@ fn messages_are_picked_by_a_list(rt: HostRuntime) {
     }
 }
 
-/// `--only` is refused with `--from` or `--to`, whatever their values, and allowed with the other options.
+/// `--only` is allowed with limits. It is refused with `--form=bare`, and with each value of `--from` and of `--to`.
 #[test]
 fn a_list_stands_alone(rt: HostRuntime) {
     for other in [

@@ -4,8 +4,8 @@ use capn_tool::{Watched, program};
 use std::alloc::Global;
 use std::io::{self, ErrorKind, Read, Write};
 
-/// A reader of at most `most` bytes a call. After its bytes it ends. If `fails`, it returns an error there and sets
-/// `failed`.
+/// A reader that gives at most `most` bytes a call. After `bytes` it ends. If `fails` is set, it returns an error there
+/// instead, and sets `failed`.
 #[derive(Drop)]
 struct Pieces<'a> {
     bytes: &'a [u8],

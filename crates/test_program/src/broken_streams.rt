@@ -5,7 +5,7 @@ use capn_tool::program_command;
 use std::alloc::Global;
 use std::process::Abort;
 
-/// Frames of a message with a word and a text, of one that is refused, of one that is null, and of the first again.
+/// Frames of four messages: one with a word and a text, a refused one, one with a null root, and the first one again.
 const ARCHIVE: [u8; 112] = [
     0, 0, 0, 0, 4, 0, 0, 0, 0, 0, 0, 0, 1, 0, 1, 0, 7, 0, 0, 0, 0, 0, 0, 0, 1, 0, 0, 0, 26, 0, 0,
     0, 104, 105, 0, 0, 0, 0, 0, 0, 0, 0, 0, 0, 1, 0, 0, 0, 0, 0, 0, 0, 9, 0, 0, 0, 0, 0, 0, 0, 1,
@@ -13,7 +13,7 @@ const ARCHIVE: [u8; 112] = [
     0, 0, 0, 1, 0, 0, 0, 26, 0, 0, 0, 104, 105, 0, 0, 0, 0, 0, 0,
 ];
 
-/// Runs over an archive that write about each message as soon as it is read.
+/// Runs over an archive that write a line or a frame for each message as soon as it is read.
 const OVER_ARCHIVES: [&[&str]; 4] = [
     &["capn", "list"],
     &["capn", "list", "--keep-going"],
@@ -82,8 +82,8 @@ fn piece_of(count: usize) -> usize {
     if count % 2 == 0 { 1 } else { usize::MAX }
 }
 
-/// Tests `cut`, the outcome of a run whose reader fails. If the reader returned an error, the run must say that the
-/// input failed. Otherwise the run must have ended earlier, as in `whole`, the outcome for an input that ends there.
+/// Tests `cut`, the outcome with a reader that fails after some bytes, against `whole`, the outcome if the input ends
+/// after these bytes. A run that met the failure must report it. In any other case `cut` must equal `whole`.
 fn ends_by_its_reader(cut: &Ending, whole: &Ending) -> bool {
     if cut.read_failed {
         cut.is_broken()
@@ -92,8 +92,8 @@ fn ends_by_its_reader(cut: &Ending, whole: &Ending) -> bool {
     }
 }
 
-/// Lets the reader fail after each number of bytes. The run must write all that it writes for an input that ends there.
-/// If the reader returned an error, the run must say so.
+/// Lets the reader fail after each number of bytes. The run must write exactly what it writes if the input ends after
+/// these bytes. If the reader returned an error, the run must say so.
 fn expect_all_that_came(rt: &impl Abort, alloc: Global, words: &[&str], bytes: &[u8]) {
     for count in 0..=bytes.len() {
         let (came, most) = (&bytes[..count], piece_of(count));
@@ -128,7 +128,7 @@ fn the_reader_of_what_is_shown_fails_after_each_byte(rt: HostRuntime) {
     }
 }
 
-/// The command line of a comparison. Of the two messages compared, the first is null, and the second differs from it.
+/// The command line of a comparison. The tests compare a message with a null root and a message that differs.
 const CMP: [&str; 2] = ["capn", "cmp"];
 
 #[test]
@@ -155,7 +155,7 @@ fn the_reader_of_a_packed_stream_fails_after_each_byte(rt: HostRuntime) {
     }
 }
 
-/// The text at the end of the input is not written if the reader fails first.
+/// A run that writes only at the end of its input writes nothing if the reader fails first.
 #[test]
 fn a_reader_fails_before_the_end(rt: HostRuntime) {
     for words in AT_THE_END {
@@ -203,8 +203,8 @@ fn the_reader_of_words_fails_after_each_byte(rt: HostRuntime) {
     }
 }
 
-/// Lets the writer fail after each number of bytes. Exactly these bytes of the text must be written, and the run must
-/// say that its output failed.
+/// Lets the writer fail after each number of bytes. Exactly that many bytes of the text must be written, and the run
+/// must say that its output failed.
 fn expect_what_has_room(rt: &impl Abort, alloc: Global, words: &[&str], bytes: &[u8]) {
     let whole = ended(alloc, words, Input::whole(bytes, usize::MAX));
     assert!(rt; !whole.text.is_empty(), "{words:?}");
@@ -271,7 +271,7 @@ fn written(alloc: Global, name: &str) -> Ending {
     ended(alloc, &["capn", name], input)
 }
 
-/// Lets the reader fail after every ninth byte. The run must write no more than it writes for an input that ends there.
+/// Lets the reader fail after every ninth byte. The run must write a prefix of what it writes if the input ends there.
 /// If the reader returned an error, the run must say so.
 fn expect_no_more_than_came(rt: &impl Abort, alloc: Global, words: &[&str], bytes: &[u8]) {
     for count in 0..=bytes.len() {
@@ -304,8 +304,8 @@ fn writes_what_has_room(rt: &impl Abort, alloc: Global, words: &[&str], bytes: &
     !whole.text.is_empty()
 }
 
-/// The reader of each command fails. The command is run over two messages, over the second of them, over its packed
-/// bytes, and over its text.
+/// A run of each command reports a failure of its reader, if it meets one. The inputs are two messages, the second of
+/// them, the packed bytes of the second, and its text.
 #[test]
 fn the_reader_of_each_command_fails(rt: HostRuntime) {
     let tool = program_command(rt.alloc()).expect(&rt, "memory");
@@ -324,7 +324,7 @@ fn the_reader_of_each_command_fails(rt: HostRuntime) {
     }
 }
 
-/// The writer of each command fails. Each command writes something for at least one of the inputs.
+/// A run of each command reports that its writer fails. Each command writes something for at least one of the inputs.
 #[test]
 fn the_writer_of_each_command_fails(rt: HostRuntime) {
     let tool = program_command(rt.alloc()).expect(&rt, "memory");

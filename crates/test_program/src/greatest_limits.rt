@@ -10,7 +10,7 @@ const STRUCT: [u8; 24] = [
     0, 0, 0, 0, 2, 0, 0, 0, 0, 0, 0, 0, 1, 0, 0, 0, 5, 0, 0, 0, 0, 0, 0, 0,
 ];
 
-/// A list of 600 numbers is taken, and its first number is that of the only message.
+/// A list of 600 numbers is taken, and its first number picks the only message.
 #[test]
 fn a_list_of_many_numbers_is_taken(rt: HostRuntime) -> Result<(), Fail> {
     let mut list = String::from_str(rt.alloc(), "1")?;
@@ -25,7 +25,7 @@ fn a_list_of_many_numbers_is_taken(rt: HostRuntime) -> Result<(), Fail> {
     Ok(())
 }
 
-/// Commands over messages that take limits.
+/// Commands that read messages and take limits.
 const LIMITED: [&str; 8] = [
     "check",
     "show",

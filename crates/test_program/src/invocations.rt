@@ -1,4 +1,4 @@
-//! Tests of command lines: the invocations that they mean, and those that are refused.
+//! Tests of command lines: the invocations that they mean, and the lines that are refused.
 
 use capn_tool::{
     Command, Explain, ExplainRefused, Explanation, Flow, Form, Invocation, Limits, Make,
@@ -30,7 +30,7 @@ fn is_shown(alloc: Global, words: &[&str], style: Style, path: Option<&str>) -> 
     }
 }
 
-/// Tests whether `words` mean a `show` of all of a packed stream in `style`, with the marks `offsets` and `ways`.
+/// Tests whether `words` mean a `show` of a whole packed stream in `style`, with the marks `offsets` and `ways`.
 fn is_marked(alloc: Global, words: &[&str], style: Style, offsets: bool, ways: bool) -> bool {
     let told = invocation_of(alloc, words);
     match &told {
@@ -62,7 +62,7 @@ fn is_each_explained(alloc: Global, words: &[&str], want: ExplainRefused) -> boo
     }
 }
 
-/// Tests whether `words` mean the flow `want`.
+/// Tests whether `words` mean `want`, which is `pack --streaming` or `unpack --streaming`.
 fn is_flow(alloc: Global, words: &[&str], want: Flow) -> bool {
     let told = invocation_of(alloc, words);
     match &told {
@@ -71,7 +71,7 @@ fn is_flow(alloc: Global, words: &[&str], want: Flow) -> bool {
     }
 }
 
-/// Tests whether `words` mean a `make` in `form`, with or without texts between quotes.
+/// Tests whether `words` mean a `make` in `form`, which allows texts between quotes if `quoted` is set.
 fn is_made(alloc: Global, words: &[&str], form: Form, quoted: bool) -> bool {
     let told = invocation_of(alloc, words);
     match &told {

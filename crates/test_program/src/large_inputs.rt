@@ -51,7 +51,7 @@ segments: 1 of 110001 words\n\
 refused: Range at 0:110000, paid 110001, visits 110001\n\
 way: 109999\n";
 
-/// The last element is refused, after more than 100,000 visits and in a word whose index is above 65,536.
+/// A refused last element is explained, after more than 100,000 visits and in a word whose index is above 65,536.
 #[test]
 fn a_refusal_after_many_visits_is_explained(rt: HostRuntime) -> Result<(), Fail> {
     let frame = frame_of(rt.alloc(), LONG_LIST, 0, OUT_OF_RANGE, ELEMENTS + 1)?;
@@ -65,7 +65,7 @@ fn a_refusal_after_many_visits_is_explained(rt: HostRuntime) -> Result<(), Fail>
     Ok(())
 }
 
-/// A capability with the greatest index is explained in the last element.
+/// A capability with the greatest index, in the last element of a list, is explained.
 #[test]
 fn a_great_capability_is_explained(rt: HostRuntime) -> Result<(), Fail> {
     let frame = frame_of(
@@ -84,7 +84,7 @@ canonical: no: capability 4294967295 at 109999\n";
     Ok(())
 }
 
-/// A list of 110,000 null pointers is shown with a line for each.
+/// A list of 110,000 null pointers is shown whole, and at the path of its last pointer.
 #[test]
 fn a_list_of_many_pointers_is_shown(rt: HostRuntime) -> Result<(), Fail> {
     let frame = frame_of(rt.alloc(), LONG_LIST, 0, 0, ELEMENTS + 1)?;
@@ -122,10 +122,10 @@ there: 1000008 bytes of at least 1600008\n";
 /// The root pointer to a list of 8 MiB of bytes that follows it.
 const LONG_BYTES: u64 = 0x400_0002_0000_0001;
 
-/// The number of words of a message with that list.
+/// The number of words of the message with the root `LONG_BYTES`.
 const LONG_WORDS: u32 = 1_048_577;
 
-/// Eight bytes of the list, each the letter `a`.
+/// A word of eight letters `a`.
 const LETTERS: u64 = 0x6161_6161_6161_6161;
 
 /// A message of 8 MiB is explained as accepted and canonical.
@@ -168,7 +168,7 @@ fn chain(alloc: Global) -> Result<Vec<u8>, AllocError> {
     )
 }
 
-/// Each line of a deep value has its whole path.
+/// The line of the deepest slot has its whole path.
 #[test]
 fn a_path_of_two_hundred_characters_is_marked(rt: HostRuntime) -> Result<(), Fail> {
     let frame = chain(rt.alloc())?;

@@ -5,7 +5,7 @@ use std::alloc::Global;
 use std::io::{self, Read};
 use std::process::Abort;
 
-/// A reader whose calls report a full buffer. They leave the bytes of the buffer as they are, which are zeros.
+/// A reader whose next `left` calls report a full buffer, but write nothing to it. The buffer holds zeros.
 #[derive(Drop)]
 struct Zeros {
     left: u64,

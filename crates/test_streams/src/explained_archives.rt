@@ -50,8 +50,8 @@ fn pair(between: u64) -> u64 {
     0x2_0000_0000_0000 | between << 2
 }
 
-/// Returns the words of a message with 63 levels of structs below its root. Each struct has two slots, and both point
-/// to the next level. The walk of the message exceeds every budget.
+/// Returns the words of a message with 63 levels of structs below its root. Each struct has two slots. Both point to
+/// the next level, or are null in the last. The walk of the message exceeds every budget.
 fn costly(alloc: Global) -> Result<Vec<u64>, AllocError> {
     let mut words = Vec::new(alloc);
     words.push(pair(0))?;
@@ -159,8 +159,8 @@ fn chain_and_list(alloc: Global, comes_first: bool) -> Result<Vec<u8>, AllocErro
     Ok(frame)
 }
 
-/// The word that differs is found without a walk of the values before it. Code that walks them goes down the chain, and
-/// for its path of 200 numbers memory grows six times more.
+/// The word that differs is found without a walk of the values before it. Code that walks these values goes down the
+/// chain, and needs six more allocations for its path of 200 numbers.
 #[test]
 fn the_word_that_differs_is_found_without_a_search(rt: HostRuntime) -> Result<(), Fail> {
     let first = chain_and_list(rt.alloc(), true)?;

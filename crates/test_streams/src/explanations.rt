@@ -60,7 +60,7 @@ fn explained(alloc: Global, form: Form, number: Option<u64>, bytes: &[u8]) -> Ou
     explained_of(alloc, form, number, bytes)
 }
 
-/// Returns the fault of a message whose root is a struct beyond its segment.
+/// Returns the fault of the message at `index` and `offset`, whose root is a struct beyond its segment.
 fn out_of_range(index: u64, offset: u64) -> RunFault {
     let stopped = Stopped {
         fault: Fault::Range,
@@ -121,7 +121,7 @@ fn explains_the_first_refused_message(rt: HostRuntime) -> Result<(), Fail> {
     Ok(())
 }
 
-/// The message with the given number is explained, refused or accepted, and those before it are not walked.
+/// The message with the given number is explained, refused or accepted. If there is none, the messages are counted.
 #[test]
 fn explains_the_message_of_a_number(rt: HostRuntime) -> Result<(), Fail> {
     let fourth = explained(rt.alloc(), Form::Stream, Some(4), &FRAMES);
@@ -325,7 +325,7 @@ fn explains_why_a_message_is_not_canonical(rt: HostRuntime) -> Result<(), Fail> 
     Ok(())
 }
 
-/// Explains a message of `bytes` while the allocation `refused` is refused. Returns the outcome, and whether no
+/// Runs `explain` over `bytes` while allocation number `refused` is refused. Returns the outcome, and whether no
 /// allocation was refused.
 fn explained_under(alloc: Global, refused: u64, bytes: &[u8]) -> (Outcome, bool) {
     let heap = Refusing::nth(alloc, refused);

@@ -36,7 +36,7 @@ struct Outcome {
     ending: Result<(), RunFault>,
 }
 
-/// Picks the messages `from` to `to` of a reader that fails if it is read again.
+/// Picks the messages `from` to `to` of `bytes`. The reader gives `bytes` in one call, and fails at the next.
 fn picked(alloc: Global, form: StreamForm, from: u64, to: u64, bytes: &[u8]) -> Outcome {
     let pick = Pick {
         form,
@@ -93,7 +93,7 @@ fn reads_on_before_the_last_message(rt: HostRuntime) -> Result<(), Fail> {
     Ok(())
 }
 
-/// A frame that is refused before the last message ends the run at its position.
+/// A refused frame before the last message to pick ends the run with the position of the frame.
 #[test]
 fn ends_at_a_refused_frame(rt: HostRuntime) -> Result<(), Fail> {
     let refused = picked(rt.alloc(), StreamForm::Stream, 2, 4, &FRAMES);
@@ -156,7 +156,7 @@ fn picks_a_long_message(rt: HostRuntime) -> Result<(), Fail> {
     Ok(())
 }
 
-/// Picks the messages of `ranges` from a reader that fails if it is read again.
+/// Picks the messages of `bytes` in `ranges`. The reader gives `bytes` in one call, and fails at the next.
 fn picked_only(alloc: Global, form: StreamForm, ranges: &[Range], bytes: &[u8]) -> Outcome
     requires { AreAscending ranges.now }
 {

@@ -1,4 +1,4 @@
-//! Tests of the positions that a service gets. The service is one that only these tests have.
+//! Tests of the positions that are passed to a service. These tests define the service.
 
 ghost use Rattle.std.specs.Prelude.{⊤};
 
@@ -70,7 +70,7 @@ impl<'a> Read for Single<'a> {
     }
 }
 
-/// Returns the result of a run over the packed `input` that unpacks at most `limit` bytes, and its output.
+/// Returns the result and the output of a run over the packed `input` that unpacks at most `limit` bytes.
 fn packed<R: Read + Drop>(alloc: Global, input: R, limit: u64) -> (Result<(), RunFault>, Vec<u8>) {
     let mut run = Run::new(Places);
     let mut reader = Watched::new(input);
@@ -115,7 +115,7 @@ fn more_than_the_limit(rt: HostRuntime) -> Result<(), Fail> {
 }
 
 /// Returns the result of a run over `input` in `form`, and the parts that were read of the message and of the group at
-/// which it stopped.
+/// which the run stopped.
 fn stopped(alloc: Global, form: Form, input: &[u8]) -> (Result<(), RunFault>, Begun<Global>) {
     let mut run = Run::new(Places);
     let mut begun = Begun::new(alloc);
@@ -134,7 +134,7 @@ fn stopped(alloc: Global, form: Form, input: &[u8]) -> (Result<(), RunFault>, Be
     (ending, begun)
 }
 
-/// Returns the fault of a second frame, after one of 16 bytes.
+/// Returns the error of a run that stops with `refusal` at a second frame, after a frame of 16 bytes.
 fn second(refusal: Refusal) -> Result<(), RunFault> {
     let at = Position {
         index: 1,
@@ -162,7 +162,7 @@ fn what_came_of_a_frame(rt: HostRuntime) -> Result<(), Fail> {
     Ok(())
 }
 
-/// The unpacked bytes of a cut frame are kept. Of a cut group, the packed bytes are kept.
+/// The unpacked bytes of a cut frame are kept, and the packed bytes of a cut group.
 #[test]
 fn what_came_of_a_group(rt: HostRuntime) -> Result<(), Fail> {
     let (ending, begun) = stopped(rt.alloc(), Form::Packed, &THREE[..6]);

@@ -221,7 +221,7 @@ fn writes_before_it_reads_again(rt: HostRuntime) -> Result<(), Fail> {
     Ok(())
 }
 
-/// If any allocation is refused, the run ends with `Memory`, and what was written is a prefix of its text.
+/// If any allocation is refused, the run ends with `Memory`, and its output is a prefix of the full text.
 #[test]
 fn tells_that_memory_ran_out(rt: HostRuntime) -> Result<(), Fail> {
     let lines = lines_of_two(rt.alloc())?;

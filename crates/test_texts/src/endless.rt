@@ -30,7 +30,7 @@ impl Read for Endless<'_> {
     }
 }
 
-/// Returns the result of a run over `text` and then `again` over and over, and the number of bytes that it read.
+/// Returns the result of a run over `text` and endless copies of `again`, and the number of bytes that the run read.
 fn run(
     alloc: Global,
     form: Form,

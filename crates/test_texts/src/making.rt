@@ -7,7 +7,7 @@ use capn_words::Bare;
 use std::alloc::Global;
 use std::test::Fail;
 
-/// Returns the result of a run over `input`, and its output.
+/// Returns the result and the output of a run over `input`.
 pub(crate) fn run(alloc: Global, form: Form, input: &[u8]) -> (Result<(), MakeFault>, Vec<u8>) {
     let mut reader = Watched::new(input);
     let mut writer = Watched::new(Vec::new(alloc));
@@ -38,7 +38,7 @@ const NULL_PACKED: &[u8] = b"\x10\x01\0\0";
 pub(crate) const PADDED: &[u8] =
     b"struct 2 1\n  word 0000000000000005\n  word 0000000000000000\n  null\nend\n";
 
-/// Forms and inputs, each with the output for it.
+/// Forms and inputs, each pair with its output.
 pub(crate) const MADE: [(Form, &[u8], &[u8]); 8] = [
     (Form::Stream, NULL, NULL_FRAME),
     (Form::Packed, NULL, NULL_PACKED),

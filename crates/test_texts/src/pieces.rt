@@ -22,7 +22,7 @@ impl Read for Pieces<'_> {
     }
 }
 
-/// Returns the result of a run over `rest`, read in chunks of at most `most` bytes, and its output.
+/// Returns the result and the output of a run over `rest`, read in chunks of at most `most` bytes.
 fn run_in_pieces(
     alloc: Global,
     form: Form,
@@ -61,7 +61,7 @@ fn long_texts_in_pieces(rt: HostRuntime) -> Result<(), Fail> {
             assert!(rt; again == Ok(()));
             assert!(rt; same.as_slice() == written.as_slice());
         }
-        // Without its last newline the last text is refused, and the messages of the two before it have been written.
+        // If the last newline is missing, the last text is refused, and the messages of the other two are written.
         let short = &input[..input.len().saturating_sub(1)];
         let (fault, begun) = run_in_pieces(alloc, form, short, 65_536);
         assert!(rt; fault == Err(MakeFault::NotText(10)), "{fault:?}");

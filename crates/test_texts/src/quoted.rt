@@ -1,4 +1,4 @@
-//! Tests of messages made from texts between quotes. They equal the messages made from hexadecimal digits, and a
+//! Tests of messages made from texts between quotes. The messages equal those made from hexadecimal digits, and a
 //! refusal names the line of the input.
 
 use crate::making::run;
@@ -6,7 +6,7 @@ use crate::pieces::Pieces;
 use capn_make::{Form, MakeFault, Misfit, Watched, make_texts};
 use std::alloc::Global;
 
-/// Returns the result of a run over an input with quotes, read in chunks of at most `most` bytes, and its output.
+/// Returns the result and the output of a run over `rest`, which may have quotes, in chunks of at most `most` bytes.
 fn run_texts(
     alloc: Global,
     form: Form,
@@ -20,8 +20,8 @@ fn run_texts(
     (outcome, writer.into_inner())
 }
 
-/// Tests whether a run over `input`, with quotes allowed, ends with `ending`. It must write what a run over `plain`
-/// writes, which has no quotes.
+/// Tests whether a run over `input`, with quotes allowed, ends with `ending`. The run must write what a run over
+/// `plain`, without quotes, writes.
 fn is_same(
     alloc: Global,
     form: Form,
@@ -159,8 +159,8 @@ fn own_lines_after_many_texts(rt: HostRuntime) -> Result<(), std::test::Fail> {
     Ok(())
 }
 
-/// Returns the number of bytes that a run leaves unread when it refuses the first line. The input is `front`, filled up
-/// to 400,000 bytes with `filler`, without a newline.
+/// Returns the number of bytes that a run leaves unread when it refuses the first line, or 0 if it ends otherwise. The
+/// input is `front`, filled up to 400,000 bytes with `filler`, without a newline.
 fn left_of(alloc: Global, front: &[u8], filler: u8) -> Result<usize, std::test::Fail> {
     let mut input = Vec::new(alloc);
     input.extend_from_slice(front)?;

@@ -220,7 +220,7 @@ fn deep_fault(alloc: Global, last: &[u8]) -> Result<Option<TextFault>, Fail> {
     Ok(fault_of(alloc, text.as_slice()))
 }
 
-/// The refusal of a text of more than 256 levels. The first line that is too deep decides it.
+/// The refusal of a text of more than 256 levels, whatever follows its first line that is too deep.
 const TALL: TextFault = TextFault::Misfit(Misfit::Tall);
 
 /// Lines at level 256 that are refused, and the reason for each.

@@ -54,7 +54,7 @@ impl Write for Breaking {
     }
 }
 
-/// Returns the result of a run over the reader `parted`, whose writer fails at the call `fails_at`, and its output.
+/// Returns the result and the output of a run over `parted`. The writer fails from call `fails_at` on, or never at 0.
 fn run_parted(
     alloc: Global,
     form: Form,

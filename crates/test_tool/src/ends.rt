@@ -44,13 +44,13 @@ fn check() -> Run<'static> {
     }
 }
 
-/// A stream of a struct of one word, twice, so that a command writes one line for each.
+/// A stream of two equal structs of one word, so that a command writes two equal lines.
 const TWICE: [u8; 48] = [
     0, 0, 0, 0, 2, 0, 0, 0, 0, 0, 0, 0, 1, 0, 0, 0, 5, 0, 0, 0, 0, 0, 0, 0, 0, 0, 0, 0, 2, 0, 0, 0,
     0, 0, 0, 0, 1, 0, 0, 0, 5, 0, 0, 0, 0, 0, 0, 0,
 ];
 
-/// The line of the message's digest, of 65 bytes, twice.
+/// The lines of the digests of `TWICE`, 65 bytes each.
 const DIGESTS: &[u8] = b"6a3efd90ef3aebf0decabee51bbe92707bee76bb8f2830efd1bf615b14f61ac2\n\
     6a3efd90ef3aebf0decabee51bbe92707bee76bb8f2830efd1bf615b14f61ac2\n";
 
@@ -76,7 +76,7 @@ fn due(whole: &[(u64, usize)], call: u64) -> usize {
 }
 
 /// Returns the number of calls of the reader by the time that the byte `byte` of the text is written. It is the number
-/// of bytes up to the end of the message that the text is about, or `all` for text at the end of the input.
+/// of bytes up to the end of the message whose line has that byte, or `all` for text after the last line.
 fn reads_before(whole: &[(u64, usize)], byte: usize, all: u64) -> u64 {
     for (bytes, text) in whole {
         if byte <= *text {

@@ -40,8 +40,8 @@ fn odd(alloc: Global, count: u32) -> Result<String, AllocError> {
     Ok(list)
 }
 
-/// A list takes 16 bytes for each of its ranges, or at most twice that. Code that takes the room of the longest list
-/// before it reads this one makes an allocation of mebibytes.
+/// A list takes 16 to 32 bytes for each of its ranges. Code that takes the room of the longest list at once makes an
+/// allocation of mebibytes.
 #[test]
 fn a_list_asks_for_the_room_of_its_ranges(rt: HostRuntime) -> Result<(), Fail> {
     assert!(rt; picked_within(rt.alloc(), "3", 256) == Some(16));

@@ -71,7 +71,7 @@ impl Write for Sink<'_> {
     }
 }
 
-/// Returns the result of a run over chunks of `piece` bytes, and its output.
+/// Returns the result and the output of a run over chunks of `piece` bytes.
 fn ended(
     alloc: Global,
     command: Command,

@@ -6,8 +6,8 @@ use capn_words::Watched;
 use std::alloc::{AllocError, Global};
 use std::test::Fail;
 
-/// Returns the status of the program with `words` over chunks of `piece` bytes, and its output. The calls of its reader
-/// and its writer are counted in `calls`, and those of its error writer in `told`.
+/// Returns the status and the output of the program with `words` over chunks of `piece` bytes. The calls of its reader
+/// and its writer are counted in `calls`, and the calls of its error writer in `told`.
 fn programmed(
     alloc: Global,
     words: &[&str],
@@ -36,8 +36,8 @@ fn programmed(
 /// The number of bytes of a chunk.
 const PIECE: usize = 65_536;
 
-/// Returns the output of the program over whole chunks. Its status must be 0. It must read once for each chunk and once
-/// more, and call its writer at most `writes` times for each chunk.
+/// Returns the output of the program over whole chunks. Its status must be 0. It must call its reader once for each
+/// chunk and once more, and its writer at most `writes` times for each chunk and once more.
 fn in_pieces(alloc: Global, words: &[&str], input: &[u8], writes: u64) -> Option<Vec<u8>> {
     let calls = no_calls();
     let told = no_calls();

@@ -32,7 +32,7 @@ impl Write for Page {
     }
 }
 
-/// Returns a writer to which nothing has been written.
+/// Returns an empty writer, whose writes fail unless `takes` is set, and whose flushes fail unless `flushes` is set.
 fn blank(alloc: Global, takes: bool, flushes: bool) -> Page {
     Page {
         bytes: Vec::new(alloc),
@@ -42,7 +42,7 @@ fn blank(alloc: Global, takes: bool, flushes: bool) -> Page {
     }
 }
 
-/// Returns the status of the program for `words` and `input`, with its output, written to `output`, and its errors.
+/// Returns the status of the program for `words` and `input`, its writer, which was `output`, and its error writer.
 fn ended(alloc: Global, words: &[&str], input: &[u8], output: Page) -> (u8, Page, Page) {
     let mut reader = Watched::new(input);
     let mut writer = Watched::new(output);
@@ -102,7 +102,7 @@ fn each_status_of_a_run(rt: HostRuntime) {
     }
 }
 
-/// Tests whether `words` are refused: nothing is written to the output, and the errors begin with `line`.
+/// Tests whether `words` are refused: the status is 2, no output is written, and the errors begin with `line`.
 fn is_mistake(alloc: Global, words: &[&str], line: &[u8]) -> bool {
     let (code, written, told) = ended(alloc, words, &STREAM, blank(alloc, true, true));
     code == 2 && written.bytes.is_empty() && told.bytes.as_slice().starts_with(line)

@@ -7,8 +7,8 @@ use capn_walk::Limits;
 use std::alloc::Global;
 use std::process::Abort;
 
-/// Returns the result of `same_messages` for the frames of `one` and `other`. Returns `None` if a comparison of their
-/// canonical bytes has another result or another refusal.
+/// Returns the result of `same_messages` for the frames of `one` and `other`. Returns `None` if a frame is not read, or
+/// a comparison of the canonical bytes has another result or another refusal.
 pub(crate) fn compared(
     alloc: Global,
     one: &[u64],
@@ -64,14 +64,14 @@ pub(crate) fn expect(rt: &impl Abort, alloc: Global, one: &[u64], other: &[u64],
     assert!(rt; back == Some(Ok(want)));
 }
 
-/// Returns the pointer to a struct of `words` words and `slots` slots, `offset` words after the pointer.
+/// Returns the pointer to a struct of `words` words and `slots` slots after the next `offset` words.
 pub(crate) fn node(offset: u64, words: u64, slots: u64) -> u64 {
     offset.wrapping_mul(4)
         | words.wrapping_mul(0x1_0000_0000)
         | slots.wrapping_mul(0x1_0000_0000_0000)
 }
 
-/// Returns the pointer to a list of `count` elements of the size code `kind`, `offset` words after the pointer.
+/// Returns the pointer to a list of `count` elements of the size code `kind` after the next `offset` words.
 pub(crate) fn list(offset: u64, kind: u64, count: u64) -> u64 {
     1 | offset.wrapping_mul(4)
         | kind.wrapping_mul(0x1_0000_0000)

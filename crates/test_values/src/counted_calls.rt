@@ -62,8 +62,8 @@ fn pointer(between: u64) -> u64 {
     0x2_0000_0000_0000 | between << 2
 }
 
-/// Returns a frame of two segments whose root is a far pointer to a landing pad of one word. Below the root there are
-/// `levels` structs of two slots, both of which point to the next struct.
+/// Returns a frame of two segments with a chain of `levels + 1` structs of two slots. Both slots point to the next
+/// struct, or are null in the last. The root is a far pointer to a landing pad of one word.
 fn doubling(alloc: Global, levels: u8) -> Result<Vec<u8>, Fail> {
     let mut words = Vec::new(alloc);
     words.push(0x1_0000_0001)?;

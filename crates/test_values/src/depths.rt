@@ -15,8 +15,8 @@ fn surveyed_at(alloc: Global, space: &Bare<'_>, depth: u32) -> Option<Result<Sur
     Some(survey(alloc, space, limits))
 }
 
-/// Tests whether a survey finds that a message needs `depth`. A survey within `depth` must accept the message, and one
-/// within `depth - 1`, if limits can have that, must find it too deep.
+/// Tests whether a survey finds that a message needs `depth`. A survey within `depth` must accept the message. A survey
+/// within `depth - 1`, if limits allow that depth, must find the message too deep.
 fn is_deep(alloc: Global, words: &[u64], depth: u32) -> Result<bool, Fail> {
     let bytes = bytes_of(alloc, words)?;
     let Ok(bare) = Bare::new(bytes.as_slice()) else {

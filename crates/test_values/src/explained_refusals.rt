@@ -130,7 +130,7 @@ way: root\n\
 slot: byte 0, segment 0 word 0: 010000000f000000: list of structs in 1 words, offset 0\n\
 tag: byte 8, segment 0 word 1: 0100000000000000: list of 0 voids, offset 0\n",
     ),
-    // A list of structs with one word, whose tag word counts one struct of two words.
+    // A list of structs that has one word after its tag word, which counts one struct of two words.
     (
         &[0xf_0000_0001, 0x2_0000_0004, 0],
         "message: 1 at 0\n\
@@ -174,8 +174,8 @@ slot: byte 0, segment 0 word 0: fcffffff00000100: struct of 0 words and 1 slots,
 in: struct of 0 words and 1 slots at byte 0\n\
 limit: --depth 2\n";
 
-/// A stream whose root has a slot that points to twenty bytes by a landing pad of two words. Pad and bytes are in
-/// segment 1, which has no room for the bytes.
+/// A stream whose root has a slot that points to twenty bytes by a landing pad of two words. The pad and the bytes are
+/// in segment 1, which has no room for the bytes.
 const FAR: [u64; 7] = [
     0x2_0000_0001,
     0x3,

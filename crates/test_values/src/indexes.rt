@@ -1,4 +1,4 @@
-//! Tests of indexes of messages, also into rooms that are too short for them.
+//! Tests of indexes of messages, some of which are written into a room that is too short.
 
 use crate::words::bytes_of;
 use capn_walk::{
@@ -127,8 +127,8 @@ fn put(bytes: &[u8], limits: Limits, room: &mut [Entry]) -> Option<Result<Indexe
     Some(index_into(&bare, limits, room))
 }
 
-/// Tests the index of a message in a room of `most` entries. As many of the entries `want` as there is room for must be
-/// written, and nothing after them.
+/// Tests the index of a message in a room of `most` entries. The entries of `want` for which there is room must be
+/// written, and nothing after them. The result must be `told`.
 fn is_put(bytes: &[u8], want: &[Entry], told: Indexed, most: usize) -> bool {
     let mut room = ROOM;
     let most = most.min(6);
@@ -208,7 +208,7 @@ fn an_index_in_another_form(rt: HostRuntime) -> Result<(), Fail> {
     Ok(())
 }
 
-/// The stop of the index of `ROWS` with a budget of six words: at the struct in the last slot.
+/// The stop of an index of `ROWS` with a budget of six words. The stop is at the struct in the last slot.
 const STOPPED: Stopped = Stopped {
     fault: Fault::OverBudget,
     place: Place {

@@ -6,7 +6,7 @@ use capn_canon::{LayoutFault, layout};
 use capn_value::{Items, Value};
 use std::alloc::Global;
 
-/// Returns the layout of a value, or `None` if it is not a valid tree.
+/// Returns the layout of a value, or `None` if the value was not made or does not fit into a tree.
 fn laid(alloc: Global, made: Made) -> Option<Result<Vec<u8>, LayoutFault>> {
     match tree(made) {
         Ok(tree) => {
@@ -19,7 +19,7 @@ fn laid(alloc: Global, made: Made) -> Option<Result<Vec<u8>, LayoutFault>> {
     }
 }
 
-/// Tests whether the layout of a value has these words.
+/// Tests whether the layout of a value has the words `want`.
 fn is_laid(alloc: Global, made: Made, want: &[u64]) -> bool {
     match (laid(alloc, made), bytes_of(alloc, want)) {
         (Some(Ok(bytes)), Ok(want)) => bytes.as_slice() == want.as_slice(),

@@ -1,5 +1,5 @@
-//! Calls that make values by hand. Each takes the results of others, so that a refused allocation is reported at the
-//! end.
+//! Calls that make values by hand. They take results of other such calls, so that the last call reports a refused
+//! allocation.
 
 use capn_value::{Body, Items, Misfit, Tree, Value};
 use std::alloc::{AllocError, Global};
@@ -7,7 +7,7 @@ use std::alloc::{AllocError, Global};
 /// A value, or the error that an allocation was refused.
 pub(crate) type Made = Result<Value, AllocError>;
 
-/// Returns a body of the data `words` and the `slots`.
+/// Returns the body of a struct or a row, with the data `words` and the `slots`.
 pub(crate) fn body(alloc: Global, words: &[u64], slots: Vec<Value>) -> Result<Body, AllocError> {
     Ok(Body {
         words: Items::from_slice(alloc, words)?,

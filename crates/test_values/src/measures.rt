@@ -31,7 +31,7 @@ fn told(
     Ok((measure(alloc, &message, limits), own))
 }
 
-/// Returns a measure with these figures.
+/// Returns the measure with the given figures.
 fn measured(
     paid: u32,
     visits: u32,
@@ -59,7 +59,7 @@ fn a_canonical_message(rt: HostRuntime) -> Result<(), Fail> {
     Ok(())
 }
 
-/// A message is not canonical because of a zero word at the end of a struct, a word after the value, a capability, or a
+/// A message is not canonical if it has a zero word at the end of a struct, a word after the value, a capability, or a
 /// second segment.
 #[test]
 fn messages_that_are_not_canonical(rt: HostRuntime) -> Result<(), Fail> {
@@ -78,7 +78,7 @@ fn messages_that_are_not_canonical(rt: HostRuntime) -> Result<(), Fail> {
     Ok(())
 }
 
-/// A message is refused if its walk is: here a slot points to its own struct.
+/// A message whose walk is refused has no measure. Here a slot points to its own struct.
 #[test]
 fn a_message_that_is_refused(rt: HostRuntime) -> Result<(), Fail> {
     let (found, own) = told(rt.alloc(), &[0x1_0000_0000, 0x1_0000_ffff_fffc])?;

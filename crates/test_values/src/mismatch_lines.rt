@@ -70,7 +70,7 @@ fn measured_reads(alloc: Global, words: &[u64], table: u32, lines: &str) -> Resu
     Ok(text.as_str() == lines)
 }
 
-/// A measured message has the right lines, if a word follows its value and a table of one word stands before it.
+/// The lines are right for a measured message with a word after its value and with a table of one word.
 #[test]
 fn lines_of_a_measured_message(rt: HostRuntime) -> Result<(), Fail> {
     let lines = "canonical: no: at byte 40: 0700000000000000, canonical nothing, after the value\n\
@@ -109,7 +109,7 @@ fn is_measured(
     Ok(measure_surveyed(&bare, Limits::usual(), surveyed) == want)
 }
 
-/// The messages are a struct of one word, that struct with a word after it, and a struct with a capability.
+/// The measures are right for a struct of one word, the struct with a word after it, and a struct with a capability.
 #[test]
 fn measures_of_surveyed_messages(rt: HostRuntime) -> Result<(), Fail> {
     let alloc = rt.alloc();

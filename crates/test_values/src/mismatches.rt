@@ -200,8 +200,8 @@ fn no_root(rt: HostRuntime) -> Result<(), Fail> {
     Ok(())
 }
 
-/// The word that differs is found below a later slot. In one message it is a pointer between an empty list and an empty
-/// struct. In the other it is in a list of bytes below the second of two rows, the first of which has a null slot.
+/// The word that differs is found below a later slot. In one message it is a pointer below the second of three slots.
+/// In the other it is in a list of bytes below the second of two rows, the first of which has a null slot.
 #[test]
 fn words_below_later_slots(rt: HostRuntime) -> Result<(), Fail> {
     let between = [

@@ -104,7 +104,7 @@ fn far_and_near(rt: HostRuntime) -> Result<(), Fail> {
     Ok(())
 }
 
-/// The first refusal is reported, with the message that has it.
+/// A refusal is reported with the side of the refused message. If both are refused, that of the first is reported.
 #[test]
 fn refusals(rt: HostRuntime) -> Result<(), Fail> {
     let alloc = rt.alloc();

@@ -126,7 +126,7 @@ const TRAILED: [u8; 24] = [
     0, 0, 0, 0, 1, 0, 0, 0, 3, 0, 0, 0, 5, 0, 0, 0, 0, 0, 0, 0, 0, 0, 0, 0,
 ];
 
-/// Packed bytes: those of a word that is cut, and of 2,304 zero words.
+/// The cut packed bytes of a word, and the packed bytes of 2,304 zero words.
 const PACKED: [&[u8]; 2] = [
     &[0x51, 8, 3],
     &[
@@ -134,7 +134,7 @@ const PACKED: [&[u8]; 2] = [
     ],
 ];
 
-/// The call refuses what `canonicalise` refuses, and leaves the buffer unchanged.
+/// `canonical_into_form` refuses what `canonicalise` refuses, and leaves the buffer unchanged.
 #[test]
 fn refusals_are_those_of_other_calls(rt: HostRuntime) {
     let limits = Limits::usual();

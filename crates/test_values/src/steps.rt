@@ -15,8 +15,8 @@ const SHARED: [u64; 4] = [0x2_0000_0000_0000, 0x1_0000_0004, 0x1_0000_0000, 9];
 /// A stream whose root is in segment 1 and has a slot.
 const FAR: [u64; 5] = [0x1_0000_0001, 0x2, 0x1_0000_0002, 0x1_0000_0000_0000, 0];
 
-/// Returns the words that `meter` has left after the root, those left after its slot at `index`, and the place of that
-/// slot.
+/// Returns the words that `meter` has left after the root, the words left after the root's slot at `index`, and the
+/// place of the slot.
 fn stepped<S: Space>(space: &S, meter: &mut Meter, index: u32) -> Option<(u32, u32, Place)> {
     let root = View::root(space, meter, 64).ok()?;
     let left = meter.left();
@@ -27,8 +27,7 @@ fn stepped<S: Space>(space: &S, meter: &mut Meter, index: u32) -> Option<(u32, u
     Some((left, meter.left(), root.slot_place(index)))
 }
 
-/// Returns the words that `meter` has left after the root of `SHARED`, those left after its second slot, and the place
-/// of that slot.
+/// Returns the result of `stepped` for the second slot of `SHARED`.
 fn left_of_shared(alloc: Global, mut meter: Meter) -> Option<(u32, u32, Place)> {
     let bytes = bytes_of(alloc, &SHARED).ok()?;
     let bare = Bare::new(bytes.as_slice()).ok()?;
@@ -100,8 +99,8 @@ fn are_told(
     }
 }
 
-/// The survey and the check report the same. Only the first message is canonical: the others have a trailing zero word,
-/// a shared struct, or a capability.
+/// The survey and the check report the same figures. Only the first message is canonical: the others have a trailing
+/// zero word, a shared struct, or a capability.
 #[test]
 fn what_a_message_holds(rt: HostRuntime) {
     assert!(rt; are_told(rt.alloc(), &[0x1_0000_0000, 5], (2, 1, None), true));

@@ -10,7 +10,7 @@ use std::alloc::Global;
 /// A pointer to a struct of one word, which follows.
 const STRUCT: [u64; 2] = [0x1_0000_0000, 9];
 
-/// A pointer to a struct of one word by a landing pad of one word.
+/// A far pointer to a struct of one word, by a landing pad of one word.
 const BY_PAD: [u64; 3] = [0xa, 0x1_0000_0000, 9];
 
 /// A pointer to a landing pad that is a far pointer.
@@ -52,7 +52,7 @@ fn sizes_of(alloc: Global, words: &[u64]) -> Option<[u32; 2]> {
     Some([segment_length(&bare, 0), segment_length(&bare, 1)])
 }
 
-/// Returns the content of `shape` that starts at word `start` of segment 0, after landing pads of `pads` words.
+/// Returns the content of `shape` that starts at word `start` of segment 0, reached by a landing pad of `pads` words.
 fn content(start: u32, shape: Shape, pads: u8) -> Result<Target, Fault> {
     Ok(Target::Content {
         segment: 0,

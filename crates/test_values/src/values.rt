@@ -1,4 +1,4 @@
-//! Tests of the misfits and the sameness of values, and of the parts that trimming keeps.
+//! Tests of values that do not fit into a tree, of the sameness of values, and of the parts that trimming keeps.
 
 use crate::making::*;
 use capn_value::{
@@ -8,7 +8,7 @@ use capn_value::{
 use std::alloc::{AllocError, Global};
 use std::process::Abort;
 
-/// Checks that a value fits into a tree, or is the misfit `want`.
+/// Checks that a value fits into a tree if `want` is `None`, and otherwise is refused with the misfit `want`.
 fn expect(rt: &impl Abort, made: Made, want: Option<Misfit>) {
     match tree(made) {
         Ok(tree) => {

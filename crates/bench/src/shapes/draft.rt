@@ -11,11 +11,11 @@ const EMPTY: u64 = 0xffff_fffc;
 
 /// The route from a pointer to its object.
 enum Route {
-    /// By an offset.
+    /// An offset in the pointer.
     Near,
-    /// By a landing pad of one word.
+    /// A landing pad of one word.
     Far,
-    /// By a landing pad of two words.
+    /// A landing pad of two words.
     DoubleFar,
 }
 
@@ -47,7 +47,7 @@ fn narrow(number: usize) -> u32 {
 }
 
 impl Draft {
-    /// Returns a draft that has only the root pointer, in `segments`.
+    /// Returns a draft in `segments` that has only the root pointer.
     pub(crate) fn new(alloc: Global, segments: Segments) -> Result<Draft, AllocError> {
         let mut words = Vec::new(alloc);
         words.push(0)?;
@@ -101,7 +101,7 @@ impl Draft {
         2 | (self.len() as u64) << 3 | (self.sizes.len() as u64) << 32
     }
 
-    /// Chooses the route from the pointer of `slot` to the next object.
+    /// Chooses the route from the pointer in `slot` to the next object. Ends the last segment first if it is full.
     fn route(&mut self, slot: Slot) -> Result<Route, AllocError> {
         let (most, scattered) = match self.segments {
             Segments::One => return Ok(Route::Near),
@@ -128,8 +128,8 @@ impl Draft {
         }
     }
 
-    /// Points `slot` to a landing pad of two words, which ends with `pointer`, for the next object. If the segment is
-    /// nearly full after the pad, it ends there.
+    /// Appends a landing pad of two words for the next object, and points `slot` to the pad. The second word of the pad
+    /// is `pointer`. Then ends the last segment if it is nearly full.
     fn place_double_far(&mut self, slot: Slot, pointer: u64) -> Result<(), AllocError> {
         let far = self.far();
         self.point(slot, far | 4);
@@ -175,7 +175,7 @@ impl Draft {
         Ok(())
     }
 
-    /// Appends a struct, whose slots are null until they are written. Returns the first slot.
+    /// Appends a struct of `words` words and `slots` null slots, and points `slot` to it. Returns its first slot.
     pub(crate) fn node(
         &mut self,
         slot: Slot,
@@ -190,7 +190,7 @@ impl Draft {
         Ok(first)
     }
 
-    /// Appends a list of `count` bytes.
+    /// Appends a list of `count` bytes, and points `slot` to it.
     pub(crate) fn bytes(
         &mut self,
         slot: Slot,
@@ -207,7 +207,7 @@ impl Draft {
         Ok(())
     }
 
-    /// Appends a list of `pairs` pairs of 32-bit numbers.
+    /// Appends a list of `pairs` pairs of 32-bit numbers, and points `slot` to it.
     pub(crate) fn pairs(
         &mut self,
         slot: Slot,
@@ -218,7 +218,7 @@ impl Draft {
         self.fill(content, pairs)
     }
 
-    /// Appends a list of `count` 64-bit numbers.
+    /// Appends a list of `count` 64-bit numbers, and points `slot` to it.
     pub(crate) fn numbers(
         &mut self,
         slot: Slot,
@@ -229,7 +229,7 @@ impl Draft {
         self.fill(content, count)
     }
 
-    /// Appends a list of `count` pointers, which are null until they are written. Returns the place of the first.
+    /// Appends a list of `count` null pointers, and points `slot` to it. Returns the place of the first pointer.
     pub(crate) fn pointers(&mut self, slot: Slot, count: u32) -> Result<Slot, AllocError> {
         self.place(slot, 1 | 6 << 32 | u64::from(count) << 35)?;
         let first = self.here();
@@ -237,8 +237,8 @@ impl Draft {
         Ok(first)
     }
 
-    /// Appends a list of `count` structs, whose slots are null until they are written. Returns the place of its first
-    /// row.
+    /// Appends a list of `count` structs of `words` words and `slots` null slots, and points `slot` to it. Returns the
+    /// place of its first row.
     pub(crate) fn rows(
         &mut self,
         slot: Slot,
@@ -260,8 +260,8 @@ impl Draft {
         Ok(first)
     }
 
-    /// Appends a root struct with a list of pointers, one for every `words` words in `bytes` bytes. Returns the slot of
-    /// the first pointer, and the number of pointers.
+    /// Appends a root struct with a list of pointers, one for every `words` words in `bytes` bytes, and at least one.
+    /// Returns the slot of the first pointer, and the number of pointers.
     pub(crate) fn groups(&mut self, bytes: u32, words: u32) -> Result<(Slot, u32), AllocError>
         requires { 0 < words }
     {

@@ -5,7 +5,7 @@ use crate::shapes::random::Content;
 use crate::shapes::slot::Slot;
 use std::alloc::{AllocError, Global};
 
-/// Appends a text, a small struct or a list of numbers, or leaves the slot null.
+/// Appends a text, a small struct or a list of numbers for `slot`, or leaves `slot` null.
 fn field(draft: &mut Draft, slot: Slot) -> Result<(), AllocError> {
     match draft.below(4) {
         0 => Ok(()),
@@ -25,7 +25,7 @@ fn field(draft: &mut Draft, slot: Slot) -> Result<(), AllocError> {
     }
 }
 
-/// Appends a struct with fields in its slots.
+/// Appends a struct, and fills each of its slots with `field`.
 fn record(draft: &mut Draft, slot: Slot) -> Result<(), AllocError> {
     let words = draft.below(9);
     let slots = draft.below(5);
@@ -36,7 +36,7 @@ fn record(draft: &mut Draft, slot: Slot) -> Result<(), AllocError> {
     Ok(())
 }
 
-/// Appends texts to most of the `slots` slots from `first` on.
+/// Appends texts for most of the `slots` slots from `first` on.
 fn texts(draft: &mut Draft, first: Slot, slots: u32) -> Result<(), AllocError> {
     for i in 0..slots {
         if draft.below(10) < 7 {
@@ -73,7 +73,7 @@ fn list(draft: &mut Draft, slot: Slot) -> Result<(), AllocError> {
     Ok(())
 }
 
-/// Appends a record, a table, a list or a long text, or leaves the slot null.
+/// Appends a record, a table, a list or a long text for `slot`, or leaves `slot` null.
 fn group(draft: &mut Draft, slot: Slot) -> Result<(), AllocError> {
     match draft.below(8) {
         0 | 1 | 2 => record(draft, slot),
@@ -109,8 +109,8 @@ pub(crate) fn segments(alloc: Global, bytes: u32) -> Result<Vec<u8>, AllocError>
     draft.into_frame(alloc)
 }
 
-/// Returns a message of lists of structs with texts, and of lists of pointers to structs, in about 64 segments that are
-/// filled one after the other. Three of four objects are in the segment of their pointer.
+/// Returns a message of lists of structs with texts and lists of pointers to structs. Its segments, about 64 or fewer,
+/// are filled one after the other. Three of four objects are in the segment of their pointer.
 pub(crate) fn builder(alloc: Global, bytes: u32) -> Result<Vec<u8>, AllocError> {
     let most = (bytes / 8 / 64).max(16) as usize;
     let mut draft = Draft::new(alloc, Segments::Filled(most))?;

@@ -18,7 +18,7 @@ fn nest(draft: &mut Draft, slot: Slot) -> Result<(), AllocError> {
     Ok(())
 }
 
-/// Returns a message of nests of small structs.
+/// Returns a message of small structs that are nested 10 to 50 deep.
 pub(crate) fn deep(alloc: Global, bytes: u32) -> Result<Vec<u8>, AllocError> {
     let mut draft = Draft::new(alloc, Segments::One)?;
     let (first, count) = draft.groups(bytes, 91)?;

@@ -3,7 +3,7 @@
 /// The place of a word in a draft.
 #[derive(Clone, Copy)]
 pub(crate) struct Slot {
-    /// The number of segments before the one of the word.
+    /// The index of the word's segment.
     pub segment: usize,
     /// The number of words before the word, in all segments.
     pub at: usize,

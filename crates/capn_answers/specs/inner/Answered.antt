@@ -31,9 +31,9 @@ pub record IsWalkTold {A : Type 0} (message : List (List ℕ)) (limits : Bounds)
   pub memory : IfErr r (λ e. (e ≡ refusals.Memory)
       × ((s : Stopped) × IsWalkRefused message limits s.fault s.place s.paid s.visits))
 
--- If `r` is `Ok`, it has the mismatch and the survey of `message`. If `r` is an `Err`, it is true of `message`
--- (`IsUnaccepted`), and is `Memory` only if `message` has one segment and isn't canonical. The number of
--- words paid, in the survey or in a refusal by the walk, is at most the budget.
+-- If `r` is `Ok`, it has the mismatch and the survey of `message`. If `r` is an `Err`, its refusal is true of `message`
+-- (`IsUnaccepted`), and is `Memory` only if `message` has one segment and isn't canonical. The number of words paid, in
+-- the survey or in a refusal by the walk, is at most the budget.
 pub record IsMismatchSurveyed {A : Type 0} (message : List (List ℕ)) (limits : Bounds)
     (r : Result (SurveyedMismatch A) Refusal) : Type 0 where
   pub found : IfOk r (λ d. IsMismatch message limits d.mismatch)

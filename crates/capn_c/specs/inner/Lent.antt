@@ -21,7 +21,7 @@ use Rattle.capn_abi.specs.StatusCodes.{Reports, answered, at_number}
 use Rattle.capn_abi.specs.declared.report.CapnReport.{CapnReport}
 use Rattle.capn_c.specs.Lent.{LacksScratch, is_lent_status}
 
--- `status` and `report` are those of the given refusal.
+-- `status` and `report` describe the given refusal.
 abbrev pub IsRefusalTold : FormRefusal → ℕ → CapnReport → Type 0
 IsRefusalTold (told.Bare e) status report = Reports status report (refusals.Bare e)
 IsRefusalTold (told.Packed e) status report = Reports status report (refusals.Packed e)
@@ -32,7 +32,7 @@ IsRefusalTold (told.Walk s) status report = Reports status report (refusals.Walk
 IsRefusalTold (told.Capability k) status report = Reports status report (refusals.Capability k)
 IsRefusalTold (told.NoRoom n p) status report = (status ≡ 1) × (report ≡ answered n p 0)
 
--- `status` and `report` are those of the result `r`.
+-- `status` and `report` describe the result `r`.
 abbrev pub IsResultTold : Result CanonicalLength FormRefusal → ℕ → CapnReport → Type 0
 IsResultTold r status report = MatchResult r (λ c. (status ≡ 0) × (report ≡ answered c.length c.paid 0))
     (λ e. IsRefusalTold e status report)

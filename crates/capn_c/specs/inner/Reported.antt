@@ -21,8 +21,8 @@ use Rattle.capn_c.specs.Entries.{IndexedIn, c_index}
 use Rattle.capn_c.specs.Held.{DenotesHeld, IsUnacceptedHeld}
 use Rattle.capn_c.specs.declared.entries.CapnEntry.{CapnEntry}
 
--- `is_status` is true of `status`, and the price in `report` is at most `budget`. If `status` is at least 8,
--- `status` and `report` are those of a refusal for which `reason` holds. `status` is 8 only if `needed` holds.
+-- `is_status` is true of `status`. `budget` bounds the price and the visits in `report` (`IsBounded`). If `status` is
+-- at least 8, `status` and `report` describe a refusal for which `reason` holds. `status` is 8 only if `needed` holds.
 pub record IsReported (reason : Refusal → Type 0) (needed : Type 0) (budget status : ℕ) (report : CapnReport)
     : Type 0 where
   pub listed : IsTrue (is_status status)
@@ -32,8 +32,8 @@ pub record IsReported (reason : Refusal → Type 0) (needed : Type 0) (budget st
 
 -- ---- calls with one success, of status 0
 
--- `status` is 0 only if `done` holds. Any other `status` is that of a refusal, as `IsReported` says. If `value` holds
--- of some value, `status` is 0 or 8.
+-- `status` is 0 only if `done` holds. Any other `status` reports a refusal (`IsReported`). If `value` holds of some
+-- value, `status` is 0 or 8.
 pub record IsDone (done : Type 0) (value : Tree → Type 0) (reason : Refusal → Type 0) (needed : Type 0)
     (budget status : ℕ) (report : CapnReport) : Type 0 where
   pub possible : (status ≡ 0) ⊎ (8 ≤ status)
@@ -55,7 +55,7 @@ IsDoneHeld message limits done status report =
 -- ---- calls for canonical bytes
 
 -- `status` is 0 only if canonical bytes are written to `new`, and 1 only if the buffer is too short for them. If
--- `status` is at least 8, `status` and `report` are those of a refusal. If `status` is not 0, `new` is `old`.
+-- `status` is at least 8, `status` and `report` describe a refusal. If `status` is not 0, `new` is `old`.
 pub record IsFilled (value : Tree → Type 0) (answer : List ℕ → ℕ → Type 0) (reason : Refusal → Type 0)
     (needed : Type 0) (limits : Bounds) (old new : List ℕ) (status : ℕ) (report : CapnReport) : Type 0 where
   pub possible : (status ≤ 1) ⊎ (8 ≤ status)
@@ -81,8 +81,8 @@ pub record HasRoom (message : List (List ℕ)) (limits : Bounds) (room : ℕ) : 
   pub accepted : IsAccepted message limits
   pub fits : length (index_of message limits) ≤ room
 
--- `new` begins with the index of `message`, and is the same as `old` after the index. The message comes after a table
--- of `table` bytes.
+-- `new` begins with the index of `message`. The entries after the index are the same as in `old`. The message comes
+-- after a table of `table` bytes.
 abbrev pub IsIndex : (table : ℕ) → List (List ℕ) → Bounds → (old new : List CapnEntry) → Type 0
 IsIndex table message limits old new =
     new ≡ c_index table message limits ++ drop (length (index_of message limits)) old
@@ -94,7 +94,7 @@ pub record IsIndexOr (table : ℕ) (message : List (List ℕ)) (limits : Bounds)
   pub kept : is_written ≡ false → new ≡ old
 
 -- `status` is 0 only if the index of a surveyed message is written, and 1 only if the buffer is too short for it. If
--- `status` is at least 8, `status` and `report` are those of a refusal.
+-- `status` is at least 8, `status` and `report` describe a refusal.
 pub record IsIndexed (survey : Surveyed → Type 0) (index : Type 0) (value : Tree → Type 0) (reason : Refusal → Type 0)
     (needed : Type 0) (budget : ℕ) (old new : List CapnEntry) (status : ℕ) (report : CapnReport) : Type 0 where
   pub possible : (status ≤ 1) ⊎ (8 ≤ status)

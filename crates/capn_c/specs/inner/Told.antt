@@ -1,4 +1,4 @@
--- The results of the private functions for one message, or for two.
+-- The results of the private functions for one message or two messages.
 use Rattle.std.specs.Prelude.{IsTrue, ◌≡◌, ◌≢◌, ◌↔◌, ◌≤◌, ℕ, Bool, List, None}
 use Rattle.std.specs.Prelude.{Result, IfOk, IfErr, IsErrOf, MatchResult}
 use Rattle.sha2.specs.Sha256.{sha256}
@@ -23,7 +23,7 @@ use Rattle.capn_c.specs.declared.figures.CapnFigures.{CapnFigures}
 use Rattle.capn_c.specs.declared.message_digest.Digested.{Digested}
 use Rattle.capn_c.specs.declared.message_text.ShownText.{ShownText}
 
--- If `r` is `Ok`, it has the text and the survey of `message`. If `r` is an `Err`, it is true of `message`
+-- If `r` is `Ok`, it has the text and the survey of `message`. If `r` is an `Err`, its refusal is true of `message`
 -- (`IsUnaccepted`), and is `Memory` only if `message` is accepted. The number of words paid, in the survey or in a
 -- refusal by the walk, is at most the budget.
 pub record IsTextTold (message : List (List ℕ)) (limits : Bounds) (style : Style) (r : Result ShownText Refusal)
@@ -35,8 +35,8 @@ pub record IsTextTold (message : List (List ℕ)) (limits : Bounds) (style : Sty
   pub bounded : MatchResult r (λ x. IsBounded limits.budget x.survey.paid x.survey.visits)
       (λ e. IsPaidWithin limits.budget e)
 
--- If `r` is `Ok`, it has the digest of the canonical bytes of `message` and the price. If `r` is an `Err`, it is true
--- of `message` (`IsRefusedMessage`). It is `Memory` only if `message` has canonical bytes but isn't canonical.
+-- If `r` is `Ok`, it has the digest of the canonical bytes of `message` and the price. If `r` is an `Err`, its refusal
+-- is true of `message` (`IsRefusedMessage`), and is `Memory` only if `message` has canonical bytes but isn't canonical.
 pub record IsDigestTold (message : List (List ℕ)) (limits : Bounds) (r : Result Digested Refusal) : Type 0 where
   pub found : IfOk r (λ d. (text : List ℕ) × AnswersMessage message limits text d.paid × (d.digest ≡ sha256 text))
   pub refused : IfErr r (λ e. IsRefusedMessage message limits e)
@@ -54,8 +54,8 @@ pub record AreFiguresTold (are : CapnFigures → Type 0) (reason : Refusal → T
   pub memory : IsErrOf r refusals.Memory → needed
   pub bounded : MatchResult r (λ f. IsBounded budget f.paid f.visits) (λ e. IsPaidWithin budget e)
 
--- If `r` is `Ok`, `told` holds of the result in it. If `r` is an `Err`, it says why `message` has no canonical bytes,
--- and is not `Memory`.
+-- If `r` is `Ok`, `told` holds of the result in it. If `r` is an `Err`, its refusal says why `message` has no canonical
+-- bytes, and is not `Memory`.
 pub record IsToldOf {T : Type 0} (message : List (List ℕ)) (limits : Bounds) (told : T → Type 0) (r : Result T Refusal)
     : Type 0 where
   pub found : IfOk r (λ x. told x)
@@ -74,8 +74,8 @@ abbrev pub IsSameIn : List (List ℕ) → Form → List ℕ → Bounds → Bool 
 IsSameIn first form bs limits told = (second : List (List ℕ)) × Reads form bs limits.message_words second
     × IsSameTo first second limits told
 
--- If `r` is `Ok`, it says whether `bs` have the value of the message `first`. If `r` is an `Err`, it is true of `bs`
--- (`IsRefused`), and is `Memory` only if reading `bs` may need memory.
+-- If `r` is `Ok`, it says whether `bs` have the value of the message `first`. If `r` is an `Err`, its refusal is true
+-- of `bs` (`IsRefused`), and is `Memory` only if reading `bs` may need memory.
 pub record IsSecondTold (first : List (List ℕ)) (form : Form) (bs : List ℕ) (limits : Bounds) (r : Result Bool Refusal)
     : Type 0 where
   pub found : IfOk r (λ told. IsSameIn first form bs limits told)
@@ -89,7 +89,7 @@ abbrev pub IsComparedTo : Form → List ℕ → List (List ℕ) → Bounds → R
 IsComparedTo form bs message limits r =
     IsToldOf message limits (λ s. HasBytes message limits × IsSecondTold message form bs limits s) r
 
--- `bs` are read as a message that has canonical bytes, and `r` is the result of the comparison with `ds`.
+-- `bs` are read as a message that has canonical bytes, and `r` is the result of its comparison with `ds`.
 pub record IsCompared (form : Form) (bs ds : List ℕ) (limits : Bounds) (r : Result Bool Refusal) : Type 0 where
   pub message : List (List ℕ)
   pub reads : Reads form bs limits.message_words message

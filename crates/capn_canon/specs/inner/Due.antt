@@ -33,8 +33,8 @@ module _ (all : List ℕ) (base : ℕ) where
     pub fits : to + sizes ts ≤ length all
     pub pays : IsWithin left (visits_of (all ∷ []) base depth (places 0 from (count ts)))
 
-  -- The rows `bs`, of `a` words and `b` slots each, are laid out from `from` on, and the objects below their slots from
-  -- `to` on. The walks of these objects, at most `depth` objects deep, pay at most `left` words together. (Our own.)
+  -- The rows `bs` of `a` words and `b` slots, without capabilities, are laid out from `from` on, and the objects below
+  -- them from `to` on. The walks of these objects, at most `depth` objects deep, pay at most `left` words. (Our own.)
   pub record RowsAreDue (a b from to depth left : ℕ) (bs : Bodies) : Type 0 where
     pub are : RowsAt (all ∷ []) a b 0 from bs
     pub laid : RowsLaidAt all a b bs from to
@@ -43,37 +43,37 @@ module _ (all : List ℕ) (base : ℕ) where
     pub fits : to + sizes_in_rows bs ≤ length all
     pub pays : IsWithin left (visits_of (all ∷ []) base depth (row_places 0 from a b (count_rows bs)))
 
-  -- A value is due at the slot `from` (`IsDue`). (Our own.)
+  -- The pass must find a value at the slot `from` (`IsDue`). (Our own.)
   pub record DueValue (from to depth left : ℕ) : Type 0 where
     pub value : Tree
     pub due : IsDue from to depth left value
 
-  -- Values are due at the `number` slots from `from` on (`AreDue`). (Our own.)
+  -- The pass must find values at the `number` slots from `from` on (`AreDue`). (Our own.)
   pub record DueSlots (from number to depth left : ℕ) : Type 0 where
     pub values : Trees
     pub count : count values ≡ number
     pub due : AreDue from to depth left values
 
-  -- The `number` rows from `from` on are due (`RowsAreDue`). (Our own.)
+  -- The pass must find the `number` rows from `from` on (`RowsAreDue`). (Our own.)
   pub record DueRows (a b from number to depth left : ℕ) : Type 0 where
     pub values : Bodies
     pub count : count_rows values ≡ number
     pub due : RowsAreDue a b from to depth left values
 
-  -- A value is due at the first slot of the pass `p` (`DueValue`). (Our own.)
+  -- The pass `p` must find a value at its first slot (`DueValue`). (Our own.)
   abbrev pub DueFirst : Pass → Type 0
   DueFirst p = DueValue p.from p.next p.depth p.left
 
-  -- Values are due at all slots of the pass `p` (`DueSlots`). (Our own.)
+  -- The pass `p` must find values at all its slots (`DueSlots`). (Our own.)
   abbrev pub Due : Pass → Type 0
   Due p = DueSlots p.from (p.end - p.from) p.next p.depth p.left
 
-  -- The option is `Some`, and values are due at all slots of the pass in it (`Due`). (Our own.)
+  -- The option is `Some`, and the pass in it must find values at all slots of that pass (`Due`). (Our own.)
   abbrev pub DueIn : Option Pass → Type 0
   DueIn (Some r) = Due r
   DueIn None = ⊥
 
-  -- The option is `Some`, and the rows in it are due (`DueRows`). (Our own.)
+  -- The option is `Some`, and the pass must find the rows in it (`DueRows`). (Our own.)
   abbrev pub DueRowsIn : Option RowPass → Type 0
   DueRowsIn (Some r) =
       DueRows r.tag.words r.tag.slots r.pass.from r.tag.count r.pass.next r.pass.depth r.pass.left

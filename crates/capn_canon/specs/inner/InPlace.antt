@@ -35,8 +35,8 @@ module _ (all : List ℕ) (base : ℕ) where
     pub few : below ≤ price
 
   -- The values `ts`, without capabilities, are laid out with their pointers at the slots from `from` on and their
-  -- contents from `to` on. Their walks pay `price` words, and make `below` more visits than there are slots. `below` is
-  -- at most `price`. (Our own.)
+  -- contents from `to` on. Their walks, at most `depth` objects deep, pay `price` words, and make `below` more visits
+  -- than there are slots. `below` is at most `price`. (Our own.)
   pub record AreInPlace (from to depth : ℕ) (ts : Trees) (price below : ℕ) : Type 0 where
     pub are : AreAt (all ∷ []) 0 from ts
     pub laid : AreLaidAt all ts from to
@@ -45,9 +45,9 @@ module _ (all : List ℕ) (base : ℕ) where
     pub pays : Pays (visits_of (all ∷ []) base depth (places 0 from (count ts))) price (count ts + below)
     pub few : below ≤ price
 
-  -- The rows `bs`, of `a` words and `b` slots each, are laid out from `from` on, and the objects below their slots from
-  -- `to` on. The walks of the slots pay `price` words, and make `below` more visits than there are slots. `below` is at
-  -- most `price`. (Our own.)
+  -- The rows `bs` of `a` words and `b` slots each, without capabilities, are laid out from `from` on, and the objects
+  -- below them from `to` on. The walks of the slots, at most `depth` objects deep, pay `price` words, and make `below`
+  -- more visits than there are slots. `below` is at most `price`. (Our own.)
   pub record RowsInPlace (a b from to depth : ℕ) (bs : Bodies) (price below : ℕ) : Type 0 where
     pub are : RowsAt (all ∷ []) a b 0 from bs
     pub laid : RowsLaidAt all a b bs from to
@@ -57,8 +57,8 @@ module _ (all : List ℕ) (base : ℕ) where
         (count_rows bs * b + below)
     pub few : below ≤ price
 
-  -- The progress `q` comes after `size` words of content: its next free word is `next + size`, which is at most the
-  -- length of `all`. The words left in `q` are `left` less `price`. Its number of visits is `visits + below`. (Our
+  -- The progress `q` comes after `size` words of content: `q.next` is `next + size`, at most the length of `all`. The
+  -- words left in `q` are `left` less `price`. The number of visits in `q` is `visits + below`, at most `q.next`. (Our
   -- own.)
   pub record Comes (next left visits size price below : ℕ) (q : Progress) : Type 0 where
     pub next_is : q.next ≡ next + size
@@ -165,8 +165,8 @@ pub record HasObject (all : List ℕ) (p : Pass) : Type 0 where
   pub opened : IsOpen all p
   pub deep : 0 < p.depth
 
--- The pass `p` may have an object at its first slot (`HasObject`). That slot is the pointer to a list of `n` elements
--- of `width` at the next free word. (Our own.)
+-- The pass `p` may have an object at its first slot (`HasObject`). That slot is the list pointer with the width `width`
+-- and the count `n` to the next free word. (Our own.)
 pub record HasList (all : List ℕ) (p : Pass) (width : Width) (n : ℕ) : Type 0 where
   pub object : HasObject all p
   pub word : slice_index all p.from ≡ list_to p.from p.next width n

@@ -1,4 +1,4 @@
--- The effect of adding to the output of a run the text of a value, and the bytes `end` that follow it.
+-- The effect of adding the text of a value, and the bytes `end` after that text, to the output of a run.
 use Rattle.std.specs.Prelude.{◌≡◌, ◌≢◌, ◌⊎◌, ℕ, ◌<◌, ◌++◌, List, [], length, Result, Ok, Err}
 use Rattle.capn_value.specs.Tree.{Tree}
 use Rattle.capn_walk.specs.Accepted.{IsValueOf, IsWalkRefused}

@@ -20,7 +20,7 @@ HoldsFrame forms.Stream most bytes (Err fault) = ⊥
 HoldsFrame forms.Packed most bytes held = Gives (wholes.Unpacked (most + most_table_words)) bytes held
 
 -- After `Ok`, some `text` was written, and `writes text` holds. After `Refused r`, `refuses r` holds, and nothing was
--- written. After `Memory` or `Io`, nothing or a prefix of such a `text` was written.
+-- written. After `Memory` or `Io`, nothing was written, or a prefix of some `text` for which `writes text` holds.
 abbrev pub ServesWhole : (List ℕ → Type 0) → (Refusal → Type 0) → Option (List ℕ) → Option (List ℕ) → Bool
     → Result (Unit {0}) ToolFault → Type 0
 ServesWhole writes refuses old new failed (Ok u) =

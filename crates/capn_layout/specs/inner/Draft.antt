@@ -17,8 +17,8 @@ pub record Appends (n m : ℕ) (ws p q : List ℕ) : Type 0 where
   pub words : words_in m q ≡ words_in n p ++ ws
   pub kept : IsKept m p q
 
--- The first `n` words of `q` are those of `p`, except that word `at` is `word`. All bytes after these `n` words are as
--- in `p`. (Our own.)
+-- The first `n` words of `q` are the first `n` words of `p`, except that word `at` is `word`. All bytes after these `n`
+-- words are as in `p`. (Our own.)
 pub record Puts (n at word : ℕ) (p q : List ℕ) : Type 0 where
   pub words : words_in n q ≡ set (words_in n p) at word
   pub kept : IsKept n p q

@@ -58,8 +58,8 @@ IsLostAt form place n =
     ⊎ ((form ≡ forms.Bare) × (place.line ≡ 1 → ⊥)
     × ((more : List ℕ) → Follows place.line (place.rest ++ more) (faults.NotText n)))
 
--- In form `Bare`, at a line other than 1, at most `few` bytes are at `place`. In any other case, `MayGoOn` holds for
--- the bytes at `place`.
+-- If `form` is `Bare` and `place.line` is not 1, at most `few` bytes are at `place`. In any other case, `MayGoOn` holds
+-- for the bytes at `place`.
 abbrev pub IsOpenAt : Form → Place → Type 0
 IsOpenAt form place = ((form ≡ forms.Bare → place.line ≡ 1) × MayGoOn place.rest)
     ⊎ ((form ≡ forms.Bare) × (place.line ≡ 1 → ⊥) × (length place.rest ≤ few))
@@ -119,7 +119,7 @@ abbrev pub TellsRefusal : Form → List ℕ → Place → List ℕ → Option Ma
 TellsRefusal form input place made (Some fault) = (more : List ℕ) → IsMadeSo form (input ++ more) made (Err fault)
 TellsRefusal form input place made None = HasMade form input place made × IsNotYet form input × IsUnended place.rest
 
--- `front` is a prefix of `input`. Its length is the length of `input` minus the length of `rest` plus `tested`.
+-- `front` is a prefix of `input`. The lengths of `front` and `rest` together are the length of `input` plus `tested`.
 -- `IsNotYet` holds for `front`.
 pub record HasTested (form : Form) (tested : ℕ) (input rest : List ℕ) : Type 0 where
   pub front : List ℕ
@@ -180,9 +180,9 @@ pub record IsUnderWay (form : Form) (input : List ℕ) (c d : Option (List ℕ))
 abbrev pub IsFresh : List ℕ → List ℕ → ℕ → ℕ → Type 0
 IsFresh made rest line tested = (made ≡ []) × (rest ≡ []) × (line ≡ 1) × (tested ≡ 0)
 
--- `HasMade` and `HasTested` hold as in `IsUnderWay`, but bytes may follow the first `before` bytes of `rest`. If the
--- line `end` is nowhere after the first `before` - 3 bytes of `rest`, `IsUnended` holds for `rest`. Whatever bytes
--- `more` follow `input`, a prefix of the messages was written (`HasBegunText`).
+-- `HasMade` and `HasTested` hold as in `IsUnderWay`. Bytes may have been added to `rest` after its first `before`
+-- bytes. If the line `end` is nowhere after the first `before` - 3 bytes of `rest`, `IsUnended` holds for `rest`.
+-- Whatever bytes `more` follow `input`, a prefix of the messages was written (`HasBegunText`).
 pub record HasCome (form : Form) (input : List ℕ) (c d : Option (List ℕ)) (made rest : List ℕ)
     (line tested before : ℕ) : Type 0 where
   pub written : List ℕ
@@ -225,8 +225,8 @@ abbrev pub IsAfter : Place → Place → Type 0
 IsAfter old new = (front : List ℕ) × (old.rest ≡ front ++ new.rest)
 
 -- For `None`, no bytes are at `old`. For a `piece`, the text of some `v` is at `old`, `piece` is written for `v`, and
--- `new` is after the text. A fault is `Memory`, or the text at `old` is refused, and `new` is `old` unless
--- `HasCapability` holds.
+-- `new` is after the text. A fault is `Memory`, or the fault with which the text at `old` is refused. In the second
+-- case `new` is `old` unless `HasCapability` holds.
 abbrev pub MakesNext : {A : Type 0} → Form → Place → Place → Result (Option (Vec ℕ A)) MakeFault → Type 0
 MakesNext form old new (Ok None) = (old.rest ≡ []) × (new ≡ old)
 MakesNext form old new (Ok (Some piece)) = (v : Tree) × IsMakeable v

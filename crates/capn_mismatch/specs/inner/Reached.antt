@@ -25,7 +25,7 @@ rows_of start (shapes.Rows n a b span) = record {
   slots = b;
 }
 
--- The place of slot `slot` of row `row` of `rows`.
+-- The place of slot `slot` in row `row` of `rows`.
 abbrev pub place_in : SlotRows → ℕ → ℕ → Place
 place_in rows row slot = record {
   segment = rows.at.segment;
@@ -37,14 +37,14 @@ pub record AreWithin (message : List (List ℕ)) (rows : SlotRows) : Type 0 wher
   pub inside : rows.at.word + rows.count * (rows.words + rows.slots) ≤ length (segment_at message rows.at.segment)
   pub small : rows.words + rows.slots < 2 ^ 32
 
--- The numbers of a path that lead to slot `slot` of row `row` of an object of `shape`.
+-- The path numbers that lead to slot `slot` in row `row` of an object of `shape`.
 abbrev pub numbers : Shape → ℕ → ℕ → List ℕ
 numbers (shapes.Rows n a b span) row slot = row ∷ slot ∷ []
 numbers shape row slot = slot ∷ []
 
 module _ (m : List (List ℕ)) (base : ℕ) (word : Place) where
-  -- The path `new` is the path `old` followed by numbers that lead to a slot, in the relation `Onward`. At that slot,
-  -- the word at `word` has the kind `x`.
+  -- The path `new` is the path `old` and then the numbers `rest`. `Onward` says that `rest` leads to the slot at `to`.
+  -- That slot owns the word at `word`, which has the kind `x`.
   pub record ReachesIn (Onward : List ℕ → Place → ℕ → Type 0) (old new : List ℕ) (x : WordKind) : Type 0 where
     pub rest : List ℕ
     pub is : new ≡ old ++ rest

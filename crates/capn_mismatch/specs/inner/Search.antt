@@ -48,7 +48,7 @@ found_there word (Err e) = None
 abbrev pub finds : Place → Place → Result Target Fault → Option WordKind
 finds word at named = if is_at at.segment at.word word then Some found.Pointer else found_there word named
 
--- The result, at one slot, of a search for the owner of the word of `aim`.
+-- The result, at one slot, of a search for the slot that owns `aim.word`.
 abbrev pub owned : Owner → Place → Result Target Fault → Option WordKind
 owned aim = finds aim.word
 

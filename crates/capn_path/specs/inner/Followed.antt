@@ -53,8 +53,8 @@ onward follow (Some x) = follow x.0 x.1
 onward follow None = None
 
 module _ (message : List (List ℕ)) where
-  -- the slot to which `path` leads from `here`, or `None` if `path` leads to no slot. At most as many steps are made as
-  -- the first argument says.
+  -- the slot to which `path` leads from `here`, or `None` if `path` leads to no slot. The first argument, a bound on
+  -- the number of steps, has to be at least the length of `path`.
   abbrev pub follow : ℕ → Spot → List ℕ → Option Spot
   follow zero here path = Some here
   follow (suc n) here [] = Some here

@@ -9,6 +9,6 @@ use Rattle.capn_path.specs.declared.visit.Numbered.{Numbered}
 abbrev pub found_at : Numbered → Place → Result Target Fault → Option Place
 found_at aim at named = if aim.left == 0 then Some at else None
 
--- the aim with one visit less before the visit that `aim` counts down to
+-- the aim with one visit fewer before the visit that `aim` counts down to
 abbrev pub one_less : Numbered → Numbered
 one_less aim = record { left = aim.left - 1 }

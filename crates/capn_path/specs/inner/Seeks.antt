@@ -10,8 +10,8 @@ use Rattle.capn_path.specs.Paths.{Leads}
 
 module _ {G F : Type 0} (m : List (List ℕ)) (finds : G → Place → Result Target Fault → Option F) (next : G → G)
     (base : ℕ) where
-  -- if the result is a find `x`, `x` is the first find among the visits `vs`, and `new` is `old` and then a path to the
-  -- slot of `x`. If the result is `None`, nothing is found, `after` is the aim after `vs`, and `new` is `old`.
+  -- If the result is a find `x`, `x` is the first find among the visits `vs`, and `new` is `old` followed by a path to
+  -- the slot of `x`. If the result is `None`, nothing is found, `after` is the aim after `vs`, and `new` is `old`.
   abbrev pub SeeksIn : List Visit → (List ℕ → Place → ℕ → Type 0) → G → G → List ℕ → List ℕ → Option F → Type 0
   SeeksIn vs leads aim after old new (Some x) =
       (rest : List ℕ) × (new ≡ old ++ rest) × Meets m finds next vs leads aim rest x

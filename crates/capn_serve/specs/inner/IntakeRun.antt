@@ -1,4 +1,4 @@
--- A run over an input that an intake takes chunk by chunk.
+-- A run over an input that is taken chunk by chunk by an intake, the state that the trait `Intake` describes.
 use Rattle.std.specs.Prelude.{◌≡◌, ◌≢◌, ◌⊎◌, ◌↔◌, ℕ, ◌+◌, ◌<◌, ◌≤◌, ◌^◌, List, [], ◌++◌, length, Bool, true, false}
 use Rattle.std.specs.Prelude.{Option, Result, Ok, Err}
 use Rattle.std.specs.Io.KnownBytes.{Appends, Consumes, IsAtEnd}
@@ -69,8 +69,8 @@ FeedsAfter {I} {X} takes gives done s y piece d e failed r t z = (first : I) (x 
 abbrev pub Ends : Closing → List ℕ → Option (List ℕ) → Option (List ℕ) → Result (Unit {0}) RunFault → Type 0
 Ends ends bytes c d r = ends bytes false c d r × (r ≢ Err faults.Io) × (r ≢ Err faults.Memory)
 
--- For any first states `first` and `x`, and any fewer than 2^64 `bytes` for which `takes` holds from these states to
--- `s` and `y`: a run over `bytes` that ends in the states `t` and `y` ends with `r` (`Ends`).
+-- Let `takes` hold for `bytes`, fewer than 2^64, from some first states `first` and `x` to the states `s` and `y`. Then
+-- a run over `bytes` that ends in the states `t` and `y` ends with `r`, as `Ends` states.
 abbrev pub EndsAfter : {I X : Type 0} → (I → X → Taking I X) → (I → X → Giving I X) → I → X → Result (Unit {0}) RunFault
     → I → Type 0
 EndsAfter {I} {X} takes gives s y r t = (first : I) (x : X) (bytes : List ℕ) (c d : Option (List ℕ))

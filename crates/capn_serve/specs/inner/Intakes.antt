@@ -1,4 +1,4 @@
--- The relations `takes` and `gives` of the two intakes: the intake of a stream, and the intake of a packed stream.
+-- The relations `takes` and `gives` of the two types with the trait `Intake`, for a stream and for a packed stream.
 use Rattle.std.specs.Prelude.{◌≡◌, ◌⊎◌, ℕ, List, Bool, Option, Result, IfErr}
 use Rattle.capn_pack.specs.PackedPieces.{Held}
 use Rattle.capn_stream.specs.StreamPieces.{Framing}

@@ -77,7 +77,7 @@ parts_left stages.Count = 2
 parts_left (stages.Table segments) = 1
 parts_left (stages.Contents start end) = 0
 
--- `bs` have the complete table with its padding, and the contents are from `start` to `end` with the ends `ends`
+-- `bs` have the complete table and padding, which announce `ends`, and at most `most` words from `start` to `end`
 pub record Tabled (bs : List ℕ) (most start end : ℕ) (ends : List ℕ) : Type 0 where
   pub head : HasHead bs
   pub room : announced_words bs ≤ most
@@ -85,8 +85,8 @@ pub record Tabled (bs : List ℕ) (most start end : ℕ) (ends : List ℕ) : Typ
   pub stops : end ≡ frame_length bs
   pub cuts : ends ≡ announced_ends bs
 
--- the first `n` bytes of `piece` were appended to `old`, which gives `new`: all bytes, or those up to the end of the
--- frame
+-- The first `n` bytes of `piece` were appended to `old`, which gives `new`: all of `piece`, or the bytes up to the end
+-- of the frame. `IsStage` and `Rests` hold of `stage` and `new`.
 pub record Fills (old piece : List ℕ) (most n : ℕ) (new : List ℕ) (stage : Stage) (ends : List ℕ) : Type 0 where
   pub inside : n ≤ length piece
   pub text : new ≡ old ++ take n piece

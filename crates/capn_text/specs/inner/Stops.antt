@@ -5,7 +5,7 @@ use Rattle.capn_text.specs.Streams.{first_lines, ended_lines, few}
 use Rattle.capn_text.specs.declared.fault.Stop.{Stop}
 use Rattle.capn_text.specs.declared.fault.Stop.TheVariants as stops
 
--- `x` is empty, or consists of complete lines. So the first lines of `x ++ y` are the lines of `x`, and then the first
+-- `x` is empty, or consists of complete lines: the first lines of `x ++ y` are the lines of `x`, and then the first
 -- lines of `y`.
 abbrev pub AreLines : List ℕ → Type 0
 AreLines x = (n : ℕ) (y : List ℕ) → first_lines (ended_lines x + n) (x ++ y) ≡ x ++ first_lines n y
@@ -34,8 +34,8 @@ module _ {X : Type 0} (read : ℕ → List ℕ → Option (X × List ℕ)) (room
   abbrev pub IsLost : List ℕ → Type 0
   IsLost text = (r : ℕ) (z : List ℕ) → room ≤ r → read r (text ++ z) ≡ None
 
-  -- `front` is `text` without its last bytes, at most `few` of them. Each `read r` with `r` of at least `room` reads
-  -- `x` from all of `front ++ y`, for some `x` and some bytes `y`.
+  -- `front` is `text` with at most `few` bytes removed from its end. For some `x` and some bytes `y`, each `read r`
+  -- with `r` of at least `room` reads `x` from all of `front ++ y`.
   abbrev pub IsOpen : List ℕ → Type 0
   IsOpen text = (front : List ℕ) × (last : List ℕ) × (text ≡ front ++ last) × (length last ≤ few)
       × (y : List ℕ) × (x : X) × ((r : ℕ) → room ≤ r → read r (front ++ y) ≡ Some (x, []))
@@ -58,8 +58,8 @@ GivesAt view (Err e) read room text = FailsAt read room e text
 abbrev pub IsLineLost : {X : Type 0} → (List ℕ → Option (X × List ℕ)) → List ℕ → Type 0
 IsLineLost read text = (z : List ℕ) → read (text ++ z) ≡ None
 
--- `front` is `text` without its last bytes, at most `few` of them. `read` reads `x` from all of `front ++ y`, for some
--- `x` and some bytes `y`.
+-- `front` is `text` with at most `few` bytes removed from its end. For some `x` and some bytes `y`, `read` reads `x`
+-- from all of `front ++ y`.
 abbrev pub IsLineOpen : {X : Type 0} → (List ℕ → Option (X × List ℕ)) → List ℕ → Type 0
 IsLineOpen {X} read text = (front : List ℕ) × (last : List ℕ) × (text ≡ front ++ last) × (length last ≤ few)
     × (y : List ℕ) × (x : X) × (read (front ++ y) ≡ Some (x, []))

@@ -53,7 +53,7 @@ indent_at (suc level) text = strip (codes "  ") text >>= indent_at level
 abbrev pub is_digit : ℕ → Bool
 is_digit c = nat_le 48 c && nat_le c 57
 
--- The number whose digits are those of `n` and then the digits at the front of the bytes. `None` if it is 2^64 or more.
+-- The number with the digits of `n` and then the digits at the front of the bytes. `None` for 2^64 or more.
 abbrev pub digits_at : ℕ → List ℕ → Option (ℕ × List ℕ)
 digits_at n [] = Some (n, [])
 digits_at n (c ∷ cs) = cond (is_digit c)

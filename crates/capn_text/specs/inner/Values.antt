@@ -102,8 +102,8 @@ module _ (below : ℕ → List ℕ → Option (Tree × List ℕ)) where
       many (word_line_at (level + 1)) w text >>= λ ws. many (below (level + 1)) s ws.1
       >>= λ ss. Some ((ws.0, trees ss.0), ss.1)
 
-  -- The data words and the slots of a row, if its first line is that of a struct, or else `None`. `text` begins after
-  -- that line.
+  -- The data words and the slots of a row, if the second argument is the first line of a struct, or else `None`. `text`
+  -- begins after that line.
   abbrev pub row_of : ℕ → Head → List ℕ → Option ((List ℕ × Trees) × List ℕ)
   row_of level heads.Null text = None
   row_of level (heads.Struct w s) text = body_at level w s text

@@ -1,5 +1,5 @@
--- The test that decides `Same`. The functions compute this test, and `proofs/Decided.antt` shows that it agrees with
--- `Same`.
+-- The test that decides `Same`. The functions of `sameness.rt` compute this test, and `proofs/Decided.antt` shows that
+-- it agrees with `Same`.
 use Rattle.std.specs.Prelude.{ℕ, ◌==◌, ◌&&◌, Bool, true, false, List, [], ◌∷◌}
 use Rattle.std.specs.Cmp.Lexicographic.{pointwise}
 use Rattle.capn_value.specs.NumberWidth.{bits_in}

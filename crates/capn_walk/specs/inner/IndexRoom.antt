@@ -28,8 +28,8 @@ Indexes left vs n form es first old new (Ok t) =
     Gives left vs n t.paid t.visits × IsLaid form es first old new t.visits
 Indexes left vs n form es first old new (Err s) = Refuses left vs n s × (s.fault ≢ faults.Memory)
 
--- `visits` is above 0, and `new` and `old` are equal from index `first + visits - 1` on. That is the index for the
--- entry of visit number `visits`.
+-- `visits` is above 0, and `new` and `old` are equal from index `first + visits - 1` on, which is the index for the
+-- entry of visit number `visits`
 pub record IsKept {A : Type 0} (first : ℕ) (old new : List A) (visits : ℕ) : Type 0 where
   pub some : 0 < visits
   pub rest : drop (first + visits - 1) new ≡ drop (first + visits - 1) old

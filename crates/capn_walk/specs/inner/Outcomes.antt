@@ -40,12 +40,12 @@ module _ (message : List (List ℕ)) (base depth left : ℕ) where
     pub refused : judge left (visits message base depth at) ≡ refused e at 0 1
     pub memory : e ≢ faults.Memory
 
-  -- the result of one visit of the slot at `at`: the findings of the visit, or the fault
+  -- a correct result of one visit of the slot at `at`: the findings of the visit, or the fault
   abbrev pub Visits : Place → Result Visited Fault → Type 0
   Visits at (Ok v) = IsVisit at v
   Visits at (Err e) = IsRefusal at e
 
--- the result of a survey of `n` slots and all slots below them, which makes the visits `vs`: the number of words paid,
+-- a correct result of a survey of `n` slots and all slots below them, with the visits `vs`: the number of words paid,
 -- the number of visits and the first capability, or an error
 abbrev pub SurveysAs : List (List ℕ) → ℕ → ℕ → List Visit → Result Measured Stopped → Type 0
 SurveysAs message left n vs (Ok m) =
@@ -55,12 +55,12 @@ SurveysAs message left n vs (Err s) = Refuses left vs n s
 -- ---- a walk
 
 module _ {A : Type 0} (message : List (List ℕ)) (base depth left : ℕ) where
-  -- the result for the slot at `at`: the slot's value, or an error
+  -- a correct result for the slot at `at`: the slot's value, or an error
   abbrev pub Walks : Place → Result (Found A) Stopped → Type 0
   Walks at (Ok f) = Gives left (visits message base depth at) 1 f.paid f.visits × IsAt message at (tree_of f.value)
   Walks at (Err s) = Refuses left (visits message base depth at) 1 s
 
-  -- the result for an object of `shape` whose own price has been paid: the value of the content at `start`, or an error
+  -- a correct result for an object of `shape` whose own price is paid: the value of content at `start`, or an error
   abbrev pub WalksObject : Shape → Place → Result (Found A) Stopped → Type 0
   WalksObject shape start (Ok f) =
       Gives left (visits_of message base depth (slots start.segment start.word shape))
@@ -69,14 +69,14 @@ module _ {A : Type 0} (message : List (List ℕ)) (base depth left : ℕ) where
   WalksObject shape start (Err s) =
       Refuses left (visits_of message base depth (slots start.segment start.word shape)) (slot_count shape) s
 
-  -- the result for `n` consecutive slots from word `start` of `segment` on: the slots' values, or an error
+  -- a correct result for `n` consecutive slots from word `start` of `segment` on: the slots' values, or an error
   abbrev pub WalksSlots : ℕ → ℕ → ℕ → Result (FoundSlots A) Stopped → Type 0
   WalksSlots segment start n (Ok f) =
       Gives left (visits_of message base depth (places segment start n)) n f.paid f.visits
       × AreAt message segment start (trees_of f.items) × (count (trees_of f.items) ≡ n)
   WalksSlots segment start n (Err s) = Refuses left (visits_of message base depth (places segment start n)) n s
 
-  -- the result for `n` consecutive rows from `start` on, of `a` words and `b` slots each: the rows' bodies, or an error
+  -- a correct result for `n` rows from `start` on, of `a` words and `b` slots each: the rows' bodies, or an error
   abbrev pub WalksRows : Place → ℕ → ℕ → ℕ → Result (FoundRows A) Stopped → Type 0
   WalksRows start a b n (Ok f) =
       Gives left (visits_of message base depth (row_places start.segment start.word a b n)) (n * b) f.paid f.visits

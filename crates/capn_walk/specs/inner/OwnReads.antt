@@ -5,7 +5,7 @@ use Rattle.capn_target.specs.declared.target.Shape.{Shape}
 use Rattle.capn_target.specs.declared.target.Shape.TheVariants as shapes
 use Rattle.capn_target.specs.Target.{content_words}
 
--- the number of an object's words with data or numbers, plus one turn of a loop for each row
+-- the number of words of an object that have data or numbers, plus one turn of a loop for each row
 abbrev pub own_reads : Shape → ℕ
 own_reads (shapes.Node a b) = a
 own_reads (shapes.Many Link n) = 0

@@ -1,4 +1,4 @@
--- The slots that a survey has still to visit, in one object and in a stack of objects.
+-- The slots that a survey still has to visit, in one object and in a stack of objects.
 use Rattle.std.specs.Prelude.{ℕ, ◌+◌, ◌-◌, ◌*◌, ◌<◌, ◌≤◌, List, [], ◌∷◌, ◌++◌, length, ⊤}
 use Rattle.capn_words.specs.declared.space.Place.{Place}
 use Rattle.capn_words.specs.Message.{segment_at}
@@ -34,8 +34,7 @@ abbrev pub owed_by : List Waiting → ℕ
 owed_by [] = 0
 owed_by (w ∷ ws) = owed w.frame + owed_by ws
 
--- the depth that remains at the lowest object of a stack is at most `limit`. The depth at each next object is at most
--- one less than the limit of the object before.
+-- the depth that remains at object `k` of a stack is at most `limit - k`, where the lowest object has the number 0
 abbrev pub AreShallow : ℕ → List Waiting → Type 0
 AreShallow limit [] = ⊤
 AreShallow limit (w ∷ ws) = (w.depth ≤ limit) × AreShallow (limit - 1) ws

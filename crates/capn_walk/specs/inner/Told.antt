@@ -58,8 +58,8 @@ pub record IsDepthTold (message : List (List ℕ)) (limits : Bounds) (r : Result
       (λ s. IsBounded limits.budget s.paid s.visits)
 
 -- `r` is a correct result of writing an index to a room: if `message` is accepted, the totals, and if `message` is
--- refused, the stop of the walk. `new` has the index of an accepted message. If `r` is an error, `new` is `old`, except
--- for the entries of the visits before the stop.
+-- refused, the stop of the walk. If `r` is `Ok`, `new` has as much of the index as fits. If `r` is an error, `new` is
+-- `old`, except for the entries of the visits before the stop.
 pub record IsIndexTold {A : Type 0} (form : Entry → A) (message : List (List ℕ)) (limits : Bounds) (old new : List A)
     (r : Result Indexed Stopped) : Type 0 where
   pub found : IfOk r (λ t. IsIndexedAs form message limits old new t)
