@@ -56,8 +56,8 @@ run: program
 	@echo "out:"; $(PROGRAM)/out/capn $$(cat $(PROGRAM)/args) < $(PROGRAM)/stdin | od -An -v -tx1 -w8
 
 # The lines of the gate that need no prover; those that need what it builds. .ci/README.md says of each when it fails.
-PAGE_LINES := .ci/lines .ci/docs .ci/borders .ci/toolchain .ci/version .ci/lists .ci/readings .ci/counts .ci/places \
-	release/completions tests/pages/touched tests/cases release/symbols release/manual release/links \
+PAGE_LINES := .ci/lines .ci/docs .ci/borders .ci/cited .ci/toolchain .ci/version .ci/lists .ci/readings .ci/counts \
+	.ci/places release/completions tests/pages/touched tests/cases release/symbols release/manual release/links \
 	tests/release/steps
 BUILT_LINES := release/recursion tests/program/statuses tests/program/full-disk tests/program/failures tests/vectors \
 	.ci/library release/installs release/twice

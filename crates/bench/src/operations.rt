@@ -129,7 +129,7 @@ fn of_bytes(alloc: Global, bytes: Result<Vec<u8>>, size: Option<usize>) -> Resul
     })
 }
 
-/// Returns an input of a tree, whose cost is divided by the `size` of its framed message.
+/// Returns an input that is a tree. The cost of the operation is divided by `size`, the size of the framed message.
 fn of_tree(alloc: Global, tree: Result<Tree>, size: usize) -> Result<Input> {
     let tree = tree?;
     Ok(Input {

@@ -1,6 +1,6 @@
 -- If bytes are read as a message, the outcome of its walk is also the outcome for the bytes. (For `walk_in`.)
-use Rattle.std.proofs.Common.{◌≡◌, ℕ, ◌*◌, ◌≤◌, inl, inr, List, length, subst, arith, Result, Ok, Err}
-use Rattle.std.proofs.Common.{IfOk, IfErr, IsErrOf, MatchResult}
+use Rattle.std.proofs.Common.{◌≡◌, ℕ, ◌*◌, ◌≤◌, inl, inr, List, length, subst, arith, Result, Ok, Err, IfOk, IfErr}
+use Rattle.std.proofs.Common.{IsErrOf, MatchResult}
 use Rattle.capn_value.specs.Tree.{Tree}
 use Rattle.capn_walk.specs.Accepted.{IsAccepted}
 use Rattle.capn_walk.specs.Limits.{Bounds}
@@ -12,8 +12,7 @@ use Rattle.capn_canon.specs.declared.refusal.Refusal.TheVariants as refusals
 use Rattle.capn_canon.proofs.shared.NotRefused.{accepted-not_refused}
 use Rattle.capn_canon.proofs.shared.NotUnaccepted.{not_unaccepted}
 use Rattle.capn_canon.proofs.shared.OneReading.{one_message}
-use Rattle.capn_answers.specs.Walked.{AnswersAccepted, IsWalkedIn, IsWalkedWithin, MayNeedItsPath}
-use Rattle.capn_answers.specs.Walked.{walked_path}
+use Rattle.capn_answers.specs.Walked.{AnswersAccepted, IsWalkedIn, IsWalkedWithin, MayNeedItsPath, walked_path}
 use Rattle.capn_answers.specs.Paths.{IsUnread}
 use Rattle.capn_answers.specs.declared.walked.Walked.{Walked}
 use Rattle.capn_answers.specs.declared.walked.Walked.TheVariants.{Accepted, Refused}

@@ -1,2 +1,3 @@
 -- Lemmas that other crates may cite.
 pub mod Reading
+pub mod TaskRuns

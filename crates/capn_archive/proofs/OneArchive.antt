@@ -1,6 +1,6 @@
 -- Lemmas for `one_text`: the state and the message determine the effect of a run over an archive.
-use Rattle.std.proofs.Common.{◌≡◌, ◌↔◌, inl, inr, ℕ, List, Bool, true, false, Option, Some, None, refl, ap, sym}
-use Rattle.std.proofs.Common.{subst, ◌∙◌, arith}
+use Rattle.std.proofs.Common.{◌≡◌, ◌↔◌, inl, inr, ℕ, List, Bool, true, false, Option, Some, None, refl, ap, sym, subst}
+use Rattle.std.proofs.Common.{◌∙◌, arith}
 use Rattle.std.proofs.lemmas.Bool.{cases_lt}
 use Rattle.std.specs.Bool.{IsTrue}
 use Rattle.sha2.specs.Sha256.{sha256}
@@ -22,8 +22,7 @@ use Rattle.capn_canon.proofs.shared.OneRefusal.{message_part, one_message_refusa
 use Rattle.capn_serve.specs.declared.position.Position.{Position}
 use Rattle.capn_serve.proofs.shared.OneServing.{IsOneWay}
 use Rattle.capn_archive.specs.CanonicalFrame.{framed}
-use Rattle.capn_canon.specs.Measure.{IsCanonicalOf, IsChecked}
-use Rattle.capn_canon.specs.Measure.{IsMeasure}
+use Rattle.capn_canon.specs.Measure.{IsCanonicalOf, IsChecked, IsMeasure}
 use Rattle.capn_archive.specs.MessageHead.{head_of}
 use Rattle.capn_archive.specs.Digest.{IsDigest, IsDigestIfAny, IsUndigested}
 use Rattle.capn_archive.specs.Lines.{digests_line, list_line}

@@ -1,8 +1,7 @@
 -- Lemmas for `deduplicate` and `serve` of `uniq`: a message that is served or skipped has the effect that the fold
 -- states.
 use Rattle.std.proofs.Common.{◌≡◌, inl, inr, ℕ, List, [], Bool, true, false, Option, Some, Result, Ok, Err, refl}
-use Rattle.std.proofs.Common.{IsErrAnd}
-use Rattle.std.proofs.Common.{ap, sym, subst, ◌∙◌}
+use Rattle.std.proofs.Common.{IsErrAnd, ap, sym, subst, ◌∙◌}
 use Rattle.std.specs.FinSet.{FinSet}
 use Rattle.std.specs.Ordering.{nat_cmp}
 use Rattle.std.specs.Cmp.Lexicographic.{slice_cmp}
@@ -18,8 +17,8 @@ use Rattle.capn_serve.specs.declared.skipped.SkippedSoFar.{SkippedSoFar}
 use Rattle.capn_archive.specs.declared.uniq_order.UniqOrder.{UniqOrder}
 use Rattle.capn_serve.specs.Skipped.{one_more}
 use Rattle.capn_archive.specs.Digest.{IsDigest, IsUndigested}
-use Rattle.capn_archive.specs.UniqMessages.{UniqState, IsSkipped, Deduplicates, and_one, has, one_served}
-use Rattle.capn_archive.specs.UniqMessages.{refuses, serves, kept_text, TriesToDeduplicate}
+use Rattle.capn_archive.specs.UniqMessages.{UniqState, IsSkipped, Deduplicates, and_one, has, one_served, refuses}
+use Rattle.capn_archive.specs.UniqMessages.{serves, kept_text, TriesToDeduplicate}
 
 -- The state of the service with `order`, `digests`, `served` and `skipped`.
 abbrev pub state : UniqOrder → FinSet (slice_cmp nat_cmp) → ℕ → Option SkippedSoFar → UniqState

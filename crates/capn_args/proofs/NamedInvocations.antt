@@ -1,5 +1,5 @@
--- Lemmas for `command_line.rt`, `explain_options.rt`, `pick_options.rt` and `show_options.rt`: the meaning of each
--- subcommand that has several invocations, or one invocation with a flag.
+-- Lemmas for `command_line.rt`, `explain_options.rt` and `show_options.rt`: which options have valid values in rows
+-- that mean an invocation of `list`, `check`, `hash`, `pack`, `show` or `explain`.
 use Rattle.std.proofs.Common.{◌≡◌, ◌⊎◌, inl, inr, Bor, List, Bool, true, false, Option, Some, None, IsSome, codes, refl}
 use Rattle.clap.specs.Words.{Row, Text, first_of}
 use Rattle.capn_walk.specs.Limits.{Bounds}

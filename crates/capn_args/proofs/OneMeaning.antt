@@ -1,6 +1,6 @@
 -- Lemmas for `command` and `unpack_of`: a subcommand with the values of its options means at most one command.
 use Rattle.std.proofs.Common.{◌≡◌, ℕ, ◌+◌, List, [], ◌∷◌, Option, Some, None, refl, sym, ap, subst, ◌∙◌, codes}
-use Rattle.std.proofs.Common.{unwrap_or, Bool, true, false, bytes_eq}
+use Rattle.std.proofs.Common.{unwrap_or, Bool, true, false}
 use Rattle.std.specs.Str.Parse.{digits_value, without_leading_plus}
 use Rattle.clap.specs.Words.{Row, Text}
 use Rattle.capn_stream.specs.Frames.{most_table_words}

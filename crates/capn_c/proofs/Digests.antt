@@ -1,6 +1,5 @@
 -- The digest of a message is also the digest of the bytes that are read as that message. (For `digest_in`.)
-use Rattle.std.proofs.Common.{◌≡◌, ◌≤◌, inl, inr, ℕ, List, subst, Result, Ok, Err, IfOk, IfErr}
-use Rattle.std.proofs.Common.{IsErrOf, MatchResult}
+use Rattle.std.proofs.Common.{◌≡◌, ◌≤◌, inl, inr, ℕ, List, subst, Result, Ok, Err, IfOk, IfErr, IsErrOf, MatchResult}
 use Rattle.sha2.specs.Sha256.{sha256}
 use Rattle.capn_walk.specs.Limits.{Bounds}
 use Rattle.capn_canon.specs.Answered.{IsAnswered, IsRefusedReading}

@@ -1,14 +1,12 @@
 -- A lower bound for the length of a frame whose first bytes are known. (For `frame`.)
-use Rattle.std.proofs.Common.{◌≡◌, ◌≢◌, ◌⊎◌, ◌∙◌, inl, inr, ℕ, ◌<◌, ◌≤◌, List, ◌++◌, length, ap}
-use Rattle.std.proofs.Common.{sym, subst, arith}
+use Rattle.std.proofs.Common.{◌≡◌, ◌≢◌, ◌⊎◌, ◌∙◌, inl, inr, ℕ, ◌<◌, ◌≤◌, List, ◌++◌, length, ap, sym, subst, arith}
 use Rattle.std.proofs.lemmas.Bool.Decides.{nat_tests}
 use Rattle.capn_stream.specs.Frames.{padding}
 use Rattle.capn_stream.specs.StreamPieces.{IsUnfinished}
 use Rattle.capn_stream.specs.FrameRefusal.{HasCount, HasHead, announced_segments, announced_words, frame_length}
-use Rattle.capn_stream.specs.FrameRefusal.{head_length}
+use Rattle.capn_stream.specs.FrameRefusal.{head_length, IsFrameRefused}
 use Rattle.capn_stream.proofs.shared.Longer.{segments-append, words-append}
 use Rattle.capn_stream.proofs.shared.Wanting.{frame_whole}
-use Rattle.capn_stream.specs.FrameRefusal.{IsFrameRefused}
 use Rattle.capn_stream.specs.declared.fault.FrameFault.{FrameFault}
 use Rattle.capn_stream.specs.declared.fault.FrameFault.TheVariants as frame
 use Rattle.capn_abi.specs.declared.report.CapnReport.{CapnReport}

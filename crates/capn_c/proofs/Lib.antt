@@ -3,6 +3,7 @@ pub mod Counted
 pub mod Delivered
 pub mod Digests
 pub mod Entered
+pub mod Figured
 pub mod Filled
 pub mod Framed
 pub mod Indexed
@@ -10,6 +11,7 @@ pub mod Least
 pub mod Lent
 pub mod Listed
 pub mod OfMessage
+pub mod OneBare
 pub mod OutOfMemory
 pub mod PackedText
 pub mod Placed

@@ -1,6 +1,6 @@
 -- Lemmas: the words at the place of an entry are in the bytes at the entry's offset. (For `offsets`.)
-use Rattle.std.proofs.Common.{◌≡◌, ℕ, zero, suc, ◌+◌, ◌*◌, ◌<◌, ◌≤◌, List, [], ◌∷◌, ◌++◌, length, take, drop}
-use Rattle.std.proofs.Common.{get_or, map, refl, ap, sym, subst, ◌∙◌, arith, length-drop}
+use Rattle.std.proofs.Common.{◌≡◌, ℕ, zero, suc, ◌+◌, ◌*◌, ◌<◌, ◌≤◌, List, [], ◌∷◌, ◌++◌, length, take, drop, get_or}
+use Rattle.std.proofs.Common.{map, refl, ap, sym, subst, ◌∙◌, arith, length-drop}
 use Rattle.std.specs.List.{sum_by}
 use Rattle.std.proofs.lemmas.List.{append-nil, drop-append-le, drop-drop, drop_at, take-append-le, take_all}
 use Rattle.std.proofs.lemmas.List.Sums.{sum_by-cons}
@@ -11,9 +11,8 @@ use Rattle.capn_stream.specs.Frames.{segment_bytes}
 use Rattle.capn_stream.specs.FrameRefusal.{announced_segments, announced_words, head_length}
 use Rattle.capn_stream.proofs.shared.FrameLaws.{announces, stands_alone}
 use Rattle.capn_walk.specs.Index.{IndexesAreReadable, by_kind, entry_at, entry_of, entry_target, index_of}
-use Rattle.capn_target.specs.Shapes.{IsContent}
+use Rattle.capn_target.specs.Shapes.{IsContent, IsInMessage}
 use Rattle.capn_target.specs.Target.{content_words}
-use Rattle.capn_target.specs.Shapes.{IsInMessage}
 use Rattle.capn_walk.specs.declared.entry.Entry.{Entry}
 use Rattle.capn_walk.specs.declared.kind.Kind.{Kind}
 use Rattle.capn_walk.specs.declared.kind.Kind.TheVariants as kinds

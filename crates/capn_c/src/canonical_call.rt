@@ -94,7 +94,7 @@ pub extern "C" fn capn_canonical(
     // 8, they describe no other refusal.
     ensures refused { 5 ≤ result → (e : Refusals) × Reports result report.new e
         × IsRefused (form_named form) bytes.now (bounds_of limits.now) e }
-    // `result` is 8 only for a stream of more than 64 segments, or for the words that a packed text unpacks to.
+    // `result` is 8 only if `bytes` begin with a frame of more than 64 segments (`Stream`), or with a group (`Packed`).
     ensures memory { result ≡ 8 → MayNeedMemory (form_named form) bytes.now (bounds_of limits.now) }
     // For any `result`, the reported price is at most the budget, and the number of visits at most the price plus 1.
     ensures bounded { IsBounded limits.now.budget report.new.paid report.new.visits }

@@ -109,7 +109,8 @@ pub extern "C" fn capn_same(
     // `second` is refused only if `first` has canonical bytes.
     ensures second { which.new ≢ 0 → (which.new ≡ 1)
         × ((v : Value) × Denotes (form_named form) first.now (bounds_of limits.now) v × (first_cap v ≡ None)) }
-    // `result` is 8 only for a stream of more than 64 segments, or for the words that a packed text unpacks to.
+    // `result` is 8 only if the bytes that `which` names begin with a frame of more than 64 segments (`Stream`), or
+    // with a group (`Packed`).
     ensures memory { result ≡ 8
         → MayNeedMemory (form_named form) (named which.new first.now second.now) (bounds_of limits.now) }
     // For any `result`, the reported price is at most the budget, and the number of visits at most the price plus 1.

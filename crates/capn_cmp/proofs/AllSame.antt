@@ -1,13 +1,12 @@
 -- Lemmas for `same_exactly`: a comparison that finds no difference.
 use Rattle.std.proofs.Common.{◌≡◌, ◌≢◌, ◌⊎◌, inl, inr, ℕ, ◌+◌, ◌≤◌, List, [], ◌∷◌, ◌++◌, length, Bool, true, false}
-use Rattle.std.proofs.Common.{Option, None, Result, Ok, Err, refl, ap, sym, subst, ◌∙◌, append-nil, arith, nat_lt, cond}
+use Rattle.std.proofs.Common.{None, Result, Ok, Err, refl, ap, sym, subst, ◌∙◌, append-nil, arith, nat_lt, cond}
 use Rattle.std.proofs.lemmas.Bool.{le-ltb, ltb-false}
 use Rattle.std.proofs.lemmas.List.{take_all}
-use Rattle.capn_stream.specs.declared.fault.FrameFault.{FrameFault}
 use Rattle.capn_stream.specs.declared.fault.FrameFault.TheVariants as frame_faults
 use Rattle.capn_canon.specs.declared.form.Form.TheVariants as forms
 use Rattle.capn_walk.specs.Limits.{Bounds}
-use Rattle.capn_serve.specs.Fold.{AreServed, EndsBy, EndsRefused, EndsUnframed, Fold, IsFolded, Part, after, end_of}
+use Rattle.capn_serve.specs.Fold.{AreServed, EndsRefused, EndsUnframed, Fold, IsFolded, Part, after}
 use Rattle.capn_serve.specs.Fold.{frames_of, texts_of}
 use Rattle.capn_serve.specs.FormRun.{AreMessages, most_stream}
 use Rattle.capn_serve.specs.StreamRun.{behind, has_more, start, taken_of}
@@ -16,7 +15,7 @@ use Rattle.capn_serve.specs.declared.position.Position.{Position}
 use Rattle.capn_serve.specs.declared.service.Run.{Run}
 use Rattle.capn_serve.proofs.shared.OneServing.{one_serving}
 use Rattle.capn_serve.proofs.shared.Until.{ends_open}
-use Rattle.capn_cmp.specs.CmpMessages.{CmpState, Compares, IsForm, serves}
+use Rattle.capn_cmp.specs.CmpMessages.{CmpState, IsForm}
 use Rattle.capn_cmp.specs.CmpRun.{cmp_fold, first_run, found_by, outcome}
 use Rattle.capn_cmp.specs.Laws.{AllHave, IsOfOneValue, SameExactly}
 use Rattle.capn_cmp.specs.declared.cmp_order.CmpOrder.{CmpOrder}

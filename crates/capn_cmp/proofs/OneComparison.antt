@@ -1,6 +1,5 @@
 -- Lemmas for `one_text`: the state and the message determine the effect of `cmp`.
-use Rattle.std.proofs.Common.{◌≡◌, ◌≢◌, inl, inr, ℕ, List, [], ◌∷◌, Bool, true, false, Some, None, Result}
-use Rattle.std.proofs.Common.{refl, ap, ap₂, sym, subst, ◌∙◌}
+use Rattle.std.proofs.Common.{◌≡◌, inl, inr, ℕ, List, [], ◌∷◌, Some, None, Result, refl, ap, ap₂, sym, subst, ◌∙◌}
 use Rattle.capn_words.proofs.shared.OneSegment.{one_bare}
 use Rattle.capn_value.specs.Tree.{Tree}
 use Rattle.capn_value.specs.FirstCap.{first_cap}
@@ -15,7 +14,6 @@ use Rattle.capn_canon.specs.declared.refusal.Refusal.{Refusal}
 use Rattle.capn_canon.specs.declared.refusal.Refusal.TheVariants as refusals
 use Rattle.capn_canon.proofs.shared.NotRefused.{accepted-not_refused}
 use Rattle.capn_canon.proofs.shared.OneRefusal.{message_part, one_message_refusal}
-use Rattle.capn_serve.specs.FormRun.{AreMessages}
 use Rattle.capn_serve.specs.declared.fault.RunFault.{RunFault}
 use Rattle.capn_serve.specs.declared.position.Position.{Position}
 use Rattle.capn_serve.specs.declared.service.Run.{Run}

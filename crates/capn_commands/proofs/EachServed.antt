@@ -1,6 +1,6 @@
 -- Lemmas for `run_each`: if the service ran over a stream, `Runs` holds for the plan of that stream.
-use Rattle.std.proofs.Common.{◌≡◌, ◌⊎◌, inl, inr, ℕ, List, Bool, true, false, Option, Some, None, IfSome}
-use Rattle.std.proofs.Common.{Ok, Err, refl, ap, sym, subst}
+use Rattle.std.proofs.Common.{◌≡◌, ◌⊎◌, inl, inr, ℕ, List, Bool, true, false, Option, Some, None, IfSome, Ok, Err, refl}
+use Rattle.std.proofs.Common.{ap, sym, subst}
 use Rattle.std.specs.Io.KnownBytes.{Appends}
 use Rattle.capn_walk.specs.Limits.{Bounds}
 use Rattle.capn_serve.specs.Fold.{fold_of}
@@ -17,8 +17,7 @@ use Rattle.capn_commands.specs.declared.plan.MessageText.{MessageText}
 use Rattle.capn_commands.specs.declared.plan.Plan.{Plan}
 use Rattle.capn_commands.specs.declared.plan.Plan.TheVariants as plans
 use Rattle.capn_commands.specs.declared.fault.ToolFault.{ToolFault}
-use Rattle.capn_commands.proofs.Served.{Ending, IsOf, behind_of, due, ending_of, io_same, memory_from, row}
-use Rattle.capn_commands.proofs.Served.{texts}
+use Rattle.capn_commands.proofs.Served.{Ending, IsOf, behind_of, due, ending_of, io_same, memory_from, row, texts}
 
 behind_same : (more : Bool) → behind_of (served.behind more) ≡ behind_stream more
 behind_same true = refl

@@ -1,7 +1,5 @@
 -- Lemmas on the bytes that a reader has returned, read by read. (For `read_words`.)
-use Rattle.std.proofs.Common.{◌≡◌, inl, inr, ℕ, ◌<◌, ◌^◌, List, length, refl}
-use Rattle.std.proofs.Common.{Option, Bool, true}
-use Rattle.std.proofs.Common.{Result, Ok, Err}
+use Rattle.std.proofs.Common.{◌≡◌, inl, inr, ℕ, ◌<◌, ◌^◌, List, length, refl, Option, Bool, true, Result, Ok, Err}
 use Rattle.std.specs.Io.KnownBytes.{Consumes}
 use Rattle.capn_pack.specs.WholeGroups.{most_group}
 use Rattle.capn_commands.specs.inner.Pending.{IsPending}

@@ -1,6 +1,5 @@
 -- Lemmas on one more read of the input. (For `pack_stream` and `unpack_stream`.)
-use Rattle.std.proofs.Common.{◌≡◌, inl, inr, ℕ, ◌+◌, ◌-◌, ◌≤◌, ◌<◌, min, List, [], ◌++◌, length, take, refl}
-use Rattle.std.proofs.Common.{sym, ap}
+use Rattle.std.proofs.Common.{◌≡◌, inl, inr, ℕ, ◌+◌, ◌-◌, ◌≤◌, ◌<◌, min, List, [], ◌++◌, length, take, refl, sym, ap}
 use Rattle.std.proofs.Common.{subst, ◌∙◌, arith, length-append, length-take-le, append-nil, Option, None, Some, IfSome}
 use Rattle.std.proofs.Common.{Bool, true, false, nat_lt, ◌||◌}
 use Rattle.std.proofs.Math.Seq.{take-append-add, take_all}

@@ -1,8 +1,7 @@
 -- Lemmas for `settled_part`, `unpacked_part` and `zeros_part`: the last word of `bs` determines the kind of the last
 -- group of `t`, the packed text of `bs`.
 use Rattle.std.proofs.Common.{◌≡◌, ◌≢◌, ◌⊎◌, inl, inr, ℕ, zero, suc, ◌+◌, ◌-◌, ◌*◌, ◌/◌, ◌^◌, ◌<◌, ◌≤◌, List, [], ◌∷◌}
-use Rattle.std.proofs.Common.{◌++◌}
-use Rattle.std.proofs.Common.{length, take, drop, replicate, get_or, eqb, false, refl, ap, sym, subst, ◌∙◌, arith}
+use Rattle.std.proofs.Common.{◌++◌, length, take, drop, replicate, get_or, eqb, false, refl, ap, sym, subst, ◌∙◌, arith}
 use Rattle.std.proofs.Common.{append-nil, length-append, length-drop, drop-drop, take_all}
 use Rattle.std.proofs.Math.Seq.{drop-append-add, drop-append_seam, take-append_seam}
 use Rattle.std.proofs.lemmas.Bool.{cases_lt, ne_eqb}

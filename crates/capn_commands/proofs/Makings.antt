@@ -1,7 +1,6 @@
 -- Lemmas for `make_framed`, `make_text`, `make_trimmed` and `make_verdict`: the output for the bytes that were read.
-use Rattle.std.proofs.Common.{◌≡◌, ◌⊎◌, inl, inr, ℕ, ◌+◌, ◌*◌, ◌^◌, List, Bool, Option, Result, Ok}
-use Rattle.std.proofs.Common.{Err, IsErr, IsErrAnd}
-use Rattle.std.proofs.Common.{Vec, ap, sym, subst, ◌∙◌, arith, take_all}
+use Rattle.std.proofs.Common.{◌≡◌, ◌⊎◌, inl, inr, ℕ, ◌+◌, ◌*◌, ◌^◌, List, Bool, Option, Result, Ok, Err, IsErr}
+use Rattle.std.proofs.Common.{IsErrAnd, Vec, ap, sym, subst, ◌∙◌, arith, take_all}
 use Rattle.capn_words.specs.Message.{ReadsBare}
 use Rattle.capn_words.specs.declared.bare.BareFault.{BareFault}
 use Rattle.capn_stream.specs.Frames.{most_table_words}

@@ -25,8 +25,7 @@ use Rattle.capn_walk.specs.declared.walk_answer.Stopped.{Stopped}
 use Rattle.capn_walk.specs.Limits.{Bounds}
 use Rattle.capn_walk.proofs.shared.Unique.{unique}
 use Rattle.capn_canon.specs.Layout.{canon}
-use Rattle.capn_canon.specs.Denotes.{Answers}
-use Rattle.capn_canon.specs.Denotes.{Denotes}
+use Rattle.capn_canon.specs.Denotes.{Answers, Denotes}
 use Rattle.capn_canon.specs.declared.form.Form.{Form}
 use Rattle.capn_canon.specs.declared.refusal.Refusal.{Refusal}
 use Rattle.capn_canon.specs.declared.refusal.Refusal.TheVariants as refusals

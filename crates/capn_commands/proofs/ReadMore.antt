@@ -1,7 +1,6 @@
 -- Lemmas on one more read of the input. (For `read_words`.)
-use Rattle.std.proofs.Common.{◌≡◌, ℕ, ◌<◌, ◌^◌, List, ◌++◌, length, refl, ap, ◌∙◌}
-use Rattle.std.proofs.Common.{arith, length-append, append-nil, Option, None, Some, IfSome, Bool, true}
-use Rattle.std.proofs.Common.{false, nat_lt, ◌||◌}
+use Rattle.std.proofs.Common.{◌≡◌, ℕ, ◌<◌, ◌^◌, List, ◌++◌, length, refl, ap, ◌∙◌, arith, length-append, append-nil}
+use Rattle.std.proofs.Common.{Option, None, Some, IfSome, Bool, true, false, nat_lt, ◌||◌}
 use Rattle.std.proofs.lemmas.List.{take-append-le}
 use Rattle.std.proofs.lemmas.Bool.Decides.{nat_tests}
 use Rattle.capn_commands.specs.Text.{taken_of, has_more}

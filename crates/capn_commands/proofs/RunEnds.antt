@@ -1,6 +1,6 @@
 -- Lemmas on the result of a run. (For `pack_stream` and `unpack_stream`.)
-use Rattle.std.proofs.Common.{◌≡◌, ◌⊎◌, inl, inr, ℕ, ◌+◌, ◌-◌, ◌<◌, ◌≤◌, min, List, ◌++◌, length, take, Bool, true}
-use Rattle.std.proofs.Common.{[], append-nil, false, Option, None, Some, IfSome, Err, refl, ap, sym, subst, ◌∙◌, arith}
+use Rattle.std.proofs.Common.{◌≡◌, ◌⊎◌, inl, inr, ℕ, ◌+◌, ◌-◌, ◌<◌, ◌≤◌, min, List, ◌++◌, length, take, Bool, true, []}
+use Rattle.std.proofs.Common.{append-nil, false, Option, None, Some, IfSome, Err, refl, ap, sym, subst, ◌∙◌, arith}
 use Rattle.std.proofs.Common.{length-append, length-take, length-take-le}
 use Rattle.std.proofs.Math.Seq.{take-length, take_all}
 use Rattle.std.specs.Io.KnownBytes.{Appends, Consumes, IsAtEnd, Keeps}
@@ -8,9 +8,7 @@ use Rattle.std.proofs.KnownBytes.{Appends-nil, Appends-trans, Consumes-trans, Co
 use Rattle.capn_commands.specs.declared.flow_fault.FlowFault.{FlowFault}
 use Rattle.capn_commands.specs.declared.flow_fault.FlowFault.TheVariants as faults
 use Rattle.capn_commands.specs.Flow.{Begins, Ending, Ends, EndsAs, Flow, HasEnded, HasWritten, Consumed, IsAhead, Kept}
-use Rattle.capn_commands.specs.Flow.{Runs}
-use Rattle.capn_commands.specs.Flow.{Stops}
-use Rattle.capn_commands.specs.Flow.{most, taken_of}
+use Rattle.capn_commands.specs.Flow.{Runs, Stops, most, taken_of}
 use Rattle.capn_commands.proofs.InputRead.{kept_all, read_end, read_past, taken_front}
 
 abbrev stopped : FlowFault → Ending

@@ -1,7 +1,6 @@
 -- Lemmas for `write_made`: the result of a run that reads its complete input first.
-use Rattle.std.proofs.Common.{◌≡◌, ◌⊎◌, ◌↔◌, inl, inr, ℕ, ◌<◌, ◌≤◌, ◌^◌, List, [], length, Bool, true, false}
-use Rattle.std.proofs.Common.{Option, IfSome, Result, Ok, Err, IsOkUnless, OnOk, Vec, refl, ap, sym}
-use Rattle.std.proofs.Common.{subst, arith, take_all}
+use Rattle.std.proofs.Common.{◌≡◌, ◌⊎◌, ◌↔◌, inl, inr, ℕ, ◌<◌, ◌≤◌, ◌^◌, List, [], length, Bool, true, false, Option}
+use Rattle.std.proofs.Common.{IfSome, Result, Ok, Err, IsOkUnless, OnOk, Vec, refl, ap, sym, subst, arith, take_all}
 use Rattle.std.proofs.lemmas.Bool.Decides.{nat_tests}
 use Rattle.std.proofs.KnownBytes.{Appends-nil}
 use Rattle.capn_words.specs.Watched.{HasBegun}

@@ -12,6 +12,7 @@ ghost use Rattle.capn_serve.specs.declared.position.Position.{Position};
 ghost use Rattle.capn_commands.specs.MessageText.{PutsMessageText};
 ghost use Rattle.capn_commands.specs.inner.AddedParts.{AddsPart};
 ghost use Rattle.capn_commands.specs.inner.MessageTexts as spec;
+ghost use Rattle.capn_commands.specs.declared.plan.MessageText.TheVariants as kinds;
 ghost use Rattle.capn_commands.specs.declared.message_texts.MessageTexts.{MessageTexts};
 
 use crate::fault::ToolFault;
@@ -41,7 +42,9 @@ pub(crate) fn first_run(piece: MessageText, limits: Limits) -> Run<MessageTexts>
     Run::new(MessageTexts { piece, limits })
 }
 
-/// Adds the text of the value of `message`, and the line `end`. A long text is written before it is complete.
+/// Adds the text of the value of `message`, and the line `end`. A long text is written before it is complete. This
+/// function is not inlined, so that the loop over messages stays short for prices.
+#[inline(never)]
 fn add_shown<S: Space, W: Write, A: Allocator + Copy>(
     alloc: A,
     message: &S,
@@ -103,6 +106,27 @@ fn end_piece<W: Write, A: Allocator>(
     flush_long(text, writer)
 }
 
+/// Adds the digest line of `message` for `service`. This function is not inlined, so that the loop over messages stays
+/// short for prices.
+#[inline(never)]
+fn add_digest<S: Space, W: Write, A: Allocator + Copy>(
+    alloc: A,
+    service: MessageTexts,
+    message: &S,
+    text: &mut Vec<u8, A>,
+    writer: &mut Watched<W>,
+) -> Result<(), ServeFault>
+    requires fine { has_failed writer.old ≡ false }
+    requires digest { service.piece ≡ kinds.Digest }
+    ensures { (at : Position) (frame : List ℕ)
+        → DoesService spec.serves spec.refuses service at frame (S.message message.now)
+        (sent.outgoing (W.contents (inner_of writer.old)) text.old.items)
+        (sent.outgoing (W.contents (inner_of writer.new)) text.new.items) (has_failed writer.new) result service }
+{
+    let put = put_digest(alloc, message, service.limits, text);
+    end_piece(put, text, writer)
+}
+
 impl Service for MessageTexts {
     ghost use Rattle.capn_serve.specs.Fold.{never};
     ghost use Rattle.capn_commands.specs.inner.MessageTexts as spec;
@@ -134,10 +158,7 @@ impl Service for MessageTexts {
                 let put = put_price(alloc, message, self.limits, text);
                 end_piece(put, text, writer)
             }
-            MessageText::Digest => {
-                let put = put_digest(alloc, message, self.limits, text);
-                end_piece(put, text, writer)
-            }
+            MessageText::Digest => add_digest(alloc, *self, message, text, writer),
         }
     }
 }

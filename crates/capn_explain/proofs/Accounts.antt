@@ -1,6 +1,5 @@
 -- Lemmas for `first_of` and `put_accepted`: the lines of an account do not depend on the allocator of its paths.
-use Rattle.std.proofs.Common.{◌≡◌, ℕ, List, Some, Result, Ok, Err, IfOk, IsErr, refl, ap, ◌++◌, codes}
-use Rattle.std.proofs.Common.{◌≤◌, Vec, arith}
+use Rattle.std.proofs.Common.{◌≡◌, ℕ, List, Some, Result, Ok, Err, IfOk, IsErr, refl, ap, ◌++◌, codes, ◌≤◌, Vec, arith}
 use Rattle.capn_words.specs.declared.memory.Memory.{Memory}
 use Rattle.capn_walk.specs.Limits.{Bounds}
 use Rattle.capn_canon.specs.declared.form.Form.{Form}

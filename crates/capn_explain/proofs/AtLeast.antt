@@ -1,6 +1,5 @@
 -- Lemmas for `least_of` and `needs_of`: a length that is computed with zeros for the missing bytes is never too great.
-use Rattle.std.proofs.Common.{◌≡◌, ℕ, zero, suc, ◌+◌, ◌≤◌, List, [], ◌∷◌, ◌++◌, drop, sum}
-use Rattle.std.proofs.Common.{slice_index, ap, arith}
+use Rattle.std.proofs.Common.{◌≡◌, ℕ, zero, suc, ◌+◌, ◌≤◌, List, [], ◌∷◌, ◌++◌, drop, sum, slice_index, ap, arith}
 use Rattle.std.proofs.lemmas.List.{append-nil, get_or-drop}
 use Rattle.std.proofs.lemmas.List.Sums.{sum_by-cons}
 use Rattle.capn_pack.specs.Packed.{group_text}

@@ -1,6 +1,6 @@
 -- Lemmas for `run_explain`, `run_explain_refused` and their `serve_messages`: the end of a run that explains messages.
-use Rattle.std.proofs.Common.{◌≡◌, ◌≢◌, ◌⊎◌, inl, inr, ℕ, List, [], ◌++◌, length, take, Bool, true, false, Option}
-use Rattle.std.proofs.Common.{None, Some, IfSome, Result, Ok, Err, refl, ap, sym, subst, ◌∙◌, append-nil}
+use Rattle.std.proofs.Common.{◌≡◌, ◌≢◌, ◌⊎◌, inl, inr, ℕ, List, [], ◌++◌, length, take, Bool, true, false, Option, None}
+use Rattle.std.proofs.Common.{Some, IfSome, Result, Ok, Err, refl, ap, sym, subst, ◌∙◌, append-nil}
 use Rattle.std.proofs.Math.Seq.{take-length}
 use Rattle.std.specs.Io.KnownBytes.{Appends}
 use Rattle.std.proofs.KnownBytes.{Appends-trans}
@@ -18,8 +18,7 @@ use Rattle.capn_serve.proofs.shared.AfterMessages.{begun_after, begun_text, read
 use Rattle.capn_explain.specs.Finish.{Answer, Answered, AnswersAs, EndsForMemory, Finish, HasBegunClosing, HasClosing}
 use Rattle.capn_explain.specs.Finish.{TellsEnd, fault_text, last_ending, last_text, plain}
 use Rattle.capn_explain.specs.inner.Closing.{PutsClosing, PutsFault}
-use Rattle.capn_explain.proofs.Closings.{Ending, done_fine, io_is_not_memory, refused_fine}
-use Rattle.capn_explain.proofs.Closings.{stopped}
+use Rattle.capn_explain.proofs.Closings.{Ending, done_fine, io_is_not_memory, refused_fine, stopped}
 
 -- No bytes of a message or a group.
 nothing : Came

@@ -7,8 +7,7 @@ use Rattle.capn_serve.specs.declared.fault.RunFault.TheVariants as run_faults
 use Rattle.capn_serve.specs.declared.service.Run.{Run}
 use Rattle.capn_serve.specs.declared.skipped.SkippedSoFar.{SkippedSoFar}
 use Rattle.capn_explain.specs.RefusedReports.{RefusedReporting, each_of}
-use Rattle.capn_explain.specs.RefusedRun.{answer_by, ending_by, refused_answer, refused_finish}
-use Rattle.capn_explain.specs.RefusedRun.{refused_fold}
+use Rattle.capn_explain.specs.RefusedRun.{answer_by, ending_by, refused_answer, refused_finish, refused_fold}
 use Rattle.capn_explain.specs.Reports.{First}
 use Rattle.capn_explain.specs.declared.explain.Explain.{Explain}
 use Rattle.capn_explain.specs.declared.explain_refused.ExplainRefused.{ExplainRefused}

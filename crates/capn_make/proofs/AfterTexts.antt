@@ -8,7 +8,7 @@ use Rattle.capn_text.specs.Laws.{TextsAreApart, FittingIsShowable, DeepIsHigh}
 use Rattle.capn_text.specs.Streams.{end_line, ended_lines, stream_text}
 use Rattle.capn_canon.specs.declared.form.Form.{Form}
 use Rattle.capn_canon.specs.declared.form.Form.TheVariants as forms
-use Rattle.capn_make.specs.MadeInput.{AreFirst, Follows, IsNotOne, IsStuck, IsTextRefused, Makes, MakesEach, line_after}
+use Rattle.capn_make.specs.MadeInput.{AreFirst, Follows, IsNotOne, IsStuck, IsTextRefused, MakesEach, line_after}
 use Rattle.capn_make.specs.Endings.{IsFrom}
 use Rattle.capn_make.specs.Laws.{RefusedAfter, UnendedIsLast}
 use Rattle.capn_make.specs.declared.fault.MakeFault.{MakeFault}

@@ -1,8 +1,7 @@
 -- Lemmas on the texts at the front of an input: they determine the list of their values. (For `AfterTexts`, `Decided`,
 -- `Endings` and others.)
-use Rattle.std.proofs.Common.{◌≡◌, inl, inr, ℕ, List, [], ◌∷◌, ◌++◌, length}
-use Rattle.std.proofs.Common.{Some, Result, Ok, Err, refl, sym, ap, ap₂, subst}
-use Rattle.std.proofs.Common.{◌∙◌, append_assoc, arith}
+use Rattle.std.proofs.Common.{◌≡◌, inl, inr, ℕ, List, [], ◌∷◌, ◌++◌, length, Some, Result, Ok, Err, refl, sym, ap, ap₂}
+use Rattle.std.proofs.Common.{subst, ◌∙◌, append_assoc, arith}
 use Rattle.std.proofs.lemmas.List.{length-append}
 use Rattle.std.specs.List.{AllByRecursion}
 use Rattle.capn_value.specs.Tree.{Tree}

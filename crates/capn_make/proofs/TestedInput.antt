@@ -1,12 +1,11 @@
 -- Lemmas for `UnderTexts` and `UnderWay`: an input to which bytes are added while its texts are parsed and tested.
-use Rattle.std.proofs.Common.{◌≡◌, ◌≢◌, inl, inr, ℕ, ◌+◌, ◌*◌, ◌≤◌, List, [], ◌++◌, length, take, drop}
-use Rattle.std.proofs.Common.{Ok, Err, refl, sym, ap, subst, ◌∙◌, append_assoc, arith}
+use Rattle.std.proofs.Common.{◌≡◌, ◌≢◌, inl, inr, ℕ, ◌+◌, ◌*◌, ◌≤◌, List, [], ◌++◌, length, take, drop, Ok, Err, refl}
+use Rattle.std.proofs.Common.{sym, ap, subst, ◌∙◌, append_assoc, arith}
 use Rattle.std.proofs.lemmas.Bool.{cases_lt}
 use Rattle.std.proofs.lemmas.List.{append-nil, length-append, take-append-drop, take-append-le}
-use Rattle.capn_text.specs.Streams.{Place, stream_text}
+use Rattle.capn_text.specs.Streams.{Place, stream_text, few}
 use Rattle.capn_canon.specs.declared.form.Form.{Form}
 use Rattle.capn_canon.specs.declared.form.Form.TheVariants as forms
-use Rattle.capn_text.specs.Streams.{few}
 use Rattle.capn_make.specs.Endings.{IsWhole, IsRefusedForGood, IsLostForGood}
 use Rattle.capn_make.specs.Laws.{RefusalStays, OneEnding}
 use Rattle.capn_make.specs.MakeRun.{AreInTime}

@@ -1,6 +1,5 @@
 -- Lemmas for `make_texts`: the result of a run over texts with lists between quotes.
-use Rattle.std.proofs.Common.{◌≢◌, inl, inr, ℕ, List, [], ◌++◌, Bool, Option, IfSome, Result}
-use Rattle.std.proofs.Common.{refl, sym, subst}
+use Rattle.std.proofs.Common.{◌≢◌, inl, inr, ℕ, List, [], ◌++◌, Bool, Option, IfSome, Result, refl, sym, subst}
 use Rattle.std.proofs.lemmas.List.{append-nil}
 use Rattle.capn_text.specs.PlainForm.{plain}
 use Rattle.capn_text.specs.Unquoting.{Unquoting}

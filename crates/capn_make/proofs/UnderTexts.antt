@@ -1,7 +1,6 @@
 -- Lemmas for `feed` and `finish` of `QuotedTexts`: a run over texts with lists between quotes.
-use Rattle.std.proofs.Common.{◌≡◌, ◌≢◌, inl, inr, ℕ, ◌+◌, ◌^◌, ◌≤◌, List, [], ◌∷◌, ◌++◌, length}
-use Rattle.std.proofs.Common.{Bool, true, Option, Result, Ok, Err}
-use Rattle.std.proofs.Common.{refl, sym, ap, subst, ◌∙◌, append_assoc, arith}
+use Rattle.std.proofs.Common.{◌≡◌, ◌≢◌, inl, inr, ℕ, ◌+◌, ◌^◌, ◌≤◌, List, [], ◌∷◌, ◌++◌, length, Bool, true, Option}
+use Rattle.std.proofs.Common.{Result, Ok, Err, refl, sym, ap, subst, ◌∙◌, append_assoc, arith}
 use Rattle.std.proofs.lemmas.Bool.{cases_lt}
 use Rattle.std.proofs.lemmas.List.{append-nil, append_cancel_left, length-append}
 use Rattle.capn_value.specs.Text.{show_text}
@@ -23,8 +22,8 @@ use Rattle.capn_make.proofs.FirstTexts.{lines_append}
 use Rattle.capn_make.proofs.SeenTexts.{forgotten_on, nothing_seen, of_lines, seen_lines, seen_on, seen_plain, some_seen}
 use Rattle.capn_make.proofs.TestedInput.{some_after}
 use Rattle.capn_make.proofs.Unended.{front_of}
-use Rattle.capn_make.proofs.UnderWay.{begins as begins_plain, begun_by, come_at, served as served_plain}
-use Rattle.capn_make.proofs.UnderWay.{served_by, timely as timely_plain}
+use Rattle.capn_make.proofs.UnderWay.{begins as begins_plain, begun_by, come_at, served as served_plain, served_by}
+use Rattle.capn_make.proofs.UnderWay.{timely as timely_plain}
 use Rattle.capn_make.proofs.WhateverFollows.{first_on}
 
 -- ---- an unfinished line ends no text

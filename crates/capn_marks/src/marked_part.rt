@@ -187,7 +187,7 @@ fn lead<S: Space, A: Allocator>(
     Ok(Some(part))
 }
 
-/// Appends to `text` the text with marks of the value `part`. The path of `annotated` leads to the value.
+/// Appends the text of the value `part`, with marks, to `text`. The path of `annotated` leads to the value.
 fn mark_there<S: Space, W: Write, A: Allocator>(
     text: &mut Vec<u8, A>,
     writer: &mut Watched<W>,

@@ -12,8 +12,7 @@ use Rattle.capn_serve.specs.Fold.{IfGoing}
 use Rattle.capn_serve.specs.StreamRun.{IsAhead, IsNeeded, has_more, taken_of}
 use Rattle.capn_serve.specs.inner.IntakeRun.{Ends, Feeds, Giving, IsTakenAhead, Over, Reads, Taking}
 use Rattle.capn_serve.proofs.InputRead.{is_below, is_not_below, taken_front, taken_more}
-use Rattle.capn_serve.proofs.shared.Until.{if_going}
-use Rattle.capn_serve.proofs.shared.Until.{known as either}
+use Rattle.capn_serve.proofs.shared.Until.{if_going, known as either}
 
 abbrev Ending : Type 0
 Ending = Result (Unit {0}) RunFault

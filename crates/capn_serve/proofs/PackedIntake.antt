@@ -1,9 +1,8 @@
 -- Lemmas for `packed_into` and the `Intake` of a packed stream: the served messages, the end of a run, and the bytes
 -- that the framer and the unpacker then hold.
-use Rattle.std.proofs.Common.{◌≡◌, ◌≢◌, inl, inr, ℕ, ◌-◌, ◌^◌, ◌<◌, ◌≤◌, List, [], ◌∷◌, ◌++◌, length}
-use Rattle.std.proofs.Common.{take, Bool, true, false, Option, IfErr, IfSome}
-use Rattle.std.proofs.Common.{Result, Ok, Err, refl, ap, sym, subst, ◌∙◌}
-use Rattle.std.proofs.Common.{append-nil, append_assoc, arith, length-append}
+use Rattle.std.proofs.Common.{◌≡◌, ◌≢◌, inl, inr, ℕ, ◌-◌, ◌^◌, ◌<◌, ◌≤◌, List, [], ◌∷◌, ◌++◌, length, take, Bool, true}
+use Rattle.std.proofs.Common.{false, Option, IfErr, IfSome, Result, Ok, Err, refl, ap, sym, subst, ◌∙◌, append-nil}
+use Rattle.std.proofs.Common.{append_assoc, arith, length-append}
 use Rattle.std.proofs.Math.Seq.{take-length}
 use Rattle.std.proofs.lemmas.Grind.{flat_map-append}
 use Rattle.std.specs.Io.KnownBytes.{Appends}
@@ -27,8 +26,8 @@ use Rattle.capn_serve.specs.ChunkRun.{HasRoom, IsListening, Tells}
 use Rattle.capn_serve.specs.StreamRun.{has_more, taken_of}
 use Rattle.capn_serve.specs.PackedRun.{HasEndedPacked, HasWrittenAllPacked, HasWrittenPacked, IsDuePacked}
 use Rattle.capn_serve.specs.PackedRun.{IsShortPacked, RunsPacked, cut_group, unless_more}
-use Rattle.capn_serve.specs.PackedChunkRun.{EndsPacked, HaltsPacked, IsDueWithin}
-use Rattle.capn_serve.specs.PackedChunkRun.{Pending, ReachesPacked, ServesPacked, TellsPacked, fresh, pending}
+use Rattle.capn_serve.specs.PackedChunkRun.{EndsPacked, HaltsPacked, IsDueWithin, Pending, ReachesPacked, ServesPacked}
+use Rattle.capn_serve.specs.PackedChunkRun.{TellsPacked, fresh, pending}
 use Rattle.capn_serve.specs.WhatCame.{HoldsTable}
 use Rattle.capn_serve.specs.inner.Holding.{HoldsPacked}
 use Rattle.capn_serve.specs.inner.IntakeRun.{Ends, Feeds, Over, Reads}

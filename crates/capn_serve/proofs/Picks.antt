@@ -1,14 +1,13 @@
 -- Lemmas for `run_only`: the run of the service `Picker` is a run that picks messages.
-use Rattle.std.proofs.Common.{◌≡◌, inl, inr, ℕ, ◌+◌, ◌<◌, ◌≤◌, List, [], ◌∷◌, Bool, true, false, Option, None}
-use Rattle.std.proofs.Common.{Some, IfSome, Result, Ok, Err, if◌then◌else◌, refl, ap, sym, subst, ◌∙◌}
+use Rattle.std.proofs.Common.{◌≡◌, inl, inr, ℕ, ◌+◌, ◌<◌, ◌≤◌, List, [], ◌∷◌, Bool, true, false, Option, None, Some}
+use Rattle.std.proofs.Common.{IfSome, Result, Ok, Err, if◌then◌else◌, refl, ap, sym, subst, ◌∙◌}
 use Rattle.capn_serve.specs.declared.fault.RunFault.{RunFault}
 use Rattle.capn_serve.specs.declared.pick.Range.{Range}
 use Rattle.capn_serve.specs.declared.pick.StreamForm.TheVariants as forms
 use Rattle.capn_serve.specs.declared.picker.Picker.{Picker}
 use Rattle.capn_serve.specs.declared.position.Position.{Position}
 use Rattle.capn_serve.specs.declared.service.Run.{Run}
-use Rattle.capn_serve.specs.Fold.{AreParts, AreServed, Fold, IsFolded, Part}
-use Rattle.capn_serve.specs.Fold.{fold_until}
+use Rattle.capn_serve.specs.Fold.{AreParts, AreServed, Fold, IsFolded, Part, fold_until}
 use Rattle.capn_serve.specs.Pick.{AreAscending, IsEnough, IsTooFew, Picking, last_of, pick_fold}
 use Rattle.capn_serve.specs.PickRun.{EndsAs, HasWritten, HasWrittenAll, IsPickedOf, IsShort, KeepsUp, PicksRanges}
 use Rattle.capn_serve.specs.PickRun.{most_taken}

@@ -31,6 +31,7 @@ pub fn write_all<W: Write>(writer: &mut Watched<W>, text: &[u8]) -> Result<(), R
 ///
 /// A service that appends the output of a message to `text` calls this function at the end of that output. No memory is
 /// allocated. If the writer fails, a prefix of `text` was written, and `Io` is returned.
+#[inline(always)]
 pub fn flush_long<W: Write, A: Allocator>(
     text: &mut Vec<u8, A>,
     writer: &mut Watched<W>,
@@ -42,6 +43,20 @@ pub fn flush_long<W: Write, A: Allocator>(
     if text.len() < ENOUGH {
         return Ok(());
     }
+    flush(text, writer)
+}
+
+/// Writes and clears `text`. If the writer fails, a prefix of `text` was written, and `Io` is returned. This function
+/// is not inlined, so that the loops over messages stay short.
+#[inline(never)]
+fn flush<W: Write, A: Allocator>(
+    text: &mut Vec<u8, A>,
+    writer: &mut Watched<W>,
+) -> Result<(), ServeFault>
+    requires { has_failed writer.old ≡ false }
+    ensures { Flushes (outgoing (W.contents (inner_of writer.old)) text.old.items)
+        (outgoing (W.contents (inner_of writer.new)) text.new.items) (has_failed writer.new) result }
+{
     match writer.write_all(text) {
         Ok(()) => {
             text.clear();

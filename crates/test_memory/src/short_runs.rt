@@ -1,4 +1,4 @@
-//! Calls for canonical bytes, texts of faults, and runs, to be tested with refused allocations.
+//! Calls to be tested with refused allocations: for canonical bytes, for surveys, for a fault's text, and for runs.
 
 use crate::subject::{Answer, Subject, judged, limits, wanting};
 use capn_canon::{

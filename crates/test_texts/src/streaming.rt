@@ -54,7 +54,7 @@ impl Write for Breaking {
     }
 }
 
-/// Returns the result and the output of a run over `parted`. The writer fails from call `fails_at` on, or never at 0.
+/// Returns the result and the output of a run over `parted`. The writer fails from call `fails_at` on (0: never).
 fn run_parted(
     alloc: Global,
     form: Form,

@@ -41,7 +41,7 @@ pub record IsDone (done : Type 0) (value : Tree → Type 0) (reason : Refusal �
   pub only : (v : Tree) → value v → (status ≡ 0) ⊎ (status ≡ 8)
   pub reported : IsReported reason needed budget status report
 
--- `IsDone` for a call on the bytes `bs` in `form`. A refusal that is reported says why `bs` are not accepted.
+-- `IsDone` for a call on the bytes `bs` in `form`. A reported refusal is `Memory`, or says why `bs` are not accepted.
 abbrev pub IsDoneIn : Form → List ℕ → Bounds → (done needed : Type 0) → ℕ → CapnReport → Type 0
 IsDoneIn form bs limits done needed status report =
     IsDone done (Denotes form bs limits) (IsUnacceptedIn form bs limits) needed limits.budget status report

@@ -1,6 +1,5 @@
 -- Lemmas on a fold that treats each message in one way. The messages of an input then have one text and one ending.
-use Rattle.std.proofs.Common.{◌≡◌, ◌⊎◌, inl, inr, ℕ, ◌≤◌, List, [], ◌∷◌, ◌++◌, length, take, Bool, Option}
-use Rattle.std.proofs.Common.{true, false}
+use Rattle.std.proofs.Common.{◌≡◌, ◌⊎◌, inl, inr, ℕ, ◌≤◌, List, [], ◌∷◌, ◌++◌, length, take, Bool, Option, true, false}
 use Rattle.std.proofs.Common.{Result, Ok, Err, refl, ap, sym, subst, ◌∙◌, append_assoc, arith, length-append}
 use Rattle.std.proofs.Math.Seq.{take-length, take-append-le}
 use Rattle.capn_words.specs.Message.{total}
@@ -20,8 +19,7 @@ use Rattle.capn_serve.specs.declared.fault.RunFault.{RunFault}
 use Rattle.capn_serve.specs.declared.fault.RunFault.TheVariants as faults
 use Rattle.capn_serve.proofs.shared.Until.{ends_open, is_done, known}
 use Rattle.capn_serve.specs.Fold.{AreServed, EndsBy, EndsRefused, EndsUnframed, Fold, IfGoing, IsFolded, Part, end_of}
-use Rattle.capn_serve.specs.Fold.{frames_of}
-use Rattle.capn_serve.specs.Fold.{texts_of}
+use Rattle.capn_serve.specs.Fold.{frames_of, texts_of}
 use Rattle.capn_serve.specs.StreamRun.{behind, has_more, taken_of}
 use Rattle.capn_serve.specs.PackedRun.{IsDuePacked, cut_group, unless_more}
 use Rattle.capn_serve.specs.BareRun.{EndsBare, WritesBy}

@@ -1,5 +1,5 @@
 -- Bytes that are read as a message have the mismatch and the survey of that message.
-use Rattle.capn_canon.proofs.shared.TaskRuns.{run_answered}
+use Rattle.capn_answers.proofs.shared.TaskRuns.{run_answered}
 use Rattle.capn_answers.specs.inner.Answered.{IsMismatchSurveyed}
 use Rattle.capn_answers.proofs.SurveyedMismatches.{both_bounded, both_few, both_found, both_only}
 use Rattle.capn_answers.proofs.SurveyedMismatches.{both_refused, both_surveyed, both_wanted}

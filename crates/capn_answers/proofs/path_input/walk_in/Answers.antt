@@ -1,8 +1,7 @@
 -- If bytes are read as a message, the outcome of its walk is also the outcome for the bytes.
-use Rattle.capn_canon.proofs.shared.TaskRuns.{run_answered}
+use Rattle.capn_answers.proofs.shared.TaskRuns.{run_answered}
 use Rattle.capn_answers.specs.inner.Answered.{IsWalkTold}
-use Rattle.capn_answers.proofs.WalksTold.{walk_bounded, walk_found, walk_only, walk_short, walk_unread}
-use Rattle.capn_answers.proofs.WalksTold.{walk_wanted}
+use Rattle.capn_answers.proofs.WalksTold.{walk_bounded, walk_found, walk_only, walk_short, walk_unread, walk_wanted}
 use Rattle.capn_answers.proofs.path_input.walk_in.Goals as goal
 
 pub returns-clause-found : goal.returns-clause-found

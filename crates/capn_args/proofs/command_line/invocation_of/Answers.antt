@@ -8,8 +8,7 @@ use Rattle.capn_args.specs.declared.usage.Usage.{Usage}
 use Rattle.capn_args.specs.declared.invocation.Invocation.{Invocation}
 use Rattle.capn_args.specs.Meaning.{MeansInvocation}
 use Rattle.capn_args.specs.CommandLine.{program_line}
-use Rattle.capn_args.specs.Usage.{NeedsMemory}
-use Rattle.capn_args.specs.Usage.{error_of, IsReason, GivesInvocation}
+use Rattle.capn_args.specs.Usage.{NeedsMemory, error_of, IsReason, GivesInvocation}
 use Rattle.capn_args.proofs.OneInvocation.{means_one_invocation}
 use Rattle.capn_args.proofs.Entered.{entered, not_entered}
 use Rattle.capn_args.proofs.command_line.invocation_of.Given.{Over}

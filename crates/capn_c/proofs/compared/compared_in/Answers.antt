@@ -1,8 +1,7 @@
 -- The result for two messages is also the result for the bytes that are read as those messages.
-use Rattle.capn_canon.proofs.shared.TaskRuns.{run_answered}
+use Rattle.capn_answers.proofs.shared.TaskRuns.{run_answered}
 use Rattle.capn_c.specs.inner.Told.{IsComparedTo}
-use Rattle.capn_c.proofs.Comparisons.{compared_bounded, compared_found, compared_refused}
-use Rattle.capn_c.proofs.Comparisons.{compared_wanted}
+use Rattle.capn_c.proofs.Comparisons.{compared_bounded, compared_found, compared_refused, compared_wanted}
 use Rattle.capn_c.proofs.compared.compared_in.Goals as goal
 
 pub returns-clause-found : goal.returns-clause-found

@@ -1,5 +1,5 @@
 -- The digest of a message is also the digest of the bytes that are read as that message.
-use Rattle.capn_canon.proofs.shared.TaskRuns.{run_answered}
+use Rattle.capn_answers.proofs.shared.TaskRuns.{run_answered}
 use Rattle.capn_c.specs.inner.Told.{IsDigestTold}
 use Rattle.capn_c.proofs.Digests.{digest_bounded, digest_found, digest_refused, digest_wanted}
 use Rattle.capn_c.proofs.message_digest.digest_in.Goals as goal

@@ -1,5 +1,5 @@
 -- The text of a message is also the text of the bytes that are read as that message.
-use Rattle.capn_canon.proofs.shared.TaskRuns.{run_answered}
+use Rattle.capn_answers.proofs.shared.TaskRuns.{run_answered}
 use Rattle.capn_c.specs.inner.Told.{IsTextTold}
 use Rattle.capn_c.proofs.Shown.{text_bounded, text_found, text_refused, text_surveyed, text_wanted}
 use Rattle.capn_c.proofs.message_text.text_in.Goals as goal

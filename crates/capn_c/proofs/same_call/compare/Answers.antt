@@ -1,7 +1,6 @@
 -- The status says whether the values are the same. A refusal concerns the message that `which` names, and has the
 -- status 8 only if memory ran out.
-use Rattle.std.proofs.Common.{◌≡◌, ℕ, Bool, true, false, inl, inr, refl, ap, sym, subst, ◌∙◌, arith}
-use Rattle.std.proofs.Common.{Result, Err}
+use Rattle.std.proofs.Common.{◌≡◌, ℕ, Bool, true, false, inl, inr, refl, ap, sym, subst, ◌∙◌, arith, Result, Err}
 use Rattle.capn_walk.specs.Limits.{AreLimits}
 use Rattle.capn_canon.specs.MemoryNeed.{MayNeedMemory}
 use Rattle.capn_canon.specs.declared.refusal.Refusal.{Refusal}

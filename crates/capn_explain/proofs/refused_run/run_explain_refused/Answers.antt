@@ -3,8 +3,7 @@ use Rattle.capn_words.specs.Watched.{inner_of, has_failed}
 use Rattle.capn_serve.specs.declared.fault.RunFault.TheVariants as faults
 use Rattle.capn_serve.specs.declared.service.Run.{Run}
 use Rattle.capn_explain.specs.RefusedRun.{ExplainedRefused, answer_by, ending, first_run, refused_answer}
-use Rattle.capn_explain.specs.RefusedRun.{refused_finish}
-use Rattle.capn_explain.specs.RefusedRun.{refused_fold}
+use Rattle.capn_explain.specs.RefusedRun.{refused_finish, refused_fold}
 use Rattle.capn_explain.specs.RefusedReports.{RefusedReporting}
 use Rattle.capn_explain.specs.declared.fault.ReportFault.{ReportFault}
 use Rattle.capn_explain.proofs.Closings.{Ending, done_fine, fine_if_told}

@@ -5,8 +5,7 @@ use Rattle.capn_words.specs.Watched.{inner_of}
 use Rattle.capn_serve.specs.Fold.{fold_until}
 use Rattle.capn_serve.specs.Outgoing.{outgoing}
 use Rattle.capn_serve.specs.PackedChunkRun.{TellsPacked, pending}
-use Rattle.capn_serve.proofs.PackedMore.{packed_none, packed_room, reach_all, slice_more, slice_reach}
-use Rattle.capn_serve.proofs.PackedMore.{slice_stop}
+use Rattle.capn_serve.proofs.PackedMore.{packed_none, packed_room, reach_all, slice_more, slice_reach, slice_stop}
 use Rattle.capn_serve.proofs.shared.Until.{not_both}
 use Rattle.capn_serve.proofs.Holding.{packed_holds_slice}
 use Rattle.capn_serve.proofs.packed_run.serve_slices.Goals as goal

@@ -5,12 +5,11 @@ use Rattle.capn_serve.specs.declared.pick.StreamForm.TheVariants as forms
 use Rattle.capn_serve.specs.declared.picker.Picker.{Picker}
 use Rattle.capn_serve.specs.declared.fault.RunFault.{RunFault}
 use Rattle.capn_serve.specs.declared.service.Run.{Run}
-use Rattle.capn_serve.specs.StreamRun.{first_run}
+use Rattle.capn_serve.specs.StreamRun.{first_run, Runs}
 use Rattle.capn_serve.specs.Fold.{fold_until}
 use Rattle.capn_serve.specs.Pick.{AreAscending}
 use Rattle.capn_serve.specs.PickRun.{PicksRanges, most_taken}
 use Rattle.capn_serve.specs.PackedRun.{RunsPacked}
-use Rattle.capn_serve.specs.StreamRun.{Runs}
 use Rattle.capn_serve.specs.inner.Picker.{done, refuses, serves}
 use Rattle.capn_serve.proofs.Picks.{picks_packed, picks_stream}
 use Rattle.capn_serve.proofs.pick_run.run_only.Goals as goal

@@ -43,8 +43,4 @@ returns-in-Price g c =
     c.put_price-put.new.text.items c.put_price-put.result c.in-Price.is c.put_price-put.ensures)
 
 pub returns-in-Digest : goal.returns-in-Digest
-returns-in-Digest g c =
-    c.end_piece-in-Digest.ensures c.args.self.now c.args._at c.args._frame.now
-    (g.S.Space.message c.args.message.now) c.args.text.now.items
-    (puts kinds.Digest c.args.self.now (g.S.Space.message c.args.message.now) c.args.text.now.items
-    c.put_digest-put.new.text.items c.put_digest-put.result c.in-Digest.is c.put_digest-put.ensures)
+returns-in-Digest g c = c.add_digest.ensures c.args._at c.args._frame.now

@@ -1,8 +1,7 @@
 use Rattle.std.proofs.Common.{refl, ◌∙◌, arith}
 use Rattle.std.proofs.lemmas.Result.{err_from_is_err_and}
 use Rattle.capn_make.proofs.Unended.{no_end}
-use Rattle.capn_make.proofs.LookedAt.{goes_on_at, made_writes, part_at, refused_at, refuses_at, too_long_at}
-use Rattle.capn_make.proofs.LookedAt.{written_at}
+use Rattle.capn_make.proofs.LookedAt.{goes_on_at, made_writes, part_at, refused_at, refuses_at, too_long_at, written_at}
 use Rattle.capn_make.proofs.UnderWay.{no_writes}
 use Rattle.capn_make.proofs.progress.Progress.look.Goals as goal
 
