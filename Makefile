@@ -36,39 +36,40 @@ OVER ?=
 .PHONY: try program run test test-all quick edits pages write bench interop library beside linked
 .PHONY: install install-library uninstall uninstall-library release dist verify-dist clean-root
 
-# The stored run, tried before any proof, in about a minute: what runs is not the proved program.
+# The stored run, tried before any proof, in a minute or a few: what runs is not the proved program.
 try:
-	@echo "capn $$(tr '\n' ' ' < $(PROGRAM)/args)"
-	@echo "in:"; od -An -v -tx1 -w8 $(PROGRAM)/stdin
-	@echo "out:"; cd $(PROGRAM) && rt try -- $$(cat args) < stdin | od -An -v -tx1 -w8
-	@echo "nothing was proved: this is not the proved program, which make run builds, in half an hour or more at first"
+	@.ci/needs try
+	@echo "compiling capn without a proof, and running it: some minutes"
+	@.ci/stored-run try
+	@echo "nothing was proved: this is not the proved program, which make run builds"
 
 # The program, proved and built: crates/capn/out/capn. What it needs is proved and nothing else, several crates at a
 # time where processors and memory allow, with a line for each that is done.
 program:
-	@echo "proving and building capn: half an hour or more at first, less where an earlier run has proved the same"
+	@.ci/needs run
+	@echo "proving and building capn: 30 to 70 minutes on four cores, less where an earlier run has proved the same"
 	@.ci/prove capn
 
-# Builds the proved program and shows its stored run: the bytes in and the bytes out.
+# Proves and builds the program, and shows its stored run: the bytes in and the bytes out.
 run: program
-	@echo "capn $$(tr '\n' ' ' < $(PROGRAM)/args)"
-	@echo "in:"; od -An -v -tx1 -w8 $(PROGRAM)/stdin
-	@echo "out:"; $(PROGRAM)/out/capn $$(cat $(PROGRAM)/args) < $(PROGRAM)/stdin | od -An -v -tx1 -w8
+	@.ci/stored-run built
 
 # The lines of the gate that need no prover; those that need what it builds. .ci/README.md says of each when it fails.
 PAGE_LINES := .ci/lines .ci/docs .ci/borders .ci/cited .ci/toolchain .ci/version .ci/lists .ci/readings .ci/counts \
 	.ci/places release/completions tests/pages/touched tests/cases release/symbols release/manual release/links \
 	tests/release/steps
 BUILT_LINES := release/recursion tests/program/statuses tests/program/full-disk tests/program/failures tests/vectors \
-	.ci/library release/installs release/twice
+	.ci/library release/installs
 
 # The gate: every crate of the product is proved, every test and stored case is run. It fails where edits are due.
 test:
+	@.ci/needs test
 	@.ci/steps test $(PAGE_LINES) .ci/edits .ci/prove $(BUILT_LINES)
 
 # The whole run, which a release needs: proofs of tests too, and all edits that must fail. It alone writes build/PROVED:
 # what passed, of which commit. With ANEW=--anew it proves again what earlier runs have passed.
 test-all:
+	@.ci/needs test
 	@rm -f $(BUILD)/PROVED
 	@.ci/steps test-all $(PAGE_LINES) ".ci/prove --all $(ANEW)" $(BUILT_LINES) release/proved
 

@@ -1,8 +1,10 @@
-"""The stored cases of `conformance_calls` and `conformance_runs`, a file each.
+"""The stored cases of `conformance_calls` and `conformance_runs`, a file for each call.
 
-A case is a file `crates/CRATE/cases/CALL/NAME` of three lines: its name in words, the call, and the answer. CALL is the
-first word of the call, after `plain` the second; NAME is the name with `_` for each space, and without `:`, `,`, `'`
-and brackets. In a stored input a case is its first two lines, in the output the first and the last.
+The file `crates/CRATE/cases/CALL` has the cases of a call: three lines each, which are the name in words, the call and
+the answer, with a blank line between two cases. CALL is the first word of the call, or the second after `plain`. The
+cases of a file are in the order of their keys, so that a new case is a change of four lines at one place. The key of a
+case is its name with `_` for each space, and without `:`, `,`, `'` and brackets. In a stored input a case is its first
+two lines, in the output the first and the last.
 """
 
 import collections
@@ -21,29 +23,36 @@ def word_of(call):
     return words[1] if words[0] == "plain" and len(words) > 1 else words[0]
 
 
-def path_of(crate, name, call):
-    """Where the case of this name stands."""
-    return os.path.join("crates", crate, "cases", word_of(call), name.translate(WITHOUT))
+def key_of(name):
+    """The name as one word, by which the cases of a file are ordered."""
+    return name.translate(WITHOUT)
 
 
-def case_at(crate, path):
-    """The case of a file. Raises ValueError if the file is none, or has another name than its case."""
+def cases_at(crate, path):
+    """The cases of a file. Raises ValueError if one hasn't three lines, stands in the wrong file, or not in order."""
     with open(os.path.join(TOP, path), encoding="utf-8") as file:
-        lines = file.read().split("\n")
-    if len(lines) != 4 or lines[3] or not all(lines[:3]):
-        raise ValueError(f"{path}: a case has three lines: its name, the call, the answer")
-    name, call, answer = lines[:3]
-    if path != path_of(crate, name, call):
-        raise ValueError(f"{path}: this case belongs into {path_of(crate, name, call)}")
-    return Case(crate, path, name, call, answer)
+        text = file.read()
+    last = ""
+    for part in text.removesuffix("\n").split("\n\n"):
+        lines = part.split("\n")
+        if len(lines) != 3 or not all(lines):
+            raise ValueError(f"{path}: a case has three lines, its name, the call, the answer: {lines[0]!r}")
+        name, call, answer = lines
+        if os.path.basename(path) != word_of(call):
+            raise ValueError(f"{path}: {name!r} belongs into the file {word_of(call)}")
+        if key_of(name) <= last:
+            raise ValueError(f"{path}: {name!r} belongs further up: cases are in the order of their names")
+        last = key_of(name)
+        yield Case(crate, path, name, call, answer)
+    if not text.endswith("\n"):
+        raise ValueError(f"{path}: the last line has no end")
 
 
 def cases_of(crate):
-    """The cases of a crate, in the order of their paths."""
+    """The cases of a crate, in the order of their files and keys."""
     folder = os.path.join("crates", crate, "cases")
     for word in sorted(os.listdir(os.path.join(TOP, folder))):
-        for name in sorted(os.listdir(os.path.join(TOP, folder, word))):
-            yield case_at(crate, os.path.join(folder, word, name))
+        yield from cases_at(crate, os.path.join(folder, word))
 
 
 def all_cases():

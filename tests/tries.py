@@ -119,7 +119,8 @@ def differences(cases, out):
             continue
         place = len(os.path.commonprefix([got, case.answer])) if is_answered else 0
         told = shown(got, place) if is_answered else "no answer, and none for those after it"
-        yield f"{case.path}\n  call:   {shown(case.call)}\n  wanted: {shown(case.answer, place)}\n  got:    {told}"
+        wanted = shown(case.answer, place)
+        yield f"{case.path}: {case.name}\n  call:   {shown(case.call)}\n  wanted: {wanted}\n  got:    {told}"
         if not is_answered:
             return
 
@@ -141,7 +142,8 @@ def cases_job(crate, cases):
         wrong = []
         for at, part in enumerate(parts):
             if at in late:
-                wrong.append(f"{part[0].path} and {len(part) - 1} cases after it: no end in {SECONDS} seconds")
+                first = f"{part[0].path}: {part[0].name}"
+                wrong.append(f"{first} and {len(part) - 1} cases after it: no end in {SECONDS} seconds")
             else:
                 wrong += differences(part, outs.get(f"{at:04}", ""))
         if status and not wrong:
