@@ -32,8 +32,8 @@
 #include <stddef.h>
 #include <stdint.h>
 
-/* The version of this header, 1.0.0: 10,000 for each major version, 100 for each minor one, 1 for each patch. */
-#define CAPN_VERSION 10000
+/* The version of this header, 1.1.0-dev: 10,000 for each major version, 100 for each minor one, 1 for each patch. */
+#define CAPN_VERSION 10100
 
 #ifdef __cplusplus
 extern "C" {
@@ -246,7 +246,7 @@ capn_status capn_pack(const uint8_t *bytes, size_t size, uint8_t *out, size_t ro
 capn_status capn_unpack(const uint8_t *bytes, size_t size, uint32_t max_words, uint8_t *out, size_t room,
                         capn_report *report);
 
-/* The version of the library that runs, as "1.0.0". CAPN_VERSION is that of the header that was compiled. */
+/* The version of the library that runs, as "1.1.0-dev". CAPN_VERSION is that of the header that was compiled. */
 const char *capn_version(void);
 
 /* What a status means, in a few words; for a number that is no status too. It is never null, and not to be freed. */

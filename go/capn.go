@@ -78,7 +78,7 @@ type Figures struct {
 	Canonical     bool   // whether it has one segment, which is the canonical bytes of its value
 }
 
-// Version returns the version of the library that runs, as "1.0.0".
+// Version returns the version of the library that runs, as "1.1.0-dev".
 func Version() string { return callVersion() }
 
 // Check returns what reading one message costs, or an error if the message is refused within limits.

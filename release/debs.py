@@ -9,7 +9,7 @@ import re
 import shutil
 
 import packing
-from packing import BUILT, TOP, VERSION, Stop, said, write
+from packing import BUILT, TOP, VERSION, VERSION_OF_DEBIAN, VERSION_OF_PYTHON, Stop, said, write
 
 TEMPLATES = os.path.join(TOP, "release", "debian")
 LIBRARIES = "/usr/lib/x86_64-linux-gnu"
@@ -48,7 +48,8 @@ class Debs:
             folder = os.path.join(self.work, "deb", "python3-capn")
             shutil.copytree(os.path.join(self.work, "inside"), os.path.join(folder, "usr/lib/python3/dist-packages"))
             for name in ("RECORD", "PROVED", "LICENSE", "NOTICE", "top_level.txt"):
-                with_info = os.path.join(folder, f"usr/lib/python3/dist-packages/capn-{VERSION}.dist-info", name)
+                info = f"capn-{VERSION_OF_PYTHON}.dist-info"
+                with_info = os.path.join(folder, "usr/lib/python3/dist-packages", info, name)
                 if os.path.exists(with_info):
                     os.remove(with_info)
             shutil.copytree(os.path.join(self.work, "deb", "capn", "usr/share/doc/capn"),
@@ -91,7 +92,7 @@ class Debs:
                     write(os.path.join(control, name), file.read(), 0o644 if name == "triggers" else 0o755)
         needs = self.needs(package, folder)
         if package == "libcapn1":
-            write(os.path.join(control, "shlibs"), f"libcapn 1 libcapn1 (>= {VERSION})\n")
+            write(os.path.join(control, "shlibs"), f"libcapn 1 libcapn1 (>= {VERSION_OF_DEBIAN})\n")
         files = [it for it in packing.paths_of(folder) if not it.startswith("DEBIAN")]
         size = sum(-(-os.path.getsize(os.path.join(folder, it)) // 1024)
                    if os.path.isfile(os.path.join(folder, it)) and not os.path.islink(os.path.join(folder, it)) else 1
@@ -135,7 +136,7 @@ class Debs:
             there = set(re.findall(r" T (\w+)$", said("nm", "-D", "--defined-only", BUILT["libcapn.so.1"]), re.M))
             if listed != there:
                 raise Stop(f"libcapn.so.1 and the list of its names differ in {', '.join(sorted(listed ^ there))}")
-            said("dpkg-gensymbols", f"-p{package}", f"-v{VERSION}", f"-P{folder}", "-c4",
+            said("dpkg-gensymbols", f"-p{package}", f"-v{VERSION_OF_DEBIAN}", f"-P{folder}", "-c4",
                  f"-I{os.path.join(TEMPLATES, 'libcapn1.symbols')}", f"-O{os.path.join(folder, 'DEBIAN', 'symbols')}",
                  f"-e{os.path.join(folder, LIBRARIES[1:], 'libcapn.so.1')}", cwd=source)
             os.chmod(os.path.join(folder, "DEBIAN", "symbols"), 0o644)

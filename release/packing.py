@@ -15,6 +15,8 @@ import zlib
 TOP = os.path.abspath(os.path.join(os.path.dirname(os.path.abspath(__file__)), ".."))
 with open(os.path.join(TOP, "VERSION"), encoding="utf-8") as _file:
     VERSION = _file.read().strip()
+# The same as packages for Python write it, by PEP 440, and as packages for Debian do: 1.1.0-dev comes before 1.1.0.
+VERSION_OF_PYTHON, VERSION_OF_DEBIAN = VERSION.replace("-dev", ".dev0"), VERSION.replace("-dev", "~dev")
 # What is built and packed, by the names that PROVED has.
 BUILT = {
     "program": os.path.join(TOP, "crates", "capn", "out", "capn"),

@@ -29,12 +29,12 @@ WishesVersion usage = kind_of (error_of usage) ≡ kinds.DisplayVersion
 
 -- The line that `--version` writes.
 abbrev pub version_line : List ℕ
-version_line = codes "capn 1.0.0\n"
+version_line = codes "capn 1.1.0-dev\n"
 
 -- The title of every page of help, which names the version, and an empty line after the title.
 abbrev pub help_title : List ℕ
 help_title =
-    codes "capn 1.0.0: Cap'n Proto messages without a schema, standard input to output\n\n"
+    codes "capn 1.1.0-dev: Cap'n Proto messages without a schema, standard input to output\n\n"
 
 -- `text` begins with the title of a help page.
 abbrev pub IsHelp : List ℕ → Type 0

@@ -14,14 +14,14 @@ pub struct Page {
 }
 
 /// The version, as the file VERSION has it.
-pub const VERSION: &str = "1.0.0";
+pub const VERSION: &str = "1.1.0-dev";
 
 /// The line that `--version` writes.
-pub const VERSION_LINE: &[u8] = b"capn 1.0.0\n";
+pub const VERSION_LINE: &[u8] = b"capn 1.1.0-dev\n";
 
 /// The title of every page of help, which names the version, and an empty line after the title.
 pub const TITLE: &str =
-    "capn 1.0.0: Cap'n Proto messages without a schema, standard input to output\n\n";
+    "capn 1.1.0-dev: Cap'n Proto messages without a schema, standard input to output\n\n";
 
 /// The page of help for the program.
 pub const PROGRAM: Page = Page {

@@ -124,7 +124,7 @@ fn is_helped(alloc: Global, output: Page, code: u8, is_written: bool, line: &[u8
     let words = ["capn", "pack", "--help"];
     let (status, written, told) = ended(alloc, &words, &STREAM, output);
     status == code
-        && written.bytes.as_slice().starts_with(b"capn 1.0.0: ") == is_written
+        && written.bytes.as_slice().starts_with(b"capn 1.1.0-dev: ") == is_written
         && told.bytes.as_slice() == line
 }
 
