@@ -1,4 +1,4 @@
-"""A second reading of docs/FORMAT.md and docs/PROFILE.md, in Python, to compare the program with.
+"""A second reading of docs/FORMAT.md and docs/LIMITS.md, in Python, to compare the program with.
 
 It shares nothing with the program: values are tuples, a walk is recursion, canonical bytes are one list. It is
 slow, and it is not proved. `run_COMMAND` is what a command does, with its options as parameters: `answered` calls it

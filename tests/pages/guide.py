@@ -1,0 +1,71 @@
+#!/usr/bin/env python3
+"""Runs every `sh` and `bash` block of docs/GUIDE.md, in order, each in a shell of its own and all in one folder.
+
+Where a `text` block follows, the output must be that block. CAPN names the program; the shells are those of the
+arguments.
+
+    CAPN=path tests/pages/guide.py dash bash
+"""
+import os
+import re
+import shutil
+import subprocess
+import sys
+import tempfile
+from pathlib import Path
+
+TOP = Path(__file__).resolve().parents[2]
+BLOCK = re.compile(r"^```(sh|bash|text)\n(.*?)^```$", re.M | re.S)
+
+
+def pairs(page):
+    """Each block that is run, with its language and the output that the page shows, or None."""
+    found = BLOCK.findall(page)
+    for at, (language, block) in enumerate(found):
+        if language != "text":
+            after = found[at + 1] if at + 1 < len(found) else ("", "")
+            yield language, block, after[1] if after[0] == "text" else None
+
+
+def tried(shell, capn):
+    """How many blocks ran, and how many printed something else than the page shows."""
+    ran = wrong = 0
+    with tempfile.TemporaryDirectory() as folder:
+        here = Path(folder)
+        (here / "bin").mkdir()
+        (here / "bin" / "capn").symlink_to(capn)
+        shutil.copytree(TOP / "contrib" / "archives", here / "contrib" / "archives")
+        path = f"{here / 'bin'}:{os.environ['PATH']}"
+
+        def run(program, block):
+            return subprocess.run([program, "-c", block], cwd=here, env={**os.environ, "PATH": path}, text=True,
+                                  capture_output=True, check=False)
+
+        run("sh", "git init -q . && git config user.name someone && git config user.email someone@localhost")
+        for language, block, wanted in pairs((TOP / "docs" / "GUIDE.md").read_text()):
+            if "git diff" in block:
+                run("sh", "cp message a.message && git add a.message && git commit -qm one && cp other a.message")
+            got = run("bash" if language == "bash" else shell, block)
+            ran += 1
+            output = got.stdout + (got.stderr if "recover.py" in block else "")
+            if wanted is not None and output != wanted:
+                wrong += 1
+                print(f"guide: {block.splitlines()[0]}\n--- wanted\n{wanted}--- got\n{output}{got.stderr}")
+            if wanted is None and got.returncode:
+                wrong += 1
+                print(f"guide: status {got.returncode}: {block.splitlines()[0]}\n{got.stderr}")
+    return ran, wrong
+
+
+def main():
+    capn = os.environ.get("CAPN", str(TOP / "crates" / "capn" / "out" / "capn"))
+    failed = 0
+    for shell in sys.argv[1:] or ["sh"]:
+        ran, wrong = tried(shell, Path(capn).resolve())
+        print(f"guide: {ran} blocks ran in {shell}, {wrong} wrong")
+        failed += wrong
+    return 1 if failed else 0
+
+
+if __name__ == "__main__":
+    sys.exit(main())
