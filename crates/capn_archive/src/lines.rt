@@ -1,4 +1,5 @@
-//! The lines that `list` and `list --digest` write for accepted messages and for skipped ones.
+//! The lines that `list` and `list --digest` write for accepted messages and for skipped ones. Within 1.x these lines
+//! may only gain words at their end (docs/STABILITY.md).
 
 ghost use Rattle.std.specs.Prelude.{◌≡◌, ◌++◌, codes, IfOk, IfErr, string_bytes};
 ghost use Rattle.capn_canon.specs.Display.{refusal_text};

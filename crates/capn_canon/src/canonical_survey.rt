@@ -1,4 +1,5 @@
-//! The one pass that accepts only canonical bytes. It finds the number of words that the walk pays, and the depth.
+//! The one pass that accepts only canonical bytes. It finds the number of words that the walk pays, and the depth. Any
+//! change here that alters which bytes it accepts makes a new version of the canonical form.
 
 ghost use Rattle.std.specs.Prelude.{◌≡◌, ◌+◌, ◌*◌, ◌<◌, ◌≤◌, [], ◌∷◌, length, IsTrue, IfSome, IsSome, None};
 ghost use Rattle.capn_words.specs.Message.{IsMessage, bytes, segment_at};

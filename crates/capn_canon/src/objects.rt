@@ -1,4 +1,5 @@
 //! The tests of the one pass for a single object at the next free word: its layout, its price, and the slots it opens.
+//! Any change here that alters which bytes it accepts makes a new version of the canonical form.
 
 ghost use Rattle.std.specs.Prelude.{◌≡◌, ◌+◌, ◌-◌, ◌*◌, ◌%◌, ◌^◌, ◌<◌, ◌≤◌, [], ◌∷◌, slice_index, IfSome, IsSome};
 ghost use Rattle.capn_words.specs.Message.{IsMessage};

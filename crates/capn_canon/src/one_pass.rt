@@ -1,4 +1,5 @@
-//! The one pass that tests whether words are a canonical layout, and finds the number of words that the walk pays.
+//! The one pass that tests whether words are a canonical layout, and finds the number of words that the walk pays. Any
+//! change here that alters which bytes it accepts makes a new version of the canonical form.
 //!
 //! In a canonical layout every object with words begins at the next free word, so no word belongs to two objects. The
 //! pass tests that each such object begins at that word and ends within the message, and needs no survey before it.

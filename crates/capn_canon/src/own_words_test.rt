@@ -1,4 +1,5 @@
-//! Tests whether the words of one object, without the objects below it, are laid out canonically.
+//! Tests whether the words of one object, without the objects below it, are laid out canonically. Any change here that
+//! alters which bytes it accepts makes a new version of the canonical form.
 
 ghost use Rattle.std.specs.Prelude.{◌≡◌, ◌+◌, ◌*◌, ◌/◌, ◌^◌, ◌<◌, ◌≤◌, IsTrue, ◌↔◌, [], ◌∷◌};
 ghost use Rattle.std.specs.Prelude.{length, take, drop, slice_index, pos, ◌-◌, ◌%◌};

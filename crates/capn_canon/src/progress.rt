@@ -1,4 +1,5 @@
-//! The progress of the one pass over a layout: the next free word, the words left to pay, and the slots to test.
+//! The progress of the one pass over a layout: the next free word, the words left to pay, and the slots to test. Any
+//! change here that alters which bytes it accepts makes a new version of the canonical form.
 
 ghost use Rattle.std.specs.Prelude.{◌≡◌, ◌+◌, ◌-◌, ◌^◌, ◌<◌, ◌≤◌, IfSome, IsSome, IsTrue, min};
 

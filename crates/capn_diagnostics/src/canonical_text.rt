@@ -1,4 +1,5 @@
-//! The line that says whether a message is canonical, or why it is not.
+//! The line that says whether a message is canonical, or why it is not. Stored cases and docs/DIAGNOSTICS.md have it as
+//! `explain` prints it.
 
 use crate::path_text::PathText;
 use crate::pointer_text::PointerText;

@@ -1,4 +1,4 @@
-//! The line that says why no message is explained.
+//! The line that says why no message is explained. Stored cases and docs/DIAGNOSTICS.md have it as `explain` prints it.
 
 use std::fmt;
 

@@ -1,5 +1,5 @@
 //! The lines about a refused slot: its word, its landing pads, its tag, its content, and the limit that the fault is
-//! about.
+//! about. Stored cases and docs/DIAGNOSTICS.md have it as `explain` prints it.
 
 use crate::examined::{Examined, Limit, Pad, RowWords, Stretch};
 use crate::holder_text::HolderText;

@@ -1,4 +1,5 @@
-//! The line about a message whose frame, packing or length is refused.
+//! The line about a message whose frame, packing or length is refused. Stored cases and docs/DIAGNOSTICS.md have it as
+//! `explain` prints it.
 
 ghost use Rattle.std.specs.Prelude.{◌≡◌, [], ◌∷◌};
 ghost use Rattle.hex.specs.Hex.{encode_lower};

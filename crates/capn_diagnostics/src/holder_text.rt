@@ -1,4 +1,4 @@
-//! The text of the object that holds a slot.
+//! The text of the object that holds a slot. Stored cases and docs/DIAGNOSTICS.md have it as `explain` prints it.
 
 ghost use Rattle.std.specs.Prelude.{◌≡◌};
 ghost use Rattle.capn_words.specs.Message.{IsPlace};

@@ -1,4 +1,4 @@
-//! The lines about a message that is explained.
+//! The lines about a message that is explained. Stored cases and docs/DIAGNOSTICS.md have it as `explain` prints it.
 
 use crate::examined_text::SlotLines;
 use crate::frame_text::FrameKey;

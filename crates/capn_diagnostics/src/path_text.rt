@@ -1,4 +1,4 @@
-//! The text of a path.
+//! The text of a path. Stored cases and docs/DIAGNOSTICS.md have it as `explain` prints it.
 
 use std::fmt;
 

@@ -1,4 +1,5 @@
-//! The text of a word that is read as a pointer, such as a far pointer, for the command `explain`.
+//! The text of a word that is read as a pointer, such as a far pointer, for the command `explain`. Stored cases and
+//! docs/DIAGNOSTICS.md have it as `explain` prints it.
 
 ghost use Rattle.std.specs.Prelude.{◌≡◌};
 ghost use Rattle.capn_words.specs.Pointers.{pointer_of};

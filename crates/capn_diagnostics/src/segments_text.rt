@@ -1,4 +1,4 @@
-//! The text of the segments of a message.
+//! The text of the segments of a message. Stored cases and docs/DIAGNOSTICS.md have it as `explain` prints it.
 
 ghost use Rattle.std.specs.Prelude.{◌≡◌};
 ghost use Rattle.capn_diagnostics.specs.MessageTexts.{segments_of};

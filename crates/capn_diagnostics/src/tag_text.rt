@@ -1,4 +1,5 @@
-//! The text of a word that is read as the tag of a list of structs.
+//! The text of a word that is read as the tag of a list of structs. Stored cases and docs/DIAGNOSTICS.md have it as
+//! `explain` prints it.
 
 use crate::pointer_text::PointerText;
 use std::fmt;

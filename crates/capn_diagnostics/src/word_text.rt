@@ -1,4 +1,4 @@
-//! The text of a word's bytes.
+//! The text of a word's bytes. Stored cases and docs/DIAGNOSTICS.md have it as `explain` prints it.
 
 ghost use Rattle.std.specs.Prelude.{◌≡◌};
 ghost use Rattle.std.specs.Int.{to_le_bytes, w64};

@@ -1,4 +1,5 @@
-//! The lines about the canonical form of an accepted message.
+//! The lines about the canonical form of an accepted message. Stored cases and docs/DIAGNOSTICS.md have it as `explain`
+//! prints it.
 
 ghost use Rattle.std.specs.Prelude.{◌≡◌};
 ghost use Rattle.capn_diagnostics.specs.MessageTexts.{canonical_text};

@@ -1,4 +1,5 @@
-//! The texts of refusals and positions, as parts of an error line.
+//! The texts of refusals and positions, as parts of an error line. The name and the place of a refusal stay the same
+//! within 1.x (docs/STABILITY.md): programs look for them.
 
 ghost use Rattle.std.specs.Prelude.{◌≡◌, codes, ◌++◌};
 ghost use Rattle.capn_words.specs.Display.{bare_text};

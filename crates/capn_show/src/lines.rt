@@ -1,4 +1,5 @@
-//! The lines of a text, and the indents, numbers and digits in them.
+//! The lines of a text, and the indents, numbers and digits in them. The text of `show` stays the same within 1.x
+//! (docs/STABILITY.md), and `make` reads it.
 
 ghost use Rattle.std.specs.Prelude.{◌≡◌, ℕ, ◌<◌, ◌^◌, [], ◌∷◌, ◌++◌, ◌+◌, ◌*◌, IfErr, OnOk, codes, length, replicate};
 ghost use Rattle.std.specs.Prelude.{slice_index};
