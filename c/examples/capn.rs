@@ -24,13 +24,13 @@ pub enum Tariff {
 #[derive(Clone, Copy)]
 pub struct Limits {
     // c/limits.txt: fields in rust
-    /// The most words of a message that is not bare: 1 to 2^28.
+    /// The most words of a message with a segment table: 1 to 2^28.
     pub message_words: u32,
-    /// The most words that a walk pays: 0 to 2^28.
+    /// The traversal limit, in words: 0 to 2^28.
     pub budget: u32,
-    /// The most levels of objects: 1 to 256.
+    /// The nesting limit, in levels of objects: 1 to 256.
     pub depth: u32,
-    /// How a walk counts what it pays.
+    /// The counting rule for costs.
     pub tariff: Tariff,
     // c/limits.txt ends
 }
