@@ -1,31 +1,36 @@
-/* capn: checks, canonicalises, hashes and packs Cap'n Proto messages, without a schema, by proved code.
+/* capn: checks, canonicalizes, hashes and packs Cap'n Proto messages, without a schema. The calls are formally verified
+ * for callers that keep the rules below.
  *
- * What the caller owes first, since nothing checks it: the input must not change while a call runs. A call may read its
- * input more than once and rely on what it read before, so whoever changes the bytes meanwhile can make it read outside
- * of them. Copy first what another thread, another process or a device can write: shared memory, a mapped file.
- *
- * The caller owes this too:
- *   - Each pointer leads to what its type and the size after it say. A pointer to no bytes may be null, and so may
- *     limits, which are then the usual ones, and a report or a `which` that is not wanted; no other may. (Code in C
- *     sees to that, which is tested, not proved.) Bytes and a scratch may start at any address; limits, figures,
- *     entries, the numbers of a way, departures, a `which` and reports are aligned as their types are.
+ * The library does not test these rules. A call can read or write outside of your buffers if you break one:
+ *   - The input must not change while a call runs. A call may read a byte twice and rely on the first reading. Copy
+ *     memory that another thread, another process or a device can write, such as shared memory or a mapped file.
+ *   - Each pointer refers to as many bytes as its type and the size after it say. A pointer with size 0 may be null.
+ *     `limits` may be null, which means the default limits. A report and a `which` that you do not want may be null. No
+ *     other pointer may be null. (Code in C handles null limits, reports and `which`. It is tested, not proved.)
+ *   - Message bytes and scratch may start at any address. Limits, figures, entries, the numbers of a path, `departed`,
+ *     `which` and reports are aligned as their types require.
  *   - What a call writes (`out`, `scratch`, `digest`, `figures`, `entries`, `way`, `departed`, `which`, `report`)
- *     overlaps nothing else that it is given, and nothing else reads or writes it while the call runs.
- *   - No call is made from a signal handler, nor from the child of a `fork` of a process with several threads.
- *   - malloc, realloc and free belong to one allocator, which aligns each block as C asks, up to 16 bytes.
- * Every number is tested: a form, a limit, a tariff or a style out of its range is refused.
+ *     overlaps no other argument. Nothing else reads or writes it while the call runs.
+ *   - No call is made from a signal handler, nor in the child of a `fork` of a process with several threads.
+ *   - malloc, realloc and free belong to one allocator. It aligns each block as C requires, up to 16 bytes.
+ * Every number is tested: a call returns an error for a form, a limit, a tariff or a style that is out of range.
  *
- * A call reads bytes, writes into a buffer of the caller's, and keeps nothing: no state, no handle, nothing to free.
- * Calls may run in any threads at once, also on the same input. A call that takes memory asks malloc for it, and gives
- * it back before it returns. capn_canonical_with_scratch asks for none, whatever the bytes. Of bare words and of a
- * stream of at most 64 segments, capn_canonical, capn_check, capn_survey, capn_same, capn_index, capn_first and
- * capn_is_canonical ask for none, nor does a call whose name ends in `_segments` but capn_hash_segments. Memory is
- * asked for by a packed text, by a stream of more segments, for the bytes that are hashed, packed or unpacked, for the
- * text of capn_show, for a way and for the bytes that capn_departure compares. A call takes at most 16 KiB of stack,
- * and 304 bytes more for each level of depth that the limits allow, capn_show 432, capn_index 560, capn_same 576: 92
- * KiB at depth 256, capn_show 124 KiB, capn_index 156 KiB, capn_same 160 KiB.
+ * Each call returns a status and fills in its report. A field of the report that the status does not use is 0.
+ * The library keeps no state between calls: there is no handle, and nothing to free. Calls may run in any threads at
+ * once, also on the same input.
  *
- * Each call answers a status and fills its report in; a field that the status does not speak of is 0. */
+ * Memory comes from malloc, and is freed before the call returns.
+ *   - capn_canonical_with_scratch never allocates.
+ *   - capn_canonical, capn_check, capn_survey, capn_same, capn_index, capn_first and capn_is_canonical do not allocate
+ *     for a single segment without a table, nor for a stream of at most 64 segments.
+ *   - capn_hash_segments is the only call whose name ends in `_segments` that allocates.
+ *   - Other calls allocate for a packed message, for the table of a stream of more segments, for the bytes that are
+ *     hashed, packed or unpacked, for the output of capn_show, for a path, and for the canonical bytes that
+ *     capn_departure compares.
+ *
+ * A call needs at most 16 KiB of stack, and 304 bytes more for each level of depth that the limits allow. capn_show
+ * needs 432 bytes a level, capn_index 560, and capn_same 576. With a depth of 256 that is 92 KiB, and 124 KiB for
+ * capn_show, 156 KiB for capn_index and 160 KiB for capn_same. These numbers are measured. */
 #ifndef CAPN_H
 #define CAPN_H
 
@@ -39,124 +44,129 @@
 extern "C" {
 #endif
 
-/* How the bytes of a message are written. */
+/* How the bytes of a message are encoded. */
 enum capn_form {
     CAPN_STREAM = 0, /* a segment table, then the segments */
-    CAPN_PACKED = 1, /* the packed text of such bytes */
-    CAPN_BARE = 2    /* the words of one segment, with no table */
+    CAPN_PACKED = 1, /* the same, packed */
+    CAPN_BARE = 2    /* a single segment without a table */
 };
 
-/* How a walk counts what it pays. */
+/* How the cost of reading a message is counted. An object costs its words again each time that a pointer to it is
+ * followed. */
 enum capn_tariff {
-    CAPN_STRICT = 0, /* each struct and list pays its size and a word more */
-    CAPN_PLAIN = 1   /* its size alone, as the C++ implementation counts, whose traversal limit counts 2 words more */
+    CAPN_STRICT = 0, /* each struct and list costs its size in words, and one word more */
+    CAPN_PLAIN = 1   /* its size alone, as in the C++ implementation, whose traversal limit needs 2 words more */
 };
 
-/* How the text of a message is written. */
+/* The format of capn_show. */
 enum capn_style {
-    CAPN_STYLE_LINES = 0,    /* lines, with the digits of each list of bytes: as `capn show` writes it */
-    CAPN_STYLE_TEXT = 1,     /* the same, but a list of printable bytes stands between quotes: as `capn show --text` */
+    CAPN_STYLE_LINES = 0,    /* lines, with lists of bytes in hexadecimal: as `capn show` */
+    CAPN_STYLE_TEXT = 1,     /* the same, but with lists of printable bytes in quotes: as `capn show --text` */
     CAPN_STYLE_JSON = 2,     /* one line of JSON: as `capn show --json` */
-    CAPN_STYLE_JSON_TEXT = 3 /* the same, but a text in UTF-8 with its zero is a text: as `capn show --json --text` */
+    CAPN_STYLE_JSON_TEXT = 3 /* the same, but with each UTF-8 Text as a string: as `capn show --json --text` */
 };
 
-/* How much a call takes on. The root object has depth 1; walks pay words. */
+/* The limits of what a call accepts. The root object has depth 1. */
 typedef struct capn_limits {
-    uint32_t message_words; /* of one framed message: 1 to 2^28 */
-    uint32_t budget;        /* words that a walk pays: 0 to 2^28 */
-    uint32_t depth;         /* of objects: 1 to 256 */
+    uint32_t message_words; /* words of a message with a segment table: 1 to 2^28 */
+    uint32_t budget;        /* the traversal limit, in words: 0 to 2^28 */
+    uint32_t depth;         /* the nesting limit, in levels of objects: 1 to 256 */
     uint32_t tariff;        /* CAPN_STRICT or CAPN_PLAIN */
 } capn_limits;
 
-/* The usual limits: 64 MiB of message and of budget, a depth of 64, the strict tariff. */
+/* The usual limits: 64 MiB of message, 64 MiB of reading, a depth of 64, the strict tariff. */
 #define CAPN_USUAL_LIMITS { 8388608u, 8388608u, 64u, CAPN_STRICT }
 
 typedef struct capn_report {
-    uint64_t length;  /* bytes of an answer: those written, or at CAPN_NO_ROOM those that are enough; of a frame */
-    uint64_t at;      /* a refusal's offset, count or index, as at its status below */
-    uint32_t paid;    /* words that the walk paid; set with an answer and by refusals of the walk */
-    uint32_t visits;  /* visits that it made; set by capn_check, capn_survey, capn_index, capn_show, and by refusals
-                         of the walk */
-    uint32_t segment; /* the slot at which a walk was refused: its segment, */
-    uint32_t word;    /* and its word there */
+    uint64_t length;  /* bytes that were written, or that are enough at CAPN_NO_ROOM; the bytes of a message */
+    uint64_t at;      /* the offset, count or index of an error: the status says which */
+    uint32_t paid;    /* the cost in words of what was read; set with a result, and by the errors 64 to 74 */
+    uint32_t visits;  /* pointers that were followed, null ones too; set by capn_check, capn_survey, capn_index,
+                         capn_show, capn_refusal_way and capn_departure, and by the errors 64 to 74 */
+    uint32_t segment; /* the pointer that an error from 64 to 74 is about: its segment, */
+    uint32_t word;    /* and its word in that segment */
 } capn_report;
 
-/* What capn_survey reports of a message. */
+/* The summary of a message that capn_survey gives. */
 typedef struct capn_figures {
     uint32_t words;          /* of all segments */
     uint32_t segments;       /* 1 to 4,096 */
-    uint32_t paid;           /* words that its walk pays */
-    uint32_t visits;         /* visits that its walk makes */
-    uint32_t depth;          /* the least depth under which it is accepted: 0 for a null root, else from 1 on */
-    uint32_t has_capability; /* 1 if its value has a capability, else 0 */
+    uint32_t paid;           /* the cost of reading it, in words */
+    uint32_t visits;         /* the pointers that reading it follows */
+    uint32_t depth;          /* the least `depth` limit that accepts it: 0 for a null root, else from 1 on */
+    uint32_t has_capability; /* 1 if it has a capability, else 0 */
     uint32_t capability;     /* the index of the first one in preorder, else 0 */
-    uint32_t canonical;      /* 1 if it has one segment, and that is its canonical bytes; else 0 */
+    uint32_t canonical;      /* 1 if it has one segment, which is its canonical bytes; else 0 */
 } capn_figures;
 
-/* What a pointer names. */
+/* The object that a pointer refers to. */
 enum capn_kind {
     CAPN_KIND_NULL = 0,
     CAPN_KIND_STRUCT = 1,   /* `words` data words, then `slots` pointers */
-    CAPN_KIND_VOID = 2,     /* a list of `count` elements, each without size, */
-    CAPN_KIND_BITS = 3,     /* of a bit, the least significant of a byte first, */
-    CAPN_KIND_BYTES = 4,    /* of 1 byte, */
-    CAPN_KIND_U16 = 5,      /* of 2, */
-    CAPN_KIND_U32 = 6,      /* of 4, */
-    CAPN_KIND_U64 = 7,      /* of 8, the least significant first, */
-    CAPN_KIND_POINTERS = 8, /* a pointer, */
-    CAPN_KIND_ROWS = 9,     /* or a struct of `words` data words and `slots` pointers */
+    CAPN_KIND_VOID = 2,     /* a list of `count` elements without size, */
+    CAPN_KIND_BITS = 3,     /* of 1 bit each, the least significant bit of a byte first, */
+    CAPN_KIND_BYTES = 4,    /* of 1 byte each, */
+    CAPN_KIND_U16 = 5,      /* of 2 bytes each, */
+    CAPN_KIND_U32 = 6,      /* of 4 bytes each, */
+    CAPN_KIND_U64 = 7,      /* of 8 bytes each, the least significant byte first, */
+    CAPN_KIND_POINTERS = 8, /* of pointers, */
+    CAPN_KIND_ROWS = 9,     /* or of structs, each of `words` data words and `slots` pointers */
     CAPN_KIND_CAPABILITY = 10 /* `count` is its index */
 };
 
-/* A segment of a message: `count` words of 8 bytes each. They may start at any address; if there are none, `words` may
- * be null. It is laid out as kj::ArrayPtr<const capnp::word> is. */
+/* The longest path, in numbers: two for each level of the greatest `depth`. An array of this length has room for every
+ * path that capn_refusal_way and capn_departure report. */
+#define CAPN_LONGEST_PATH 512
+
+/* A segment of a message: `count` words of 8 bytes each. `words` may be any address, and null if `count` is 0. The
+ * layout is that of kj::ArrayPtr<const capnp::word>. */
 typedef struct capn_segment {
     const void *words;
     size_t count;
 } capn_segment;
 
-/* An entry of an index: what the pointer in a slot names. */
+/* An entry of an index: the object that one pointer of the message refers to. */
 typedef struct capn_entry {
-    uint64_t offset; /* the offset in `bytes` of its content; of CAPN_KIND_ROWS its tag, 8 bytes before the rows */
-    uint32_t count;  /* elements or rows of a list; the index of a capability; else 0 */
-    uint32_t span;   /* entries of this slot and of all below it: the next sibling of entry i has the entry i + span */
-    uint16_t words;  /* data words of a struct, or of each row; else 0 */
-    uint16_t slots;  /* pointers of a struct, or of each row; else 0 */
+    uint64_t offset; /* of the content, in `bytes`; for CAPN_KIND_ROWS of the tag word, 8 bytes before the elements */
+    uint32_t count;  /* elements of a list; the index of a capability; else 0 */
+    uint32_t span;   /* entries of this pointer and of all below it: the next sibling of entry i is entry i + span */
+    uint16_t words;  /* data words of a struct, or of each element of a list of structs; else 0 */
+    uint16_t slots;  /* pointers of a struct, or of each element of a list of structs; else 0 */
     uint32_t kind;   /* CAPN_KIND_NULL to CAPN_KIND_CAPABILITY */
 } capn_entry;
 
-/* Where an accepted message leaves its canonical bytes. */
+/* The first difference of a valid message from its canonical form. */
 enum capn_departure_kind {
-    CAPN_DEPARTS_NOT = 0,        /* nowhere: it has one segment, and that is its canonical bytes */
-    CAPN_DEPARTS_SEGMENTS = 1,   /* it has more segments than one: `count` */
-    CAPN_DEPARTS_CAPABILITY = 2, /* its value has a capability; the way leads to the first in preorder, of index
-                                    `count` */
-    CAPN_DEPARTS_WORD = 3,       /* `word` is `is`, and in the canonical bytes `canonical`, which is its owner's */
+    CAPN_DEPARTS_NOT = 0,        /* none: the message has one segment, which is its canonical bytes */
+    CAPN_DEPARTS_SEGMENTS = 1,   /* the message has several segments: `count` */
+    CAPN_DEPARTS_CAPABILITY = 2, /* the message has a capability; the path leads to the first in preorder, whose index
+                                    is `count` */
+    CAPN_DEPARTS_WORD = 3,       /* `word` is `is` in the message, and `canonical` in the canonical bytes */
     CAPN_DEPARTS_AFTER = 4       /* the canonical bytes end before `word`, which is `is` */
 };
 
-/* Whose a word of canonical bytes is, by the way to a slot. */
+/* What a word of the canonical bytes is part of. The path leads to the pointer. */
 enum capn_owner {
-    CAPN_OWNER_NONE = 0,     /* of no other kind than CAPN_DEPARTS_WORD is an owner told */
-    CAPN_OWNER_POINTER = 1,  /* it is the pointer of the slot, */
-    CAPN_OWNER_TAG = 2,      /* the tag of the list of structs that the slot names, */
-    CAPN_OWNER_LAST_WORD = 3 /* or the last word of the list of bits, bytes, u16 or u32 that it names */
+    CAPN_OWNER_NONE = 0,     /* the kind is not CAPN_DEPARTS_WORD */
+    CAPN_OWNER_POINTER = 1,  /* the word is the pointer itself, */
+    CAPN_OWNER_TAG = 2,      /* the tag word of the list of structs that the pointer refers to, */
+    CAPN_OWNER_LAST_WORD = 3 /* or the last word of the list of bits, bytes, u16 or u32 that it refers to */
 };
 
-/* The first reason why a message is not its canonical bytes. Words are counted from the first of its only segment. A
- * field that the kind does not speak of is 0. */
+/* The first reason why a message is not canonical. Words are counted from the start of its only segment. A field that
+ * the kind does not use is 0. */
 typedef struct capn_departed {
-    uint64_t is;        /* what the word is in the message, */
-    uint64_t canonical; /* and what in the canonical bytes */
+    uint64_t is;        /* the word in the message, */
+    uint64_t canonical; /* and in the canonical bytes */
     uint32_t kind;      /* CAPN_DEPARTS_NOT to CAPN_DEPARTS_AFTER */
     uint32_t owner;     /* CAPN_OWNER_NONE to CAPN_OWNER_LAST_WORD */
     uint32_t word;      /* the number of the word */
-    uint32_t count;     /* of segments; the index of a capability */
-    uint32_t numbers;   /* of the way */
+    uint32_t count;     /* segments, or the index of a capability */
+    uint32_t numbers;   /* of the path */
     uint32_t zero;      /* always 0 */
 } capn_departed;
 
-/* The types have the sizes that the library gives them; else this is refused by any compiler of C and C++. */
+/* The types have the sizes that the library gives them. Otherwise no compiler of C or C++ accepts this. */
 #define CAPN_SIZES_AGREE (sizeof(capn_limits) == 16 && sizeof(capn_report) == 32 && sizeof(capn_figures) == 32 \
                           && sizeof(capn_entry) == 24 && offsetof(capn_entry, kind) == 20 \
                           && sizeof(capn_segment) == 16 && offsetof(capn_segment, count) == 8 \
@@ -169,35 +179,35 @@ _Static_assert(CAPN_SIZES_AGREE, "as the library lays them out");
 typedef char capn_sizes_agree[CAPN_SIZES_AGREE ? 1 : -1];
 #endif
 
-/* What a call answers. All numbers from 16 to 127 are, and will be, refusals of what was passed. */
+/* The status that a call returns. Each number from 16 to 127 is, and will be, an error about the message. */
 typedef uint32_t capn_status;
 enum capn_status_code {
     /* the call */
     CAPN_OK = 0,
-    CAPN_NO_ROOM = 1,       /* `length` bytes are enough for the answer; the buffer is as it was */
-    CAPN_BAD_FORM = 2,      /* the form is none of the three, or none that the call takes */
+    CAPN_NO_ROOM = 1,       /* the result needs `length` bytes; the buffer is unchanged */
+    CAPN_BAD_FORM = 2,      /* no such form, or the call doesn't take it */
     CAPN_BAD_LIMITS = 3,    /* a limit is out of its range */
-    CAPN_BAD_TARIFF = 4,    /* the tariff is none of the two */
-    CAPN_NOT_CANONICAL = 5, /* of capn_is_canonical alone: the bytes are accepted, and are not canonical */
-    CAPN_BAD_STYLE = 6,     /* of capn_show alone: the style is none of the four */
-    CAPN_DIFFERENT = 7,     /* of capn_same alone: both messages have canonical bytes, and these differ */
-    CAPN_MEMORY = 8,        /* memory was refused */
-    CAPN_NO_SCRATCH = 9,    /* of capn_canonical_with_scratch alone; at: how many words are needed */
+    CAPN_BAD_TARIFF = 4,    /* no such tariff */
+    CAPN_NOT_CANONICAL = 5, /* only from capn_is_canonical: the bytes are valid, but not canonical */
+    CAPN_BAD_STYLE = 6,     /* only from capn_show: no such style */
+    CAPN_DIFFERENT = 7,     /* only from capn_same: both messages have canonical bytes, which differ */
+    CAPN_MEMORY = 8,        /* an allocation failed */
+    CAPN_NO_SCRATCH = 9,    /* only from capn_canonical_with_scratch; at: how many words are needed */
 
     /* refusals of what was passed */
     /* the bytes are not whole words */
     CAPN_NOT_WHOLE = 16,     /* at: how many bytes there are */
     CAPN_BARE_TOO_LONG = 17, /* at: how many words there are */
-    /* the packed text; at: the offset of the group's tag */
+    /* the packed bytes; at: the offset of the group's tag */
     CAPN_PACKED_CUT = 32,
     CAPN_PACKED_TOO_LONG = 33,
     /* the segment table */
-    CAPN_FRAME_EMPTY = 48,       /* of capn_first, `length`: how many bytes a frame has at least */
+    CAPN_FRAME_EMPTY = 48,       /* from capn_first, `length`: how many bytes a message has at least */
     CAPN_TOO_MANY_SEGMENTS = 49, /* at: how many are announced */
     CAPN_TOO_MANY_WORDS = 50,    /* at: how many are announced */
-    CAPN_FRAME_CUT = 51,         /* of capn_first, `length`: how many bytes the frame has at least */
+    CAPN_FRAME_CUT = 51,         /* from capn_first, `length`: how many bytes the message has at least */
     CAPN_TRAILING = 52, /* at: the offset of the first byte after the message; of CAPN_PACKED, in the unpacked bytes */
-    /* the walk, at `segment` and `word` */
+    /* the pointers; `segment` and `word` say which */
     CAPN_NO_ROOT = 64,
     CAPN_ROOT_KIND = 65,
     CAPN_RESERVED = 66,
@@ -213,159 +223,174 @@ enum capn_status_code {
     CAPN_CAPABILITY = 80 /* at: the index of the first in preorder */
 };
 
-/* The canonical bytes of one message. With a room of 0 it writes no answer. It returns CAPN_NO_ROOM with a `length`
- * that is enough, 8 * (paid + 1), or else the refusal; it costs what capn_check costs.
- * With any other room that is too small it returns CAPN_NO_ROOM with the exact length. It takes memory only for a
- * packed text, and for a stream of more than 64 segments.
- * CAPN_TRAILING says where the first of several messages ends. Of CAPN_STREAM, call again with that size. Not so of
- * CAPN_PACKED: there the offset is one in the unpacked bytes, and mostly greater than the size of the packed ones.
- * Unpack them first, by capn_unpack, and go on with CAPN_STREAM. The same holds for capn_hash and capn_check. */
+/* Writes the canonical bytes of one message to `out`.
+ * CAPN_NO_ROOM: the buffer is too small, and `length` is the exact length. With a `room` of 0 the call only checks the
+ * message, and `length` is enough but not exact: 8 * (paid + 1).
+ * CAPN_TRAILING: other bytes follow the message. Of CAPN_STREAM, `at` is its length: call again with that size. Of
+ * CAPN_PACKED, `at` is an offset in the unpacked bytes: unpack them first, by capn_unpack, and go on with CAPN_STREAM.
+ * The same holds for capn_hash and capn_check.
+ * It allocates for a packed message, and for the table of a stream of more than 64 segments. */
 capn_status capn_canonical(uint32_t form, const uint8_t *bytes, size_t size, const capn_limits *limits, uint8_t *out,
                            size_t room, capn_report *report);
 
-/* Whether bytes, read bare, are the canonical bytes of their value: CAPN_OK, CAPN_NOT_CANONICAL, or a refusal; with the
- * first two every field of the report is 0. It takes no memory. A frame is not bare words: with its table before it,
- * nearly any message of one segment passes. For a frame, ask capn_survey: its figures say whether it is canonical. */
+/* Whether a single segment without a table is canonical: CAPN_OK, CAPN_NOT_CANONICAL, or an error. With the first two
+ * every field of the report is 0. It never allocates.
+ * Do not pass a message with a segment table: read as CAPN_BARE, nearly every message of one segment looks canonical.
+ * Call capn_survey for these, and read `canonical` of its figures. */
 capn_status capn_is_canonical(const uint8_t *bytes, size_t size, const capn_limits *limits, capn_report *report);
 
-/* The SHA-256 of the canonical bytes of one message. It takes memory for these bytes, for the table of a stream of more
- * than 64 segments, and for what is unpacked and its table. */
+/* Writes the SHA-256 of the canonical bytes of one message to `digest`, which is left unchanged on an error.
+ * It allocates for the canonical bytes, for the table of a stream of more than 64 segments, and for a packed
+ * message. */
 capn_status capn_hash(uint32_t form, const uint8_t *bytes, size_t size, const capn_limits *limits, uint8_t digest[32],
                       capn_report *report);
 
-/* Whether one message is accepted within limits, with what reading it pays and how many visits that makes. It takes
- * memory only for the table of more than 64 segments, and for what is unpacked. */
+/* Checks that the bytes are one valid message within the limits. The report has its cost, and how many pointers reading
+ * it follows. It allocates for the table of a stream of more than 64 segments, and for a packed message. */
 capn_status capn_check(uint32_t form, const uint8_t *bytes, size_t size, const capn_limits *limits,
                        capn_report *report);
 
-/* The packed text of whole words. With too little room the length is exact. */
+/* Packs whole words. With CAPN_NO_ROOM `length` is exact. */
 capn_status capn_pack(const uint8_t *bytes, size_t size, uint8_t *out, size_t room, capn_report *report);
 
-/* The words of a packed text, at most max_words. With too little room the length is exact. It takes memory only if a
- * whole group within the maximum comes first. */
+/* Unpacks packed bytes, to at most max_words words. With CAPN_NO_ROOM `length` is exact. It allocates only if a
+ * complete group within that maximum comes first. */
 capn_status capn_unpack(const uint8_t *bytes, size_t size, uint32_t max_words, uint8_t *out, size_t room,
                         capn_report *report);
 
 /* The version of the library that runs, as "1.1.0-dev". CAPN_VERSION is that of the header that was compiled. */
 const char *capn_version(void);
 
-/* What a status means, in a few words; for a number that is no status too. It is never null, and not to be freed. */
+/* The meaning of a status in a few words, also for a number that is no status. The text is never null, and not to be
+ * freed. */
 const char *capn_status_text(capn_status status);
 
-/* The first frame of a stream, to read one in pieces. All limits are tested, and `message_words` alone counts.
- * CAPN_OK: the frame is whole, and `length` bytes long; more may follow it.
- * CAPN_FRAME_EMPTY, CAPN_FRAME_CUT: it is not whole. No frame that begins so is shorter than `length` bytes, counted
- * from its start, and that is more than there are: have that many, and call again. It is 8, then the length of the
- * table, then that of the frame, at most 8 * (message_words + 2049): no byte after the frame is asked for.
- * Else the refusal. Nothing is walked. The table of more than 64 segments takes memory, once the frame is whole. */
+/* Finds the end of the first message of a stream, to read a stream in chunks. It reads the segment table and does not
+ * look at the contents. All limits must be in their range, and only `message_words` is used.
+ * CAPN_OK: the message is complete, and `length` bytes long. More may follow it.
+ * CAPN_FRAME_EMPTY, CAPN_FRAME_CUT: the message is not complete. It has at least `length` bytes, which is more than
+ * `size`: read up to that many, and call again. `length` is 8, then the length of the table, then that of the message,
+ * which is at most 8 * (message_words + 2049). A caller that reads so never reads a byte after the message.
+ * It allocates for the table of more than 64 segments, once the message is complete. */
 capn_status capn_first(const uint8_t *bytes, size_t size, const capn_limits *limits, capn_report *report);
 
-/* The words of the whole groups that come first in a packed text, as many as have room, to unpack one in pieces.
- * CAPN_OK: all bytes were taken, and the text may end here. CAPN_PACKED_CUT: a group begins at `at` and is cut: keep
- * its bytes, and pass them again before those that follow; if none follow, the text is cut. CAPN_PACKED_TOO_LONG: the
- * group at `at` has more words than there is room for: pass it again with a buffer that has room. In these three `at`
- * bytes were taken and `length` bytes written, and the rest of the buffer is as it was. CAPN_MEMORY: nothing was taken,
- * and the buffer is as it was. No group has more than 2,050 bytes or 256 words: so with a room of 2,048 each call takes
- * something, or asks for more bytes. It takes memory for the words that it writes. */
+/* Unpacks the complete groups at the start of packed bytes, as many as fit into `out`, to unpack a stream in chunks.
+ * CAPN_OK: all bytes were taken, and the packed bytes may end here.
+ * CAPN_PACKED_CUT: a group begins at `at` and is not complete. Keep its bytes, and pass them again before those that
+ * follow. If none follow, the packed bytes are truncated.
+ * CAPN_PACKED_TOO_LONG: the group at `at` has more words than fit. Pass it again with another buffer.
+ * CAPN_MEMORY: nothing was taken, and `out` is unchanged.
+ * With the first three, `at` bytes were taken and `length` bytes were written, and the rest of `out` is unchanged. A
+ * group has at most 2,050 bytes and 256 words. With a `room` of 2,048 each call therefore takes something, or needs
+ * more bytes. It allocates for the words that it writes. */
 capn_status capn_unpack_some(const uint8_t *bytes, size_t size, uint8_t *out, size_t room, capn_report *report);
 
-/* The figures of one message; of CAPN_PACKED those of what it unpacks to. It accepts and refuses what capn_check does,
- * and takes memory where that does; the report has `paid` and `visits`. Unless it answers CAPN_OK, the figures are as
- * they were. It walks a message twice at most, and once if it is canonical or has several segments: use capn_check if
- * what it reports is enough. */
+/* Checks one message as capn_check does, and summarizes it; a packed message is summarized unpacked. The report has
+ * `paid` and `visits`. The figures are written only with CAPN_OK. It accepts, rejects and allocates as capn_check does.
+ * It reads a message that is canonical or has several segments once, and any other twice: use capn_check if its report
+ * is enough. */
 capn_status capn_survey(uint32_t form, const uint8_t *bytes, size_t size, const capn_limits *limits,
                         capn_figures *figures, capn_report *report);
 
-/* The index of one message, of CAPN_STREAM or CAPN_BARE; with CAPN_PACKED it answers CAPN_BAD_FORM: unpack it first.
- * It has an entry for each slot that the walk visits, in preorder: first the root, and after each entry those of its
- * slots, one a `span` after the other.
- * CAPN_OK: `visits` entries are at the start of `entries`, and the rest is as it was. CAPN_NO_ROOM: there are `visits`
- * entries, more than `most_entries`. In both `length` is the bytes that they take, 24 * visits. With no room it reports
- * these alone; capn_count_entries of capn_fields.h answers the number of entries.
- * It accepts and refuses what capn_check does. Unless it answers CAPN_OK, the entries are as they were. It takes memory
- * where capn_check does: of a stream of more than 64 segments, for its table.
- * All that an entry says lies within `bytes`, also of a hostile message: an offset, and from there on as many bytes as
- * its kind and its numbers say. Of null and of a capability the offset says nothing. */
+/* Checks one message as capn_check does, and writes an entry for each pointer of it that reading follows, in preorder:
+ * first the root, and after each entry those of the pointers of its object, each a `span` after the one before.
+ * CAPN_OK: `visits` entries are at the start of `entries`, and the rest is unchanged.
+ * CAPN_NO_ROOM: there are `visits` entries, more than `most_entries`. capn_count_entries of capn_fields.h returns that
+ * number.
+ * CAPN_BAD_FORM: the form is CAPN_PACKED. Unpack the message first.
+ * With the first two, `length` is 24 * visits, the bytes of all entries. The entries are written only with CAPN_OK.
+ * An entry never leads outside of `bytes`, also for a hostile message: all the content that its offset, its kind and
+ * its numbers describe lies within them. The offset of a null and of a capability has no meaning.
+ * It allocates for the table of a stream of more than 64 segments. */
 capn_status capn_index(uint32_t form, const uint8_t *bytes, size_t size, const capn_limits *limits, capn_entry *entries,
                        size_t most_entries, capn_report *report);
 
-/* The call that shows a message is there. */
+/* This header declares capn_show. */
 #define CAPN_HAS_SHOW 1
 
-/* The text of one message: to the byte what the program `capn show` writes of it in a style, the line `end` too. No
- * zero ends it. With too little room, also with none, it returns CAPN_NO_ROOM with the exact length.
- * It accepts and refuses what capn_check does; the report has `length`, `paid` and `visits`. Unless it answers CAPN_OK,
- * `out` is as it was. It takes memory for the table of more than 64 segments, for what is unpacked, and for the text of
- * a message that is accepted, with too little room too: the text of a small message may be long, so have limits. */
+/* Writes a message as text: exactly what `capn show` prints of it in that style, with the line `end`. No zero byte ends
+ * it. `out` is written only with CAPN_OK. The report has `length`, `paid` and `visits`.
+ * CAPN_NO_ROOM: the buffer is too small or has size 0, and `length` is exact.
+ * It accepts and rejects what capn_check does. It allocates for the table of more than 64 segments, for a packed
+ * message, and for the text of a valid message, also if the buffer is too small. The text of a small message may be
+ * long: lower the limits for messages that you do not trust. */
 capn_status capn_show(uint32_t form, const uint8_t *bytes, size_t size, const capn_limits *limits, uint32_t style,
                       char *out, size_t room, capn_report *report);
 
-/* The calls that answer ways are there: capn_refusal_way and capn_departure. */
+/* This header declares the calls that report paths: capn_refusal_way and capn_departure. */
 #define CAPN_HAS_WAYS 1
 
-/* The way to the slot at which the walk of a message stopped. A way is the numbers that lead to a slot from the root: a
- * number leads from a struct to a slot, from a list of pointers to an element, and from a list of structs to a row,
- * whose slot the next number says. No number leads to the root, nor where there is none.
- * It answers what capn_check answers of the same bytes, and reports the same; and where the status is a refusal of the
- * walk, `length` is 4 * the numbers of the way: they stand at the start of `way` if `most_numbers`, which counts
- * numbers, has room for all, and the rest is as it was; else `way` is as it was. So it is the length that says whether
- * they had room: no status does. 2 * `depth` numbers are always enough. At any other status `way` is as it was.
- * It takes memory where capn_check does, and where the walk is refused, for the way; there it walks twice at most. */
+/* Checks one message as capn_check does, with the same status and report, and also reports the path to the pointer that
+ * is wrong. A path lists the numbers that lead from the root to a pointer:
+ *   - In a struct a number selects a pointer.
+ *   - In a list of pointers it selects an element.
+ *   - In a list of structs it selects an element, and the next number selects a pointer of that element.
+ *   - The path of the root is empty.
+ * With an error from 64 to 74, `length` is 4 * the numbers of the path. If they are at most `most_numbers`, they are at
+ * the start of `way`, and the rest is unchanged. Otherwise `way` is unchanged, and only `length` shows it: compare it
+ * before you read `way`. 2 * `depth` numbers are always enough, and so are CAPN_LONGEST_PATH. With any other status
+ * `way` is unchanged.
+ * It allocates as capn_check does, and for the path. It reads an invalid message twice at most. */
 capn_status capn_refusal_way(uint32_t form, const uint8_t *bytes, size_t size, const capn_limits *limits, uint32_t *way,
                              size_t most_numbers, capn_report *report);
 
-/* Where one message leaves its canonical bytes, and why: as `capn explain` says it.
- * It answers CAPN_OK for every message that is accepted, whether it is canonical or not, and fills `departed` in whole:
- * `kind` says which. Where there is a way, of CAPN_DEPARTS_CAPABILITY and CAPN_DEPARTS_WORD, it is in `way` or had no
- * room there, as capn_refusal_way has it, and `length` is 4 * `numbers`. The report has `length`, `paid` and `visits`.
- * It accepts and refuses what capn_check does. Unless it answers CAPN_OK, `departed` and `way` are as they were.
- * It takes memory for the table of a stream of more than 64 segments, for what is unpacked and its table, and, of a
- * message of one segment that is not canonical, for its canonical bytes and for the way. It walks a message several
- * times. */
+/* Reports the first difference of a valid message from its canonical form, as `capn explain` does.
+ * It returns CAPN_OK for every valid message, canonical or not, and fills in all of `departed`: `kind` says which. With
+ * CAPN_DEPARTS_CAPABILITY and CAPN_DEPARTS_WORD there is a path, of `numbers` numbers. It is in `way` if they are at
+ * most `most_numbers`; otherwise `way` is unchanged. The report has `length`, which is 4 * `numbers`, `paid` and
+ * `visits`. `departed` and `way` are written only with CAPN_OK.
+ * It accepts and rejects what capn_check does. It allocates for the table of a stream of more than 64 segments, for a
+ * packed message, and, for a message of one segment that is not canonical, for its canonical bytes and for the path. It
+ * reads a message several times. */
 capn_status capn_departure(uint32_t form, const uint8_t *bytes, size_t size, const capn_limits *limits,
                            capn_departed *departed, uint32_t *way, size_t most_numbers, capn_report *report);
 
-/* The call that compares two messages is there. */
+/* This header declares capn_same. */
 #define CAPN_HAS_SAME 1
 
-/* Whether two messages, both in one form, have the same value: whether their canonical bytes are equal. None are made.
- * CAPN_OK: they are equal. CAPN_DIFFERENT: they differ. With these two every field of the report is 0.
- * Else the refusal of `a`, as capn_canonical has it, or if there is none that of `b`, which is not looked at before.
- * Every call writes `which`, unless it is null: 1 if `b` is refused, or memory was refused for it; else 0.
- * `a` and `b` may overlap. It takes memory where capn_check does: for the table of more than 64 segments, and for what
- * is unpacked. It surveys both, and then walks them in step, up to the first difference. */
+/* Compares the values of two messages of the same form, without writing their canonical bytes.
+ * CAPN_OK: the values are the same. CAPN_DIFFERENT: they differ. With these two every field of the report is 0.
+ * Otherwise the status is the error that capn_canonical returns for `a`, or, if `a` has canonical bytes, for `b`. The
+ * call looks at `b` only if `a` has canonical bytes. Every call writes `which`, unless it is null: 1 if `b` is rejected
+ * or an allocation for it failed, else 0.
+ * `a` and `b` may overlap. It allocates as capn_check does. It reads both messages, and then compares them up to the
+ * first difference. */
 capn_status capn_same(uint32_t form, const uint8_t *a, size_t size_a, const uint8_t *b, size_t size_b,
                       const capn_limits *limits, uint32_t *which, capn_report *report);
 
-/* The call that is lent its scratch is there. */
+/* This header declares capn_canonical_with_scratch. */
 #define CAPN_HAS_SCRATCH 1
 
-/* The words of scratch that are enough for every stream. */
+/* The scratch words that are enough for every message of form CAPN_STREAM. */
 #define CAPN_STREAM_SCRATCH 4095
-/* The words that are enough for every packed text, under a limit on message words. */
+/* The scratch words that are enough for every packed message within a limit on message words. */
 #define CAPN_PACKED_SCRATCH(message_words) ((size_t)(message_words) + 6144)
 
-/* The canonical bytes of one message, as capn_canonical writes them, and no memory is asked for: `scratch`, of `words`
- * words of 8 bytes, is the room for what is kept meanwhile. It may start at any address, and if there are no words, it
- * may be null. What it holds afterwards is not said.
- * Bare words, and a stream of at most 64 segments, take none of it. Another stream takes a word for each segment but
- * the last. A packed text takes the words that it unpacks to, and behind them those of that stream.
- * CAPN_NO_SCRATCH: it has too few words, and `at` is how many are needed: lend that many, and call again. Of a packed
- * text they are first those of the text alone, so that a second call may ask for more; a third one does not.
- * With too little room for the answer, also with none, it returns CAPN_NO_ROOM with the exact length.
- * Else it answers and refuses what capn_canonical does. Unless it answers CAPN_OK, `out` is as it was. */
+/* Writes the canonical bytes of one message as capn_canonical does, and never allocates. It keeps what it needs
+ * meanwhile in `scratch`, which has `words` words of 8 bytes. The scratch may start at any address, and may be null if
+ * `words` is 0. Its contents afterwards have no meaning.
+ *   - A single segment without a table, and a stream of at most 64 segments, need no scratch.
+ *   - Another stream needs a word for each segment but the last.
+ *   - A packed message needs the words that it unpacks to, and those of that stream.
+ * CAPN_NO_SCRATCH: the scratch is too small, and `at` is how many words are needed: call again with that many. For a
+ * packed message the first call may count the unpacked words alone, so that the second asks for more. A third does not.
+ * CAPN_NO_ROOM: the buffer is too small or has size 0, and `length` is exact.
+ * Every other status is that of capn_canonical. `out` is written only with CAPN_OK. */
 capn_status capn_canonical_with_scratch(uint32_t form, const uint8_t *bytes, size_t size, const capn_limits *limits,
                                         void *scratch, size_t words, uint8_t *out, size_t room, capn_report *report);
 
-/* The calls for a message that is held in segments are there: those that end in `_segments`. */
+/* This header declares the calls for a message in segments: those that end in `_segments`. */
 #define CAPN_HAS_SEGMENTS 1
 
-/* The same of a message where its segments lie, with no table and no copy. `segments` has `count` segments, 1 to 4,096;
- * they may overlap. Each call answers and refuses what its sister does of the frame of these segments, under the same
- * limits: with no segments CAPN_FRAME_EMPTY; with more than 4,096 CAPN_TOO_MANY_SEGMENTS; with more words than
- * `message_words` CAPN_TOO_MANY_WORDS, of which `at` is their number, or 2^64 - 1 if they are more. The refusals of
- * bytes, 16 to 33, 51 and 52, never come, nor does CAPN_BAD_FORM. Memory is taken by capn_hash_segments alone, for the
- * bytes that it hashes. */
+/* These calls take a message as an array of its segments, with no table and no copy. There may be 1 to 4,096 segments,
+ * which may overlap. Each call does what the call without `_segments` does for the stream of these segments, with the
+ * same limits.
+ *   - With no segments the error is CAPN_FRAME_EMPTY.
+ *   - With more than 4,096 it is CAPN_TOO_MANY_SEGMENTS.
+ *   - With more words than `message_words` it is CAPN_TOO_MANY_WORDS. `at` is their number, or 2^64 - 1 if that is
+ *     greater.
+ *   - CAPN_BAD_FORM and the errors 16 to 33, 51 and 52 do not occur.
+ * Only capn_hash_segments allocates, for the canonical bytes. It leaves `digest` unchanged on an error. */
 capn_status capn_canonical_segments(const capn_segment *segments, size_t count, const capn_limits *limits, uint8_t *out,
                                     size_t room, capn_report *report);
 capn_status capn_hash_segments(const capn_segment *segments, size_t count, const capn_limits *limits,
@@ -375,15 +400,15 @@ capn_status capn_check_segments(const capn_segment *segments, size_t count, cons
 capn_status capn_survey_segments(const capn_segment *segments, size_t count, const capn_limits *limits,
                                  capn_figures *figures, capn_report *report);
 
-/* The text that the program capn prints for a refusal of a message, with its place, as `Range at 3:623915, paid 0,
- * visits 1`, and for CAPN_MEMORY; for other statuses, and without a report, what capn_status_text says. Of capn_pack
- * the program leaves out `bare: `. It returns the length of the text, without the zero that ends it, and writes as much
- * of it as there is room for, always with a zero after it; with a room of 0 it writes nothing, and `out` may be
- * null. */
+/* Writes the text that the program capn prints for an error of a message, with its place, such as `Range at 3:623915,
+ * paid 0, visits 1`. It does so for the statuses from 16 on and for CAPN_MEMORY. For other statuses, and without a
+ * report, the text is that of capn_status_text. The program does not print `bare: ` for errors of capn_pack.
+ * It returns the length of the text without the zero byte at its end. It writes as much of the text as fits, always
+ * with a zero byte after it. With a `room` of 0 it writes nothing, and `out` may be null. */
 size_t capn_refusal_text(capn_status status, const capn_report *report, char *out, size_t room);
 
-/* The name of a status, as `Range` of CAPN_RANGE and `NoRoot` of CAPN_NO_ROOT; `Unknown` of a number that is no status.
- * It is never null, and not to be freed. */
+/* The name of a status, such as `Range` for CAPN_RANGE and `NoRoot` for CAPN_NO_ROOT, or `Unknown` for a number that is
+ * no status. It is never null, and not to be freed. */
 const char *capn_status_name(capn_status status);
 
 #ifdef __cplusplus

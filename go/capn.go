@@ -44,16 +44,16 @@ const (
 type Limits struct {
 	// c/limits.txt: fields in go
 
-	MessageWords uint32 // of one framed message: 1 to 2^28
-	Budget       uint32 // words that a walk pays: 0 to 2^28
-	Depth        uint32 // of objects: 1 to 256
+	MessageWords uint32 // words of a message with a segment table: 1 to 2^28
+	Budget       uint32 // the traversal limit, in words: 0 to 2^28
+	Depth        uint32 // the nesting limit, in levels of objects: 1 to 256
 	Tariff       Tariff
 	// c/limits.txt ends
 }
 
 // c/limits.txt: usual in go
 
-// UsualLimits are 64 MiB of message and of budget, a depth of 64, and the strict tariff.
+// UsualLimits are 64 MiB of message, 64 MiB of reading, a depth of 64, and the strict tariff.
 func UsualLimits() Limits {
 	return Limits{MessageWords: 8388608, Budget: 8388608, Depth: 64}
 }

@@ -31,10 +31,9 @@ const (
 	ErrNotWhole Kind = 16
 	// ErrBareTooLong: more words than a bare message may have; At: how many words there are.
 	ErrBareTooLong Kind = 17
-	// ErrPackedCut: a group of the packed text is cut; At: the offset of the group's tag.
+	// ErrPackedCut: the packed bytes are truncated; At: the offset of the group's tag.
 	ErrPackedCut Kind = 32
-	// ErrPackedTooLong: a group of the packed text has more words than there is room for; At: the offset of the
-	// group's tag.
+	// ErrPackedTooLong: the packed bytes have more words than fit; At: the offset of the group's tag.
 	ErrPackedTooLong Kind = 33
 	// ErrFrameEmpty: there are no bytes.
 	ErrFrameEmpty Kind = 48
@@ -42,7 +41,7 @@ const (
 	ErrTooManySegments Kind = 49
 	// ErrTooManyWords: more words are announced than the limit; At: how many are announced.
 	ErrTooManyWords Kind = 50
-	// ErrFrameCut: the frame is cut.
+	// ErrFrameCut: the message is truncated.
 	ErrFrameCut Kind = 51
 	// ErrTrailing: bytes follow the message; At: the offset of the first byte after the message; of a packed text,
 	// in the unpacked bytes.
@@ -53,21 +52,21 @@ const (
 	ErrRootKind Kind = 65
 	// ErrReserved: a pointer of a reserved kind.
 	ErrReserved Kind = 66
-	// ErrNoSegment: a far pointer names a segment that is not there.
+	// ErrNoSegment: a far pointer refers to a segment that doesn't exist.
 	ErrNoSegment Kind = 67
 	// ErrPadRange: a landing pad lies outside of its segment.
 	ErrPadRange Kind = 68
-	// ErrBadPad: a landing pad is none.
+	// ErrBadPad: a landing pad is not valid.
 	ErrBadPad Kind = 69
 	// ErrRange: an object lies outside of its segment.
 	ErrRange Kind = 70
-	// ErrBadTag: the tag of a composite list is no struct pointer.
+	// ErrBadTag: the tag word of a list of structs is not valid.
 	ErrBadTag Kind = 71
-	// ErrTagOverrun: the rows of a composite list go over its words.
+	// ErrTagOverrun: the structs of a list need more words than the list has.
 	ErrTagOverrun Kind = 72
 	// ErrTooDeep: an object lies deeper than the limit.
 	ErrTooDeep Kind = 73
-	// ErrOverBudget: the walk pays more than the budget.
+	// ErrOverBudget: reading costs more than the budget.
 	ErrOverBudget Kind = 74
 	// ErrCapability: the value has a capability; At: the index of the first in preorder.
 	ErrCapability Kind = 80

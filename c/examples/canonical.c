@@ -1,23 +1,28 @@
-/* canonical FILE: writes the canonical bytes of the one message in a file to standard output. */
+/* canonical FILE: writes the canonical bytes of the one message in a file to standard output.
+ * It exits with 1 if the message is invalid, 2 on wrong usage, and 3 if reading, writing or an allocation fails. */
 #include "capn.h"
 #include <stdio.h>
 #include <stdlib.h>
 
-/* All of a file's bytes, or null. The caller frees them. */
+/* Returns all bytes of a file, which the caller frees, or null if reading or an allocation fails. */
 static uint8_t *read_all(const char *name, size_t *size) {
     FILE *file = fopen(name, "rb");
     if (!file) return NULL;
-    size_t room = 4096, had = 0, got;
+    size_t room = 4096, have = 0, got;
     uint8_t *bytes = malloc(room);
-    while (bytes && (got = fread(bytes + had, 1, room - had, file)) > 0) {
-        had += got;
-        if (had < room) continue;
+    while (bytes && (got = fread(bytes + have, 1, room - have, file)) > 0) {
+        have += got;
+        if (have < room) continue;
         uint8_t *more = realloc(bytes, room *= 2);
         if (!more) free(bytes);
         bytes = more;
     }
+    if (bytes && ferror(file)) { /* fread also returns 0 if reading fails: that is not the end of the file */
+        free(bytes);
+        bytes = NULL;
+    }
     fclose(file);
-    *size = had;
+    *size = have;
     return bytes;
 }
 
@@ -25,26 +30,31 @@ int main(int count, char **words) {
     if (count != 2) return 2;
     size_t size;
     uint8_t *bytes = read_all(words[1], &size);
-    if (!bytes) return 3;
+    if (!bytes) {
+        perror(words[1]);
+        return 3;
+    }
 
-    /* First with no room: the message is checked, and the report has a length that is enough. */
+    /* With a buffer of size 0 the call checks the message, and reports a length that is enough. */
     capn_limits limits = CAPN_USUAL_LIMITS;
     capn_report report;
     capn_status status = capn_canonical(CAPN_STREAM, bytes, size, &limits, NULL, 0, &report);
-    uint8_t *answer = NULL;
+    uint8_t *out = NULL;
     if (status == CAPN_NO_ROOM) {
         size_t room = report.length;
-        answer = malloc(room);
-        if (!answer) return 3;
-        status = capn_canonical(CAPN_STREAM, bytes, size, &limits, answer, room, &report);
+        out = malloc(room);
+        status = out ? capn_canonical(CAPN_STREAM, bytes, size, &limits, out, room, &report) : CAPN_MEMORY;
     }
-    if (status == CAPN_OK) fwrite(answer, 1, report.length, stdout);
+    int is_written = 1;
+    if (status == CAPN_OK) is_written = fwrite(out, 1, report.length, stdout) == report.length && !fflush(stdout);
     else {
-        char text[128]; /* as the program prints it, with its place */
+        char text[128]; /* the text that the program capn prints, with the place of the error */
         capn_refusal_text(status, &report, text, sizeof text);
-        fprintf(stderr, "refused: %s\n", text);
+        fprintf(stderr, "rejected: %s\n", text);
     }
-    free(answer);
+    if (!is_written) perror("standard output");
+    free(out);
     free(bytes);
-    return status == CAPN_OK ? 0 : status == CAPN_MEMORY ? 3 : 1;
+    if (status == CAPN_OK) return is_written ? 0 : 3;
+    return status == CAPN_MEMORY ? 3 : 1;
 }

@@ -1,7 +1,15 @@
-/* each FILE: writes the digest of each message of a stream, in hexadecimal. */
+/* each FILE: prints the digest of each message of a stream, in hexadecimal.
+ * It goes on after an invalid message, and prints its number, its offset and the error to standard error. It exits with
+ * 1 if a message is invalid, 2 on wrong usage, and 3 if the file cannot be read. */
 #include "each.h"
 #include <stdio.h>
 #include <stdlib.h>
+
+static void print_error(size_t number, size_t offset, capn_status status, const capn_report *report) {
+    char text[128];
+    capn_refusal_text(status, report, text, sizeof text);
+    fprintf(stderr, "message %zu at %zu: %s\n", number, offset, text);
+}
 
 int main(int count, char **words) {
     if (count != 2) return 2;
@@ -14,18 +22,21 @@ int main(int count, char **words) {
     fclose(file);
 
     const capn_limits limits = CAPN_USUAL_LIMITS;
-    capn_status status = CAPN_OK;
-    for (size_t from = 0, taken; from < (size_t)length && status == CAPN_OK; from += taken) {
+    const size_t size = (size_t)length;
+    int is_valid = 1;
+    for (size_t from = 0, taken, number = 1; from < size; from += taken, number++) {
         uint8_t digest[32];
         capn_report report;
-        status = first_digest(bytes + from, (size_t)length - from, &limits, digest, &taken, &report);
-        for (int i = 0; i < 32 && status == CAPN_OK; i++) printf(i < 31 ? "%02x" : "%02x\n", digest[i]);
-        if (status != CAPN_OK) {
-            char text[128];
-            capn_refusal_text(status, &report, text, sizeof text);
-            fprintf(stderr, "message at %zu: %s\n", from, text);
+        const capn_status status = first_digest(bytes + from, size - from, &limits, digest, &taken, &report);
+        if (status == CAPN_OK) {
+            for (int i = 0; i < 32; i++) printf("%02x", digest[i]);
+            printf("\n");
+        } else { /* taken is 0 if the segment table is wrong: then nothing says where the next message begins */
+            print_error(number, from, status, &report);
+            is_valid = 0;
+            if (taken == 0) break;
         }
     }
     free(bytes);
-    return status != CAPN_OK;
+    return is_valid ? 0 : 1;
 }

@@ -1,9 +1,9 @@
-/* segments: the digest of a message that is held in two segments, as a builder has it, with no table and no copy. */
+/* segments: prints the digest of a message that a builder holds in two segments, with no segment table and no copy. */
 #include "capn.h"
 #include <stdio.h>
 
 int main(void) {
-    /* The root is a far pointer to the second segment: a landing pad, and the struct of two words that it leads to. */
+    /* The root is a far pointer to the second segment: a landing pad, and the struct of two words that it refers to. */
     static const uint8_t first[8] = {2, 0, 0, 0, 1, 0, 0, 0};
     static const uint8_t second[24] = {0, 0, 0, 0, 2, 0, 0, 0, 5};
     const capn_segment segments[] = {{first, sizeof first / 8}, {second, sizeof second / 8}};
@@ -14,9 +14,10 @@ int main(void) {
     if (status != CAPN_OK) {
         char text[128];
         capn_refusal_text(status, &report, text, sizeof text);
-        fprintf(stderr, "refused: %s\n", text);
+        fprintf(stderr, "rejected: %s\n", text);
         return 1;
     }
-    for (int i = 0; i < 32; i++) printf(i < 31 ? "%02x" : "%02x\n", digest[i]);
+    for (int i = 0; i < 32; i++) printf("%02x", digest[i]);
+    printf("\n");
     return 0;
 }

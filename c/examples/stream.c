@@ -1,21 +1,31 @@
-/* stream: writes the digest of each message of a stream of any length that comes on the standard input, in hexadecimal.
- * It reads what the message at hand needs, and never more: `capn_first` says how much that is. */
+/* stream: prints the digest of each message of a stream on standard input, in hexadecimal. The stream may have any
+ * length. The program reads no byte after the message that it works on: `capn_first` says how many bytes that needs.
+ * It goes on after an invalid message, and prints its number, its offset and the error to standard error. It exits with
+ * 1 if a message is invalid or the stream is truncated, and 2 if reading fails. */
 #include "capn.h"
 #include <errno.h>
 #include <stdio.h>
 #include <stdlib.h>
 #include <unistd.h>
 
+static void print_error(uint64_t number, uint64_t offset, capn_status status, const capn_report *report) {
+    char text[128];
+    capn_refusal_text(status, report, text, sizeof text);
+    fprintf(stderr, "message %llu at %llu: %s\n", (unsigned long long)number, (unsigned long long)offset, text);
+}
+
 int main(void) {
     const capn_limits limits = CAPN_USUAL_LIMITS;
     uint8_t *bytes = NULL, digest[32];
     size_t have = 0, room = 0;
+    uint64_t number = 1, offset = 0; /* of the message that begins in `bytes` */
+    int is_valid = 1;
     capn_report report;
     capn_status status;
     for (;;) {
         status = capn_first(bytes, have, &limits, &report);
         if (status == CAPN_FRAME_EMPTY || status == CAPN_FRAME_CUT) {
-            size_t need = report.length;
+            const size_t need = report.length;
             if (need > room) {
                 room = need > 2 * room ? need : 2 * room;
                 uint8_t *more = realloc(bytes, room);
@@ -25,22 +35,33 @@ int main(void) {
                 }
                 bytes = more;
             }
-            ssize_t came = read(STDIN_FILENO, bytes + have, need - have);
-            if (came == 0) break; /* the end, between two messages if nothing is held */
+            const ssize_t came = read(STDIN_FILENO, bytes + have, need - have);
+            if (came == 0) break; /* the end of the stream */
             if (came > 0) have += (size_t)came;
             if (came > 0 || errno == EINTR) continue;
-            perror("stream"); /* reading failed: what came so far is no whole stream */
+            perror("stream"); /* a read error is not the end of the stream */
             free(bytes);
             return 2;
         }
-        if (status == CAPN_OK) status = capn_hash(CAPN_STREAM, bytes, have, &limits, digest, &report);
-        if (status != CAPN_OK) break;
-        for (int i = 0; i < 32; i++) printf(i < 31 ? "%02x" : "%02x\n", digest[i]);
+        if (status != CAPN_OK) break; /* the segment table is wrong: nothing says where the next message begins */
+        status = capn_hash(CAPN_STREAM, bytes, have, &limits, digest, &report);
+        if (status == CAPN_MEMORY) break;
+        if (status == CAPN_OK) {
+            for (int i = 0; i < 32; i++) printf("%02x", digest[i]);
+            printf("\n");
+        } else {
+            print_error(number, offset, status, &report);
+            is_valid = 0;
+        }
+        number++;
+        offset += have;
         have = 0;
     }
     free(bytes);
-    /* A stream ends between two messages, or it is cut. */
-    if (status == CAPN_FRAME_EMPTY) return 0;
-    fprintf(stderr, "stream: %s\n", capn_status_text(status));
-    return 1;
+    /* At the end of the stream there is no message, or a truncated one. */
+    if (status != CAPN_FRAME_EMPTY) {
+        print_error(number, offset, status, &report);
+        is_valid = 0;
+    }
+    return is_valid ? 0 : 1;
 }

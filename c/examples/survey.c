@@ -1,28 +1,31 @@
-/* survey FILE: what a message comes to, and with which limits it would just be accepted. */
+/* survey FILE: prints a summary of a message, with the limits that would just accept it.
+ * It exits with 1 if the message is invalid, 2 on wrong usage, and 3 if the file cannot be read. */
 #include "capn.h"
 #include <stdio.h>
 
 int main(int count, char **words) {
-    static uint8_t bytes[(1 << 20) + 1]; /* messages are whole words, so a file that fills it is refused */
+    static uint8_t bytes[(1 << 20) + 1]; /* one byte more than a message may have here: a longer one is rejected */
     const capn_limits limits = CAPN_USUAL_LIMITS;
     if (count != 2) return 2;
     FILE *file = fopen(words[1], "rb");
     if (!file) return 3;
-    size_t size = fread(bytes, 1, sizeof bytes, file);
+    const size_t size = fread(bytes, 1, sizeof bytes, file);
+    const int is_read = !ferror(file); /* a read error is not the end of the file */
     fclose(file);
+    if (!is_read) return 3;
 
     capn_figures figures;
     capn_report report;
-    capn_status status = capn_survey(CAPN_STREAM, bytes, size, &limits, &figures, &report);
+    const capn_status status = capn_survey(CAPN_STREAM, bytes, size, &limits, &figures, &report);
     if (status != CAPN_OK) {
         char text[128];
         capn_refusal_text(status, &report, text, sizeof text);
-        fprintf(stderr, "survey: %s\n", text);
+        fprintf(stderr, "rejected: %s\n", text);
         return 1;
     }
-    printf("%u words in %u segments\n", figures.words, figures.segments);
-    printf("pays %u in %u visits, %u deep\n", figures.paid, figures.visits, figures.depth);
-    if (figures.has_capability) printf("its first capability is %u\n", figures.capability);
+    printf("%u words, %u segments\n", figures.words, figures.segments);
+    printf("budget %u, depth %u, %u pointers followed\n", figures.paid, figures.depth, figures.visits);
+    if (figures.has_capability) printf("the first capability is %u\n", figures.capability);
     else printf(figures.canonical ? "canonical\n" : "not canonical\n");
     return 0;
 }

@@ -1,10 +1,11 @@
-/* unpack: the words of a packed text of any length, from the standard input to the standard output, in pieces. */
+/* unpack: unpacks packed bytes of any length from standard input to standard output, in chunks.
+ * It exits with 1 if the packed bytes are truncated, and 2 if reading, writing or an allocation fails. */
 #include "capn.h"
 #include <stdio.h>
 #include <string.h>
 
 int main(void) {
-    static uint8_t in[1 << 16], out[1 << 16]; /* no group has more than 2,050 bytes, or 2,048 bytes of words */
+    static uint8_t in[1 << 16], out[1 << 16]; /* a group has at most 2,050 bytes, and 2,048 bytes of words */
     size_t have = 0, came;
     capn_report report;
     do {
@@ -13,15 +14,27 @@ int main(void) {
         capn_status status;
         do {
             status = capn_unpack_some(in, have, out, sizeof out, &report);
-            if (status == CAPN_MEMORY || fwrite(out, 1, report.length, stdout) != report.length) {
-                fprintf(stderr, "unpack: %s\n", status ? capn_status_text(status) : "nothing is written");
-                return 1;
+            if (status == CAPN_MEMORY) {
+                fprintf(stderr, "unpack: %s\n", capn_status_text(status));
+                return 2;
+            }
+            if (fwrite(out, 1, report.length, stdout) != report.length) {
+                perror("standard output");
+                return 2;
             }
             have -= report.at;
             memmove(in, in + report.at, have);
         } while (status == CAPN_PACKED_TOO_LONG);
     } while (came > 0);
-    if (have == 0 && !ferror(stdin)) return 0;
+    if (ferror(stdin)) { /* a read error is not the end of the input */
+        perror("standard input");
+        return 2;
+    }
+    if (fflush(stdout)) {
+        perror("standard output");
+        return 2;
+    }
+    if (have == 0) return 0;
     fprintf(stderr, "unpack: %s\n", capn_status_text(CAPN_PACKED_CUT));
     return 1;
 }

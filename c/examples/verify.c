@@ -1,31 +1,33 @@
-/* verify FILE DIGEST: succeeds if a file is exactly one message whose canonical bytes have this SHA-256. It checks no
- * signature: a verifier first finds good the one over a statement of protocol, type and digest, and then asks this. */
+/* verify FILE DIGEST: exits with 0 if a file is exactly one message whose canonical bytes have this SHA-256, with 1 if
+ * it is not, with 2 on wrong usage, and with 3 if the file cannot be read. It verifies no signature: first verify that
+ * of a statement with the protocol, the type and the digest. */
 #include "capn.h"
 #include <stdio.h>
 #include <string.h>
 
 int main(int count, char **words) {
-    static uint8_t bytes[1 << 20]; /* what this protocol allows, and no more */
+    static uint8_t bytes[(1 << 20) + 1]; /* one byte more than a message may have in this protocol */
     if (count != 3) return 2;
     FILE *file = fopen(words[1], "rb");
     if (!file) return 3;
-    size_t size = fread(bytes, 1, sizeof bytes, file);
-    int more = getc(file) != EOF;
+    const size_t size = fread(bytes, 1, sizeof bytes, file);
+    const int is_read = !ferror(file); /* a read error is not the end of the file */
     fclose(file);
-    if (more) return 1;
+    if (!is_read) return 3;
+    if (size == sizeof bytes) return 1;
 
-    /* Limits of the protocol's own: a message from a stranger costs no more than this. */
+    /* The limits of the protocol: an untrusted message costs no more than this. */
     capn_limits limits = CAPN_USUAL_LIMITS;
-    limits.message_words = sizeof bytes / 8;
+    limits.message_words = 1 << 17;
     limits.budget = 1 << 18;
     limits.depth = 32;
     uint8_t digest[32];
     capn_report report;
-    capn_status status = capn_hash(CAPN_STREAM, bytes, size, &limits, digest, &report);
-    if (status != CAPN_OK) { /* trailing bytes among them: two messages are not one */
+    const capn_status status = capn_hash(CAPN_STREAM, bytes, size, &limits, digest, &report);
+    if (status != CAPN_OK) { /* bytes after the message are an error too: two messages are not one */
         char text[128];
         capn_refusal_text(status, &report, text, sizeof text);
-        fprintf(stderr, "refused: %s\n", text);
+        fprintf(stderr, "rejected: %s\n", text);
         return 1;
     }
     char digits[65];

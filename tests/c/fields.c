@@ -203,6 +203,69 @@ static uint64_t of_words(uint16_t words, uint64_t stored) {
     return capn_field(&record, 0, 64, 7);
 }
 
+/* The words of a message of one segment, after its table. */
+static size_t message(uint8_t *to, const uint64_t *words, size_t count) {
+    memset(to, 0, 8);
+    to[4] = (uint8_t)count;
+    for (size_t i = 0; i < 8 * count; i++) to[8 + i] = (uint8_t)(words[i / 8] >> 8 * (i % 8));
+    return 8 + 8 * count;
+}
+
+/* The list in the only pointer of the root: two structs, the same value with and without words of zeros. A schema from
+ * before the list was upgraded has numbers or pointers there. */
+static void two_of_zeros(const uint64_t *words, size_t count) {
+    uint8_t data[64];
+    capn_entry all[8];
+    capn_record root, row;
+    capn_items items;
+    const char *text;
+    size_t length;
+    const size_t size = message(data, words, count);
+    want("a list of zeros", capn_index(CAPN_STREAM, data, size, NULL, all, 8, NULL), CAPN_OK);
+    want("its root", capn_struct(data, &all[0], &root), 1);
+    for (uint32_t kind = CAPN_KIND_BYTES; kind <= CAPN_KIND_U64; kind++) {
+        want("structs as numbers", capn_list(data, capn_slot(&root, 0), kind, &items), 1);
+        want("their count", items.count, 2);
+        for (uint32_t i = 0; i < items.count; i++) want("a zero", (int64_t)capn_number(&items, i), 0);
+    }
+    want("structs as pointers", capn_list(data, capn_slot(&root, 0), CAPN_KIND_POINTERS, &items), 1);
+    int rows = 0;
+    for (; capn_next(&items, &row); rows++) {
+        want("a null", capn_is_absent(capn_slot(&row, 0)), 1);
+        want("no text", capn_text(data, capn_slot(&row, 0), &text, &length) && !text, 1);
+    }
+    want("two nulls", rows, 2);
+    want("structs as bits", capn_list(data, capn_slot(&root, 0), CAPN_KIND_BITS, &items), 0);
+}
+
+/* Equal values read alike: structs that are too short for a number or a pointer have zero or null there. */
+static void by_another_schema(void) {
+    static const uint64_t a_word[] = {1ull << 48, 0x1700000001, 0x100000008, 0, 0};
+    static const uint64_t a_pointer[] = {1ull << 48, 0x1700000001, 0x1000000000008, 0, 0};
+    static const uint64_t nothing[] = {1ull << 48, 0x700000001, 8};
+    uint8_t one[64], other[64];
+    const size_t size = message(other, nothing, 3);
+    two_of_zeros(a_word, 5);
+    two_of_zeros(a_pointer, 5);
+    two_of_zeros(nothing, 3);
+    want("the same", capn_same(CAPN_STREAM, one, message(one, a_word, 5), other, size, NULL, NULL, NULL), CAPN_OK);
+    want("the same", capn_same(CAPN_STREAM, one, message(one, a_pointer, 5), other, size, NULL, NULL, NULL), CAPN_OK);
+
+    /* A list of bytes, read as structs: a field that is wider than an element has its default. */
+    static const uint64_t bytes_of_older[] = {1ull << 48, 1 | (2 | 1 << 3) * (1ull << 32), 5};
+    capn_entry all[2];
+    capn_record root, row;
+    capn_items items;
+    want("bytes", capn_index(CAPN_STREAM, one, message(one, bytes_of_older, 3), NULL, all, 2, NULL), CAPN_OK);
+    want("a root", capn_struct(one, &all[0], &root), 1);
+    want("bytes as structs", capn_list(one, capn_slot(&root, 0), CAPN_KIND_ROWS, &items), 1);
+    want("a struct", capn_next(&items, &row), 1);
+    want("a byte", (int64_t)capn_field(&row, 0, 8, 7), 5 ^ 7);
+    want("a wider field", (int64_t)capn_field(&row, 0, 16, 7), 7);
+    want("a later field", (int64_t)capn_field(&row, 8, 8, 7), 7);
+    want("no more", capn_next(&items, &row), 0);
+}
+
 static void by_hand(void) {
     want("what is stored for 5", (int64_t)of_words(1, 5 ^ 7), 5);
     want("what is stored for 7", (int64_t)of_words(1, 0), 7);
@@ -261,8 +324,10 @@ static void by_hand(void) {
 
     /* Which kinds stand for which: a list of each in place of each, of two elements. */
     static const char *const taken[] = { /* wanted void bits bytes u16 u32 u64 pointers rows, found the same */
-        "1.......", ".1......", "..1.....", "...1....", "....1...", ".....1..", "......1.", "1.111111"};
-    static const uint8_t zeros[128];
+        "1......1", ".1......", "..1....1", "...1...1", "....1..1", ".....1.1", "......11", "1.111111"};
+    static const int64_t full[] = {0, 1, 0xff, 0xffff, 0xffffffff, -1}; /* numbers whose bits are all 1, from void on */
+    uint8_t ones[128];
+    memset(ones, 0xff, sizeof ones);
     for (uint32_t wanted = CAPN_KIND_VOID; wanted <= CAPN_KIND_ROWS; wanted++)
         for (uint32_t found = CAPN_KIND_NULL; found <= CAPN_KIND_CAPABILITY; found++)
             for (uint16_t words = 0; words < 3; words++)
@@ -275,14 +340,19 @@ static void by_hand(void) {
                     int is = found == CAPN_KIND_NULL;
                     if (found >= CAPN_KIND_VOID && found <= CAPN_KIND_ROWS)
                         is = taken[wanted - CAPN_KIND_VOID][found - CAPN_KIND_VOID] == '1';
-                    if (found == CAPN_KIND_ROWS && wanted == CAPN_KIND_VOID) is = 1;
-                    if (found == CAPN_KIND_ROWS && wanted == CAPN_KIND_POINTERS) is = slots > 0;
-                    if (found == CAPN_KIND_ROWS && wanted >= CAPN_KIND_BYTES && wanted <= CAPN_KIND_U64) is = words > 0;
-                    want("a list", capn_list(zeros, few, wanted, &items), is);
+                    want("a list", capn_list(ones, few, wanted, &items), is);
                     want("its elements", items.count, is && found ? 2 : 0);
+                    if (items.count && wanted < CAPN_KIND_POINTERS) {
+                        const int is_stored = found != CAPN_KIND_ROWS || words;
+                        want("a number", (int64_t)capn_number(&items, 1),
+                             is_stored ? full[wanted - CAPN_KIND_VOID] : 0);
+                    }
                     capn_record row;
                     int rows = 0;
-                    for (; capn_next(&items, &row); rows++) want("a slot", capn_slot(&row, row.slots) == NULL, 1);
+                    for (; capn_next(&items, &row); rows++) {
+                        want("a slot", capn_slot(&row, row.slots) == NULL, 1);
+                        want("a pointer", capn_is_absent(capn_slot(&row, 0)), 1);
+                    }
                     want("its rows", rows, is && found && found != CAPN_KIND_BITS ? 2 : 0);
                 }
 }
@@ -290,6 +360,7 @@ static void by_hand(void) {
 int main(int count, char **words) {
     if (count == 2) return show_stream(words[1]);
     by_hand();
+    by_another_schema();
     printf("fields: %d failed\n", failed);
     return failed != 0;
 }

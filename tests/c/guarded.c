@@ -1,7 +1,8 @@
 /* Many calls, over all calls of capn.h, with valid and hostile inputs and buffers of each size. What a call is given
  * lies beside pages that can't be touched, before it or after it; what it only reads can't be written. By a fixed seed,
  * so that each run makes the same calls. It takes their number, and on standard input lines that end with bytes in
- * hexadecimal, which are inputs too. */
+ * hexadecimal, which are inputs too. The line that it prints has a sum of all that the calls returned and wrote: two
+ * builds of the library give the same one. */
 #define TEST "guarded"
 #include "wanted.h"
 #include <signal.h>
@@ -161,10 +162,28 @@ static void store(char *line) {
 
 static uint8_t *of_input, *of_limits, *of_out, *of_report, *of_other;
 
+/* What the call at hand may write, and a sum (FNV-1a) of what all calls returned and wrote. */
+static struct { const uint8_t *bytes; size_t size; } written[4];
+static uint32_t written_count;
+static uint64_t sum = 0xcbf29ce484222325;
+
+static void add(const uint8_t *bytes, size_t size) {
+    for (size_t i = 0; i < size; i++) sum = (sum ^ bytes[i]) * 0x100000001b3;
+}
+
+static void add_answer(capn_status answered) {
+    uint8_t bytes[4];
+    put(bytes, answered, 4);
+    add(bytes, 4);
+    for (uint32_t i = 0; i < written_count; i++) add(written[i].bytes, written[i].size);
+}
+
 /* What a call may write is filled first; afterwards the rest has to be as it was. */
 static uint8_t *filled(uint8_t *start, size_t size) {
     uint8_t *out = part(start, size);
     if (size) memset(out, FILL, size);
+    written[written_count].bytes = out;
+    written[written_count++].size = size;
     return out;
 }
 
@@ -199,15 +218,18 @@ static size_t room_for(size_t enough) {
     }
 }
 
+/* The status of the call at hand. */
+static capn_status status;
+
 /* One call on the input. It answers what is enough for its answer, as it was reported. */
 static size_t call(uint32_t which, const uint8_t *bytes, size_t size, size_t enough) {
+    written_count = 0;
     capn_report *r = (capn_report *)filled(of_report, sizeof *r);
     capn_limits *limits = (capn_limits *)part(of_limits, sizeof *limits);
     choose(limits);
     const uint32_t form = any(20) ? any(3) : any(2) ? 3 : (uint32_t)draw();
     size_t room = room_for(enough);
     if (room > ROOM) room = ROOM;
-    capn_status status;
     uint8_t *out;
     calls++;
     switch (which) {
@@ -219,7 +241,8 @@ static size_t call(uint32_t which, const uint8_t *bytes, size_t size, size_t eno
         break;
     case 1:
         doing = "capn_is_canonical";
-        return (void)capn_is_canonical(bytes, size, limits, r), 0;
+        status = capn_is_canonical(bytes, size, limits, r);
+        return 0;
     case 2:
         doing = "capn_hash";
         out = filled(of_out, 32);
@@ -228,7 +251,8 @@ static size_t call(uint32_t which, const uint8_t *bytes, size_t size, size_t eno
         return 0;
     case 3:
         doing = "capn_check";
-        return (void)capn_check(form, bytes, size, limits, r), 0;
+        status = capn_check(form, bytes, size, limits, r);
+        return 0;
     case 4:
         doing = "capn_pack";
         out = filled(of_out, room);
@@ -297,7 +321,7 @@ static size_t call(uint32_t which, const uint8_t *bytes, size_t size, size_t eno
     case 12: {
         doing = "capn_canonical_with_scratch";
         const size_t lent = any(3) ? any(ROOM / 8) : any(3);
-        uint8_t *scratch = filled(of_other, 8 * lent);
+        uint8_t *scratch = part(of_other, 8 * lent); /* what it holds afterwards is not said */
         out = filled(of_out, room);
         status = capn_canonical_with_scratch(form, bytes, size, limits, scratch, lent, out, room, r);
         need(status != CAPN_MEMORY, "no memory is asked for");
@@ -366,13 +390,17 @@ int main(int count, char **arguments) {
         if (size) memcpy(in, bytes, size);
         need(!mprotect(of_input, ROOM, PROT_READ), "pages");
         for (int i = 0; i < CALLS; i++) enough[i] = size;
-        for (uint32_t i = 0; i < 4 * CALLS; i++) enough[i % CALLS] = call(i % CALLS, in, size, enough[i % CALLS]);
+        for (uint32_t i = 0; i < 4 * CALLS; i++) {
+            enough[i % CALLS] = call(i % CALLS, in, size, enough[i % CALLS]);
+            add_answer(status);
+        }
         doing = "capn_status_text";
         need(strlen(capn_status_text((uint32_t)draw() >> any(32))) && strlen(capn_version()), "a text");
         need(!size || !memcmp(in, bytes, size), "the input is as it was");
         calls += 2;
         inputs++;
     }
-    printf("guarded: %lu calls on %lu inputs touch no page beside what they were given\n", calls, inputs);
+    printf("guarded: %lu calls on %lu inputs touch no page beside what they were given, sum %016llx\n", calls, inputs,
+           (unsigned long long)sum);
     return 0;
 }

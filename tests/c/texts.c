@@ -40,6 +40,8 @@ int main(void) {
     is(CAPN_TRAILING, &none, "trailing bytes at 0");
     is(CAPN_FRAME_EMPTY, &none, "frame: Empty");
     is(CAPN_MEMORY, &none, "out of memory");
+    is(CAPN_MEMORY, NULL, "out of memory");
+    is(CAPN_BAD_PAD, NULL, "a landing pad is not valid");
     int number, names = 0;
     char name[64];
     for (; scanf("%d %63s", &number, name) == 2; names++) {
@@ -47,9 +49,9 @@ int main(void) {
         if (number < 8) is((capn_status)number, &none, capn_status_text((capn_status)number));
     }
     for (capn_status other = 6; other < 300; other++)
-        if (!strcmp(capn_status_text(other), "no status of this library")) {
+        if (!strcmp(capn_status_text(other), "unknown status")) {
             if (strcmp(capn_status_name(other), "Unknown")) broken("a name of no status", capn_status_name(other));
-            is(other, &none, "no status of this library");
+            is(other, &none, "unknown status");
         }
     printf("c: the texts of refusals in each room, and %d names\n", names);
     return failed != 0;

@@ -45,20 +45,20 @@ pub enum Tariff {
 #[derive(Clone, Copy, Debug, PartialEq, Eq, Hash)]
 pub struct Limits {
     // c/limits.txt: fields in rust
-    /// The most words of a message that is not bare: 1 to 2^28.
+    /// The most words of a message with a segment table: 1 to 2^28.
     pub message_words: u32,
-    /// The most words that a walk pays: 0 to 2^28.
+    /// The traversal limit, in words: 0 to 2^28.
     pub budget: u32,
-    /// The most levels of objects: 1 to 256.
+    /// The nesting limit, in levels of objects: 1 to 256.
     pub depth: u32,
-    /// How a walk counts what it pays.
+    /// The counting rule for costs.
     pub tariff: Tariff,
     // c/limits.txt ends
 }
 
 impl Limits {
     // c/limits.txt: usual in rust
-    /// The usual limits: 64 MiB of message and of budget, a depth of 64, the strict tariff.
+    /// The usual limits: 64 MiB of message, 64 MiB of reading, a depth of 64, the strict tariff.
     pub const fn usual() -> Self {
         Limits {
             message_words: 8_388_608,
