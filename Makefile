@@ -59,7 +59,7 @@ PAGE_LINES := .ci/lines .ci/docs .ci/borders .ci/cited .ci/toolchain .ci/version
 	.ci/places release/completions tests/pages/touched tests/cases release/symbols release/manual release/links \
 	tests/release/steps
 BUILT_LINES := release/recursion tests/program/statuses tests/program/full-disk tests/program/failures tests/vectors \
-	.ci/library release/installs
+	.ci/library release/installs release/glibc
 
 # The gate: every crate of the product is proved, every test and stored case is run. It fails where edits are due.
 test:
