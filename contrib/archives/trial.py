@@ -1,7 +1,8 @@
 """Tries the scripts of this folder on small archives, in the current folder, by the program that CAPN names.
 
-Of a damaged archive each message whose bytes are whole has to be kept, and no other; of an archive in parts each
-command has to write what one process writes.
+Of a damaged archive each message whose bytes are whole has to be kept, and no other. Of an archive in parts each
+command has to write what one process writes. A search has to find the messages with a text and no others, and what is
+printed as different has to be what differs.
 """
 
 from __future__ import annotations
@@ -155,12 +156,76 @@ def parallel(messages: list[bytes]) -> None:
         == ran(CAPN, "list", given=b"".join(messages)), "one process, in parts")
 
 
+def shell(name: str, *words: str) -> Ran:
+    return ran("sh", str(HERE / name), *words)
+
+
+def texted(text: str) -> bytes:
+    """A message whose root has one pointer, to a text."""
+    data = text.encode() + b"\0"
+    words = struct.unpack(f"<{-(-len(data) // 8)}Q", data.ljust(-(-len(data) // 8) * 8, b"\0"))
+    return framed([1 << 48, 1 | 2 << 32 | len(data) << 35, *words])
+
+
+def search() -> None:
+    """Looks for texts: in some messages, in none, in more than one list of numbers holds, and in what is rejected."""
+    ada, grace, without = texted("Ada"), texted('Grace "Hopper"'), canonical(5)
+    Path("archive").write_bytes(ada + without + grace + ada)
+    see(shell("search.sh", "archive", "0", "Ada") == (ada + ada, "", 0), "messages with Ada")
+    see(shell("search.sh", "archive", "0", '\\"Hop') == (grace, "", 0), "a quote, as JSON writes it")
+    see(shell("search.sh", "archive", "0", "a.a") == (b"", "", 1), "characters, and not a pattern")
+    see(shell("search.sh", "archive", "1", "Ada") == (b"", "", 1), "another path")
+    see(shell("search.sh", "archive", "0")[2] == 2, "no characters")
+    see(shell("search.sh", "missing", "0", "Ada")[2] == 2, "no archive")
+    Path("archive").write_bytes(grace + ada * 20001)
+    see(shell("search.sh", "archive", "0", "Ada") == (ada * 20001, "", 0), "more messages than one list has")
+    Path("archive").write_bytes(ada + REFUSED + ada)
+    out, errors, status = shell("search.sh", "archive", "0", "Ada")
+    see(status == 2 and "message 2 at" in errors, f"a rejected message: {status}, {errors}")
+
+
+def differences() -> None:
+    """Compares archives: of the same values, of others, with messages that only one has, and with what is rejected."""
+    five, same = framed([2 << 32, 5, 0]), framed([1 << 32, 5])
+    others = {n: framed([1 << 32, n]) for n in (6, 7, 8, 9)}
+
+    def word(sign: str, number: int) -> str:
+        return f"{sign} root\t  word {number:016x}"
+
+    def compared(what: str, one: list[bytes], two: list[bytes], *told: str) -> None:
+        Path("one").write_bytes(b"".join(one))
+        Path("two").write_bytes(b"".join(two))
+        out, errors, status = shell("differences.sh", "one", "two")
+        lines = out.decode().split("\n")
+        see((status, errors) == (int(bool(told)), ""), f"{what}: status {status}: {errors}")
+        see([it for it in lines if it in told] == list(told), f"{what}: {lines}")
+        see(sum(" word " in it for it in lines) == sum(" word " in it for it in told), f"{what}: other words: {lines}")
+
+    compared("the same values", [five, same], [same, five])
+    compared("nothing", [], [])
+    compared("one message", [same], [others[6]], "1c1", word("<", 5), word(">", 6))
+    compared("only in the first", [same, others[6], others[7]], [same, others[7]], "2d1", word("<", 6))
+    compared("only in the second", [same, others[7]], [same, others[7], others[8]], "2a3",
+             word(">", 8))
+    compared("one that is changed after one that is gone", [same, others[6], others[8], others[7]],
+             [same, others[8], others[9]], "2d1", word("<", 6), "4c3", word("<", 7), word(">", 9))
+    for what, bad in ("a rejected message", REFUSED), ("a capability", framed([1 << 48, 3])):
+        Path("one").write_bytes(same + bad)
+        Path("two").write_bytes(same)
+        see(shell("differences.sh", "one", "two")[2] == 2, what)
+        see(shell("differences.sh", "two", "one")[2] == 2, f"{what}, in the second")
+    see(shell("differences.sh", "one")[2] == 2, "one archive")
+    see(shell("differences.sh", "missing", "two")[2] == 2, "no archive")
+
+
 def main() -> int:
     source = random.Random(82)
     messages = [source.choice([canonical, with_zeros, in_two_segments])(source.randint(1, 9999)) for _ in range(300)]
     messages[150] = canonical(7)
     recover(source, messages)
     parallel(messages)
+    search()
+    differences()
     print(*(f"archives: {fault}" for fault in faults), sep="\n", end="\n" if faults else "")
     print(f"archives: {passed} passed, {len(faults)} failed")
     return 1 if faults else 0
