@@ -1,6 +1,6 @@
-/* The calls as the header has them: limits or a report that is null is replaced, and the proved call of the same name
- * is made. `make linked` names the proved ones proved_capn_*, and hides them. No proved code: where nothing is null it
- * is two comparisons and a jump; it has no state, and reads and writes nothing but what it is given. */
+/* The calls of the header. Each replaces a null `limits`, `report` or `which`, and makes the proved call of the same
+ * name. `make linked` renames the proved calls to proved_capn_*, and hides them. This code is not proved. It keeps no
+ * state, and reads and writes nothing but its arguments. If nothing is null, it is two comparisons and a jump. */
 #include "capn.h"
 
 static const capn_limits usual = CAPN_USUAL_LIMITS;
@@ -11,7 +11,7 @@ static const capn_limits usual = CAPN_USUAL_LIMITS;
 #define HIDDEN __attribute__((visibility("hidden")))
 #define SELDOM __attribute__((cold, noinline))
 
-/* A call with limits and a report: its name, its parameters, and their names. */
+/* A call with limits and a report: its name, its parameters, and the names of these. */
 #define WITH_LIMITS(name, parameters, passed) \
     HIDDEN capn_status proved_##name parameters; \
     static SELDOM capn_status name##_by_default parameters { \
@@ -89,7 +89,7 @@ WITH_LIMITS(capn_departure,
              uint32_t *way, size_t most_numbers, capn_report *report),
             (form, bytes, size, limits, departed, way, most_numbers, report))
 
-/* The same with a place for which of two messages is refused, which may be null too. */
+/* The same for two messages. `which` may be null too. */
 HIDDEN capn_status proved_capn_same(uint32_t form, const uint8_t *a, size_t size_a, const uint8_t *b, size_t size_b,
                                     const capn_limits *limits, uint32_t *which, capn_report *report);
 static SELDOM capn_status capn_same_by_default(uint32_t form, const uint8_t *a, size_t size_a, const uint8_t *b,

@@ -1,9 +1,9 @@
-/* What the library says in words: its version, each status, and a refusal with its place. No proved code: it has no
- * state, and reads and writes nothing but what it is given. */
+/* The texts of the library: its version, each status, and an error with its place. This code is not proved. It keeps no
+ * state, and reads and writes nothing but its arguments. */
 #include "capn.h"
 
 #ifndef CAPN_VERSION_TEXT
-#error "make gives CAPN_VERSION_TEXT, from the file VERSION"
+#error "make defines CAPN_VERSION_TEXT, from the file VERSION"
 #endif
 
 const char *capn_version(void) { return CAPN_VERSION_TEXT; }
@@ -86,7 +86,7 @@ const char *capn_status_name(capn_status status) {
     }
 }
 
-/* A text that is written as far as there is room, with its whole length. */
+/* A text of which as much is written as fits, and its whole length. */
 struct text {
     char *out;
     size_t room, length;

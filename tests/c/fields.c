@@ -2,7 +2,20 @@
  *
  *     fields             tests on entries that are written by hand
  *     fields old | new   shows each message of a stream of fields.capnp as fields.c++ does, read by one of its types
- *     fields any         reads each pointer of each message of a stream as anything, and counts what it reads */
+ *     fields any         reads each pointer of each message of a stream as anything, and counts what it reads
+ *     fields lines       the same, with a line for each pointer, in preorder, of what is read there
+ *
+ * A line has ten parts, with a space between: the struct; the text; the data; the lists of numbers of 1, 8, 16, 32 and
+ * 64 bits; the list of pointers; the list of structs. A part is `-` where the pointer refers to something else. Else it
+ * is a sum (FNV-1a over numbers of 64 bits, in hexadecimal) of:
+ *   - a struct: `fields`, below, of each width
+ *   - a text and a data: their length, and their bytes
+ *   - a list of numbers: its length, and its numbers, at most a thousand
+ *   - a list of pointers: its length, and of each, at most a thousand, the number of its kind
+ *   - a list of structs: its length, and of each, at most a thousand, what a struct has
+ * What a struct has: for each width of 1, 8, 16, 32 and 64 bits, the fields at the multiples of it below 256, each with
+ * the default 7, of which a field of one bit has the lowest bit; and of its first four pointers the numbers of their
+ * kinds. A message that is refused has the line `refused`. */
 #include "capn_fields.h"
 #include <inttypes.h>
 #include <stdio.h>
@@ -158,6 +171,75 @@ static int read_any(const capn_entry *entry) {
     return read;
 }
 
+/* ---- lines */
+
+static uint64_t sum;
+static void begin(void) { sum = UINT64_C(0xcbf29ce484222325); }
+static void add(uint64_t number) { sum = (sum ^ number) * UINT64_C(0x100000001b3); }
+static void end(int is_read) {
+    if (is_read) printf("%016" PRIx64, sum);
+    else printf("-");
+}
+
+static void add_kind(const capn_entry *entry) { add(entry ? entry->kind : CAPN_KIND_NULL); }
+
+static void add_record(const capn_record *record) {
+    static const uint32_t widths[] = {1, 8, 16, 32, 64};
+    for (int i = 0; i < 5; i++)
+        for (uint32_t at = 0; at < 256; at += widths[i]) add(capn_field(record, at, widths[i], 7));
+    for (uint32_t k = 0; k < 4; k++) add_kind(capn_slot(record, k));
+}
+
+static void add_bytes(const void *data, size_t length) {
+    add(length);
+    for (size_t i = 0; i < length; i++) add(((const uint8_t *)data)[i]);
+}
+
+static void show_line(const capn_entry *entry) {
+    static const uint32_t numbers[] = {CAPN_KIND_BITS, CAPN_KIND_BYTES, CAPN_KIND_U16, CAPN_KIND_U32, CAPN_KIND_U64};
+    enum { MOST = 1000 };
+    capn_record record;
+    capn_items items;
+    const char *text;
+    const uint8_t *data;
+    size_t length;
+    begin();
+    int is_read = capn_struct(bytes, entry, &record);
+    add_record(&record);
+    end(is_read);
+    printf(" ");
+    begin();
+    is_read = capn_text(bytes, entry, &text, &length);
+    add_bytes(text, length);
+    end(is_read);
+    printf(" ");
+    begin();
+    is_read = capn_data(bytes, entry, &data, &length);
+    add_bytes(data, length);
+    end(is_read);
+    for (int i = 0; i < 5; i++) {
+        printf(" ");
+        begin();
+        is_read = capn_list(bytes, entry, numbers[i], &items);
+        add(items.count);
+        for (uint32_t k = 0; k < items.count && k < MOST; k++) add(capn_number(&items, k));
+        end(is_read);
+    }
+    printf(" ");
+    begin();
+    is_read = capn_list(bytes, entry, CAPN_KIND_POINTERS, &items);
+    add(items.count);
+    for (int k = 0; k < MOST && capn_next(&items, &record); k++) add_kind(capn_slot(&record, 0));
+    end(is_read);
+    printf(" ");
+    begin();
+    is_read = capn_list(bytes, entry, CAPN_KIND_ROWS, &items);
+    add(items.count);
+    for (int k = 0; k < MOST && capn_next(&items, &record); k++) add_record(&record);
+    end(is_read);
+    printf("\n");
+}
+
 /* Each message of a stream, in memory of exactly its length. */
 static int show_stream(const char *as) {
     uint64_t messages = 0, pointers = 0, read = 0;
@@ -178,13 +260,16 @@ static int show_stream(const char *as) {
             const uint32_t count = report.visits;
             capn_entry *entries = malloc(count * sizeof *entries);
             if (capn_index(CAPN_STREAM, message, size, &limits, entries, count, &report) != CAPN_OK) return 1;
-            if (strcmp(as, "any")) show_message(entries, !strcmp(as, "new"));
-            else
+            if (!strcmp(as, "lines"))
+                for (uint32_t i = 0; i < count; i++) show_line(&entries[i]);
+            else if (!strcmp(as, "any"))
                 for (uint32_t i = 0; i < count; i++) read += (uint64_t)read_any(&entries[i]);
+            else show_message(entries, !strcmp(as, "new"));
             messages++;
             pointers += count;
             free(entries);
-        } else if (strcmp(as, "any")) return 1;
+        } else if (!strcmp(as, "lines")) printf("refused\n");
+        else if (strcmp(as, "any")) return 1;
         free(message);
     }
     free(all);

@@ -1,6 +1,6 @@
-/* Any bytes through every call, in each form: the calls agree with one another, and read nothing beside the bytes. As a
- * program it takes the bytes that end each line of standard input, in hexadecimal, and copies of them with some bytes
- * changed, by a fixed seed. A fuzzer calls LLVMFuzzerTestOneInput:
+/* Passes any bytes to every call, in each form. The calls must agree with one another, and read nothing outside of the
+ * bytes. The program takes the bytes at the end of each line of standard input, in hexadecimal, and copies of them with
+ * some bytes changed, by a fixed seed. A fuzzer calls LLVMFuzzerTestOneInput:
  * clang -DFUZZER -fsanitize=fuzzer,address -I c tests/c/fuzz.c build/libcapn.a */
 #include "usual.h"
 #include <stdio.h>
@@ -17,7 +17,7 @@ static void need(int holds, const char *what, const uint8_t *bytes, size_t size)
     abort();
 }
 
-/* The canonical bytes of what check accepts: canonical, hash and is_canonical agree on them, and check on the price. */
+/* For a message that check accepts: canonical, hash and is_canonical agree on its canonical bytes, and on its cost. */
 static void accepted(uint32_t form, const uint8_t *bytes, size_t size, const capn_report *checked, size_t enough) {
     uint8_t *out = malloc(enough), digest[2][32];
     capn_report report;
@@ -43,7 +43,7 @@ static void accepted(uint32_t form, const uint8_t *bytes, size_t size, const cap
     free(again);
 }
 
-/* How many bytes an entry says that its content has. */
+/* How many bytes of content an entry describes. */
 static uint64_t content(const capn_entry *e) {
     const uint64_t object = 8 * ((uint64_t)e->words + e->slots);
     switch (e->kind) {
@@ -58,8 +58,8 @@ static uint64_t content(const capn_entry *e) {
     }
 }
 
-/* The entry at i, and all below it: it lies within the bytes, its slots have entries one after the other, a null slot
- * that of null, and its span ends with the last. */
+/* Tests the entry at i and all below it. The content lies within the bytes. The pointers of the object have entries one
+ * after the other, and the span ends with the last of them. The entry of a null pointer is null. */
 static void entry(const capn_entry *all, size_t count, size_t i, const uint8_t *bytes, size_t size) {
     const capn_entry *e = &all[i];
     need(e->span >= 1 && e->span <= count - i, "a span", bytes, size);
@@ -82,7 +82,7 @@ static void entry(const capn_entry *all, size_t count, size_t i, const uint8_t *
     need(next == i + e->span, "the end of a span", bytes, size);
 }
 
-/* What survey and index report must agree with what check reported, of a form that is not packed. */
+/* Survey and index must report what check reported, unless the form is packed. */
 static void indexed(uint32_t form, const uint8_t *bytes, size_t size, capn_status check, const capn_report *checked) {
     capn_figures figures;
     capn_report report;
@@ -114,7 +114,7 @@ static void indexed(uint32_t form, const uint8_t *bytes, size_t size, capn_statu
     free(all);
 }
 
-/* What the calls with ways report must agree with what check reported. */
+/* The calls with paths must report what check reported. */
 static void led(uint32_t form, const uint8_t *bytes, size_t size, capn_status check, const capn_report *checked) {
     static uint32_t way[2 * 256];
     capn_departed departed;
@@ -159,7 +159,7 @@ static void message(uint32_t form, const uint8_t *bytes, size_t size) {
     need(!memcmp(&report, &hashed, sizeof report), "the reports of a refusal", bytes, size);
 }
 
-/* Any bytes as a packed text: what it unpacks to is packed, and unpacked again. */
+/* Takes any bytes as packed ones: what they unpack to is packed, and unpacked again. */
 static void packing(const uint8_t *bytes, size_t size) {
     static uint8_t words[1 << 16], again[1 << 16], text[10 * (1 << 13)];
     capn_report report, other;
@@ -170,7 +170,7 @@ static void packing(const uint8_t *bytes, size_t size) {
 }
 
 int LLVMFuzzerTestOneInput(const uint8_t *data, size_t size) {
-    uint8_t *bytes = malloc(size ? size : 1); /* exactly as long, so that a sanitizer sees any byte beside them */
+    uint8_t *bytes = malloc(size ? size : 1); /* exactly as long, so that a sanitizer sees a read past them */
     if (size) memcpy(bytes, data, size);
     limits = limits_of(1u << 16, 1u << 16, 64, CAPN_STRICT);
     for (uint32_t form = 0; form < 3; form++) message(form, bytes, size);
@@ -193,7 +193,7 @@ static uint32_t any(uint32_t below) {
     return (uint32_t)(seed >> 32) % below;
 }
 
-/* One to four bytes changed, and now and then the end cut off. */
+/* Changes one to four bytes, and sometimes cuts the end off. */
 static size_t change(uint8_t *bytes, size_t size) {
     const uint8_t special[6] = {0, 1, 2, 7, 0x80, 0xff};
     for (uint32_t times = 1 + any(4); times && size; times--) {

@@ -1,8 +1,8 @@
-/* Many calls, over all calls of capn.h, with valid and hostile inputs and buffers of each size. What a call is given
- * lies beside pages that can't be touched, before it or after it; what it only reads can't be written. By a fixed seed,
- * so that each run makes the same calls. It takes their number, and on standard input lines that end with bytes in
- * hexadecimal, which are inputs too. The line that it prints has a sum of all that the calls returned and wrote: two
- * builds of the library give the same one. */
+/* Makes many calls of all functions of capn.h, with valid and hostile inputs and with buffers of each size. The memory
+ * that is passed to a call lies before or after a page that can't be accessed. Input can't be written. The seed is
+ * fixed, so each run makes the same calls. The argument is their number. Lines of standard input end with bytes in
+ * hexadecimal, which are inputs too. The line that is printed has a sum of all that the calls returned and wrote: two
+ * builds of the library give the same sum. */
 #define TEST "guarded"
 #include "wanted.h"
 #include <signal.h>
@@ -38,7 +38,7 @@ static uint64_t draw(void) {
 }
 static uint32_t any(uint32_t below) { return (uint32_t)(draw() >> 32) % below; }
 
-/* `size` bytes of such pages: their last, their first, or for no bytes now and then null. */
+/* The last or the first `size` bytes of such pages. For a size of 0 it is sometimes null. */
 static uint8_t *part(uint8_t *start, size_t size) {
     if (!size && !any(3)) return NULL;
     return any(3) ? at_end(start, size) : start;
@@ -66,8 +66,8 @@ static void numbers(uint32_t s, uint32_t w, uint32_t count) {
     for (uint32_t i = 0; i < count; i++) words[s][w + i] = any(3) ? draw() >> any(64) : 0;
 }
 
-/* What is at word w of a segment: null, a capability, or a pointer to an object after all others of a segment, near
- * or by a landing pad of one word or of two. */
+/* Writes word w of a segment: null, a capability, or a pointer to a new object at the end of a segment. The pointer
+ * is a near one, or a far one with a landing pad of one word or of two. */
 static void slot(uint32_t s, uint32_t w, uint32_t depth) {
     const uint32_t choice = any(8), a = any(4), b = depth ? any(4) : 0, rows = any(4), width = any(8);
     if (!choice) return;
@@ -111,7 +111,7 @@ static void put(uint8_t *out, uint64_t number, uint32_t bytes) {
     for (uint32_t i = 0; i < bytes; i++) out[i] = (uint8_t)(number >> 8 * i);
 }
 
-/* A message, in a stream or bare. */
+/* Writes a message, with or without a segment table. */
 static size_t message(uint8_t *out, int bare) {
     segments = bare ? 1 : 1 + any(SEGMENTS);
     memset(words, 0, sizeof words);
@@ -129,7 +129,7 @@ static size_t message(uint8_t *out, int bare) {
     return size;
 }
 
-/* One to four bytes are changed, and now and then the end is cut off or goes on. */
+/* Changes one to four bytes, and sometimes cuts the end off or appends bytes. */
 static size_t change(uint8_t *bytes, size_t size) {
     const uint8_t special[6] = {0, 1, 2, 7, 0x80, 0xff};
     for (uint32_t times = 1 + any(4); times && size; times--) {
@@ -178,7 +178,7 @@ static void add_answer(capn_status answered) {
     for (uint32_t i = 0; i < written_count; i++) add(written[i].bytes, written[i].size);
 }
 
-/* What a call may write is filled first; afterwards the rest has to be as it was. */
+/* Fills what a call may write. What it does not write must be unchanged afterwards. */
 static uint8_t *filled(uint8_t *start, size_t size) {
     uint8_t *out = part(start, size);
     if (size) memset(out, FILL, size);
@@ -191,7 +191,7 @@ static void kept(const uint8_t *out, size_t from, size_t size) {
     for (size_t i = from; i < size; i++) need(out[i] == FILL, "the rest of the buffer is as it was");
 }
 
-/* Usual limits, low ones, or any numbers. */
+/* Default limits, low ones, or any numbers. */
 static void choose(capn_limits *l) {
     *l = usual;
     const uint32_t choice = any(8);
@@ -221,7 +221,7 @@ static size_t room_for(size_t enough) {
 /* The status of the call at hand. */
 static capn_status status;
 
-/* One call on the input. It answers what is enough for its answer, as it was reported. */
+/* Makes one call on the input. Returns the length that the call reported as enough. */
 static size_t call(uint32_t which, const uint8_t *bytes, size_t size, size_t enough) {
     written_count = 0;
     capn_report *r = (capn_report *)filled(of_report, sizeof *r);
@@ -321,7 +321,7 @@ static size_t call(uint32_t which, const uint8_t *bytes, size_t size, size_t eno
     case 12: {
         doing = "capn_canonical_with_scratch";
         const size_t lent = any(3) ? any(ROOM / 8) : any(3);
-        uint8_t *scratch = part(of_other, 8 * lent); /* what it holds afterwards is not said */
+        uint8_t *scratch = part(of_other, 8 * lent); /* its contents afterwards have no meaning */
         out = filled(of_out, room);
         status = capn_canonical_with_scratch(form, bytes, size, limits, scratch, lent, out, room, r);
         need(status != CAPN_MEMORY, "no memory is asked for");
@@ -344,7 +344,7 @@ static size_t call(uint32_t which, const uint8_t *bytes, size_t size, size_t eno
     return status == CAPN_OK || status == CAPN_NO_ROOM ? r->length : 0;
 }
 
-/* The next input: a message, a packed one, stored bytes, any of these changed, or any bytes. */
+/* Makes the next input: a message, a packed one, stored bytes, a changed copy of one of these, or any bytes. */
 static size_t next(uint8_t *bytes) {
     static uint8_t text[LONGEST];
     const uint32_t choice = any(8);

@@ -1,4 +1,4 @@
-/* The header as a program of C or C++ takes it: each call once, on a null root and on nothing. */
+/* Compiles the header as C or C++, and makes each call once, on a null root. */
 #include "capn.h"
 
 int main(void) {
@@ -29,7 +29,7 @@ int main(void) {
     if (capn_hash_segments(&segment, 1, &limits, digest, &report) != CAPN_OK) return 14;
     if (capn_canonical_segments(&segment, 1, &limits, out, 16, &report) != CAPN_OK || report.length != 8) return 15;
     if (capn_survey_segments(&segment, 1, &limits, &figures, &report) != CAPN_OK || figures.words != 1) return 16;
-    if (CAPN_HAS_WAYS != 1) return 21;
+    if (CAPN_HAS_WAYS != 1 || CAPN_LONGEST_PATH != 2 * 256) return 21;
     if (capn_refusal_way(CAPN_BARE, null, 8, &limits, way, 2, &report) != CAPN_RANGE || report.length != 0) return 22;
     if (capn_departure(CAPN_STREAM, null, 16, &limits, &departed, way, 2, &report) != CAPN_OK) return 23;
     if (departed.kind != CAPN_DEPARTS_NOT || departed.owner != CAPN_OWNER_NONE) return 24;

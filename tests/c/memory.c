@@ -1,5 +1,6 @@
-/* Each allocation of each call refused in turn: CAPN_MEMORY, the buffer untouched, no number in the report, and nothing
- * left. Then the calls that need none: refused every one, they answer as with ample memory. */
+/* Each allocation of each call fails in turn: the call returns CAPN_MEMORY, leaves the buffer unchanged and the
+ * report 0, and frees all. Then every allocation of the calls that need none fails: they return what they do with
+ * memory. */
 #include "refusing.h"
 #include "usual.h"
 #include <stdio.h>
@@ -15,8 +16,8 @@ static void fail(const char *name, const char *why) {
     printf("memory: %s: %s\n", name, why);
 }
 
-/* Structs of two pointers, the second one null, each in the one before, `depth` deep, with a number at the end: how
- * many bytes they take. */
+/* Writes structs of two pointers, each below the first pointer of the one before, to this depth, with a number in the
+ * last one. Returns how many bytes they have. */
 static size_t chain(uint8_t *at, size_t depth) {
     memset(at, 0, 16 * depth);
     at[depth > 1 ? 6 : 4] = depth > 1 ? 2 : 1;
@@ -28,7 +29,7 @@ static size_t chain(uint8_t *at, size_t depth) {
     return 16 * depth;
 }
 
-/* The frame of one segment or of more, all but the first without words: how many bytes it takes. */
+/* Writes a message of one segment or more, all but the first without words. Returns how many bytes it has. */
 static size_t frame(uint8_t *to, uint8_t segments, const uint8_t *words, size_t size) {
     size_t table = 8 * (segments / 2 + 1);
     memset(to, 0, table);
@@ -96,7 +97,7 @@ static capn_status counted(const input *in, capn_report *report) {
     return capn_index(in->form, in->bytes, in->size, &in->limits, NULL, 0, report);
 }
 
-/* A call that was refused memory writes nothing, and every field of its report is 0. */
+/* A call whose allocation fails writes nothing, and every field of its report is 0. */
 static void refused(const char *name, const capn_report *report) {
     for (size_t i = 0; i < ROOM; i++)
         if (out[i] != 0xAA) {
@@ -107,7 +108,7 @@ static void refused(const char *name, const capn_report *report) {
     if (memcmp(report, &none, sizeof none)) fail(name, "reports");
 }
 
-/* Each allocation of a call refused in turn; there are at least `least`. */
+/* Each allocation of a call fails in turn. There are at least `least`. */
 static void each(const char *name, call *make, const input *in, int least) {
     capn_report report;
     uint32_t status = CAPN_MEMORY;
@@ -128,8 +129,8 @@ static void each(const char *name, call *make, const input *in, int least) {
     printf("memory: %s: refused %d times\n", name, count);
 }
 
-/* A call asks for `growths` growths. With every one refused it ends with CAPN_MEMORY; if it asks for none, as with
- * ample memory, with the status `wanted`. */
+/* A call allocates `growths` times. If every allocation fails it returns CAPN_MEMORY. If it makes none, it returns
+ * `wanted`, as it does with memory. */
 static void wants(const char *name, call *make, const input *in, long growths, uint32_t wanted) {
     capn_report ample, short_of;
     left = -1;
@@ -177,8 +178,8 @@ static void in_turn(void) {
     each("departure, packed", departed, &pack, 3);
 }
 
-/* At any depth bare words and a stream of at most 64 segments need no memory, whether they are as deep or deeper; a
- * stream of 65 needs it once, for where they end. */
+/* A message without a table, and one of at most 64 segments, need no memory at any depth. A message of 65 segments
+ * needs one allocation, for the ends of its segments. */
 static void at_depth(uint32_t most, size_t depth, uint32_t wanted) {
     const capn_limits limits = limits_of(1u << 20, 1u << 20, most, CAPN_STRICT);
     const uint32_t room = wanted == CAPN_OK ? CAPN_NO_ROOM : wanted;
@@ -221,8 +222,8 @@ static void at_depth(uint32_t most, size_t depth, uint32_t wanted) {
     wants("index, 65 segments", indexed, &more, wanted == CAPN_OK ? 2 : 1, wanted);
 }
 
-/* What is refused as it is read needs no memory: nothing to pack or unpack, no whole words, a first group that is cut
- * or too long, a table that is cut or announces too much, and no table of a whole frame. */
+/* An error that is found before anything is kept needs no memory: no bytes to pack or unpack, no whole words, a first
+ * group that is truncated or too long, a table that is truncated or announces too much. */
 static void unread(void) {
     const uint8_t cut[9] = {255}, head[8] = {1, 0, 0, 0, 1}, count[8] = {255, 255}, whole[16] = {1}, sizes[264] = {64};
     const input nothing = {CAPN_STREAM, NULL, 0, usual}, odd = {CAPN_BARE, cut, 9, usual};

@@ -1,7 +1,7 @@
-/* The comparison of two messages: by hand, and of pairs of the bytes that end lines of standard input, in
- * hexadecimal, in each form and under some limits; bare and in a stream, each is compared with each. What capn_same
- * answers, reports and says of which is what follows from capn_canonical of the one and of the other; it asks for
- * memory as often as capn_check of what it looks at, and each of these growths is refused in turn. */
+/* Tests the comparison of two messages: some written by hand, and pairs of the bytes at the end of lines of standard
+ * input, in hexadecimal, in each form and with some limits. Without packing, each is compared with each. The status,
+ * the report and `which` must follow from capn_canonical of the two. capn_same allocates as often as capn_check does
+ * for the messages that it looks at, and each of these allocations fails in turn. */
 #define TEST "same"
 #include "refusing.h"
 #include "wanted.h"
@@ -12,7 +12,7 @@ static unsigned long long equal, unequal, refused[2];
 struct input {
     const uint8_t *bytes;
     size_t size;
-    /* What capn_canonical answers of it, and how often capn_check asks for memory. */
+    /* What capn_canonical returns for it, and how often capn_check allocates. */
     capn_status status;
     capn_report report;
     uint8_t *canonical;
@@ -36,7 +36,7 @@ static void judge(struct input *in) {
     in->status = capn_canonical(form, in->bytes, in->size, limits, in->canonical, room, &in->report);
 }
 
-/* What capn_same answers of two inputs that were judged: the status, and with it the report and which. */
+/* What capn_same must return for two such inputs: the status, the report and `which`. */
 static capn_status expected(const struct input *a, const struct input *b, uint32_t *which, capn_report *report) {
     *which = a->status == CAPN_OK && b->status != CAPN_OK;
     const struct input *first = *which ? b : a;
@@ -70,7 +70,7 @@ static void pair(const struct input *a, const struct input *b) {
     else refused[of]++;
 }
 
-/* Each growth refused in turn: first those of the one, then those of the other. */
+/* Each allocation fails in turn: first those for the one message, then those for the other. */
 static void without_memory(const struct input *a, const struct input *b) {
     uint32_t which, of;
     capn_report report, told;
@@ -95,7 +95,7 @@ static void put(uint8_t *to, const uint64_t *words, size_t many) {
     for (size_t i = 0; i < 8 * many; i++) to[i] = (uint8_t)(words[i / 8] >> i % 8 * 8);
 }
 
-/* Two bare messages of words are compared, in both orders; so are the frames of one segment of them. */
+/* Compares two messages in both orders, without a table and with the table of one segment. */
 static void words(const char *what, const uint64_t *a, size_t many_a, const uint64_t *b, size_t many_b,
                   capn_status wanted) {
     uint8_t one[8 + 128] = {0}, other[8 + 128] = {0};
@@ -169,7 +169,7 @@ static void segments(void) {
     want("which of neither", which, 0);
 }
 
-/* What the first message decides, the second isn't looked at for; the bytes of both may be one. */
+/* If the first message is rejected, the second isn't read. Both may be the same bytes. */
 static void order(void) {
     static const uint8_t null[16] = {0, 0, 0, 0, 1};
     uint8_t holds[16];
@@ -252,7 +252,7 @@ int main(void) {
                 without_memory(&a, &b);
                 without_memory(&a, &a);
                 if (a.status != CAPN_OK) continue;
-                /* It is the same as its canonical bytes. */
+                /* A message has the same value as its canonical bytes. */
                 if (form == CAPN_BARE) {
                     const struct input own = {a.canonical, a.report.length, CAPN_OK, a.report, a.canonical, 0};
                     pair(&a, &own);

@@ -1,7 +1,7 @@
-/* Canonical bytes with the scratch of the caller: by hand, and of the bytes that end lines of standard input, in
- * hexadecimal, in each form and under some limits. With the scratch that it asks for, and with more, the call answers
- * and reports what capn_canonical does; with a word less it asks for that scratch again; and it never asks for
- * memory. */
+/* Tests canonical bytes with scratch: of messages that are written by hand, and of the bytes at the end of lines of
+ * standard input, in hexadecimal, in each form and with some limits. With the scratch that it needs, and with more, the
+ * call returns and reports what capn_canonical does. With a word less it asks for that scratch again. It never
+ * allocates. */
 #define TEST "scratch"
 #include "refusing.h"
 #include "wanted.h"
@@ -10,7 +10,7 @@ enum { LINE = 1 << 20, MORE = 3, FILL = 0x55 };
 static unsigned long long answered, refused, lent;
 static uint8_t *bytes_pages, *scratch_pages, *out_pages;
 
-/* What is given, and where scratch and room are: at the end of pages, or a byte before it. */
+/* The input, the scratch and the buffer lie at the end of pages, or a byte before it. */
 struct given {
     uint32_t form;
     const uint8_t *bytes;
@@ -19,7 +19,7 @@ struct given {
     uint8_t *out;
 };
 
-/* One call, with an allocator that refuses everything. Unless it answers, the room is as it was. */
+/* One call, while every allocation fails. Unless it returns CAPN_OK, the buffer is unchanged. */
 static capn_status call(struct given *g, capn_report *report) {
     const capn_report none = {0, 0, 0, 0, 0, 0};
     const size_t long_words = 8 * g->words + g->before, long_room = g->room + g->before;
@@ -52,7 +52,7 @@ static capn_status call(struct given *g, capn_report *report) {
     return status;
 }
 
-/* With as much room as capn_canonical needs, and with less. */
+/* With a buffer of the length that capn_canonical needs, and with a smaller one. */
 static void rooms(struct given *g, const uint8_t *canonical, const capn_report *wanted) {
     capn_report report;
     const size_t length = wanted->length;
@@ -71,7 +71,7 @@ static void rooms(struct given *g, const uint8_t *canonical, const capn_report *
     g->room = length;
 }
 
-/* The scratch that the bytes take is asked for, at most twice, and with a word less it is asked for again. */
+/* The call asks for the scratch that it needs at most twice. With a word less it asks again. */
 static void scratches(struct given *g, uint64_t most) {
     capn_report report;
     for (int times = 0; call(g, &report) == CAPN_NO_SCRATCH; times++) {
@@ -114,8 +114,8 @@ static void compare(uint32_t form, const uint8_t *bytes, size_t size, const capn
 
 /* ---- by hand */
 
-/* A frame of segments of which the first has a word of zeros, and the others none: how much scratch it takes, and how
- * much packed. */
+/* The scratch for a message whose first segment has a word of zeros and whose other segments have none, packed and not
+ * packed. */
 static void many(size_t segments) {
     const size_t table = 8 * (segments / 2 + 1), size = table + 8;
     const size_t ends = segments > 64 ? segments - 1 : 0;
@@ -136,7 +136,7 @@ static void many(size_t segments) {
     free(text);
 }
 
-/* The numbers of the order are tested before anything is read or written. */
+/* The form, the limits and the tariff are tested before anything is read or written. */
 static void order(void) {
     uint8_t *closed = mmap(NULL, PAGE, PROT_NONE, MAP_PRIVATE | MAP_ANONYMOUS, -1, 0);
     const capn_limits none = limits_of(0, 1, 1, CAPN_STRICT), third = limits_of(1, 1, 1, 2);

@@ -1,7 +1,6 @@
-/* The text of messages. With the word `answers`, each line of standard input is a stored run of `show`, and what the
- * library makes of its bytes is written as the answers are stored. With the word `agrees`, what capn_show says of the
- * bytes that end each line, in each form and style, is compared with what capn_check says, and each growth is refused
- * once. */
+/* Tests capn_show. With the word `answers`, each line of standard input is a stored run of `show`: the output of the
+ * library for its bytes is printed as the outputs are stored. With the word `agrees`, capn_show is compared with
+ * capn_check on the bytes at the end of each line, in each form and style, and each allocation fails once. */
 #define TEST "show"
 #include "refusing.h"
 #include "wanted.h"
@@ -40,7 +39,7 @@ static int is_untouched(const char *out, size_t size) {
     return 1;
 }
 
-/* The text of a message, or NULL; with no room, with all that it needs and a byte more, and with a byte less. */
+/* The text of a message, or NULL. The call is made with buffers of size 0, of the length, of a byte more and less. */
 static char *text_of(const struct input *in, size_t *length, capn_status *status, capn_report *report) {
     *status = show(in, NULL, 0, report);
     if (*status != CAPN_NO_ROOM) {
@@ -71,7 +70,7 @@ static char *text_of(const struct input *in, size_t *length, capn_status *status
     return text;
 }
 
-/* The same calls with each growth refused in turn. */
+/* The same calls, while each allocation fails in turn. */
 static void refuse_each(const struct input *in, capn_status wanted) {
     capn_status status = CAPN_MEMORY;
     const long before = live;
@@ -111,7 +110,7 @@ static void agrees(uint32_t form, const uint8_t *bytes, size_t size, const capn_
     }
 }
 
-/* The texts of the messages of a stream, or of one packed or bare message, and how the run ends. */
+/* The texts of the messages of a stream, or of one packed message or one without a table, and how the run ends. */
 static void answer(char *line) {
     char *word[16], text[128];
     int count = 0;

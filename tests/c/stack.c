@@ -1,5 +1,9 @@
-/* How much stack each call takes at most: painted stacks of threads, over chains of objects as deep as a limit, in
- * one segment, in two and in more than are read without memory. */
+/* Measures the stack that each call needs, by threads whose stacks were painted. The messages are chains of objects as
+ * deep as the limit, in one segment, in two, and in more than a call reads without an allocation. The program fails if
+ * a call needs more than a bound.
+ *
+ *     stack BASE OTHERS SHOW INDEX SAME   the bytes that every call may need, and the bytes for each level of depth:
+ *                                         for capn_show, capn_index and capn_same, and for all other calls */
 #include "usual.h"
 #include <pthread.h>
 #include <stdio.h>
@@ -10,7 +14,7 @@ enum { ROOM = 1 << 20 };
 enum { MOST_SEGMENTS = 66, CALLS = 30, KINDS = 4 };
 /* The calls that have a bound of their own, and the bytes of each level of depth. */
 static const char *const names[KINDS] = {"", "capn_show ", "capn_index ", "capn_same "};
-static const size_t levels[KINDS] = {304, 432, 560, 576};
+static size_t base, levels[KINDS];
 static uint8_t in[8 * 4096], framed[8 * 4096 + 1024], text[ROOM], scratch[ROOM];
 static _Alignas(8) uint8_t out[ROOM];
 static capn_segment all[MOST_SEGMENTS];
@@ -25,7 +29,7 @@ static void put(size_t at, uint32_t low, uint32_t high) {
     }
 }
 
-/* The way to an object that is one level too deep, or to the end of what is paid. */
+/* The path to an object that is one level too deep, or at which the traversal limit is reached. */
 static capn_status led(uint32_t form, const uint8_t *bytes, size_t count) {
     const uint32_t most = depth > 1 ? depth - 1 : 1;
     const capn_limits limits = limits_of(1u << 28, depth > 1 ? 1u << 28 : 0, most, CAPN_PLAIN);
@@ -93,7 +97,7 @@ static void put_entry(size_t at, uint32_t number) {
     for (int i = 0; i < 4; i++) framed[4 * at + i] = (uint8_t)(number >> 8 * i);
 }
 
-/* The message as segments and in a frame: after its first segment there are segments of one word. */
+/* The message in segments, and with a table. The segments after the first have one word each. */
 static void cut(void) {
     const size_t table = 8 * (segments / 2 + 1);
     memset(framed, 0, sizeof framed);
@@ -106,7 +110,10 @@ static void cut(void) {
     framed_size = table + size + 8 * (segments - 1);
 }
 
-int main(void) {
+int main(int count, char **words) {
+    if (count != 2 + KINDS) return 5;
+    base = strtoul(words[1], NULL, 10);
+    for (int of = 0; of < KINDS; of++) levels[of] = strtoul(words[2 + of], NULL, 10);
     static const uint32_t depths[] = {1, 64, 65, 256};
     size_t most[KINDS][4] = {{0}};
     for (int d = 0; d < 4; d++)
@@ -160,7 +167,7 @@ int main(void) {
     int failed = 0;
     for (int of = 0; of < KINDS; of++)
         for (int d = 0; d < 4; d++) {
-            const size_t stated = 16384 + levels[of] * depths[d];
+            const size_t stated = base + levels[of] * depths[d];
             printf("stack: %sat most %zu bytes at depth %u, of %zu that are stated\n", names[of], most[of][d],
                    depths[d], stated);
             failed |= most[of][d] > stated;

@@ -1,5 +1,5 @@
-/* Each status of capn.h, provoked, and that the calls agree on it. Writes the numbers of the statuses that came, in
- * order, for a comparison with the header. */
+/* Provokes each status of capn.h, and tests that the calls agree on it. Prints the numbers of the statuses that were
+ * returned, in order, to be compared with the header. */
 #include "refusing.h"
 #include "usual.h"
 #include <stdio.h>
@@ -15,15 +15,15 @@ static void want(const char *what, uint64_t number, uint64_t wanted) {
     fprintf(stderr, "statuses: %s: %llu, wanted %llu\n", what, (unsigned long long)number, (unsigned long long)wanted);
 }
 
-/* A status that came, and the one that is expected. */
+/* The status that was returned, and the one that is expected. */
 static void is(const char *what, capn_status status, capn_status wanted) {
     if (status < 256) came[status] = 1;
     want(what, status, wanted);
 }
 
-/* What canonical, with room, without it and with scratch, hash, same, check, survey, show and the calls with ways
- * answer of bytes, and index, which doesn't take packed ones: all but canonical, hash and same say OK of a value with a
- * capability. */
+/* Makes each call on some bytes: canonical with a buffer, with none and with scratch, hash, same, check, survey,
+ * show, the calls with paths, and index unless the bytes are packed. For a value with a capability all but
+ * canonical, hash and same return CAPN_OK. */
 static capn_report each_call(const char *what, uint32_t form, const void *bytes, size_t size, const capn_limits *limits,
                              uint32_t wanted) {
     capn_report checked, report;
@@ -48,15 +48,15 @@ static capn_report each_call(const char *what, uint32_t form, const void *bytes,
     want("which is refused", which, 0);
     is(what, capn_canonical(form, bytes, size, limits, out, 64, &report), wanted);
     is(what, capn_canonical(form, bytes, size, limits, NULL, 0, &report), wanted == CAPN_OK ? CAPN_NO_ROOM : wanted);
-    /* With scratch that is enough for these, and no memory. */
+    /* With scratch that is enough for these, and without memory. */
     uint64_t scratch[128];
     const capn_status lent = wanted == CAPN_MEMORY ? CAPN_OK : wanted;
     is(what, capn_canonical_with_scratch(form, bytes, size, limits, scratch, 128, out, 64, &report), lent);
     return wanted == CAPN_CAPABILITY ? report : checked;
 }
 
-/* Words, the least significant byte first, and what each call answers of them: read bare, after the table of one
- * segment and of two, the second without words, and each of these packed. */
+/* Makes each call on words without a table, after the table of one segment and after that of two, of which the second
+ * has no words, and on each of these packed. */
 static void walks(const char *what, const uint64_t *words, size_t count, const capn_limits *limits, uint32_t wanted,
                   uint32_t word) {
     uint8_t bytes[32], text[64];
@@ -77,7 +77,7 @@ static void walks(const char *what, const uint64_t *words, size_t count, const c
     }
 }
 
-/* The faults of a walk, and a capability. */
+/* The errors about pointers, and a capability. */
 static void walked(void) {
     const capn_limits shallow = limits_of(3, 100, 1, CAPN_STRICT), poor = limits_of(3, 1, 64, CAPN_STRICT);
     const uint64_t null = 0, capability = 3, reserved = 7, far = 2 | 9ull << 32, beyond = 2 | 9 << 3;
@@ -100,7 +100,7 @@ static void walked(void) {
     walks("a null root", &null, 1, &usual, CAPN_OK, 0);
 }
 
-/* What is refused as it is read, with its number. */
+/* The errors about the packed bytes and the segment table, with their numbers. */
 static void read_as(const char *what, uint32_t form, const void *bytes, size_t size, const capn_limits *limits,
                     uint32_t wanted, uint64_t at) {
     capn_report told = each_call(what, form, bytes, size, limits, wanted);
@@ -136,8 +136,8 @@ static void reading(void) {
     want("its offset", report.at, 2);
 }
 
-/* A packed text of more words than one message and the longest table may have; more bare words than there may be, of
- * which none is read. */
+/* Packed bytes of more words than one message and the longest table may have. More words than a message without a table
+ * may have, of which none is read. */
 static void too_long(void) {
     const capn_limits one = limits_of(1, 1, 1, CAPN_STRICT);
     uint8_t zeros[18];
@@ -153,7 +153,7 @@ static void too_long(void) {
     munmap(bytes, 8 * words);
 }
 
-/* What is wrong with a call, the buffer that has no room, and bytes that are not canonical. */
+/* The errors about arguments, a buffer that is too small, and bytes that are not canonical. */
 static void called(void) {
     const uint8_t message[24] = {0, 0, 0, 0, 2, 0, 0, 0, 0, 0, 0, 0, 1, 0, 0, 0, 0};
     const capn_limits none = limits_of(0, 1, 1, CAPN_STRICT), third = limits_of(1, 1, 1, 2);
@@ -179,9 +179,9 @@ static void called(void) {
     is("a struct with a zero word", capn_is_canonical(message + 8, 16, &usual, &report), CAPN_NOT_CANONICAL);
 }
 
-/* Without memory: a stream of 65 segments, a packed text, and what is hashed, packed and unpacked; but the canonical
- * bytes and the index of bare words and of two segments are written where they are to be, and canonical bytes are
- * hashed where they lie. */
+/* Without memory: a stream of 65 segments, packed bytes, and calls that hash, pack and unpack return CAPN_MEMORY.
+ * The canonical bytes and the index of a message in one or two segments need none, nor does the digest of canonical
+ * bytes. */
 static void without_memory(void) {
     const uint8_t many[272] = {64, 0, 0, 0, 1}, two[24] = {1, 0, 0, 0, 1}, packed[9] = {0x10, 1, 0, 0};
     const uint8_t loose[16] = {0, 0, 0, 0, 1};

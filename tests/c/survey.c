@@ -1,12 +1,12 @@
-/* The figures of messages: by hand, and against the other calls; what is refused; at any address, beside a page that
- * can't be touched. */
+/* Tests capn_survey: on messages that are written by hand, against the other calls, on invalid messages, and at any
+ * address, beside a page that can't be accessed. */
 #define TEST "survey"
 #include "wanted.h"
 
 static uint8_t *guarded;
 
-/* The figures of words, read bare, after the table of one segment, and after that of three, the others without words:
- * they are those expected, except that with three segments nothing is canonical. */
+/* Surveys words without a table, after the table of one segment, and after that of three, of which two have no
+ * words. The figures are the expected ones, except that a message of three segments is not canonical. */
 static void figures(const char *what, const uint64_t *words, uint32_t count, capn_figures wanted) {
     for (uint32_t segments = 0; segments <= 3; segments += segments == 0 ? 1 : 2) {
         size_t table = segments == 0 ? 0 : 8 * (segments / 2 + 1), size = table + 8 * count;
@@ -42,7 +42,7 @@ static void figures(const char *what, const uint64_t *words, uint32_t count, cap
             want("as check says", capn_check(form, in, size, &lower, &checked), status);
             want("its report", memcmp(&r, &checked, sizeof r) != 0, 0);
         }
-        /* The same of its packed text. */
+        /* The same, packed. */
         if (segments) {
             uint8_t text[128];
             capn_figures same = {0, 0, 0, 0, 0, 0, 0, 0};
@@ -63,7 +63,7 @@ static void figures(const char *what, const uint64_t *words, uint32_t count, cap
     }
 }
 
-/* What is refused leaves the figures as they were. */
+/* An error leaves the figures unchanged. */
 static void refused(const char *what, uint32_t form, const void *bytes, size_t size, const capn_limits *limits,
                     capn_status wanted) {
     capn_figures f, was;

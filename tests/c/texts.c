@@ -1,5 +1,5 @@
-/* The text of a refusal in each room, and the name of each status: those that standard input has, a number and a name a
- * line. `vectors.c` has the texts of all stored refusals. */
+/* Tests the text of an error with each size of buffer, and the name of each status. A line of standard input has a
+ * number and a name. `vectors.c` prints the texts of all stored errors. */
 #include "capn.h"
 #include <stdio.h>
 #include <stdlib.h>
@@ -12,13 +12,13 @@ static void broken(const char *what, const char *text) {
     fprintf(stderr, "texts: %s: %s\n", what, text);
 }
 
-/* With any room the text is cut to it and ends with a zero; nothing beyond the room is written, and the length is that
- * of the whole text. */
+/* In each buffer the text is cut to its size, and ends with a zero byte. Nothing after the buffer is written. The
+ * length is that of the whole text. */
 static void is(capn_status status, const capn_report *report, const char *wanted) {
     const size_t length = strlen(wanted);
     if (capn_refusal_text(status, report, NULL, 0) != length) broken("another length without room", wanted);
     for (size_t room = 1; room <= length + 2; room++) {
-        char *out = malloc(room); /* exactly as long, so that a sanitizer sees any byte beside it */
+        char *out = malloc(room); /* exactly as long, so that a sanitizer sees a write past it */
         memset(out, 'x', room);
         if (capn_refusal_text(status, report, out, room) != length) broken("another length", wanted);
         const size_t written = length < room ? length : room - 1;

@@ -1,5 +1,5 @@
-/* Calls at the same time: threads that start together make every call on the same input, into buffers of their own, and
- * each answer is that of one thread alone. */
+/* Tests calls at the same time. Threads that start together make every call on the same input, with buffers of their
+ * own. Each must get what one thread alone gets. */
 #include "usual.h"
 #include <pthread.h>
 #include <stdio.h>
@@ -11,11 +11,11 @@
 #endif
 enum { DEPTH = 200, WORDS = 2 * DEPTH, ROOM = 16 * WORDS, CALLS = 18 };
 static capn_limits limits;
-/* Structs of two pointers, each in the one before: as a stream of two segments, and packed. */
+/* Structs of two pointers, each below the one before, in two segments, and packed. */
 static uint8_t stream[16 + 8 * WORDS], packed[10 * (WORDS + 2)];
 static size_t packed_size;
 
-/* What the calls answer: statuses, reports, and all that they write. */
+/* What the calls return and write: statuses, reports and buffers. */
 typedef struct answers {
     capn_status status[CALLS];
     capn_report report[CALLS];
@@ -75,7 +75,7 @@ int main(void) {
     stream[5] = WORDS >> 8;
     for (size_t i = 0; i < DEPTH; i++) {
         uint8_t *slot = stream + 16 + (i ? 8 * (2 * i - 1) : 0);
-        slot[0] = i ? 4 : 0; /* over the second slot of its own struct */
+        slot[0] = i ? 4 : 0; /* over the second pointer of its own struct */
         slot[i + 1 < DEPTH ? 6 : 4] = i + 1 < DEPTH ? 2 : 1;
     }
     stream[sizeof stream - 8] = 7;

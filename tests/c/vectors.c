@@ -1,5 +1,5 @@
-/* Answers each call of standard input as the stored answers are written, by the library: canonicalise, is_canonical,
- * survey, pack, unpack, and run N hash. Bytes are hexadecimal, and - is none. */
+/* Makes the calls of standard input, and prints what they return as the answers are stored: canonicalise, is_canonical,
+ * survey, pack, unpack, and run N hash. Bytes are in hexadecimal, and `-` stands for no bytes. */
 #include "examples/each.h"
 #include <stdio.h>
 #include <stdlib.h>
@@ -7,7 +7,7 @@
 
 static uint8_t *of_digits(const char *digits, size_t *size) {
     *size = strcmp(digits, "-") ? strlen(digits) / 2 : 0;
-    uint8_t *bytes = *size ? malloc(*size) : NULL; /* exactly as long, so that a sanitizer sees any byte beside them */
+    uint8_t *bytes = *size ? malloc(*size) : NULL; /* exactly as long, so that a sanitizer sees a read past them */
     for (size_t i = 0; i < *size; i++) {
         unsigned byte;
         sscanf(digits + 2 * i, "%2x", &byte);
@@ -21,7 +21,7 @@ static void digits(const uint8_t *bytes, size_t size) {
     for (size_t i = 0; i < size; i++) printf("%02x", bytes[i]);
 }
 
-/* A refusal as capn_refusal_text has it, without the word of its form if it is one of packing. */
+/* The text of an error. For packing and unpacking it leaves out the form. */
 static void refusal(capn_status status, const capn_report *r, int of_packing) {
     char text[128];
     if (capn_refusal_text(status, r, text, sizeof text) >= sizeof text) printf("a text that is too long: ");
@@ -37,7 +37,7 @@ static void fail(const char *why) {
     printf("broken: %s", why);
 }
 
-/* A call into a buffer: with no room, with exactly the length, and with one byte less. */
+/* A call that writes to a buffer: of size 0, of exactly the length, and of one byte less. */
 typedef capn_status into(const void *call, uint8_t *out, size_t room, capn_report *report);
 
 static void with_rooms(into *make, const void *call, int is_measured, int is_priced) {
@@ -91,7 +91,7 @@ static capn_status unpacked(const void *at, uint8_t *out, size_t room, capn_repo
     return capn_unpack(call->bytes, call->size, call->most, out, room, report);
 }
 
-/* The lines of the digests of a stream, or of one bare or packed message, in hexadecimal, and how the run ends. */
+/* The digests of a stream, or of one packed message or one without a table, in hexadecimal, and how the run ends. */
 static void hashed(const struct call *call) {
     char *lines = calloc(call->size + 1, 65);
     size_t lines_length = 0, taken;

@@ -1,13 +1,13 @@
-/* The ways that are answered of messages. With the word `answers`, capn_refusal_way or capn_departure is made on the
- * bytes of each call of standard input that has limits, and what it tells is written, a line each; `?` where the bytes
- * are no one message. With the word `agrees`, both are made on the bytes that end each line, in each form and under
- * some limits, with all the room that a way needs, with more, with a number less and with none: they are compared with
- * capn_check, capn_survey and capn_canonical, and each growth is refused once. */
+/* Tests the calls that report paths. With the word `answers`, capn_refusal_way or capn_departure is made on the
+ * bytes of each call of standard input that has limits, and a line of what it reports is printed: `?` if the bytes
+ * are not one message. With the word `agrees`, both are made on the bytes at the end of each line, in each form and
+ * with some limits, with an array of exactly the length of the path, a longer one, a shorter one and none. They are
+ * compared with capn_check, capn_survey and capn_canonical, and each allocation fails once. */
 #define TEST "ways"
 #include "refusing.h"
 #include "wanted.h"
 
-enum { LINE = 1 << 20, MOST = 2 * 256, FILL = 0x55555555 };
+enum { LINE = 1 << 20, MOST = CAPN_LONGEST_PATH, FILL = 0x55555555 };
 static uint8_t *pages;
 static uint32_t way[MOST + 1];
 static unsigned long long ways, departures;
@@ -50,7 +50,7 @@ static capn_status departure(const struct input *in, capn_departed *departed, si
     return capn_departure(in->form, in->bytes, in->size, &in->limits, departed, most ? way : NULL, most, report);
 }
 
-/* From a number on the room is as it was. */
+/* From a number on, the array is unchanged. */
 static void kept(const char *what, size_t from) {
     for (size_t i = from; i <= MOST; i++)
         if (way[i] != FILL) {
@@ -59,7 +59,7 @@ static void kept(const char *what, size_t from) {
         }
 }
 
-/* A way of so many numbers is placed where it has room, and else nothing is; the call answers the same. */
+/* A path is written if it fits, and otherwise nothing is. The call returns the same. */
 static void rooms(call *make, const struct input *in, capn_status status, const capn_report *told, size_t numbers) {
     static uint32_t all[MOST];
     capn_departed first, other;
@@ -78,7 +78,7 @@ static void rooms(call *make, const struct input *in, capn_status status, const 
     }
 }
 
-/* The same call with each growth refused in turn. */
+/* The same call, while each allocation fails in turn. */
 static void refuse_each(call *make, const struct input *in, capn_status wanted) {
     capn_status status = CAPN_MEMORY;
     const capn_report none = {0, 0, 0, 0, 0, 0};
@@ -107,7 +107,7 @@ static uint64_t word_at(const uint8_t *bytes, size_t word) {
     return number;
 }
 
-/* Which kind it is, by the figures; and of the words of a message of one segment the first that is another. */
+/* The expected kind, by the figures, and for a message of one segment the first word that differs. */
 static void compare(const struct input *in, const capn_departed *d) {
     capn_figures f;
     capn_report r;
@@ -178,7 +178,7 @@ static void agrees(uint32_t form, const uint8_t *bytes, size_t size, const capn_
     refuse_each(departure, &in, status);
 }
 
-/* ---- what the calls tell, in words */
+/* ---- what the calls report, as text */
 
 static void write_way(size_t numbers) {
     if (!numbers) printf("root");
@@ -225,7 +225,7 @@ static void answer(const struct input *in) {
     }
 }
 
-/* The input of a call that has limits, or 0. */
+/* The bytes of a call that has limits, or 0. */
 static int is_call(const char *from, struct input *in) {
     char what[16], form[16];
     int at = 0;
