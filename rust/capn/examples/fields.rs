@@ -143,9 +143,9 @@ fn read_any(value: &Value, read: &mut u64, pointers: &mut u64) {
     }
     match value {
         Value::Struct(it) => (0..it.slots()).for_each(|k| read_any(&it.slot(k), read, pointers)),
-        Value::Pointers(all) => all.for_each(|it| read_any(&it, read, pointers)),
+        Value::Pointers(all) => all.clone().for_each(|it| read_any(&it, read, pointers)),
         Value::Rows(all) if all.clone().next().map_or(0, |row| row.slots()) > 0 => {
-            all.for_each(|row| {
+            all.clone().for_each(|row| {
                 (0..row.slots()).for_each(|k| read_any(&row.slot(k), read, pointers));
             })
         }
