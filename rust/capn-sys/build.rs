@@ -1,7 +1,7 @@
 //! Finds the library, and says how to link it.
 //!
-//! Its folder is `CAPN_LIB_DIR`, or else the one that pkg-config knows `capn` to be in. The variables of pkg-config mean
-//! what they mean to the crate `pkg-config`, with which a build for another machine is set up.
+//! Its folder is `CAPN_LIB_DIR`, or else the one that pkg-config knows `capn` to be in. The variables of pkg-config
+//! mean what they mean to the crate `pkg-config`, with which a build for another machine is set up.
 use std::env;
 use std::ffi::OsString;
 use std::path::{Path, PathBuf};

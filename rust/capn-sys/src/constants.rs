@@ -54,7 +54,7 @@ pub const CAPN_STYLE_JSON: capn_style = 2;
 /// A line of JSON with texts in UTF-8, as `capn show --json --text` writes it.
 pub const CAPN_STYLE_JSON_TEXT: capn_style = 3;
 
-/// What a pointer refers to: the `kind` of a [`capn_entry`].
+/// What a pointer refers to: the `kind` of a [`capn_entry`](crate::capn_entry).
 pub type capn_kind = u32;
 /// A null pointer.
 pub const CAPN_KIND_NULL: capn_kind = 0;
@@ -79,7 +79,7 @@ pub const CAPN_KIND_ROWS: capn_kind = 9;
 /// A capability, whose index is `count`.
 pub const CAPN_KIND_CAPABILITY: capn_kind = 10;
 
-/// How a message differs from its canonical form: the `kind` of a [`capn_departed`].
+/// How a message differs from its canonical form: the `kind` of a [`capn_departed`](crate::capn_departed).
 pub type capn_departure_kind = u32;
 /// It is canonical.
 pub const CAPN_DEPARTS_NOT: capn_departure_kind = 0;
@@ -92,7 +92,7 @@ pub const CAPN_DEPARTS_WORD: capn_departure_kind = 3;
 /// The canonical bytes end before the word `word`, which is `is`.
 pub const CAPN_DEPARTS_AFTER: capn_departure_kind = 4;
 
-/// What a word of canonical bytes is part of: the `owner` of a [`capn_departed`].
+/// What a word of canonical bytes is part of: the `owner` of a [`capn_departed`](crate::capn_departed).
 pub type capn_owner = u32;
 /// The kind is not [`CAPN_DEPARTS_WORD`].
 pub const CAPN_OWNER_NONE: capn_owner = 0;

@@ -30,16 +30,16 @@ fn reported(
     }
 }
 
-/// Appends to `out` what a call writes: first with room for `hint` bytes, and then, if that is too little, with room for
-/// as many as the call reports. After an error `out` has the bytes that it had.
+/// Appends to `out` what a call writes: first with room for `hint` bytes, and then, if that is too little, with room
+/// for as many as the call reports. After an error `out` has the bytes that it had.
 ///
 /// A vector without capacity gets as much as is asked for. Any other grows by a factor, so that appending many results
 /// copies each byte a bounded number of times.
 ///
 /// # Safety
 ///
-/// With `call(limits, at, room, report)` the call writes at most `room` bytes at `at`, and returns `OK` only if it wrote
-/// `report.length` of them.
+/// With `call(limits, at, room, report)` the call writes at most `room` bytes at `at`, and returns `OK` only if it
+/// wrote `report.length` of them.
 unsafe fn appended(
     out: &mut Vec<u8>,
     hint: usize,
@@ -255,8 +255,8 @@ pub(crate) fn unpack_some(packed: &[u8], out: &mut [u8]) -> Result<usize, Error>
     Ok(report.length as usize)
 }
 
-/// The first message of a stream, or why there is none. Errors are made elsewhere, so that a message takes hardly longer
-/// than the call.
+/// The first message of a stream, or why there is none. Errors are made elsewhere, so that a message takes hardly
+/// longer than the call.
 #[inline(always)]
 pub(crate) fn whole<'a>(stream: &'a [u8], limits: &Limits) -> Result<&'a [u8], Error> {
     let mut report = MaybeUninit::uninit();

@@ -120,8 +120,8 @@ impl<'m, 'i> Struct<'m, 'i> {
         T::of_bits(field::<T>(self.data, bit as usize) ^ default.to_bits())
     }
 
-    /// The object that the pointer `k` refers to; [`Value::Null`] if the struct doesn't have this pointer. It passes over
-    /// the pointers before it.
+    /// The object that the pointer `k` refers to; [`Value::Null`] if the struct doesn't have this pointer. It passes
+    /// over the pointers before it.
     pub fn slot(&self, k: u32) -> Value<'m, 'i> {
         if k >= self.slots {
             return Value::Null;

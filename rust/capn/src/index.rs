@@ -203,8 +203,8 @@ impl<'m, 'i> Value<'m, 'i> {
         }
     }
 
-    /// Returns the bytes of a Text without the zero that ends it; for a null pointer `None`. Bytes of which the last one
-    /// isn't zero are no Text.
+    /// Returns the bytes of a Text without the zero that ends it; for a null pointer `None`. Bytes of which the last
+    /// one isn't zero are no Text.
     pub fn as_text_bytes(&self) -> Result<Option<&'m [u8]>, Error> {
         match self {
             Value::Null => Ok(None),
@@ -234,8 +234,8 @@ impl<'m, 'i> Value<'m, 'i> {
     /// Returns a list of numbers, or the first field of each struct that a newer writer has in place of a number; for a
     /// null pointer an empty list.
     ///
-    /// A struct without data has zeros: canonical bytes leave out the zeros at the ends of structs. A list of numbers of
-    /// another width is an error, also of a wider one, which the reference implementation reads.
+    /// A struct without data has zeros: canonical bytes leave out the zeros at the ends of structs. A list of numbers
+    /// of another width is an error, also of a wider one, which the reference implementation reads.
     pub fn as_list<T: Number>(&self) -> Result<Numbers<'m, T>, Error> {
         let numbers = match self {
             Value::Null => Some(Numbers::none()),
@@ -265,8 +265,8 @@ impl<'m, 'i> Value<'m, 'i> {
         }))
     }
 
-    /// Returns a list of pointers, or the first pointer of each struct that a newer writer has in place of a pointer; for
-    /// a null pointer an empty list. A struct without pointers has a null pointer.
+    /// Returns a list of pointers, or the first pointer of each struct that a newer writer has in place of a pointer;
+    /// for a null pointer an empty list. A struct without pointers has a null pointer.
     pub fn as_pointers(&self) -> Result<Pointers<'m, 'i>, Error> {
         match self {
             Value::Null => Ok(Pointers(Items::none())),

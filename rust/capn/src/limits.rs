@@ -118,8 +118,8 @@ impl Limits {
         None
     }
 
-    /// How many bytes canonical bytes begin with room for: mostly they are not longer than the message, and never longer
-    /// than the traversal limit allows.
+    /// How many bytes canonical bytes begin with room for: mostly they are not longer than the message, and never
+    /// longer than the traversal limit allows.
     pub(crate) fn most_bytes(&self, size: usize) -> usize {
         size.min(8 * (self.budget as usize + 1))
     }

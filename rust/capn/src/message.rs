@@ -132,8 +132,8 @@ pub fn digest(message: &[u8], form: Form, limits: &Limits) -> Result<[u8; 32], E
     call::hash(form, message, limits)
 }
 
-/// Returns true if one message is canonical: if its only segment is its canonical bytes. A message with a capability has
-/// no canonical bytes, and is an error.
+/// Returns true if one message is canonical: if its only segment is its canonical bytes. A message with a capability
+/// has no canonical bytes, and is an error.
 ///
 /// ```
 /// use capn::{Form, Limits};

@@ -20,8 +20,8 @@ pub enum ScratchError {
 ///
 /// - A single segment without its table, and a message of at most 64 segments, need no scratch.
 /// - A message of more segments needs a word for each segment but the last, at most 4,095.
-/// - A packed message needs the words that it unpacks to, and behind them those of the unpacked message. The first error
-///   reports the unpacked words, and a second one may report that more are needed.
+/// - A packed message needs the words that it unpacks to, and behind them those of the unpacked message. The first
+///   error reports the unpacked words, and a second one may report that more are needed.
 ///
 /// ```
 /// use capn::{canonical_with_scratch, Form, Limits, ScratchError};

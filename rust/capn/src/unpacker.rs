@@ -7,9 +7,9 @@ use crate::{call, Error};
 /// Unpacks an input while it is read.
 ///
 /// Packed bytes come in groups, each of which unpacks to 1 to 256 words. It reads no group after the one that has the
-/// last byte that is asked for, and goes on after an error of its input. If the input ends within a group, the error has
-/// the kind [`UnexpectedEof`](io::ErrorKind::UnexpectedEof) and refers to an [`Error`]. It asks for few bytes at a time,
-/// as [`Reader`](crate::Reader) does.
+/// last byte that is asked for, and goes on after an error of its input. If the input ends within a group, the error
+/// has the kind [`UnexpectedEof`](io::ErrorKind::UnexpectedEof) and refers to an [`Error`]. It asks for few bytes at a
+/// time, as [`Reader`](crate::Reader) does.
 ///
 /// ```
 /// use std::io::Read;

@@ -1,7 +1,7 @@
 //! How much memory calls ask for, and how much of it is copied.
 //!
-//! The allocator counts what it is asked for on each thread. Its `realloc` is the one that `GlobalAlloc` has by default:
-//! it copies.
+//! The allocator counts what it is asked for on each thread. Its `realloc` is the one that `GlobalAlloc` has by
+//! default: it copies.
 use capn::{Form, Limits, Reader, Style};
 use std::alloc::{GlobalAlloc, Layout, System};
 use std::cell::Cell;
@@ -95,18 +95,16 @@ fn many_answers_are_appended_in_linear_time() {
     const COUNT: usize = 4000;
     let message = bytes(1000);
     let segments = [&message[8..]];
-    let append: [&dyn Fn(&mut Vec<u8>); 2] = [
-        &|out| {
-            capn::canonical_into(&message, Form::Stream, &USUAL, out).unwrap();
-        },
-        &|out| {
-            capn::segments::canonical_into(&segments, &USUAL, out).unwrap();
-        },
-    ];
-    for one in append {
+    for in_segments in [false, true] {
         let (out, counts) = counted(|| {
             let mut out = Vec::new();
-            (0..COUNT).for_each(|_| one(&mut out));
+            for _ in 0..COUNT {
+                match in_segments {
+                    true => capn::segments::canonical_into(&segments, &USUAL, &mut out),
+                    false => capn::canonical_into(&message, Form::Stream, &USUAL, &mut out),
+                }
+                .unwrap();
+            }
             out
         });
         assert_eq!(out.len(), COUNT * 1008);
@@ -183,15 +181,15 @@ fn no_room_is_asked_for_beyond_the_limits() {
 #[test]
 fn streams_ask_for_what_has_come() {
     let announced = words(&[8_000_000 << 32, 0]);
-    let (told, counts) = counted(|| Reader::new(&announced[..], &USUAL).read().is_err());
+    let (told, counts) = counted(|| Reader::new(&announced[..], USUAL).read().is_err());
     assert!(told && counts.largest <= 1 << 17, "{}", counts.largest);
     // 1 MiB of it are 2^27 messages of a null root each.
     let zeros = [0, 0xff].repeat(MIB / 2);
-    let (told, counts) = counted(|| Reader::packed(&zeros[..], &LOW).read().is_err());
+    let (told, counts) = counted(|| Reader::packed(&zeros[..], LOW).read().is_err());
     assert!(!told && counts.largest <= 1 << 17, "{}", counts.largest);
     let mut refused = capn::pack(&words(&[1 << 43])).unwrap();
     refused.extend(&zeros);
-    let (told, counts) = counted(|| Reader::packed(&refused[..], &LOW).read().is_err());
+    let (told, counts) = counted(|| Reader::packed(&refused[..], LOW).read().is_err());
     assert!(told && counts.largest <= 1 << 17, "{}", counts.largest);
 }
 

@@ -40,7 +40,7 @@ fn mixed() -> (Vec<u8>, Vec<StreamError>) {
 #[test]
 fn a_stream_in_memory_goes_on_after_a_rejected_message() {
     let (stream, wanted) = mixed();
-    let (mut messages, mut refused, mut valid) = (capn::messages(&stream, &USUAL), Vec::new(), 0);
+    let (mut messages, mut refused, mut valid) = (capn::messages(&stream, USUAL), Vec::new(), 0);
     while let Some(message) = messages.next() {
         match message {
             Ok(message) => match capn::check(message, Form::Stream, &USUAL) {
@@ -75,7 +75,7 @@ fn a_stream_in_memory_goes_on_after_a_rejected_message() {
 #[test]
 fn a_reader_goes_on_after_a_rejected_message() {
     let (stream, wanted) = mixed();
-    let (mut reader, mut refused, mut valid) = (Reader::new(&stream[..], &USUAL), Vec::new(), 0);
+    let (mut reader, mut refused, mut valid) = (Reader::new(&stream[..], USUAL), Vec::new(), 0);
     assert_eq!(
         (reader.number(), reader.start(), reader.offset()),
         (0, 0, 0)
@@ -103,7 +103,7 @@ fn a_reader_goes_on_after_a_rejected_message() {
 #[test]
 fn messages_that_are_kept() {
     let (stream, wanted) = mixed();
-    let mut messages: IntoMessages<_> = Reader::new(&stream[..], &USUAL).into_iter();
+    let mut messages: IntoMessages<_> = Reader::new(&stream[..], USUAL).into_iter();
     for (number, start) in [(1, 0), (2, 32), (3, 48), (4, 80)] {
         let message = messages.next().unwrap().unwrap();
         assert_eq!(message, if number % 2 == 1 { one() } else { hostile() });
@@ -182,7 +182,7 @@ fn a_packed_stream_is_what_was_packed() {
         // No byte after a message is read.
         let (mut input, mut left) = (&stream[..], stream.len());
         for (message, packed) in messages.iter().zip(&packed) {
-            let mut reader = Reader::packed(&mut input, &USUAL);
+            let mut reader = Reader::packed(&mut input, USUAL);
             assert_eq!(reader.read().unwrap(), Some(&message[..]));
             left -= packed.len();
             assert_eq!(input.len(), left, "round {round}");
@@ -194,7 +194,7 @@ fn a_packed_stream_is_what_was_packed() {
                 most: 1 + source.below(3000),
                 calls: 0,
             };
-            let (mut reader, mut got) = (Reader::packed(input, &USUAL), Vec::new());
+            let (mut reader, mut got) = (Reader::packed(input, USUAL), Vec::new());
             loop {
                 match reader.read() {
                     Ok(Some(message)) => got.push(message.to_vec()),
@@ -216,7 +216,7 @@ fn a_packed_stream_is_what_was_packed() {
 /// The same stream, cut anywhere.
 fn cut(source: &mut Source, stream: &[u8], messages: &[Vec<u8>], packed: &[Vec<u8>]) {
     let at = source.below(stream.len() as u64 + 1);
-    let (mut reader, mut end) = (Reader::packed(&stream[..at], &USUAL), 0);
+    let (mut reader, mut end) = (Reader::packed(&stream[..at], USUAL), 0);
     for (message, packed) in messages.iter().zip(packed) {
         if end + packed.len() > at {
             break;
@@ -253,7 +253,7 @@ fn cut(source: &mut Source, stream: &[u8], messages: &[Vec<u8>], packed: &[Vec<u
 fn a_packed_stream_that_is_rejected() {
     let damaged = [one(), words(&[0xffff_ffff])].concat();
     let packed = capn::pack(&damaged).unwrap();
-    let mut reader = Reader::packed(&packed[..], &USUAL);
+    let mut reader = Reader::packed(&packed[..], USUAL);
     assert!(reader.read().unwrap().is_some());
     for _ in 0..2 {
         assert_eq!(
@@ -261,7 +261,7 @@ fn a_packed_stream_that_is_rejected() {
             "message 2 at 32: frame: TooManySegments(4294967296)"
         );
     }
-    let mut reader = Reader::packed(&[0x10][..], &USUAL);
+    let mut reader = Reader::packed(&[0x10][..], USUAL);
     let text = "message 1 at 0: packed: Cut at 0";
     assert_eq!(reader.read().unwrap_err().to_string(), text);
     // What is used as an input of its own.
@@ -284,7 +284,7 @@ fn a_packed_reader_of_a_socket_takes_no_byte_too_many() {
         }
         peer.write_all(b"more").unwrap();
     });
-    let mut reader = Reader::packed(&socket, &USUAL);
+    let mut reader = Reader::packed(&socket, USUAL);
     for _ in 0..2 {
         assert_eq!(reader.read().unwrap(), Some(&one()[..]));
         (&socket).write_all(b"a").unwrap();
@@ -322,15 +322,16 @@ fn limits_by_reference_and_by_value() {
         message_words: 2,
         ..USUAL
     };
+    let by_reference = &low;
     for read in [
         Reader::new(&stream[..], low).read().unwrap_err(),
-        Reader::new(&stream[..], &low).read().unwrap_err(),
+        Reader::new(&stream[..], by_reference).read().unwrap_err(),
         capn::messages(&stream, low)
             .next()
             .unwrap()
             .unwrap_err()
             .into(),
-        capn::messages(&stream, &low)
+        capn::messages(&stream, by_reference)
             .next()
             .unwrap()
             .unwrap_err()
