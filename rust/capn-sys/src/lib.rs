@@ -1,17 +1,18 @@
-//! The declarations of `capn.h`.
+//! The declarations of `capn.h`, and its numbers.
 //!
-//! Its comments say what a caller owes. The crate `capn` is the safe layer over them.
+//! The comments of `capn.h` say what a caller must guarantee. The crate `capn` is the safe layer over them.
 #![no_std]
 #![allow(non_camel_case_types)]
 
 use core::ffi::c_void;
 
+mod constants;
+pub use constants::*;
+
 /// `char` of C, as it is on x86-64.
 pub type c_char = i8;
 
-pub type capn_status = u32;
-
-/// How much a call takes on.
+/// What a call accepts.
 #[repr(C)]
 #[derive(Clone, Copy, Debug, PartialEq, Eq)]
 pub struct capn_limits {
@@ -23,7 +24,7 @@ pub struct capn_limits {
     // c/limits.txt ends
 }
 
-/// What a call says beside its status.
+/// What a call reports beside its status.
 #[repr(C)]
 #[derive(Clone, Copy, Debug, Default, PartialEq, Eq)]
 pub struct capn_report {
@@ -49,7 +50,7 @@ pub struct capn_figures {
     pub canonical: u32,
 }
 
-/// An entry of an index: what the pointer in a slot names.
+/// An entry of an index: what a pointer refers to.
 #[repr(C)]
 #[derive(Clone, Copy, Debug, Default, PartialEq, Eq)]
 pub struct capn_entry {
@@ -61,7 +62,7 @@ pub struct capn_entry {
     pub kind: u32,
 }
 
-/// Where an accepted message leaves its canonical bytes, and why.
+/// The first difference of a valid message from its canonical form.
 #[repr(C)]
 #[derive(Clone, Copy, Debug, Default, PartialEq, Eq)]
 pub struct capn_departed {

@@ -4,8 +4,9 @@
 //!
 //!     fields old | new
 //!     fields any         reads each pointer of each message as whatever it may be, and counts what it reads
+//!     fields lines       the same, with a line for each pointer of what is read there, as `tests/c/fields.c` has it
 use capn::{Error, Form, Index, Limits, Number, Struct, Value};
-use std::io::{Read, Write};
+use std::io::{self, Read, Write};
 
 fn hexadecimal(bytes: &[u8]) -> String {
     bytes.iter().map(|byte| format!("{byte:02x}")).collect()
@@ -143,9 +144,9 @@ fn read_any(value: &Value, read: &mut u64, pointers: &mut u64) {
     }
     match value {
         Value::Struct(it) => (0..it.slots()).for_each(|k| read_any(&it.slot(k), read, pointers)),
-        Value::Pointers(all) => all.for_each(|it| read_any(&it, read, pointers)),
+        Value::Pointers(all) => all.clone().for_each(|it| read_any(&it, read, pointers)),
         Value::Rows(all) if all.clone().next().map_or(0, |row| row.slots()) > 0 => {
-            all.for_each(|row| {
+            all.clone().for_each(|row| {
                 (0..row.slots()).for_each(|k| read_any(&row.slot(k), read, pointers));
             })
         }
@@ -164,16 +165,127 @@ fn any(stream: &[u8]) -> Result<String, Error> {
     Ok(format!("{messages} messages, {pointers} pointers, {read}"))
 }
 
+/// A sum over numbers: FNV-1a, with numbers of 64 bits in place of bytes.
+struct Sum(u64);
+
+impl Sum {
+    fn of(numbers: impl IntoIterator<Item = u64>) -> Self {
+        let mut sum = Sum(0xcbf2_9ce4_8422_2325);
+        numbers.into_iter().for_each(|number| sum.add(number));
+        sum
+    }
+
+    fn add(&mut self, number: u64) {
+        self.0 = (self.0 ^ number).wrapping_mul(0x0100_0000_01b3);
+    }
+
+    /// What a struct has: fields of each width, of which the default is 7, and the kinds of its first pointers.
+    fn add_struct(&mut self, of: &Struct) {
+        let multiples = |width: usize| (0..256).step_by(width);
+        multiples(1).for_each(|at| self.add(of.get(at, true).into()));
+        multiples(8).for_each(|at| self.add(of.get::<u8>(at, 7).into()));
+        multiples(16).for_each(|at| self.add(of.get::<u16>(at, 7).into()));
+        multiples(32).for_each(|at| self.add(of.get::<u32>(at, 7).into()));
+        multiples(64).for_each(|at| self.add(of.get::<u64>(at, 7)));
+        (0..4).for_each(|k| self.add(kind(&of.slot(k))));
+    }
+}
+
+/// The number of a kind in `capn.h`.
+fn kind(value: &Value) -> u64 {
+    const KINDS: [&str; 11] = [
+        "null",
+        "struct",
+        "void",
+        "bits",
+        "bytes",
+        "u16",
+        "u32",
+        "u64",
+        "pointers",
+        "rows",
+        "capability",
+    ];
+    let at = KINDS.iter().position(|name| *name == value.kind());
+    at.expect("a kind of capn.h") as u64
+}
+
+/// How many elements of a list are read.
+const MOST: usize = 1000;
+
+/// What a pointer is read as, a part for each.
+fn line(value: &Value) -> String {
+    fn part<T, E>(read: Result<T, E>, sum: impl FnOnce(T) -> Sum) -> String {
+        read.map_or_else(|_| " -".into(), |it| format!(" {:016x}", sum(it).0))
+    }
+    fn bytes(read: Result<Option<&[u8]>, Error>) -> String {
+        part(read.map(Option::unwrap_or_default), |bytes| {
+            Sum::of(
+                std::iter::once(bytes.len() as u64).chain(bytes.iter().map(|byte| (*byte).into())),
+            )
+        })
+    }
+    fn numbers<T: Number + Into<u64>>(value: &Value) -> String {
+        part(value.as_list::<T>(), |all| {
+            Sum::of(std::iter::once(all.len() as u64).chain(all.take(MOST).map(Into::into)))
+        })
+    }
+    let mut line = part(value.as_struct(), |of| {
+        let mut sum = Sum::of([]);
+        sum.add_struct(&of);
+        sum
+    });
+    line += &bytes(value.as_text_bytes());
+    line += &bytes(value.as_data());
+    line += &numbers::<bool>(value);
+    line += &numbers::<u8>(value);
+    line += &numbers::<u16>(value);
+    line += &numbers::<u32>(value);
+    line += &numbers::<u64>(value);
+    line += &part(value.as_pointers(), |all| {
+        Sum::of(std::iter::once(all.len() as u64).chain(all.take(MOST).map(|it| kind(&it))))
+    });
+    line += &part(value.as_rows(), |all| {
+        let mut sum = Sum::of([all.len() as u64]);
+        all.take(MOST).for_each(|row| sum.add_struct(&row));
+        sum
+    });
+    line.split_off(1)
+}
+
+/// The lines of a pointer and of those below it, in preorder.
+fn lines(value: &Value, out: &mut impl Write) -> io::Result<()> {
+    writeln!(out, "{}", line(value))?;
+    match value {
+        Value::Struct(it) => (0..it.slots()).try_for_each(|k| lines(&it.slot(k), out)),
+        Value::Pointers(all) => all.clone().try_for_each(|it| lines(&it, out)),
+        Value::Rows(all) if all.clone().next().map_or(0, |row| row.slots()) > 0 => {
+            let mut all = all.clone();
+            all.try_for_each(|row| (0..row.slots()).try_for_each(|k| lines(&row.slot(k), out)))
+        }
+        _ => Ok(()),
+    }
+}
+
 fn main() -> Result<(), Box<dyn std::error::Error>> {
     let word = std::env::args().nth(1).unwrap_or_default();
     let is_new = word == "new";
     let mut stream = Vec::new();
-    std::io::stdin().read_to_end(&mut stream)?;
+    io::stdin().read_to_end(&mut stream)?;
     if word == "any" {
         println!("{}", any(&stream)?);
         return Ok(());
     }
-    let mut out = std::io::stdout().lock();
+    let mut out = io::BufWriter::new(io::stdout().lock());
+    if word == "lines" {
+        for message in capn::messages(&stream, Limits::usual()) {
+            match Index::new(message?, Form::Stream, &Limits::usual()) {
+                Ok(index) => lines(&index.root(), &mut out)?,
+                Err(_) => writeln!(out, "refused")?,
+            }
+        }
+        return Ok(out.flush()?);
+    }
     for message in capn::messages(&stream, Limits::usual()) {
         writeln!(out, "{}", shown(message?, is_new)?)?;
     }

@@ -11,14 +11,7 @@ mod direct {
     use super::*;
 
     fn limits() -> capn_limits {
-        capn_limits {
-            // c/limits.txt: usual numbers of c in rust
-            message_words: 8_388_608,
-            budget: 8_388_608,
-            depth: 64,
-            tariff: 0,
-            // c/limits.txt ends
-        }
+        capn_sys::CAPN_USUAL_LIMITS
     }
 
     pub fn check(m: &[u8]) -> u32 {
@@ -192,7 +185,7 @@ fn times(all: &mut Times, m: &[u8]) {
         "is_canonical",
         size,
         || direct::is_canonical(&bare),
-        || capn::is_canonical(&bare, &limits),
+        || capn::is_canonical_words(&bare, &limits),
     );
     all.beside(
         "digest",

@@ -46,7 +46,8 @@ fn hashed(form: Form, data: &[u8]) -> String {
         _ => vec![Ok(data)],
     };
     for message in messages {
-        match message.and_then(|message| capn::digest(message, form, &limits)) {
+        let digest = message.map_err(Error::from);
+        match digest.and_then(|message| capn::digest(message, form, &limits)) {
             Ok(digest) => lines += &(digits(&digest) + "\n"),
             Err(error) => {
                 let why = refusal(error, false);
@@ -133,7 +134,7 @@ fn answer(line: &str) -> String {
             limits.budget = number(from + 1);
             limits.depth = number(from + 2);
             if call == "is_canonical" {
-                capn::is_canonical(&data, &limits).map(|is| is.to_string())
+                capn::is_canonical_words(&data, &limits).map(|is| is.to_string())
             } else {
                 let form = form_of(words[1]);
                 let told = of_bytes(call, &data, form, &limits);

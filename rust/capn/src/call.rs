@@ -1,53 +1,63 @@
 //! The calls of the library, and all `unsafe` code.
 //!
-//! What a caller owes (`capn.h`) is met by types: bytes behind a shared reference don't change while it lives, what a
-//! call writes is borrowed alone or is spare room of a vector, and each pointer goes with the size of its slice.
+//! Types keep the rules of `capn.h`: bytes behind a shared reference don't change while it lives, what a call writes is
+//! borrowed exclusively or is the spare capacity of a vector, and each pointer goes with the size of its slice.
 use alloc::string::String;
 use alloc::vec::Vec;
 use core::mem::MaybeUninit;
 
 use capn_sys::{
     capn_departed, capn_entry, capn_figures, capn_limits, capn_report, capn_segment, capn_status,
+    CAPN_DIFFERENT, CAPN_NOT_CANONICAL, CAPN_NO_ROOM as NO_ROOM, CAPN_NO_SCRATCH, CAPN_OK as OK,
 };
 
-use crate::{Error, Form, ScratchError, Style};
+use crate::{Error, Form, Limits, ScratchError, Style};
 
-const OK: capn_status = 0;
-const NO_ROOM: capn_status = 1;
-/// The refusals of a walk are these and those between them.
+/// The statuses of a message that is rejected at a pointer are these and those between them.
 pub(crate) const WALK_FIRST: capn_status = 64;
 pub(crate) const WALK_LAST: capn_status = 79;
 
-/// The report of a call, or why there is no answer.
+/// The report of a call, or why it has no result.
 #[inline]
-fn reported(call: impl FnOnce(&mut capn_report) -> capn_status) -> Result<capn_report, Error> {
+fn reported(
+    limits: &Limits,
+    call: impl FnOnce(&capn_limits, &mut capn_report) -> capn_status,
+) -> Result<capn_report, Error> {
     let mut report = capn_report::default();
-    match call(&mut report) {
+    match call(&limits.raw(), &mut report) {
         OK => Ok(report),
-        status => Err(Error::of(status, &report)),
+        status => Err(Error::of(status, &report, limits)),
     }
 }
 
-/// Appends to `out` what a call writes: at first with room for `hint` bytes, and then, if that is too little, with room
-/// for as many as it reports. After an error `out` is as it was.
+/// Appends to `out` what a call writes: first with room for `hint` bytes, and then, if that is too little, with room
+/// for as many as the call reports. After an error `out` has the bytes that it had.
+///
+/// A vector without capacity gets as much as is asked for. Any other grows by a factor, so that appending many results
+/// copies each byte a bounded number of times.
 ///
 /// # Safety
 ///
-/// With `call(at, room, report)` the call writes at most `room` bytes at `at`, and answers `OK` only if it wrote
-/// `report.length` of them.
+/// With `call(limits, at, room, report)` the call writes at most `room` bytes at `at`, and returns `OK` only if it
+/// wrote `report.length` of them.
 unsafe fn appended(
     out: &mut Vec<u8>,
     hint: usize,
-    call: impl Fn(*mut u8, usize, &mut capn_report) -> capn_status,
+    limits: &Limits,
+    call: impl Fn(&capn_limits, *mut u8, usize, &mut capn_report) -> capn_status,
 ) -> Result<capn_report, Error> {
-    let had = out.len();
+    let (had, is_fresh, raw) = (out.len(), out.capacity() == 0, limits.raw());
     let mut wanted = hint;
     loop {
-        out.try_reserve_exact(wanted).map_err(|_| Error::Memory)?;
+        match is_fresh {
+            true => out.try_reserve_exact(wanted),
+            false => out.try_reserve(wanted),
+        }
+        .map_err(|_| Error::Memory)?;
         let room = out.capacity() - had;
         let mut report = capn_report::default();
         // The spare room begins at `had`, within the block or one past it.
-        let status = call(out.as_mut_ptr().add(had), room, &mut report);
+        let status = call(&raw, out.as_mut_ptr().add(had), room, &mut report);
         let length = report.length as usize;
         match status {
             OK => {
@@ -56,7 +66,7 @@ unsafe fn appended(
                 return Ok(report);
             }
             NO_ROOM if length > room => wanted = length,
-            _ => return Err(Error::of(status, &report)),
+            _ => return Err(Error::of(status, &report, limits)),
         }
     }
 }
@@ -64,13 +74,13 @@ unsafe fn appended(
 pub(crate) fn canonical(
     form: Form,
     message: &[u8],
-    limits: &capn_limits,
+    limits: &Limits,
     hint: usize,
     out: &mut Vec<u8>,
 ) -> Result<capn_report, Error> {
     let (bytes, size) = (message.as_ptr(), message.len());
     unsafe {
-        appended(out, hint, |at, room, report| {
+        appended(out, hint, limits, |limits, at, room, report| {
             capn_sys::capn_canonical(form as u32, bytes, size, limits, at, room, report)
         })
     }
@@ -80,17 +90,16 @@ pub(crate) fn canonical(
 pub(crate) fn canonical_with_scratch(
     form: Form,
     message: &[u8],
-    limits: &capn_limits,
+    limits: &Limits,
     scratch: &mut [[u8; 8]],
     out: &mut [u8],
 ) -> Result<usize, ScratchError> {
-    const NO_SCRATCH: capn_status = 9;
     let mut report = capn_report::default();
     let (number, bytes, size) = (form as u32, message.as_ptr(), message.len());
     let (lent, words) = (scratch.as_mut_ptr().cast(), scratch.len());
     let (at, room) = (out.as_mut_ptr(), out.len());
     let status = unsafe {
-        let told = &mut report;
+        let (limits, told) = (&limits.raw(), &mut report);
         capn_sys::capn_canonical_with_scratch(
             number, bytes, size, limits, lent, words, at, room, told,
         )
@@ -98,77 +107,69 @@ pub(crate) fn canonical_with_scratch(
     match status {
         OK => Ok(report.length as usize),
         NO_ROOM => Err(ScratchError::NoRoom(report.length as usize)),
-        NO_SCRATCH => Err(ScratchError::NoScratch(report.at as usize)),
-        status => Err(ScratchError::Error(Error::of(status, &report))),
+        CAPN_NO_SCRATCH => Err(ScratchError::NoScratch(report.at as usize)),
+        status => Err(ScratchError::Error(Error::of(status, &report, limits))),
     }
 }
 
 #[inline]
-pub(crate) fn is_canonical(words: &[u8], limits: &capn_limits) -> Result<bool, Error> {
-    const NOT_CANONICAL: capn_status = 5;
+pub(crate) fn is_canonical(words: &[u8], limits: &Limits) -> Result<bool, Error> {
     let mut report = capn_report::default();
     let (bytes, size) = (words.as_ptr(), words.len());
-    match unsafe { capn_sys::capn_is_canonical(bytes, size, limits, &mut report) } {
+    match unsafe { capn_sys::capn_is_canonical(bytes, size, &limits.raw(), &mut report) } {
         OK => Ok(true),
-        NOT_CANONICAL => Ok(false),
-        status => Err(Error::of(status, &report)),
+        CAPN_NOT_CANONICAL => Ok(false),
+        status => Err(Error::of(status, &report, limits)),
     }
 }
 
-/// Returns true if two messages have the same canonical bytes; or which of them is refused, and why.
+/// Returns true if two messages have the same canonical bytes; or which of them is rejected, and why.
 #[inline]
 pub(crate) fn same(
     form: Form,
     first: &[u8],
     second: &[u8],
-    limits: &capn_limits,
+    limits: &Limits,
 ) -> Result<bool, (u32, Error)> {
-    const DIFFERENT: capn_status = 7;
     let mut report = capn_report::default();
     let mut which = 0;
     let (a, size_a) = (first.as_ptr(), first.len());
     let (b, size_b) = (second.as_ptr(), second.len());
     let status = unsafe {
-        let (number, which) = (form as u32, &mut which);
+        let (number, limits, which) = (form as u32, &limits.raw(), &mut which);
         capn_sys::capn_same(number, a, size_a, b, size_b, limits, which, &mut report)
     };
     match status {
         OK => Ok(true),
-        DIFFERENT => Ok(false),
-        status => Err((which, Error::of(status, &report))),
+        CAPN_DIFFERENT => Ok(false),
+        status => Err((which, Error::of(status, &report, limits))),
     }
 }
 
 #[inline]
-pub(crate) fn hash(form: Form, message: &[u8], limits: &capn_limits) -> Result<[u8; 32], Error> {
+pub(crate) fn hash(form: Form, message: &[u8], limits: &Limits) -> Result<[u8; 32], Error> {
     let (bytes, size) = (message.as_ptr(), message.len());
     let mut digest = [0; 32];
     let at = digest.as_mut_ptr();
-    reported(|report| unsafe {
+    reported(limits, |limits, report| unsafe {
         capn_sys::capn_hash(form as u32, bytes, size, limits, at, report)
     })?;
     Ok(digest)
 }
 
 #[inline]
-pub(crate) fn check(
-    form: Form,
-    message: &[u8],
-    limits: &capn_limits,
-) -> Result<capn_report, Error> {
+pub(crate) fn check(form: Form, message: &[u8], limits: &Limits) -> Result<capn_report, Error> {
     let (bytes, size) = (message.as_ptr(), message.len());
-    reported(|report| unsafe { capn_sys::capn_check(form as u32, bytes, size, limits, report) })
+    reported(limits, |limits, report| unsafe {
+        capn_sys::capn_check(form as u32, bytes, size, limits, report)
+    })
 }
 
 #[inline]
-pub(crate) fn survey(
-    form: Form,
-    message: &[u8],
-    limits: &capn_limits,
-) -> Result<capn_figures, Error> {
+pub(crate) fn survey(form: Form, message: &[u8], limits: &Limits) -> Result<capn_figures, Error> {
     let (bytes, size) = (message.as_ptr(), message.len());
     let mut figures = capn_figures::default();
-    reported(|report| unsafe {
+    reported(limits, |limits, report| unsafe {
         capn_sys::capn_survey(form as u32, bytes, size, limits, &mut figures, report)
     })?;
     Ok(figures)
@@ -177,25 +178,30 @@ pub(crate) fn survey(
 pub(crate) fn show(
     form: Form,
     message: &[u8],
-    limits: &capn_limits,
+    limits: &Limits,
     style: Style,
 ) -> Result<String, Error> {
     let (bytes, size) = (message.as_ptr(), message.len());
-    let each = if form == Form::Packed { 16 } else { 4 };
+    // Mostly enough: four bytes of text for each byte that is read, and so many are unpacked of each packed one.
+    let unpacked = size.saturating_mul(if form == Form::Packed { 4 } else { 1 });
+    let hint = 4 * limits.most_bytes(unpacked) + 256;
     let mut out = Vec::new();
     unsafe {
-        appended(&mut out, each * size + 256, |at, room, report| {
+        appended(&mut out, hint, limits, |limits, at, room, report| {
             let (number, style, at) = (form as u32, style as u32, at.cast());
             capn_sys::capn_show(number, bytes, size, limits, style, at, room, report)
         })
     }?;
-    Ok(String::from_utf8(out).expect("the text is UTF-8"))
+    Ok(String::from_utf8(fitted(out)).expect("the text is UTF-8"))
 }
+
+/// Those of calls that take none.
+const NO_LIMITS: Limits = Limits::usual();
 
 pub(crate) fn pack(words: &[u8], out: &mut Vec<u8>) -> Result<capn_report, Error> {
     let (bytes, size) = (words.as_ptr(), words.len());
     unsafe {
-        appended(out, size / 2 + 16, |at, room, report| {
+        appended(out, size / 2 + 16, &NO_LIMITS, |_, at, room, report| {
             capn_sys::capn_pack(bytes, size, at, room, report)
         })
     }
@@ -209,7 +215,7 @@ pub(crate) fn unpack(
     let (bytes, size) = (text.as_ptr(), text.len());
     let hint = size.saturating_mul(4).min(8 * most_words as usize);
     unsafe {
-        appended(out, hint, |at, room, report| {
+        appended(out, hint, &NO_LIMITS, |_, at, room, report| {
             capn_sys::capn_unpack(bytes, size, most_words, at, room, report)
         })
     }
@@ -224,48 +230,54 @@ pub(crate) enum First {
 
 #[cfg(feature = "std")]
 #[inline(always)]
-pub(crate) fn first(stream: &[u8], limits: &capn_limits) -> Result<First, Error> {
-    const FRAME_EMPTY: capn_status = 48;
-    const FRAME_CUT: capn_status = 51;
+pub(crate) fn first(stream: &[u8], limits: &Limits) -> Result<First, Error> {
+    use capn_sys::{CAPN_FRAME_CUT, CAPN_FRAME_EMPTY};
     let mut report = MaybeUninit::uninit();
-    let (bytes, size) = (stream.as_ptr(), stream.len());
-    let status = unsafe { capn_sys::capn_first(bytes, size, limits, report.as_mut_ptr()) };
-    // A call sets each field of its report, whatever it answers.
+    let (bytes, size, raw) = (stream.as_ptr(), stream.len(), limits.raw());
+    let status = unsafe { capn_sys::capn_first(bytes, size, &raw, report.as_mut_ptr()) };
+    // A call sets each field of its report, whatever it returns.
     let report: &capn_report = unsafe { report.assume_init_ref() };
     match status {
         OK => Ok(First::Whole),
-        FRAME_EMPTY | FRAME_CUT => Ok(First::Needs(report.length as usize)),
-        status => Err(Error::of(status, report)),
+        CAPN_FRAME_EMPTY | CAPN_FRAME_CUT => Ok(First::Needs(report.length as usize)),
+        status => Err(Error::of(status, report, limits)),
     }
 }
 
-/// The first frame of a stream, or why there is none. What is not an answer is told elsewhere, so that a message takes
-/// hardly longer than the call.
+/// Writes the words of the whole groups that packed bytes begin with to `out`, and returns how many bytes it wrote.
+#[cfg(feature = "std")]
+pub(crate) fn unpack_some(packed: &[u8], out: &mut [u8]) -> Result<usize, Error> {
+    let (bytes, size) = (packed.as_ptr(), packed.len());
+    let (at, room) = (out.as_mut_ptr(), out.len());
+    let report = reported(&NO_LIMITS, |_, report| unsafe {
+        capn_sys::capn_unpack_some(bytes, size, at, room, report)
+    })?;
+    Ok(report.length as usize)
+}
+
+/// The first message of a stream, or why there is none. Errors are made elsewhere, so that a message takes hardly
+/// longer than the call.
 #[inline(always)]
-pub(crate) fn whole<'a>(stream: &'a [u8], limits: &capn_limits) -> Result<&'a [u8], Error> {
+pub(crate) fn whole<'a>(stream: &'a [u8], limits: &Limits) -> Result<&'a [u8], Error> {
     let mut report = MaybeUninit::uninit();
-    let (bytes, size) = (stream.as_ptr(), stream.len());
-    let status = unsafe { capn_sys::capn_first(bytes, size, limits, report.as_mut_ptr()) };
-    // A call sets each field of its report, whatever it answers.
+    let (bytes, size, raw) = (stream.as_ptr(), stream.len(), limits.raw());
+    let status = unsafe { capn_sys::capn_first(bytes, size, &raw, report.as_mut_ptr()) };
+    // A call sets each field of its report, whatever it returns.
     let report: &capn_report = unsafe { report.assume_init_ref() };
     if status == OK {
         Ok(&stream[..report.length as usize])
     } else {
-        Err(refused(status, report))
+        Err(rejected(status, report, limits))
     }
 }
 
 #[cold]
-fn refused(status: capn_status, report: &capn_report) -> Error {
-    Error::of(status, report)
+fn rejected(status: capn_status, report: &capn_report, limits: &Limits) -> Error {
+    Error::of(status, report, limits)
 }
 
-pub(crate) fn index(
-    form: Form,
-    message: &[u8],
-    limits: &capn_limits,
-) -> Result<Vec<capn_entry>, Error> {
-    let (bytes, size) = (message.as_ptr(), message.len());
+pub(crate) fn index(form: Form, message: &[u8], limits: &Limits) -> Result<Vec<capn_entry>, Error> {
+    let (bytes, size, raw) = (message.as_ptr(), message.len(), limits.raw());
     let mut entries: Vec<capn_entry> = Vec::new();
     let mut wanted = 32;
     loop {
@@ -274,9 +286,8 @@ pub(crate) fn index(
             .map_err(|_| Error::Memory)?;
         let (at, room) = (entries.as_mut_ptr(), entries.capacity());
         let mut report = capn_report::default();
-        let status = unsafe {
-            capn_sys::capn_index(form as u32, bytes, size, limits, at, room, &mut report)
-        };
+        let status =
+            unsafe { capn_sys::capn_index(form as u32, bytes, size, &raw, at, room, &mut report) };
         let visits = report.visits as usize;
         match status {
             OK => {
@@ -285,32 +296,32 @@ pub(crate) fn index(
                 return Ok(entries);
             }
             NO_ROOM if visits > room => wanted = visits,
-            _ => return Err(Error::of(status, &report)),
+            _ => return Err(Error::of(status, &report, limits)),
         }
     }
 }
 
-/// Room for each way within limits: two numbers for each level of depth, of which there may be 256.
-fn room_for_way(limits: &capn_limits) -> Result<Vec<u32>, Error> {
+/// Room for each path within limits: two numbers for each level of depth, of which there may be 256.
+fn room_for_way(limits: &Limits) -> Result<Vec<u32>, Error> {
     let mut way = Vec::new();
     way.try_reserve_exact(2 * limits.depth.min(256) as usize)
         .map_err(|_| Error::Memory)?;
     Ok(way)
 }
 
-/// The way to the pointer at which a walk stopped; none if no walk refuses the message.
+/// The path to the pointer at which a message is rejected; none if no pointer is at fault.
 pub(crate) fn refusal_way(
     form: Form,
     message: &[u8],
-    limits: &capn_limits,
+    limits: &Limits,
 ) -> Result<Option<Vec<u32>>, Error> {
     const REFUSALS: core::ops::RangeInclusive<capn_status> = 16..=127;
     let (bytes, size) = (message.as_ptr(), message.len());
     let mut way = room_for_way(limits)?;
     let (at, room) = (way.as_mut_ptr(), way.capacity());
-    let mut report = capn_report::default();
+    let (mut report, raw) = (capn_report::default(), limits.raw());
     let status = unsafe {
-        capn_sys::capn_refusal_way(form as u32, bytes, size, limits, at, room, &mut report)
+        capn_sys::capn_refusal_way(form as u32, bytes, size, &raw, at, room, &mut report)
     };
     match status {
         WALK_FIRST..=WALK_LAST => {
@@ -320,21 +331,21 @@ pub(crate) fn refusal_way(
             Ok(Some(way))
         }
         status if status == OK || REFUSALS.contains(&status) => Ok(None),
-        status => Err(Error::of(status, &report)),
+        status => Err(Error::of(status, &report, limits)),
     }
 }
 
-/// Where a message leaves its canonical bytes, and the way that goes with it.
+/// The first difference of a message from its canonical form, and the path that goes with it.
 pub(crate) fn departure(
     form: Form,
     message: &[u8],
-    limits: &capn_limits,
+    limits: &Limits,
 ) -> Result<(capn_departed, Vec<u32>), Error> {
     let (bytes, size) = (message.as_ptr(), message.len());
     let mut way = room_for_way(limits)?;
     let (at, room) = (way.as_mut_ptr(), way.capacity());
     let mut departed = capn_departed::default();
-    reported(|report| unsafe {
+    reported(limits, |limits, report| unsafe {
         let (number, to) = (form as u32, &mut departed);
         capn_sys::capn_departure(number, bytes, size, limits, to, at, room, report)
     })?;
@@ -342,6 +353,22 @@ pub(crate) fn departure(
     assert!(numbers <= room, "no more than there is room for");
     unsafe { way.set_len(numbers) };
     Ok((departed, way))
+}
+
+/// Moves a result to a block of its own length if the one that it has is more than twice as long: a message may be far
+/// longer than its canonical bytes.
+pub(crate) fn fitted(out: Vec<u8>) -> Vec<u8> {
+    if out.capacity() / 2 <= out.len().max(64) {
+        return out;
+    }
+    let mut exact = Vec::new();
+    match exact.try_reserve_exact(out.len()) {
+        Ok(()) => {
+            exact.extend_from_slice(&out);
+            exact
+        }
+        Err(_) => out,
+    }
 }
 
 /// Calls with the segments as the library takes them: words at their addresses, on the stack if they are few.
@@ -373,49 +400,47 @@ fn with_segments<T>(
 
 pub(crate) fn canonical_segments(
     segments: &[&[u8]],
-    limits: &capn_limits,
+    limits: &Limits,
     hint: usize,
     out: &mut Vec<u8>,
 ) -> Result<capn_report, Error> {
     with_segments(segments, |first, count| unsafe {
-        appended(out, hint, |at, room, report| {
+        appended(out, hint, limits, |limits, at, room, report| {
             capn_sys::capn_canonical_segments(first, count, limits, at, room, report)
         })
     })
 }
 
-pub(crate) fn hash_segments(segments: &[&[u8]], limits: &capn_limits) -> Result<[u8; 32], Error> {
+pub(crate) fn hash_segments(segments: &[&[u8]], limits: &Limits) -> Result<[u8; 32], Error> {
     let mut digest = [0; 32];
     let at = digest.as_mut_ptr();
     with_segments(segments, |first, count| {
-        reported(|report| unsafe { capn_sys::capn_hash_segments(first, count, limits, at, report) })
+        reported(limits, |limits, report| unsafe {
+            capn_sys::capn_hash_segments(first, count, limits, at, report)
+        })
     })?;
     Ok(digest)
 }
 
-pub(crate) fn check_segments(
-    segments: &[&[u8]],
-    limits: &capn_limits,
-) -> Result<capn_report, Error> {
+pub(crate) fn check_segments(segments: &[&[u8]], limits: &Limits) -> Result<capn_report, Error> {
     with_segments(segments, |first, count| {
-        reported(|report| unsafe { capn_sys::capn_check_segments(first, count, limits, report) })
+        reported(limits, |limits, report| unsafe {
+            capn_sys::capn_check_segments(first, count, limits, report)
+        })
     })
 }
 
-pub(crate) fn survey_segments(
-    segments: &[&[u8]],
-    limits: &capn_limits,
-) -> Result<capn_figures, Error> {
+pub(crate) fn survey_segments(segments: &[&[u8]], limits: &Limits) -> Result<capn_figures, Error> {
     let mut figures = capn_figures::default();
     with_segments(segments, |first, count| {
-        reported(|report| unsafe {
+        reported(limits, |limits, report| unsafe {
             capn_sys::capn_survey_segments(first, count, limits, &mut figures, report)
         })
     })?;
     Ok(figures)
 }
 
-/// The text that the program prints for a status that is no answer, in the room that is given.
+/// The text that the program prints for a status, in the buffer that is passed.
 pub(crate) fn refusal_text<'a>(
     status: capn_status,
     report: &capn_report,

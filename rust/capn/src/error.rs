@@ -1,69 +1,83 @@
-//! Refusals and other errors.
+//! Errors, and where they are.
 use core::fmt;
 
-use capn_sys::{capn_report, capn_status};
+use capn_sys::{
+    capn_report, capn_status, CAPN_BAD_FORM, CAPN_BAD_LIMITS, CAPN_BAD_STYLE, CAPN_MEMORY,
+};
 
-use crate::call;
+use crate::{call, Limit, Limits};
 
-/// Why a call gave no answer. It is shown as the text that the program `capn` prints.
+/// Why a call has no result. Its text is the one that the program `capn` prints.
 #[non_exhaustive]
 #[derive(Clone, Copy, Debug, PartialEq, Eq, Hash)]
 pub enum Error {
-    /// Memory was refused.
+    /// An allocation failed.
     Memory,
     /// A limit is out of its range.
+    #[deprecated(note = "no call returns it: `Error::OutOfRange` says which limit it is")]
     Limits,
-    /// The call does not take the form.
+    /// This limit is out of its range.
+    ///
+    /// ```
+    /// use capn::{Error, Form, Limit, Limits};
+    ///
+    /// let limits = Limits { depth: 0, ..Limits::usual() };
+    /// let error = capn::check(&[0; 8], Form::Bare, &limits).unwrap_err();
+    /// assert_eq!(error, Error::OutOfRange(Limit::Depth));
+    /// assert_eq!(error.to_string(), "a limit is out of its range: depth");
+    /// ```
+    OutOfRange(Limit),
+    /// The call doesn't take this form.
     Form,
-    /// The style is none of the four.
+    /// There is no such style.
     Style,
-    /// The input is refused.
+    /// The input is rejected.
     Refused {
-        /// The fault that was found.
+        /// The error in it.
         kind: Kind,
-        /// Where it was found.
+        /// Where the error is.
         place: Place,
     },
-    /// A pointer leads to something else than what is asked for; the walk that made the index accepted it.
+    /// A pointer of a valid message refers to something else than the caller expects.
     Unexpected {
-        /// What is asked for, as `text`.
+        /// What the caller expects, such as `text`.
         wanted: &'static str,
-        /// What is there, as `rows`.
+        /// What is there, such as `rows`.
         found: &'static str,
     },
 }
 
-/// Where a refusal was found.
+/// Where an input is rejected.
 #[non_exhaustive]
 #[derive(Clone, Copy, Debug, PartialEq, Eq, Hash)]
 pub enum Place {
-    /// The kind says it.
+    /// The kind alone says it.
     Nowhere,
     /// An offset, a count or an index, as the kind says.
     At(u64),
-    /// Of [`pack`](crate::pack), which takes words of no form: how many bytes there are.
+    /// How many bytes [`pack`](crate::pack) was passed.
     Words(u64),
-    /// The slot at which a walk was refused.
+    /// The pointer at which the check of a message stopped.
     Slot {
-        /// Its segment.
+        /// The number of its segment.
         segment: u32,
-        /// Its word there.
+        /// The number of its word in that segment.
         word: u32,
-        /// The words that were paid before.
+        /// The cost of the objects before it, in words.
         paid: u32,
-        /// The visits that were made, with this one.
+        /// How many pointers were followed, with this one.
         visits: u32,
     },
 }
 
 macro_rules! kinds {
     ($($status:literal $name:ident $text:literal,)*) => {
-        /// What is wrong with an input: the statuses of `capn.h` from 16 on.
+        /// The error in an input: the statuses of `capn.h` from 16 on.
         #[non_exhaustive]
         #[derive(Clone, Copy, Debug, PartialEq, Eq, Hash)]
         pub enum Kind {
             $(#[doc = $text] $name,)*
-            /// A status that this crate does not know.
+            /// A status of a later library.
             Other(u32),
         }
 
@@ -83,7 +97,7 @@ macro_rules! kinds {
                 }
             }
 
-            /// Its name, as `TooDeep`.
+            /// Its name, such as `TooDeep`.
             pub fn name(self) -> &'static str {
                 match self {
                     $(Kind::$name => stringify!($name),)*
@@ -122,9 +136,20 @@ kinds! {
 }
 
 impl Error {
-    /// The error of a status that is no answer.
+    /// The error that a status and its report say. The library doesn't say which of the limits is out of its range.
     #[cold]
-    pub(crate) fn of(status: capn_status, report: &capn_report) -> Self {
+    #[allow(deprecated)]
+    pub(crate) fn of(status: capn_status, report: &capn_report, limits: &Limits) -> Self {
+        match Self::of_status(status, report) {
+            Error::Limits => limits
+                .out_of_range()
+                .map_or(Error::Limits, Error::OutOfRange),
+            other => other,
+        }
+    }
+
+    #[allow(deprecated)]
+    fn of_status(status: capn_status, report: &capn_report) -> Self {
         let place = match status {
             2 => return Error::Form,
             3 => return Error::Limits,
@@ -146,12 +171,21 @@ impl Error {
         }
     }
 
-    /// A stream that ends inside of a frame.
+    /// A stream that ends within a message.
     #[cfg(feature = "std")]
     pub(crate) fn frame_cut() -> Self {
         Error::Refused {
             kind: Kind::FrameCut,
             place: Place::Nowhere,
+        }
+    }
+
+    /// A packed stream that ends within a group, which begins at this offset.
+    #[cfg(feature = "std")]
+    pub(crate) fn packed_cut(offset: u64) -> Self {
+        Error::Refused {
+            kind: Kind::PackedCut,
+            place: Place::At(offset),
         }
     }
 
@@ -163,7 +197,7 @@ impl Error {
         }
     }
 
-    /// Bytes that are to be packed and are not whole words.
+    /// The error of bytes that are to be packed, which have no form.
     pub(crate) fn of_words(self) -> Self {
         match self {
             Error::Refused {
@@ -177,7 +211,7 @@ impl Error {
         }
     }
 
-    /// A value that has no canonical bytes, since it has this capability.
+    /// A message that has no canonical bytes, since it has this capability.
     pub(crate) fn capability(index: u32) -> Self {
         Error::Refused {
             kind: Kind::Capability,
@@ -185,7 +219,7 @@ impl Error {
         }
     }
 
-    /// The kind of a refusal.
+    /// The error in a rejected input.
     pub fn kind(&self) -> Option<Kind> {
         match self {
             Error::Refused { kind, .. } => Some(*kind),
@@ -193,7 +227,7 @@ impl Error {
         }
     }
 
-    /// The place of a refusal.
+    /// Where an input is rejected.
     pub fn place(&self) -> Option<Place> {
         match self {
             Error::Refused { place, .. } => Some(*place),
@@ -203,25 +237,30 @@ impl Error {
 }
 
 impl fmt::Display for Error {
+    #[allow(deprecated)]
     fn fmt(&self, f: &mut fmt::Formatter<'_>) -> fmt::Result {
         let (status, place) = match *self {
             Error::Unexpected { wanted, found } => {
                 return write!(f, "{wanted} expected, {found} found");
             }
             Error::Refused { kind, place } => (kind.status(), place),
-            Error::Memory => (8, Place::Nowhere),
-            Error::Limits => (3, Place::Nowhere),
-            Error::Form => (2, Place::Nowhere),
-            Error::Style => (6, Place::Nowhere),
+            Error::Memory => (CAPN_MEMORY, Place::Nowhere),
+            Error::Limits | Error::OutOfRange(_) => (CAPN_BAD_LIMITS, Place::Nowhere),
+            Error::Form => (CAPN_BAD_FORM, Place::Nowhere),
+            Error::Style => (CAPN_BAD_STYLE, Place::Nowhere),
         };
         let (report, mut room) = (place.report(), [0; 128]);
         let text = call::refusal_text(status, &report, &mut room);
-        // Of words alone the program names no form.
+        // The program names no form where it packs.
         let is_of_words = matches!(place, Place::Words(_));
         f.write_str(match text.strip_prefix("bare: ") {
             Some(rest) if is_of_words => rest,
             _ => text,
-        })
+        })?;
+        match self {
+            Error::OutOfRange(limit) => write!(f, ": {limit}"),
+            _ => Ok(()),
+        }
     }
 }
 

@@ -11,7 +11,7 @@ mod sealed {
     pub trait Sealed {}
 }
 
-/// What a data field holds: `bool`, an integer or a float, as wide as the field. An enum is a `u16`.
+/// The type of a data field: `bool`, an integer or a float, as wide as the field. An enum is a `u16`.
 pub trait Number: Copy + Default + sealed::Sealed {
     /// The width of such a field.
     const BITS: u32;
@@ -72,20 +72,23 @@ fn field<T: Number>(data: &[u8], bit: usize) -> u64 {
     u64::from_le_bytes(number)
 }
 
-/// A struct, wherever it lies: one of its own, a row of a list, or a number or pointer that an older writer has there.
+/// A struct: the object of a pointer, or an element of a list, also of a list in which an older writer has numbers or
+/// pointers.
+///
+/// `'m` is the lifetime of the message, and `'i` that of its index.
 #[derive(Clone, Copy)]
-pub struct Struct<'a> {
-    message: &'a [u8],
-    data: &'a [u8],
-    entries: &'a [capn_entry],
+pub struct Struct<'m, 'i> {
+    message: &'m [u8],
+    data: &'m [u8],
+    entries: &'i [capn_entry],
     slots: u32,
 }
 
-impl<'a> Struct<'a> {
+impl<'m, 'i> Struct<'m, 'i> {
     pub(crate) fn new(
-        message: &'a [u8],
-        data: &'a [u8],
-        entries: &'a [capn_entry],
+        message: &'m [u8],
+        data: &'m [u8],
+        entries: &'i [capn_entry],
         slots: u32,
     ) -> Self {
         Struct {
@@ -98,9 +101,9 @@ impl<'a> Struct<'a> {
 
     /// Returns the data field at a bit, which is stored XOR its default; `default` if the struct is too short for it.
     ///
-    /// `capnp compile -ocapnp` writes where a field lies: `bits[64, 96)` is `get::<u32>(64, default)`. A schema has a
-    /// field at a multiple of its width alone. This call takes the bytes from any whole byte on; at a bit within a byte
-    /// it returns `default`, but of a `bool` the bit.
+    /// `capnp compile -ocapnp` prints where a field lies: `bits[64, 96)` is `get::<u32>(64, default)`. A schema has a
+    /// field only at a multiple of its width. This call takes any multiple of 8, and for a `bool` any bit; at another
+    /// bit it returns `default`.
     ///
     /// ```
     /// let words = [1u64 << 32, 0x0102_0304].map(u64::to_le_bytes).concat();
@@ -117,9 +120,9 @@ impl<'a> Struct<'a> {
         T::of_bits(field::<T>(self.data, bit as usize) ^ default.to_bits())
     }
 
-    /// What the pointer in a slot leads to; [`Value::Null`] if the struct has fewer. It passes over the slots before
-    /// it.
-    pub fn slot(&self, k: u32) -> Value<'a> {
+    /// The object that the pointer `k` refers to; [`Value::Null`] if the struct doesn't have this pointer. It passes
+    /// over the pointers before it.
+    pub fn slot(&self, k: u32) -> Value<'m, 'i> {
         if k >= self.slots {
             return Value::Null;
         }
@@ -131,7 +134,7 @@ impl<'a> Struct<'a> {
     }
 
     /// The bytes of its data section.
-    pub fn data(&self) -> &'a [u8] {
+    pub fn data(&self) -> &'m [u8] {
         self.data
     }
 
@@ -141,28 +144,28 @@ impl<'a> Struct<'a> {
     }
 }
 
-impl fmt::Debug for Struct<'_> {
+impl fmt::Debug for Struct<'_, '_> {
     fn fmt(&self, f: &mut fmt::Formatter<'_>) -> fmt::Result {
         write!(f, "struct {} bytes, {} slots", self.data.len(), self.slots)
     }
 }
 
 /// Elements of a list that are left: each with `width` bytes of data and then `slots` pointers.
-#[derive(Clone, Copy)]
-pub(crate) struct Items<'a> {
-    message: &'a [u8],
-    data: &'a [u8],
-    entries: &'a [capn_entry],
+#[derive(Clone)]
+pub(crate) struct Items<'m, 'i> {
+    message: &'m [u8],
+    data: &'m [u8],
+    entries: &'i [capn_entry],
     count: u32,
     pub(crate) width: usize,
     pub(crate) slots: u32,
 }
 
-impl<'a> Items<'a> {
+impl<'m, 'i> Items<'m, 'i> {
     pub(crate) fn new(
-        message: &'a [u8],
-        data: &'a [u8],
-        entries: &'a [capn_entry],
+        message: &'m [u8],
+        data: &'m [u8],
+        entries: &'i [capn_entry],
         count: u32,
         width: usize,
         slots: u32,
@@ -185,7 +188,7 @@ impl<'a> Items<'a> {
         self.width + 8 * self.slots as usize
     }
 
-    fn next(&mut self) -> Option<Struct<'a>> {
+    fn next(&mut self) -> Option<Struct<'m, 'i>> {
         self.count = self.count.checked_sub(1)?;
         let (now, rest) = self.data.split_at(self.step());
         let row = Struct::new(self.message, &now[..self.width], self.entries, self.slots);
@@ -199,29 +202,30 @@ impl<'a> Items<'a> {
     }
 }
 
-/// A list of structs, and the iterator over them.
-#[derive(Clone, Copy)]
-pub struct Rows<'a>(pub(crate) Items<'a>);
+/// A list of structs, which is an iterator over them. Clone it to go through the list more than once.
+#[derive(Clone)]
+pub struct Rows<'m, 'i>(pub(crate) Items<'m, 'i>);
 
-/// A list of pointers, and the iterator over what they lead to.
-#[derive(Clone, Copy)]
-pub struct Pointers<'a>(pub(crate) Items<'a>);
+/// A list of pointers, which is an iterator over the objects that they refer to. Clone it to go through the list more
+/// than once.
+#[derive(Clone)]
+pub struct Pointers<'m, 'i>(pub(crate) Items<'m, 'i>);
 
 macro_rules! iterator {
     ($name:ident, $item:ty, $of:expr) => {
-        impl<'a> $name<'a> {
-            /// How many there are.
+        impl $name<'_, '_> {
+            /// How many elements are left.
             pub fn len(&self) -> usize {
                 self.0.count as usize
             }
 
-            /// Whether there is none.
+            /// Whether no element is left.
             pub fn is_empty(&self) -> bool {
                 self.0.count == 0
             }
         }
 
-        impl<'a> Iterator for $name<'a> {
+        impl<'m, 'i> Iterator for $name<'m, 'i> {
             type Item = $item;
 
             fn next(&mut self) -> Option<Self::Item> {
@@ -233,25 +237,25 @@ macro_rules! iterator {
             }
         }
 
-        impl ExactSizeIterator for $name<'_> {}
-        impl FusedIterator for $name<'_> {}
+        impl ExactSizeIterator for $name<'_, '_> {}
+        impl FusedIterator for $name<'_, '_> {}
 
-        impl fmt::Debug for $name<'_> {
+        impl fmt::Debug for $name<'_, '_> {
             fn fmt(&self, f: &mut fmt::Formatter<'_>) -> fmt::Result {
-                f.debug_list().entries(*self).finish()
+                f.debug_list().entries(self.clone()).finish()
             }
         }
     };
 }
 
-iterator!(Rows, Struct<'a>, |row| row);
-iterator!(Pointers, Value<'a>, |row| row.slot(0));
+iterator!(Rows, Struct<'m, 'i>, |row| row);
+iterator!(Pointers, Value<'m, 'i>, |row| row.slot(0));
 
-/// A list of numbers, and the iterator over them.
-#[derive(Clone, Copy)]
-pub struct Numbers<'a, T> {
-    /// The data sections, and what lies between them; of bits all bytes.
-    data: &'a [u8],
+/// A list of numbers, which is an iterator over them. Clone it to go through the list more than once.
+#[derive(Clone)]
+pub struct Numbers<'m, T> {
+    /// The elements, each of `step` bytes, of which the first `width` are data; of bits all bytes.
+    data: &'m [u8],
     step: usize,
     width: usize,
     at: u32,
@@ -259,8 +263,8 @@ pub struct Numbers<'a, T> {
     number: PhantomData<T>,
 }
 
-impl<'a, T: Number> Numbers<'a, T> {
-    fn new(data: &'a [u8], count: u32, step: usize, width: usize) -> Self {
+impl<'m, T: Number> Numbers<'m, T> {
+    fn new(data: &'m [u8], count: u32, step: usize, width: usize) -> Self {
         Numbers {
             data,
             step,
@@ -275,21 +279,21 @@ impl<'a, T: Number> Numbers<'a, T> {
         Numbers::new(&[], 0, 0, 0)
     }
 
-    pub(crate) fn bits(data: &'a [u8], count: u32) -> Self {
+    pub(crate) fn bits(data: &'m [u8], count: u32) -> Self {
         Numbers::new(data, count, 0, 0)
     }
 
-    pub(crate) fn bytes(data: &'a [u8]) -> Self {
+    pub(crate) fn bytes(data: &'m [u8]) -> Self {
         Numbers::new(data, data.len() as u32, 1, 1)
     }
 
     /// The first field of each element.
-    pub(crate) fn of(items: &Items<'a>) -> Self {
+    pub(crate) fn of(items: &Items<'m, '_>) -> Self {
         Numbers::new(items.data, items.count, items.step(), items.width)
     }
 
     /// The same list as one of other numbers of this width.
-    pub(crate) fn cast<U>(&self) -> Numbers<'a, U> {
+    pub(crate) fn cast<U>(&self) -> Numbers<'m, U> {
         Numbers {
             data: self.data,
             step: self.step,
@@ -300,7 +304,7 @@ impl<'a, T: Number> Numbers<'a, T> {
         }
     }
 
-    pub(crate) fn items(&self) -> Items<'a> {
+    pub(crate) fn items(&self) -> Items<'m, 'static> {
         let from = self.step * self.at as usize;
         Items::new(
             &[],
@@ -312,17 +316,17 @@ impl<'a, T: Number> Numbers<'a, T> {
         )
     }
 
-    /// How many there are; of an iterator, how many are left.
+    /// How many numbers are left.
     pub fn len(&self) -> usize {
         (self.end - self.at) as usize
     }
 
-    /// Whether there is none.
+    /// Whether no number is left.
     pub fn is_empty(&self) -> bool {
         self.at == self.end
     }
 
-    /// The number i, counted from those that are left, or none.
+    /// The number `i` of those that are left, or `None`.
     #[inline]
     pub fn get(&self, i: usize) -> Option<T> {
         if i >= self.len() {
@@ -332,7 +336,9 @@ impl<'a, T: Number> Numbers<'a, T> {
         Some(T::of_bits(if T::BITS == 1 {
             field::<T>(self.data, i)
         } else {
-            field::<T>(self.data.get(self.step * i..).unwrap_or(&[]), 0)
+            // An element without data has zeros, whatever pointers follow.
+            let start = self.step * i;
+            field::<T>(self.data.get(start..start + self.width).unwrap_or(&[]), 0)
         }))
     }
 }
@@ -357,6 +363,6 @@ impl<T: Number> FusedIterator for Numbers<'_, T> {}
 
 impl<T: Number + fmt::Debug> fmt::Debug for Numbers<'_, T> {
     fn fmt(&self, f: &mut fmt::Formatter<'_>) -> fmt::Result {
-        f.debug_list().entries(*self).finish()
+        f.debug_list().entries(self.clone()).finish()
     }
 }

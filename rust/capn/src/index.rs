@@ -2,18 +2,23 @@
 use alloc::vec::Vec;
 use core::fmt;
 
-use capn_sys::capn_entry;
+use capn_sys::{
+    capn_entry, CAPN_KIND_BITS, CAPN_KIND_BYTES, CAPN_KIND_CAPABILITY, CAPN_KIND_POINTERS,
+    CAPN_KIND_ROWS, CAPN_KIND_STRUCT, CAPN_KIND_U16, CAPN_KIND_U32, CAPN_KIND_U64, CAPN_KIND_VOID,
+};
 
 use crate::call;
 use crate::fields::Items;
 use crate::{Error, Form, Limits, Number, Numbers, Pointers, Rows, Struct};
 
-/// The index of one message, by which it is read in place: an entry of 24 bytes for each slot, in preorder.
+/// The index of one message, by which it is read in place.
+///
+/// It takes 24 bytes for each pointer of the message, null pointers included. There are at most `budget + 1` of them.
 ///
 /// ```
 /// use capn::{Form, Index, Limits, Value};
 ///
-/// // A struct of a word, 5, and a slot with the text "abc".
+/// // A struct of a word, 5, and a pointer to the text "abc".
 /// let words = [1 << 32 | 1 << 48, 5, 0x22 << 32 | 1, 0x63_6261u64];
 /// let message: Vec<u8> = words.iter().flat_map(|word| word.to_le_bytes()).collect();
 /// let index = Index::new(&message, Form::Bare, &Limits::usual())?;
@@ -27,30 +32,55 @@ use crate::{Error, Form, Limits, Number, Numbers, Pointers, Rows, Struct};
 /// assert!(matches!(root.slot(1), Value::Null));
 /// # Ok::<(), capn::Error>(())
 /// ```
+///
+/// Texts, data and numbers are borrowed from the message, and outlive its index:
+///
+/// ```
+/// use capn::{Error, Form, Index, Limits};
+///
+/// fn name_of(message: &[u8]) -> Result<&str, Error> {
+///     let index = Index::new(message, Form::Stream, &Limits::usual())?;
+///     let name = index.root().as_struct()?.slot(0).as_text()?;
+///     Ok(name.unwrap_or("nobody"))
+/// }
+/// let words = [3 << 32, 1 << 48, 0x22 << 32 | 1, 0x63_6261u64].map(u64::to_le_bytes).concat();
+/// assert_eq!(name_of(&words), Ok("abc"));
+/// ```
+///
+/// A value can't outlive the index:
+///
+/// ```compile_fail,E0515
+/// use capn::{Error, Form, Index, Limits, Value};
+///
+/// fn root_of(message: &[u8]) -> Result<Value<'_, '_>, Error> {
+///     let index = Index::new(message, Form::Stream, &Limits::usual())?;
+///     Ok(index.root())
+/// }
+/// ```
 #[derive(Clone)]
-pub struct Index<'a> {
-    message: &'a [u8],
+pub struct Index<'m> {
+    message: &'m [u8],
     entries: Vec<capn_entry>,
 }
 
-impl<'a> Index<'a> {
-    /// Checks a message, a stream or bare, and makes its index. A packed one has to be unpacked first: [`Error::Form`].
-    pub fn new(message: &'a [u8], form: Form, limits: &Limits) -> Result<Self, Error> {
-        let entries = call::index(form, message, &limits.raw())?;
+impl<'m> Index<'m> {
+    /// Checks a message and indexes it. Unpack a packed message first: for [`Form::Packed`] it returns [`Error::Form`].
+    pub fn new(message: &'m [u8], form: Form, limits: &Limits) -> Result<Self, Error> {
+        let entries = call::index(form, message, limits)?;
         Ok(Index { message, entries })
     }
 
-    /// What the root pointer leads to.
-    pub fn root(&self) -> Value<'_> {
+    /// The object that the root pointer refers to.
+    pub fn root(&self) -> Value<'m, '_> {
         Value::of(self.message, &self.entries)
     }
 
     /// The bytes of the message.
-    pub fn message(&self) -> &'a [u8] {
+    pub fn message(&self) -> &'m [u8] {
         self.message
     }
 
-    /// How many slots the message has, the root with them.
+    /// How many pointers the message has, the root included.
     pub fn slots(&self) -> usize {
         self.entries.len()
     }
@@ -65,38 +95,42 @@ impl fmt::Debug for Index<'_> {
     }
 }
 
-/// What a pointer leads to, without a schema. By a schema, read it by `as_struct`, `as_text` and so on: they know which
-/// other kinds an older or newer writer may have put there, and take a null pointer for an absent one.
+/// The object that a pointer refers to, whatever a schema says.
+///
+/// With a schema, call `as_struct`, `as_text` and so on. They know which other kinds an older or newer writer may have
+/// put there, and take a null pointer for an absent field.
+///
+/// `'m` is the lifetime of the message, and `'i` that of its index.
 #[non_exhaustive]
-#[derive(Clone, Copy)]
-pub enum Value<'a> {
-    /// Nothing: a null pointer, or a slot that a struct doesn't have.
+#[derive(Clone)]
+pub enum Value<'m, 'i> {
+    /// A null pointer, or a pointer that a struct doesn't have.
     Null,
     /// A struct.
-    Struct(Struct<'a>),
+    Struct(Struct<'m, 'i>),
     /// A list of so many elements without size.
     Void(u32),
     /// A list of bits.
-    Bits(Numbers<'a, bool>),
-    /// A list of bytes: a data, or a text with a zero at its end.
-    Bytes(&'a [u8]),
+    Bits(Numbers<'m, bool>),
+    /// A list of bytes: a Data, or a Text with a zero at its end.
+    Bytes(&'m [u8]),
     /// A list of numbers of 16 bits.
-    U16(Numbers<'a, u16>),
+    U16(Numbers<'m, u16>),
     /// A list of numbers of 32 bits.
-    U32(Numbers<'a, u32>),
+    U32(Numbers<'m, u32>),
     /// A list of numbers of 64 bits.
-    U64(Numbers<'a, u64>),
+    U64(Numbers<'m, u64>),
     /// A list of pointers.
-    Pointers(Pointers<'a>),
+    Pointers(Pointers<'m, 'i>),
     /// A list of structs.
-    Rows(Rows<'a>),
-    /// The capability of this index.
+    Rows(Rows<'m, 'i>),
+    /// The capability with this index.
     Capability(u32),
 }
 
-impl<'a> Value<'a> {
-    /// What the first of some entries names, and the others are those of its slots, and so on.
-    pub(crate) fn of(message: &'a [u8], entries: &'a [capn_entry]) -> Self {
+impl<'m, 'i> Value<'m, 'i> {
+    /// The object of the first of these entries. The others are those of its pointers, and so on.
+    pub(crate) fn of(message: &'m [u8], entries: &'i [capn_entry]) -> Self {
         let (entry, below) = match entries.split_first() {
             Some(split) => split,
             None => return Value::Null,
@@ -109,29 +143,29 @@ impl<'a> Value<'a> {
         let count = entry.count as usize;
         let items = |width: usize, slots: u32| {
             let step = width + 8 * slots as usize;
-            let skipped = if entry.kind == 9 { 8 } else { 0 };
+            let skipped = if entry.kind == CAPN_KIND_ROWS { 8 } else { 0 };
             let data = &from(skipped + step * count)[skipped..];
             Items::new(message, data, below, entry.count, width, slots)
         };
         match entry.kind {
-            1 => Value::Struct(Struct::new(message, from(8 * words), below, slots)),
-            2 => Value::Void(entry.count),
-            3 => Value::Bits(Numbers::bits(
+            CAPN_KIND_STRUCT => Value::Struct(Struct::new(message, from(8 * words), below, slots)),
+            CAPN_KIND_VOID => Value::Void(entry.count),
+            CAPN_KIND_BITS => Value::Bits(Numbers::bits(
                 from(count / 8 + usize::from(count % 8 != 0)),
                 entry.count,
             )),
-            4 => Value::Bytes(from(count)),
-            5 => Value::U16(Numbers::of(&items(2, 0))),
-            6 => Value::U32(Numbers::of(&items(4, 0))),
-            7 => Value::U64(Numbers::of(&items(8, 0))),
-            8 => Value::Pointers(Pointers(items(0, 1))),
-            9 => Value::Rows(Rows(items(8 * words, slots))),
-            10 => Value::Capability(entry.count),
+            CAPN_KIND_BYTES => Value::Bytes(from(count)),
+            CAPN_KIND_U16 => Value::U16(Numbers::of(&items(2, 0))),
+            CAPN_KIND_U32 => Value::U32(Numbers::of(&items(4, 0))),
+            CAPN_KIND_U64 => Value::U64(Numbers::of(&items(8, 0))),
+            CAPN_KIND_POINTERS => Value::Pointers(Pointers(items(0, 1))),
+            CAPN_KIND_ROWS => Value::Rows(Rows(items(8 * words, slots))),
+            CAPN_KIND_CAPABILITY => Value::Capability(entry.count),
             _ => Value::Null,
         }
     }
 
-    /// The word that the program writes for it, such as `struct`.
+    /// The word that the program prints for it, such as `struct`.
     pub fn kind(&self) -> &'static str {
         match self {
             Value::Null => "null",
@@ -148,7 +182,7 @@ impl<'a> Value<'a> {
         }
     }
 
-    /// Whether it is absent: its field has the default then.
+    /// Whether the pointer is null: its field then has the default of the schema.
     pub fn is_null(&self) -> bool {
         matches!(self, Value::Null)
     }
@@ -160,8 +194,8 @@ impl<'a> Value<'a> {
         })
     }
 
-    /// Returns a struct; of a null pointer one in which each field has its default.
-    pub fn as_struct(&self) -> Result<Struct<'a>, Error> {
+    /// Returns a struct; for a null pointer one in which each field has its default.
+    pub fn as_struct(&self) -> Result<Struct<'m, 'i>, Error> {
         match self {
             Value::Null => Ok(Struct::new(&[], &[], &[], 0)),
             Value::Struct(it) => Ok(*it),
@@ -169,8 +203,9 @@ impl<'a> Value<'a> {
         }
     }
 
-    /// Returns the bytes of a text without the zero that ends it: only bytes of which the last one is zero are a text.
-    pub fn as_text_bytes(&self) -> Result<Option<&'a [u8]>, Error> {
+    /// Returns the bytes of a Text without the zero that ends it; for a null pointer `None`. Bytes of which the last
+    /// one isn't zero are no Text.
+    pub fn as_text_bytes(&self) -> Result<Option<&'m [u8]>, Error> {
         match self {
             Value::Null => Ok(None),
             Value::Bytes([text @ .., 0]) => Ok(Some(text)),
@@ -178,8 +213,8 @@ impl<'a> Value<'a> {
         }
     }
 
-    /// Returns a text, which has to be UTF-8; of a null pointer `None`, and the schema says what the default is.
-    pub fn as_text(&self) -> Result<Option<&'a str>, Error> {
+    /// Returns a Text, which must be valid UTF-8; for a null pointer `None`: the schema says what the default is.
+    pub fn as_text(&self) -> Result<Option<&'m str>, Error> {
         match self.as_text_bytes()?.map(core::str::from_utf8) {
             None => Ok(None),
             Some(Ok(text)) => Ok(Some(text)),
@@ -187,8 +222,8 @@ impl<'a> Value<'a> {
         }
     }
 
-    /// Returns the bytes of a data; of a null pointer `None`.
-    pub fn as_data(&self) -> Result<Option<&'a [u8]>, Error> {
+    /// Returns the bytes of a Data; for a null pointer `None`.
+    pub fn as_data(&self) -> Result<Option<&'m [u8]>, Error> {
         match self {
             Value::Null => Ok(None),
             Value::Bytes(data) => Ok(Some(data)),
@@ -196,11 +231,12 @@ impl<'a> Value<'a> {
         }
     }
 
-    /// Returns a list of numbers, or the first fields of the structs that a newer writer made of them.
+    /// Returns a list of numbers, or the first field of each struct that a newer writer has in place of a number; for a
+    /// null pointer an empty list.
     ///
-    /// The list is an iterator, with a `len` and a `get`. A list of numbers of another width is an error, also a wider
-    /// one, which the reference implementation reads.
-    pub fn as_list<T: Number>(&self) -> Result<Numbers<'a, T>, Error> {
+    /// A struct without data has zeros: canonical bytes leave out the zeros at the ends of structs. A list of numbers
+    /// of another width is an error, also of a wider one, which the reference implementation reads.
+    pub fn as_list<T: Number>(&self) -> Result<Numbers<'m, T>, Error> {
         let numbers = match self {
             Value::Null => Some(Numbers::none()),
             Value::Bits(it) if T::BITS == 1 => Some(it.cast()),
@@ -208,17 +244,18 @@ impl<'a> Value<'a> {
             Value::U16(it) if T::BITS == 16 => Some(it.cast()),
             Value::U32(it) if T::BITS == 32 => Some(it.cast()),
             Value::U64(it) if T::BITS == 64 => Some(it.cast()),
-            Value::Rows(Rows(it)) if T::BITS > 1 && it.width > 0 => Some(Numbers::of(it)),
+            Value::Rows(Rows(it)) if T::BITS > 1 => Some(Numbers::of(it)),
             _ => None,
         };
         numbers.map_or_else(|| self.unexpected("list of these numbers"), Ok)
     }
 
-    /// Returns a list of structs, or of the numbers or pointers of an older writer that had only their first field.
-    pub fn as_rows(&self) -> Result<Rows<'a>, Error> {
+    /// Returns a list of structs, or of the numbers or pointers that an older writer has in place of structs, each as a
+    /// struct of that one field; for a null pointer an empty list.
+    pub fn as_rows(&self) -> Result<Rows<'m, 'i>, Error> {
         Ok(Rows(match self {
             Value::Null => Items::none(),
-            Value::Rows(Rows(it)) | Value::Pointers(Pointers(it)) => *it,
+            Value::Rows(Rows(it)) | Value::Pointers(Pointers(it)) => it.clone(),
             Value::Void(count) => Items::new(&[], &[], &[], *count, 0, 0),
             Value::Bytes(bytes) => Items::new(&[], bytes, &[], bytes.len() as u32, 1, 0),
             Value::U16(it) => it.items(),
@@ -228,18 +265,19 @@ impl<'a> Value<'a> {
         }))
     }
 
-    /// Returns a list of pointers, or the first pointers of the structs that a newer writer made of them.
-    pub fn as_pointers(&self) -> Result<Pointers<'a>, Error> {
+    /// Returns a list of pointers, or the first pointer of each struct that a newer writer has in place of a pointer;
+    /// for a null pointer an empty list. A struct without pointers has a null pointer.
+    pub fn as_pointers(&self) -> Result<Pointers<'m, 'i>, Error> {
         match self {
             Value::Null => Ok(Pointers(Items::none())),
-            Value::Pointers(it) => Ok(*it),
-            Value::Rows(Rows(it)) if it.slots > 0 => Ok(Pointers(*it)),
+            Value::Pointers(it) => Ok(it.clone()),
+            Value::Rows(Rows(it)) => Ok(Pointers(it.clone())),
             _ => self.unexpected("list of pointers"),
         }
     }
 }
 
-impl fmt::Debug for Value<'_> {
+impl fmt::Debug for Value<'_, '_> {
     fn fmt(&self, f: &mut fmt::Formatter<'_>) -> fmt::Result {
         match self {
             Value::Null => f.write_str("null"),

@@ -1,7 +1,7 @@
-//! Cap'n Proto messages by a proved library, without a schema.
+//! Cap'n Proto messages without a schema: canonical bytes, digests, checks and fields.
 //!
-//! What is proved is the library that `capn-sys` links; this crate is a layer over it, which is tested. It copies no
-//! message, and has `unsafe` in one file. A message is passed as its bytes and a [`Form`], or in segments
+//! The library that `capn-sys` links is formally verified. This crate is a layer over it, and is tested. It copies no
+//! message, and has `unsafe` code in one file. A message is passed as its bytes and a [`Form`], or in segments
 //! ([`segments`]).
 //!
 //! ```
@@ -19,12 +19,12 @@
 //! let index = capn::Index::new(&message, Form::Stream, &limits)?;
 //! assert_eq!(index.root().as_struct()?.get::<u64>(0, 0), 5);
 //!
-//! let refused = capn::check(&message[..20], Form::Stream, &limits).unwrap_err();
-//! assert_eq!(refused.to_string(), "frame: Cut");
+//! let rejected = capn::check(&message[..20], Form::Stream, &limits).unwrap_err();
+//! assert_eq!(rejected.to_string(), "frame: Cut");
 //! # Ok::<(), capn::Error>(())
 //! ```
 //!
-//! With the feature `std`, which is on, there is [`Reader`]; without it the crate needs `alloc` alone.
+//! The feature `std`, which is on by default, adds [`Reader`]. Without it the crate needs only `alloc`.
 #![no_std]
 #![deny(unsafe_code)]
 #![warn(missing_docs)]
@@ -46,19 +46,25 @@ mod same;
 mod scratch;
 pub mod segments;
 mod stream;
+#[cfg(feature = "std")]
+mod unpacker;
 mod ways;
 
 pub use error::{Error, Kind, Place};
 pub use fields::{Number, Numbers, Pointers, Rows, Struct};
 pub use index::{Index, Value};
-pub use limits::{Form, Limits, Style, Tariff};
+pub use limits::{Form, Limit, Limits, Style, Tariff};
+#[allow(deprecated)]
+pub use message::is_canonical;
 pub use message::{
-    canonical, canonical_into, check, digest, is_canonical, is_canonical_in, pack, show, survey,
-    unpack, Checked, Figures,
+    canonical, canonical_into, check, digest, is_canonical_in, is_canonical_message,
+    is_canonical_words, pack, show, survey, unpack, Checked, Figures,
 };
 #[cfg(feature = "std")]
-pub use reader::{ReadError, Reader};
+pub use reader::{IntoMessages, ReadError, Reader};
 pub use same::{same, SameError, Which};
 pub use scratch::{canonical_with_scratch, ScratchError};
-pub use stream::{messages, Messages};
+pub use stream::{messages, Messages, StreamError};
+#[cfg(feature = "std")]
+pub use unpacker::Unpacker;
 pub use ways::{departure, refusal_way, Departure, Owner, Way};

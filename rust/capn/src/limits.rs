@@ -1,4 +1,5 @@
-//! Forms, styles, tariffs and limits.
+//! Forms, styles, counting rules and limits.
+use core::fmt;
 
 /// How the bytes of a message are written.
 #[derive(Clone, Copy, Debug, Default, PartialEq, Eq, Hash)]
@@ -8,7 +9,7 @@ pub enum Form {
     Stream,
     /// Such bytes, packed.
     Packed,
-    /// The words of one segment, with no table.
+    /// The words of a single segment without its segment table.
     Bare,
 }
 
@@ -26,22 +27,24 @@ pub enum Style {
     JsonText,
 }
 
-/// How a walk counts what it pays.
+/// The counting rule for what reading a message costs.
 #[derive(Clone, Copy, Debug, Default, PartialEq, Eq, Hash)]
 pub enum Tariff {
-    /// Each struct and list pays a word beside its size.
+    /// Each struct and list costs a word more than its size.
     #[default]
     Strict,
-    /// Nothing beside it, as the traversal limit of the implementation in C++ counts.
+    /// Each struct and list costs its size, as the traversal limit of the implementation in C++ counts it.
     Plain,
 }
 
-/// How much a call takes on. The root object has depth 1; walks pay words of 8 bytes.
+/// What a call accepts. The cost of reading is in words of 8 bytes, and the root object has depth 1.
 ///
 /// ```
 /// let limits = capn::Limits { depth: 32, ..capn::Limits::default() };
 /// assert_eq!((limits.message_words, limits.budget), (8_388_608, 8_388_608));
 /// ```
+///
+/// Every call takes a reference to them.
 #[derive(Clone, Copy, Debug, PartialEq, Eq, Hash)]
 pub struct Limits {
     // c/limits.txt: fields in rust
@@ -54,6 +57,28 @@ pub struct Limits {
     /// The counting rule for costs.
     pub tariff: Tariff,
     // c/limits.txt ends
+}
+
+/// One of the [`Limits`].
+#[non_exhaustive]
+#[derive(Clone, Copy, Debug, PartialEq, Eq, Hash)]
+pub enum Limit {
+    /// `message_words`
+    MessageWords,
+    /// `budget`
+    Budget,
+    /// `depth`
+    Depth,
+}
+
+impl fmt::Display for Limit {
+    fn fmt(&self, f: &mut fmt::Formatter<'_>) -> fmt::Result {
+        f.write_str(match self {
+            Limit::MessageWords => "message_words",
+            Limit::Budget => "budget",
+            Limit::Depth => "depth",
+        })
+    }
 }
 
 impl Limits {
@@ -69,8 +94,32 @@ impl Limits {
     }
     // c/limits.txt ends
 
-    /// The room that canonical bytes begin with: they are mostly no longer than the message, and never than the budget
-    /// allows.
+    /// The first limit that is out of its range: each call returns [`Error::OutOfRange`](crate::Error::OutOfRange) for
+    /// it.
+    ///
+    /// ```
+    /// use capn::{Limit, Limits};
+    ///
+    /// assert_eq!(Limits::usual().out_of_range(), None);
+    /// let limits = Limits { budget: u32::MAX, ..Limits::usual() };
+    /// assert_eq!(limits.out_of_range(), Some(Limit::Budget));
+    /// ```
+    pub const fn out_of_range(&self) -> Option<Limit> {
+        const MOST_WORDS: u32 = 1 << 28;
+        if self.message_words == 0 || self.message_words > MOST_WORDS {
+            return Some(Limit::MessageWords);
+        }
+        if self.budget > MOST_WORDS {
+            return Some(Limit::Budget);
+        }
+        if self.depth == 0 || self.depth > 256 {
+            return Some(Limit::Depth);
+        }
+        None
+    }
+
+    /// How many bytes canonical bytes begin with room for: mostly they are not longer than the message, and never
+    /// longer than the traversal limit allows.
     pub(crate) fn most_bytes(&self, size: usize) -> usize {
         size.min(8 * (self.budget as usize + 1))
     }
@@ -85,6 +134,13 @@ impl Limits {
             tariff: self.tariff as u32,
             // c/limits.txt ends
         }
+    }
+}
+
+/// A copy, for calls that take limits by reference or by value.
+impl From<&Limits> for Limits {
+    fn from(limits: &Limits) -> Self {
+        *limits
     }
 }
 

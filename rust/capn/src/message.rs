@@ -5,32 +5,32 @@ use alloc::vec::Vec;
 use crate::call;
 use crate::{Error, Form, Limits, Style};
 
-/// What reading a message pays, in words, and how many visits it makes.
+/// What reading a message costs.
 #[derive(Clone, Copy, Debug, PartialEq, Eq, Hash)]
 pub struct Checked {
-    /// Words that its walk pays.
+    /// The cost in words of 8 bytes.
     pub paid: u32,
-    /// Visits that its walk makes.
+    /// How many pointers are followed, null pointers included.
     pub visits: u32,
 }
 
-/// The figures of a message.
+/// A summary of a message.
 #[non_exhaustive]
 #[derive(Clone, Copy, Debug, PartialEq, Eq, Hash)]
 pub struct Figures {
-    /// Words of all segments.
+    /// The words of all segments.
     pub words: u32,
-    /// Segments, 1 to 4,096.
+    /// The number of segments, 1 to 4,096.
     pub segments: u32,
-    /// Words that its walk pays.
+    /// The cost of reading it, in words of 8 bytes.
     pub paid: u32,
-    /// Visits that its walk makes.
+    /// How many pointers are followed, null pointers included.
     pub visits: u32,
-    /// The least depth under which it is accepted: 0 for a null root, else from 1 on.
+    /// The depth of its deepest object: 0 for a null root, and 1 if only the root object is there.
     pub depth: u32,
-    /// The index of its first capability, in preorder.
+    /// The index of its first capability in preorder.
     pub capability: Option<u32>,
-    /// Whether it has one segment, and that is its canonical bytes.
+    /// Whether its only segment is its canonical bytes.
     pub is_canonical: bool,
 }
 
@@ -65,13 +65,14 @@ impl Figures {
 pub fn canonical(message: &[u8], form: Form, limits: &Limits) -> Result<Vec<u8>, Error> {
     let mut out = Vec::new();
     canonical_into(message, form, limits, &mut out)?;
-    Ok(out)
+    Ok(call::fitted(out))
 }
 
-/// Appends the canonical bytes of one message, and returns what its walk paid. After an error `out` has the bytes that
-/// it had.
+/// Appends the canonical bytes of one message, and returns what reading it costs in words. After an error `out` has the
+/// bytes that it had.
 ///
-/// To write many messages with one buffer, clear it before each:
+/// The vector grows by a factor, so appending many messages takes linear time. To write many messages with one buffer,
+/// clear it before each:
 ///
 /// ```
 /// use capn::{Form, Limits};
@@ -86,7 +87,7 @@ pub fn canonical(message: &[u8], form: Form, limits: &Limits) -> Result<Vec<u8>,
 /// # Ok::<(), capn::Error>(())
 /// ```
 ///
-/// A message can't lie in what is written, since `out` is borrowed alone:
+/// A message can't overlap `out`, which is borrowed exclusively:
 ///
 /// ```compile_fail,E0502
 /// # use capn::{Form, Limits};
@@ -101,22 +102,22 @@ pub fn canonical_into(
     limits: &Limits,
     out: &mut Vec<u8>,
 ) -> Result<u32, Error> {
-    // Canonical bytes are mostly no longer than the message; of packed ones the library says what is enough.
+    // For a packed message the library says how much is enough.
     let hint = match form {
         Form::Packed => 0,
         _ => limits.most_bytes(message.len()),
     };
-    Ok(call::canonical(form, message, &limits.raw(), hint, out)?.paid)
+    Ok(call::canonical(form, message, limits, hint, out)?.paid)
 }
 
 /// Returns the SHA-256 of the canonical bytes of one message.
 ///
-/// It says nothing of the type of the value: sign a statement over it that names the type and the protocol.
+/// Don't sign the digest alone: it says nothing of the type and the purpose of the message.
 ///
 /// ```
 /// use capn::{Form, Limits};
 ///
-/// /// Returns true if the bytes are exactly one message, of the value that has this digest.
+/// /// Returns true if the bytes are exactly one message whose value has this digest.
 /// fn has_digest(message: &[u8], digest: &[u8; 32], limits: &Limits) -> bool {
 ///     capn::digest(message, Form::Stream, limits).as_ref() == Ok(digest)
 /// }
@@ -128,27 +129,27 @@ pub fn canonical_into(
 /// ```
 #[inline]
 pub fn digest(message: &[u8], form: Form, limits: &Limits) -> Result<[u8; 32], Error> {
-    call::hash(form, message, &limits.raw())
+    call::hash(form, message, limits)
 }
 
-/// Returns true if one message is canonical: if it has one segment, and that is the canonical bytes of its value. An
-/// error if the message is refused, or has a capability and so no canonical bytes.
+/// Returns true if one message is canonical: if its only segment is its canonical bytes. A message with a capability
+/// has no canonical bytes, and is an error.
 ///
 /// ```
 /// use capn::{Form, Limits};
 ///
-/// // The table of a segment of three words, and a struct of two, 5 and 0: canonical bytes have no word of zeros at its
-/// // end.
+/// // The table of a segment of three words, and a struct of two, 5 and 0: canonical bytes have no word of zeros at the
+/// // end of a struct.
 /// let message = [3u64 << 32, 2 << 32, 5, 0].map(u64::to_le_bytes).concat();
-/// assert!(!capn::is_canonical_in(&message, Form::Stream, &Limits::usual())?);
+/// assert!(!capn::is_canonical_message(&message, Form::Stream, &Limits::usual())?);
 ///
 /// let canonical = capn::canonical(&message, Form::Stream, &Limits::usual())?;
-/// assert!(capn::is_canonical_in(&canonical, Form::Bare, &Limits::usual())?);
+/// assert!(capn::is_canonical_message(&canonical, Form::Bare, &Limits::usual())?);
 /// # Ok::<(), capn::Error>(())
 /// ```
-pub fn is_canonical_in(message: &[u8], form: Form, limits: &Limits) -> Result<bool, Error> {
+pub fn is_canonical_message(message: &[u8], form: Form, limits: &Limits) -> Result<bool, Error> {
     if form == Form::Bare {
-        return is_canonical(message, limits);
+        return is_canonical_words(message, limits);
     }
     let figures = survey(message, form, limits)?;
     match figures.capability {
@@ -157,27 +158,42 @@ pub fn is_canonical_in(message: &[u8], form: Form, limits: &Limits) -> Result<bo
     }
 }
 
-/// Returns true if bytes, read bare, are the canonical bytes of their value.
+/// Another name of [`is_canonical_message`].
+pub fn is_canonical_in(message: &[u8], form: Form, limits: &Limits) -> Result<bool, Error> {
+    is_canonical_message(message, form, limits)
+}
+
+/// Returns true if words, the single segment of a message without its segment table, are the canonical bytes of their
+/// value. It allocates nothing.
 ///
-/// It takes no segment table: with its table before it, nearly any message of one segment passes as a bare one that is
-/// canonical. Ask [`is_canonical_in`] about a stream.
+/// Pass a message with its segment table to [`is_canonical_message`]. Here nearly every message of one segment passes
+/// with its table, canonical or not.
 ///
 /// ```
-/// assert!(capn::is_canonical(&[0; 8], &capn::Limits::usual())?);
-/// assert!(!capn::is_canonical(&[0; 16], &capn::Limits::usual())?);
+/// assert!(capn::is_canonical_words(&[0; 8], &capn::Limits::usual())?);
+/// assert!(!capn::is_canonical_words(&[0; 16], &capn::Limits::usual())?);
 /// # Ok::<(), capn::Error>(())
 /// ```
 #[inline]
-pub fn is_canonical(words: &[u8], limits: &Limits) -> Result<bool, Error> {
-    call::is_canonical(words, &limits.raw())
+pub fn is_canonical_words(words: &[u8], limits: &Limits) -> Result<bool, Error> {
+    call::is_canonical(words, limits)
 }
 
-/// Returns what reading one message costs, or an error if the message is refused within limits.
+/// Returns true if words without a segment table are the canonical bytes of their value.
+#[deprecated(
+    note = "it takes no segment table: call `is_canonical_message` with the form, or `is_canonical_words`"
+)]
+#[inline]
+pub fn is_canonical(words: &[u8], limits: &Limits) -> Result<bool, Error> {
+    is_canonical_words(words, limits)
+}
+
+/// Returns what reading one message costs, or an error if the message is invalid or over a limit.
 ///
 /// ```
 /// use capn::{Form, Kind, Limits, Place};
 ///
-/// // A struct whose only pointer leads back to it.
+/// // A struct whose only pointer refers back to it.
 /// let hostile = [0, 0, 0, 0, 1, 0, 0, 0, 0xfc, 0xff, 0xff, 0xff, 0, 0, 1, 0];
 /// let refused = capn::check(&hostile, Form::Stream, &Limits::usual()).unwrap_err();
 /// assert_eq!(refused.to_string(), "TooDeep at 0:0, paid 128, visits 65");
@@ -186,14 +202,14 @@ pub fn is_canonical(words: &[u8], limits: &Limits) -> Result<bool, Error> {
 /// ```
 #[inline]
 pub fn check(message: &[u8], form: Form, limits: &Limits) -> Result<Checked, Error> {
-    let report = call::check(form, message, &limits.raw())?;
+    let report = call::check(form, message, limits)?;
     Ok(Checked {
         paid: report.paid,
         visits: report.visits,
     })
 }
 
-/// Returns the figures of one message.
+/// Returns a summary of one message.
 ///
 /// ```
 /// use capn::{Form, Limits};
@@ -205,11 +221,11 @@ pub fn check(message: &[u8], form: Form, limits: &Limits) -> Result<Checked, Err
 /// ```
 #[inline]
 pub fn survey(message: &[u8], form: Form, limits: &Limits) -> Result<Figures, Error> {
-    Ok(Figures::of(&call::survey(form, message, &limits.raw())?))
+    Ok(Figures::of(&call::survey(form, message, limits)?))
 }
 
-/// Returns the text of one message: what `capn show` writes of it in a style. It may be far longer than the message, so
-/// have limits.
+/// Returns the text of one message, as `capn show` prints it in a style. It may be far longer than the message, so set
+/// limits.
 ///
 /// ```
 /// use capn::{Form, Limits, Style};
@@ -224,10 +240,10 @@ pub fn survey(message: &[u8], form: Form, limits: &Limits) -> Result<Figures, Er
 /// # Ok::<(), capn::Error>(())
 /// ```
 pub fn show(message: &[u8], form: Form, limits: &Limits, style: Style) -> Result<String, Error> {
-    call::show(form, message, &limits.raw(), style)
+    call::show(form, message, limits, style)
 }
 
-/// Returns whole words packed.
+/// Returns the packed bytes of whole words.
 ///
 /// ```
 /// assert_eq!(capn::pack(&[5, 0, 0, 0, 0, 0, 0, 0])?, [1, 5]);
@@ -240,7 +256,7 @@ pub fn pack(words: &[u8]) -> Result<Vec<u8>, Error> {
     Ok(out)
 }
 
-/// Returns the words of packed bytes, at most `most_words` of them.
+/// Returns the words of packed bytes, of which there may be at most `most_words`.
 ///
 /// ```
 /// assert_eq!(capn::unpack(&[1, 5], 1)?, [5, 0, 0, 0, 0, 0, 0, 0]);

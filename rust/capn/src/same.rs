@@ -7,26 +7,26 @@ use crate::{Error, Form, Limits};
 /// One of the two messages that [`same`] compares.
 #[derive(Clone, Copy, Debug, PartialEq, Eq, Hash)]
 pub enum Which {
-    /// The first one, or neither, as where a limit is out of its range.
+    /// The first one, or neither, such as if a limit is out of its range.
     First,
-    /// The second one. The first one has canonical bytes.
+    /// The second one. The first one is valid.
     Second,
 }
 
-/// Why two messages were not compared. It is shown as its error is, and becomes that by `?`.
+/// Why two messages were not compared. Its text is that of its error, and it becomes that error by `?`.
 #[derive(Clone, Copy, Debug, PartialEq, Eq, Hash)]
 pub struct SameError {
-    /// The message that is refused, or for which memory was refused.
+    /// The message that is rejected, or for which an allocation failed.
     pub which: Which,
     /// The reason.
     pub error: Error,
 }
 
-/// Returns true if two messages, both in one form, have the same value: if their canonical bytes are equal.
+/// Returns true if two messages of the same form have the same value: if their canonical bytes are equal.
 ///
-/// Values are the same up to zero words and null pointers at the ends of structs. No canonical bytes are made: it
-/// surveys both messages, and walks them in step up to the first difference. An error is that of the first message, as
-/// [`canonical`](crate::canonical) has it, or if there is none that of the second.
+/// Zero words and null pointers at the ends of structs make no difference. It writes no canonical bytes: it checks both
+/// messages, and compares them up to the first difference. An error is that of the first message, as
+/// [`canonical`](crate::canonical) returns it, or else that of the second one.
 ///
 /// ```
 /// use capn::{Form, Kind, Limits, Which};
@@ -43,7 +43,7 @@ pub struct SameError {
 /// ```
 #[inline]
 pub fn same(first: &[u8], second: &[u8], form: Form, limits: &Limits) -> Result<bool, SameError> {
-    call::same(form, first, second, &limits.raw()).map_err(|(number, error)| SameError {
+    call::same(form, first, second, limits).map_err(|(number, error)| SameError {
         which: if number == 0 {
             Which::First
         } else {

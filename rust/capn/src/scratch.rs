@@ -7,32 +7,33 @@ use crate::{Error, Form, Limits};
 /// Why [`canonical_with_scratch`] wrote nothing.
 #[derive(Clone, Copy, Debug, PartialEq, Eq, Hash)]
 pub enum ScratchError {
-    /// The scratch has too few words: so many are needed.
+    /// The scratch is too small: it needs this many words.
     NoScratch(usize),
-    /// The room has too few bytes: so many are needed.
+    /// `out` is too small: it needs this many bytes.
     NoRoom(usize),
-    /// The message is refused, or a limit is out of its range. It is never that memory was refused.
+    /// The message is rejected, or a limit is out of its range. It is never [`Error::Memory`].
     Error(Error),
 }
 
-/// Writes the canonical bytes of one message to the start of `out`, and returns how many they are. It takes no memory:
-/// `scratch` is the room for what is kept meanwhile. After an error `out` is as it was.
+/// Writes the canonical bytes of one message to the start of `out`, and returns how many there are. It allocates
+/// nothing: it keeps what it has to remember in `scratch`. After an error `out` stays unchanged.
 ///
-/// Bare words, and a stream of at most 64 segments, take no scratch. Another stream takes a word for each segment but
-/// the last, at most 4,095; a packed text takes the words that it unpacks to, and behind them those of that stream. An
-/// error asks for the words of the text first, and a second one may ask for more.
+/// - A single segment without its table, and a message of at most 64 segments, need no scratch.
+/// - A message of more segments needs a word for each segment but the last, at most 4,095.
+/// - A packed message needs the words that it unpacks to, and behind them those of the unpacked message. The first
+///   error reports the unpacked words, and a second one may report that more are needed.
 ///
 /// ```
 /// use capn::{canonical_with_scratch, Form, Limits, ScratchError};
 ///
-/// // A struct of two words, 5 and 0, packed, and its table.
+/// // A struct of two words, 5 and 0, with its segment table, packed.
 /// let words = [3u64 << 32, 2 << 32, 5, 0].map(u64::to_le_bytes).concat();
-/// let text = capn::pack(&words)?;
+/// let packed = capn::pack(&words)?;
 /// let (mut scratch, mut out) = ([[0; 8]; 4], [0; 64]);
 /// let limits = Limits::usual();
-/// let none = canonical_with_scratch(&text, Form::Packed, &limits, &mut [], &mut out);
+/// let none = canonical_with_scratch(&packed, Form::Packed, &limits, &mut [], &mut out);
 /// assert_eq!(none, Err(ScratchError::NoScratch(4)));
-/// let length = canonical_with_scratch(&text, Form::Packed, &limits, &mut scratch, &mut out).unwrap();
+/// let length = canonical_with_scratch(&packed, Form::Packed, &limits, &mut scratch, &mut out).unwrap();
 /// assert_eq!(out[..length], [1u64 << 32, 5].map(u64::to_le_bytes).concat());
 /// # Ok::<(), capn::Error>(())
 /// ```
@@ -44,7 +45,7 @@ pub fn canonical_with_scratch(
     scratch: &mut [[u8; 8]],
     out: &mut [u8],
 ) -> Result<usize, ScratchError> {
-    call::canonical_with_scratch(form, message, &limits.raw(), scratch, out)
+    call::canonical_with_scratch(form, message, limits, scratch, out)
 }
 
 impl fmt::Display for ScratchError {

@@ -1,7 +1,12 @@
-//! Where a message is refused, and where an accepted one leaves its canonical bytes.
+//! The path to an error, and the first difference from the canonical form.
 use alloc::vec::Vec;
 use core::fmt;
 use core::ops::Deref;
+
+use capn_sys::{
+    CAPN_DEPARTS_AFTER, CAPN_DEPARTS_CAPABILITY, CAPN_DEPARTS_SEGMENTS, CAPN_DEPARTS_WORD,
+    CAPN_OWNER_LAST_WORD, CAPN_OWNER_TAG,
+};
 
 use crate::call;
 use crate::{Error, Form, Limits};
@@ -9,8 +14,8 @@ use crate::{Error, Form, Limits};
 /// The path from the root of a message to a pointer, which is its numbers.
 ///
 /// A number leads from a struct to a pointer of it, from a list of pointers to an element, and from a list of structs
-/// to an element, of which the next number says the pointer. The way to the root has no numbers. It is shown as `capn
-/// show --at` takes it: `0.2`, or `root`.
+/// to an element, whose pointer the next number says. The path of the root has no numbers. Its text is what `capn show
+/// --at` takes: `0.2`, or `root`.
 #[derive(Clone, Debug, PartialEq, Eq, Hash)]
 pub struct Way(Vec<u32>);
 
@@ -40,15 +45,15 @@ impl fmt::Display for Way {
     }
 }
 
-/// Returns the way to the pointer at which the walk of one message stops. `None` if no walk refuses the message:
-/// because it is accepted, or because it is refused before that, as one that is cut is.
+/// Returns the path to the pointer at which one message is rejected. `None` if no pointer is at fault: the message is
+/// valid, or it is rejected earlier, such as a truncated one.
 ///
-/// It walks a refused message twice, so call it where the way is of use, after a call has refused the message.
+/// It checks a rejected message twice, so call it after another call has rejected the message.
 ///
 /// ```
 /// use capn::{Form, Limits};
 ///
-/// // A struct of two pointers; the second leads to a list that is longer than the message.
+/// // A struct of two pointers; the second one refers to a list that is longer than the message.
 /// let words = [2u64 << 48, 0, 1 | 2 << 32 | 99 << 35].map(u64::to_le_bytes).concat();
 /// let refused = capn::check(&words, Form::Bare, &Limits::usual()).unwrap_err();
 /// assert_eq!(refused.to_string(), "Range at 0:2, paid 3, visits 3");
@@ -57,10 +62,10 @@ impl fmt::Display for Way {
 /// # Ok::<(), capn::Error>(())
 /// ```
 pub fn refusal_way(message: &[u8], form: Form, limits: &Limits) -> Result<Option<Way>, Error> {
-    Ok(call::refusal_way(form, message, &limits.raw())?.map(Way))
+    Ok(call::refusal_way(form, message, limits)?.map(Way))
 }
 
-/// The first reason why an accepted message is not canonical. It is shown as `capn explain` writes it after
+/// The first difference of a valid message from its canonical form. Its text is what `capn explain` prints after
 /// `canonical: no: `.
 #[non_exhaustive]
 #[derive(Clone, Debug, PartialEq, Eq, Hash)]
@@ -74,47 +79,47 @@ pub enum Departure {
     Capability {
         /// The index of the first one in preorder.
         index: u32,
-        /// The way to it.
+        /// The path to it.
         way: Way,
     },
-    /// A word is not that of the canonical bytes.
+    /// A word differs from that of the canonical bytes.
     Word {
-        /// Where the word begins in the message; of a packed one, in what it unpacks to.
+        /// Where the word begins in the message, or in the unpacked bytes of a packed message.
         byte: u64,
         /// The word in the message.
         word: u64,
         /// The word in the canonical bytes.
         canonical: u64,
-        /// What it belongs to there.
+        /// What the word is part of.
         owner: Owner,
-        /// The way to the pointer that the owner is named by.
+        /// The path to the pointer that the owner refers to.
         way: Way,
     },
     /// Words come after the canonical bytes.
     After {
-        /// Where the first of them begins in the message; of a packed one, in what it unpacks to.
+        /// Where the first of them begins in the message, or in the unpacked bytes of a packed message.
         byte: u64,
         /// That word.
         word: u64,
     },
 }
 
-/// What a word of canonical bytes belongs to, beside the way to a pointer.
+/// What a word of canonical bytes is part of, by the path to a pointer.
 #[non_exhaustive]
 #[derive(Clone, Copy, Debug, PartialEq, Eq, Hash)]
 pub enum Owner {
     /// It is the pointer itself.
     Pointer,
-    /// The tag of the list of structs that the pointer leads to.
+    /// The tag word of the list of structs that the pointer refers to.
     Tag,
-    /// The last word of the list of bits, bytes or numbers that the pointer leads to.
+    /// The last word of the list of bits, bytes or numbers that the pointer refers to.
     LastWord,
 }
 
-/// Returns the first reason why one message that is accepted is not canonical, or `None` if it is.
+/// Returns the first difference of one valid message from its canonical form, or `None` if the message is canonical.
 ///
-/// It walks the message several times, and allocates memory for its canonical bytes:
-/// [`is_canonical_in`](crate::is_canonical_in) says sooner whether there is a reason.
+/// It checks the message several times, and allocates its canonical bytes.
+/// [`is_canonical_message`](crate::is_canonical_message) says sooner whether there is a difference.
 ///
 /// ```
 /// use capn::{Departure, Form, Limits};
@@ -132,31 +137,31 @@ pub enum Owner {
 /// # Ok::<(), capn::Error>(())
 /// ```
 pub fn departure(message: &[u8], form: Form, limits: &Limits) -> Result<Option<Departure>, Error> {
-    let (departed, way) = call::departure(form, message, &limits.raw())?;
+    let (departed, way) = call::departure(form, message, limits)?;
     let way = Way(way);
-    // Of a message of one segment the table is a word.
+    // The table of a message of one segment is a word.
     let table = if form == Form::Bare { 0 } else { 8 };
     let (byte, word) = (table + 8 * u64::from(departed.word), departed.is);
     Ok(match departed.kind {
-        1 => Some(Departure::Segments {
+        CAPN_DEPARTS_SEGMENTS => Some(Departure::Segments {
             count: departed.count,
         }),
-        2 => Some(Departure::Capability {
+        CAPN_DEPARTS_CAPABILITY => Some(Departure::Capability {
             index: departed.count,
             way,
         }),
-        3 => Some(Departure::Word {
+        CAPN_DEPARTS_WORD => Some(Departure::Word {
             byte,
             word,
             canonical: departed.canonical,
             owner: match departed.owner {
-                2 => Owner::Tag,
-                3 => Owner::LastWord,
+                CAPN_OWNER_TAG => Owner::Tag,
+                CAPN_OWNER_LAST_WORD => Owner::LastWord,
                 _ => Owner::Pointer,
             },
             way,
         }),
-        4 => Some(Departure::After { byte, word }),
+        CAPN_DEPARTS_AFTER => Some(Departure::After { byte, word }),
         _ => None,
     })
 }

@@ -1,7 +1,7 @@
 //! The calls by hand.
 use capn::{
-    segments, Error, Form, Index, Kind, Limits, Place, ReadError, Reader, SameError, ScratchError,
-    Style, Tariff, Value, Which,
+    segments, Error, Form, Index, Kind, Limit, Limits, Place, ReadError, Reader, SameError,
+    ScratchError, Style, Tariff, Value, Which,
 };
 use std::io::{self, Read, Write};
 use std::os::unix::net::UnixStream;
@@ -128,8 +128,9 @@ fn two_messages_are_compared() {
     assert_eq!(text, "TooDeep at 0:0, paid 128, visits 65");
     let none = Limits { depth: 0, ..USUAL };
     let wrong = capn::same(&one(), &one(), Form::Stream, &none).unwrap_err();
-    assert_eq!((wrong.which, wrong.error), (first, Error::Limits));
-    assert_eq!(Error::from(wrong), Error::Limits);
+    let depth = Error::OutOfRange(Limit::Depth);
+    assert_eq!((wrong.which, wrong.error), (first, depth));
+    assert_eq!(Error::from(wrong), depth);
 }
 
 #[test]
@@ -233,7 +234,8 @@ fn refusals_have_a_kind_a_place_and_the_text_of_the_program() {
     assert!(source.source().is_none());
 
     let none = Limits { depth: 0, ..USUAL };
-    assert_eq!(capn::check(&one(), Form::Stream, &none), Err(Error::Limits));
+    let refused = capn::check(&one(), Form::Stream, &none);
+    assert_eq!(refused, Err(Error::OutOfRange(Limit::Depth)));
     let low = Limits { budget: 2, ..USUAL };
     assert!(capn::check(&one(), Form::Stream, &low).is_err());
     let plain = Limits {
@@ -257,7 +259,7 @@ fn a_stream_in_memory() {
     assert_eq!((messages.number(), messages.offset()), (2, 64));
     let cut = messages.next().unwrap().unwrap_err();
     assert_eq!((messages.number(), messages.offset()), (3, 64));
-    assert_eq!(cut.to_string(), "frame: Cut");
+    assert_eq!(cut.to_string(), "message 3 at 64: frame: Cut");
     assert_eq!((messages.next(), messages.next()), (None, None));
     assert_eq!(capn::messages(&[], USUAL).next(), None);
 }
@@ -396,8 +398,8 @@ fn fields_with_defaults_and_newer_lists() {
     assert_eq!(root.slot(0).as_data().unwrap(), Some(&b"abc\0"[..]));
     assert_eq!(root.slot(2).as_text().unwrap(), None);
     let numbers = root.slot(1).as_list::<u16>().unwrap();
-    assert_eq!(numbers.collect::<Vec<_>>(), [3, 4]);
     assert_eq!((numbers.get(1), numbers.get(2)), (Some(4), None));
+    assert_eq!(numbers.clone().collect::<Vec<_>>(), [3, 4]);
     assert_eq!(
         root.slot(1)
             .as_pointers()
@@ -464,23 +466,174 @@ fn lists_in_place_of_others() {
     );
     assert_eq!(
         taken(|it| Some(it.as_list::<i8>().ok()?.count())),
-        "..1.....1."
+        "..1....111"
     );
     assert_eq!(
         taken(|it| Some(it.as_list::<u16>().ok()?.count())),
-        "...1....1."
+        "...1...111"
     );
     assert_eq!(
         taken(|it| Some(it.as_list::<f32>().ok()?.count())),
-        "....1...1."
+        "....1..111"
     );
     assert_eq!(
         taken(|it| Some(it.as_list::<f64>().ok()?.count())),
-        ".....1..1."
+        ".....1.111"
     );
     assert_eq!(
         taken(|it| Some(it.as_pointers().ok()?.count())),
-        "......1..1"
+        "......1111"
     );
     assert_eq!(taken(|it| Some(it.as_rows().ok()?.count())), "1.11111111");
+}
+
+/// A list of two structs of a zero word each, and its canonical bytes: structs of no words. A type from before the list
+/// had structs reads numbers, or pointers.
+#[test]
+fn structs_without_words_are_zeros_and_nulls() {
+    let stored = words(&[1 << 48, 1 | 0x17 << 32, 8 | 1 << 32, 0, 0]);
+    let pointers = words(&[1 << 48, 1 | 0x17 << 32, 8 | 1 << 48, 0, 0]);
+    let canonical = words(&[1 << 48, 1 | 7 << 32, 8]);
+    for message in [&stored, &pointers, &canonical] {
+        assert_eq!(
+            capn::canonical(message, Form::Bare, &USUAL).as_ref(),
+            Ok(&canonical)
+        );
+        let index = Index::new(message, Form::Bare, &USUAL).unwrap();
+        let list = index.root().as_struct().unwrap().slot(0);
+        assert!(list.as_list::<u8>().unwrap().eq([0, 0]));
+        assert!(list.as_list::<u16>().unwrap().eq([0, 0]));
+        assert!(list.as_list::<i32>().unwrap().eq([0, 0]));
+        assert!(list.as_list::<f64>().unwrap().eq([0.0, 0.0]));
+        assert_eq!(list.as_list::<u16>().unwrap().get(1), Some(0));
+        assert_eq!(list.as_list::<u16>().unwrap().get(2), None);
+        let pointers = list.as_pointers().unwrap();
+        assert!(pointers.len() == 2 && pointers.into_iter().all(|it| it.is_null()));
+        // A list of bits is only ever one of bits.
+        assert!(list.as_list::<bool>().is_err());
+    }
+    // Structs of a pointer each, to a text: no number is read out of a pointer.
+    let texts = words(&[
+        1 | 0x17 << 32,
+        8 | 1 << 48,
+        5 | 0x22 << 32,
+        5 | 0x22 << 32,
+        0x61_6161,
+        0x62_6262,
+    ]);
+    let index = Index::new(&texts, Form::Bare, &USUAL).unwrap();
+    assert!(index.root().as_list::<u64>().unwrap().eq([0, 0]));
+    let texts = index.root().as_pointers().unwrap();
+    assert!(texts
+        .map(|it| it.as_text().unwrap())
+        .eq([Some("aaa"), Some("bbb")]));
+}
+
+/// `List(UInt8)` of an older writer, read as structs of a wider field: the field is absent.
+#[test]
+fn a_field_wider_than_the_element_of_an_older_list_has_its_default() {
+    let message = words(&[1 << 48, 1 | (2 | 1 << 3) << 32, 5]);
+    let index = Index::new(&message, Form::Bare, &USUAL).unwrap();
+    let mut rows = index.root().as_struct().unwrap().slot(0).as_rows().unwrap();
+    let row = rows.next().unwrap();
+    assert_eq!((row.get::<u8>(0, 0), row.get::<u8>(0, 7)), (5, 2));
+    assert_eq!((row.get::<u16>(0, 7), row.get::<i64>(0, -1)), (7, -1));
+    assert_eq!(
+        (row.get::<bool>(0, true), row.get::<bool>(8, true)),
+        (false, true)
+    );
+    assert!(row.slot(0).is_null() && rows.next().is_none());
+}
+
+/// A text is borrowed from the message, and its index may end before it.
+#[test]
+fn a_text_outlives_its_index() {
+    fn parts(message: &[u8]) -> Result<(&str, &[u8], Vec<u16>), Error> {
+        let index = Index::new(message, Form::Bare, &USUAL)?;
+        let root = index.root().as_struct()?;
+        let numbers = root.slot(1).as_list::<u16>()?;
+        let text = root.slot(0).as_text()?.unwrap_or_default();
+        let data = root.slot(0).as_data()?.unwrap_or_default();
+        Ok((text, data, numbers.collect()))
+    }
+    fn numbers(message: &[u8]) -> Result<capn::Numbers<'_, u16>, Error> {
+        let index = Index::new(message, Form::Bare, &USUAL)?;
+        let root = index.root().as_struct()?;
+        root.slot(1).as_list()
+    }
+    let message = words(&[
+        2 << 48,
+        5 | 0x22 << 32,
+        5 | 0x13 << 32,
+        0x63_6261,
+        7 | 8 << 16,
+    ]);
+    let (text, data, list) = parts(&message).unwrap();
+    assert_eq!((text, data, list), ("abc", &b"abc\0"[..], vec![7, 8]));
+    assert!(numbers(&message).unwrap().eq([7, 8]));
+}
+
+#[test]
+fn an_error_says_which_limit_is_out_of_its_range() {
+    let (most, words) = (
+        1 << 28,
+        [0, 1, 2, (1 << 28) - 1, 1 << 28, (1 << 28) + 1, u32::MAX],
+    );
+    for number in words.into_iter().chain([64, 255, 256, 257]) {
+        let is_words = number >= 1 && number <= most;
+        for (limit, limits, is_right) in [
+            (
+                Limit::MessageWords,
+                Limits {
+                    message_words: number,
+                    ..USUAL
+                },
+                is_words,
+            ),
+            (
+                Limit::Budget,
+                Limits {
+                    budget: number,
+                    ..USUAL
+                },
+                number <= most,
+            ),
+            (
+                Limit::Depth,
+                Limits {
+                    depth: number,
+                    ..USUAL
+                },
+                (1..=256).contains(&number),
+            ),
+        ] {
+            let wanted = (!is_right).then_some(limit);
+            assert_eq!(limits.out_of_range(), wanted);
+            let wanted = wanted.map(Error::OutOfRange);
+            let found = [
+                capn::check(&[0; 8], Form::Bare, &limits).err(),
+                capn::is_canonical_words(&[0; 8], &limits).err(),
+                capn::survey(&[0; 8], Form::Bare, &limits).err(),
+                segments::digest(&[&[0; 8]], &limits).err(),
+                Index::new(&[0; 8], Form::Bare, &limits).err(),
+                capn::departure(&[0; 8], Form::Bare, &limits).err(),
+                capn::refusal_way(&[0; 8], Form::Bare, &limits).err(),
+                capn::show(&[0; 8], Form::Bare, &limits, Style::Lines).err(),
+                capn::same(&[0; 8], &[0; 8], Form::Bare, &limits)
+                    .err()
+                    .map(Error::from),
+            ];
+            let of_check =
+                |it: &Option<Error>| it.map_or(true, |it| it.kind() == Some(Kind::TooManyWords));
+            assert!(
+                found
+                    .iter()
+                    .all(|it| *it == wanted || (is_right && of_check(it))),
+                "{found:?}"
+            );
+        }
+    }
+    let error = Error::OutOfRange(Limit::MessageWords);
+    assert!(error.to_string().ends_with(": message_words"));
+    assert_eq!((error.kind(), error.place()), (None, None));
 }

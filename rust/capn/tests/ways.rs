@@ -26,47 +26,50 @@ const OUTSIDE: [u64; 4] = [
 fn whether_a_message_is_canonical_in_its_form() {
     let stream = framed(&LOOSE);
     // Read bare, the table and the segment are a struct of data: the call of C has no form.
-    assert_eq!(capn::is_canonical(&stream, &USUAL), Ok(true));
+    assert_eq!(capn::is_canonical_words(&stream, &USUAL), Ok(true));
     assert_eq!(
-        capn::is_canonical_in(&stream, Form::Stream, &USUAL),
+        capn::is_canonical_message(&stream, Form::Stream, &USUAL),
         Ok(false)
     );
     let packed = capn::pack(&stream).unwrap();
     assert_eq!(
-        capn::is_canonical_in(&packed, Form::Packed, &USUAL),
+        capn::is_canonical_message(&packed, Form::Packed, &USUAL),
         Ok(false)
     );
     assert_eq!(
-        capn::is_canonical_in(&stream[8..], Form::Bare, &USUAL),
+        capn::is_canonical_message(&stream[8..], Form::Bare, &USUAL),
         Ok(false)
     );
 
     let stream = framed(&[1 << 32, 5]);
     let packed = capn::pack(&stream).unwrap();
     assert_eq!(
-        capn::is_canonical_in(&stream, Form::Stream, &USUAL),
+        capn::is_canonical_message(&stream, Form::Stream, &USUAL),
         Ok(true)
     );
     assert_eq!(
-        capn::is_canonical_in(&packed, Form::Packed, &USUAL),
+        capn::is_canonical_message(&packed, Form::Packed, &USUAL),
         Ok(true)
     );
     assert_eq!(
-        capn::is_canonical_in(&stream[8..], Form::Bare, &USUAL),
+        capn::is_canonical_message(&stream[8..], Form::Bare, &USUAL),
         Ok(true)
     );
 
     // The same in two segments; a message that is cut; a capability, of which there are no canonical bytes.
     let two = words(&[1 | 2 << 32, 0, 1 << 32, 5]);
-    assert_eq!(capn::is_canonical_in(&two, Form::Stream, &USUAL), Ok(false));
-    let cut = capn::is_canonical_in(&stream[..20], Form::Stream, &USUAL).unwrap_err();
+    assert_eq!(
+        capn::is_canonical_message(&two, Form::Stream, &USUAL),
+        Ok(false)
+    );
+    let cut = capn::is_canonical_message(&stream[..20], Form::Stream, &USUAL).unwrap_err();
     assert_eq!(cut.kind(), Some(Kind::FrameCut));
     let capability = framed(&[1 << 48, 3 | 7 << 32]);
     for (message, form) in [
         (&capability[..], Form::Stream),
         (&capability[8..], Form::Bare),
     ] {
-        let refused = capn::is_canonical_in(message, form, &USUAL).unwrap_err();
+        let refused = capn::is_canonical_message(message, form, &USUAL).unwrap_err();
         assert_eq!(
             (refused.kind(), refused.place()),
             (Some(Kind::Capability), Some(Place::At(7)))
@@ -108,11 +111,11 @@ fn the_way_to_a_refusal() {
         let limits = Limits { depth, ..USUAL };
         assert_eq!(
             capn::refusal_way(&stream, Form::Stream, &limits),
-            Err(capn::Error::Limits)
+            Err(capn::Error::OutOfRange(capn::Limit::Depth))
         );
         assert_eq!(
             capn::departure(&stream, Form::Stream, &limits),
-            Err(capn::Error::Limits)
+            Err(capn::Error::OutOfRange(capn::Limit::Depth))
         );
     }
     // As long as a way may be: two numbers for each level.

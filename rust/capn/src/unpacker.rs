@@ -1,0 +1,131 @@
+//! The words of a packed input, as they are asked for.
+use std::io::{self, Read};
+use std::vec::Vec;
+
+use crate::{call, Error};
+
+/// Unpacks an input while it is read.
+///
+/// Packed bytes come in groups, each of which unpacks to 1 to 256 words. It reads no group after the one that has the
+/// last byte that is asked for, and goes on after an error of its input. If the input ends within a group, the error
+/// has the kind [`UnexpectedEof`](io::ErrorKind::UnexpectedEof) and refers to an [`Error`]. It asks for few bytes at a
+/// time, as [`Reader`](crate::Reader) does.
+///
+/// ```
+/// use std::io::Read;
+///
+/// let mut words = Vec::new();
+/// capn::Unpacker::new(&[1, 5, 0, 1][..]).read_to_end(&mut words)?;
+/// assert_eq!(words, [[5, 0, 0, 0, 0, 0, 0, 0], [0; 8], [0; 8]].concat());
+/// # Ok::<(), std::io::Error>(())
+/// ```
+#[derive(Debug)]
+pub struct Unpacker<R> {
+    input: R,
+    /// Complete groups, and the one that has begun.
+    packed: Vec<u8>,
+    /// Where the one that has begun begins.
+    begun: usize,
+    /// How many words the complete groups have.
+    words: usize,
+    /// What is unpacked, of which the bytes up to `given` were asked for.
+    unpacked: Vec<u8>,
+    given: usize,
+    /// How many packed bytes were unpacked.
+    taken: u64,
+}
+
+/// How many words are unpacked at once.
+const MOST_WORDS: usize = 4096;
+
+impl<R> Unpacker<R> {
+    /// Returns the unpacker of an input.
+    pub fn new(input: R) -> Self {
+        Unpacker {
+            input,
+            packed: Vec::new(),
+            begun: 0,
+            words: 0,
+            unpacked: Vec::new(),
+            given: 0,
+            taken: 0,
+        }
+    }
+
+    /// Returns the input. The words that are unpacked and were not asked for are lost.
+    pub fn into_inner(self) -> R {
+        self.input
+    }
+}
+
+impl<R: Read> Unpacker<R> {
+    /// Reads groups until they have so many words, or the input ends after one.
+    fn gather(&mut self, words: usize) -> io::Result<()> {
+        while self.words < words.min(MOST_WORDS) {
+            let need = self.begun + group_size(&self.packed[self.begun..]);
+            let have = self.packed.len();
+            if have == need {
+                self.words += group_words(&self.packed[self.begun..]);
+                self.begun = have;
+                continue;
+            }
+            self.packed.resize(need, 0);
+            let came = self.input.read(&mut self.packed[have..]);
+            let count = *came.as_ref().unwrap_or(&0);
+            assert!(
+                count <= need - have,
+                "the input filled a part of the buffer"
+            );
+            self.packed.truncate(have + count);
+            match came {
+                Err(why) if why.kind() == io::ErrorKind::Interrupted => {}
+                Err(why) => return Err(why),
+                Ok(0) if have > self.begun => {
+                    let cut = Error::packed_cut(self.taken + self.begun as u64);
+                    return Err(io::Error::new(io::ErrorKind::UnexpectedEof, cut));
+                }
+                Ok(0) => break,
+                Ok(_) => {}
+            }
+        }
+        Ok(())
+    }
+}
+
+impl<R: Read> Read for Unpacker<R> {
+    fn read(&mut self, to: &mut [u8]) -> io::Result<usize> {
+        if self.given == self.unpacked.len() {
+            self.gather((to.len() + 7) / 8)?;
+            self.unpacked.resize(8 * self.words, 0);
+            self.given = 0;
+            let length = call::unpack_some(&self.packed, &mut self.unpacked);
+            let length = length.map_err(|why| io::Error::new(io::ErrorKind::Other, why))?;
+            self.unpacked.truncate(length);
+            self.taken += self.packed.len() as u64;
+            self.packed.clear();
+            (self.begun, self.words) = (0, 0);
+        }
+        let count = (&self.unpacked[self.given..]).read(to)?;
+        self.given += count;
+        Ok(count)
+    }
+}
+
+/// How many bytes a group has at least that begins so.
+fn group_size(packed: &[u8]) -> usize {
+    match packed {
+        [] => 1,
+        [0, ..] => 2,
+        [255, ..] => 10 + packed.get(9).map_or(0, |more| 8 * usize::from(*more)),
+        [tag, ..] => 1 + tag.count_ones() as usize,
+    }
+}
+
+/// How many words a complete group has.
+fn group_words(packed: &[u8]) -> usize {
+    match packed[0] {
+        0 => 1 + usize::from(packed[1]),
+        255 => 1 + usize::from(packed[9]),
+        _ => 1,
+    }
+}
