@@ -8,7 +8,7 @@ import (
 	"fmt"
 	"os"
 
-	"capn"
+	"example.org/capn/go"
 )
 
 func orFail[T any](value T, err error) T {
