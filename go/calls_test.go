@@ -34,10 +34,10 @@ func TestCalls(t *testing.T) {
 		if err != nil {
 			t.Fatal(err)
 		}
-		if is, err := IsCanonical(canonical, nil); err != nil || !is {
+		if is, err := IsCanonicalWords(canonical, nil); err != nil || !is {
 			t.Fatal(is, err)
 		}
-		is, err := IsCanonical(segment, nil)
+		is, err := IsCanonicalWords(segment, nil)
 		if err != nil || is != bytes.Equal(segment, canonical) {
 			t.Fatal(is, err)
 		}
@@ -306,7 +306,7 @@ func TestRefusals(t *testing.T) {
 		t.Error(err)
 	}
 	for _, limits := range []*Limits{
-		{}, limitsWith(0, 1, 1, 0), limitsWith(1, 1, 0, 0), limitsWith(1, 1, 257, 0), limitsWith(1<<29, 1, 1, 0),
+		limitsWith(0, 1, 1, 0), limitsWith(1, 1, 0, 0), limitsWith(1, 1, 257, 0), limitsWith(1<<29, 1, 1, 0),
 		limitsWith(1, 1, 1, 2),
 	} {
 		if _, err := Check(small, Stream, limits); err != ErrLimits {
@@ -315,6 +315,71 @@ func TestRefusals(t *testing.T) {
 	}
 	if _, err := Check(small, Form(3), nil); err != ErrForm {
 		t.Error(err)
+	}
+}
+
+// A zero Limits is the default ones, in each call; of another one a field that is left out is 0.
+func TestZeroLimits(t *testing.T) {
+	// Two words of budget more than the default, and a message of more words than the default.
+	costly := bare(1|7<<32, 8388607<<2)
+	long := append(bare(8388609<<32), make([]byte, 8*8388609)...)
+	for _, limits := range []*Limits{nil, {}} {
+		if got, err := Check(small, Stream, limits); err != nil || got.Paid != 3 {
+			t.Error(got, err)
+		}
+		if _, err := Check(costly, Bare, limits); !errors.Is(err, ErrOverBudget) {
+			t.Error(err)
+		}
+		if _, err := Check(long, Stream, limits); !errors.Is(err, ErrTooManyWords) {
+			t.Error(err)
+		}
+		if is, err := Same(small, small, Stream, limits); err != nil || !is {
+			t.Error(is, err)
+		}
+		if got, err := NewReader(bytes.NewReader(small), limits).Next(); err != nil || !bytes.Equal(got, small) {
+			t.Error(got, err)
+		}
+		if _, err := DigestSegments([][]byte{small[8:]}, limits); err != nil {
+			t.Error(err)
+		}
+	}
+	if _, err := Check(small, Stream, &Limits{MessageWords: 9, Depth: 9}); !errors.Is(err, ErrOverBudget) {
+		t.Error(err)
+	}
+	if _, err := Check(small, Stream, &Limits{Tariff: Plain}); err != ErrLimits {
+		t.Error(err)
+	}
+}
+
+// A status that the call doesn't have is no refusal of the message.
+func TestOtherStatuses(t *testing.T) {
+	for status := uint32(1); status < 256; status++ {
+		err := failure(status, report{})
+		var refused *Error
+		var other *StatusError
+		isRefused, isOther := errors.As(err, &refused), errors.As(err, &other)
+		if _, isNamed := names[Kind(status)]; isRefused != isNamed {
+			t.Errorf("%d: %v", status, err)
+		}
+		switch status {
+		case 2, 3, 4, 6, 8:
+			if isOther {
+				t.Errorf("%d: %v", status, err)
+			}
+		default:
+			if isRefused == isOther || isOther && other.Status != status {
+				t.Errorf("%d: %v", status, err)
+			}
+		}
+	}
+	// A message that changes between two calls, so that no room is enough.
+	asked := 0
+	_, err := filled(nil, 1, func(out []byte) (uint32, report) {
+		asked++
+		return noRoom, report{length: uint64(len(out)) + 1}
+	})
+	if _, is := err.(*StatusError); !is || asked > 3 {
+		t.Error(asked, err)
 	}
 }
 

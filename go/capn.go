@@ -1,11 +1,15 @@
-// Package capn checks, canonicalizes, hashes and packs Cap'n Proto messages, without a schema, by proved code.
+// Package capn checks, canonicalizes, hashes, packs and reads Cap'n Proto messages. It needs no schema.
 //
-// It calls the library for C by cgo, on Linux and amd64; elsewhere, and without cgo, each call returns ErrUnsupported.
-// The layer between is tested, not proved.
+// It calls the library for C, which is formally verified, by cgo. It is for Linux on amd64: elsewhere, and without
+// cgo, each call returns ErrUnsupported. The package itself is tested, not proved.
 //
-// Each call takes one message, its form, and limits; limits that are nil are the default ones. A message that is
-// refused is an *Error, which errors.Is compares with a Kind such as ErrTooDeep. The bytes must not change while a call
-// runs: the library relies on that, and a change can make it read outside of them.
+// Each call that takes a message takes it the same way: its bytes, its Form and its Limits. Limits that are nil or
+// zero are the default ones. A message that is invalid, or over a limit, is an *Error. errors.Is compares it with a
+// Kind such as ErrTooDeep.
+//
+// The bytes of a message must not change while a call runs: the library relies on that, and a change can make it read
+// outside of them. The calls may run in any goroutines at once, also on the same bytes. A Reader is for one goroutine
+// at a time.
 package capn
 
 import (
@@ -19,18 +23,18 @@ type Form uint32
 const (
 	Stream Form = iota // a segment table, then the segments
 	Packed             // such bytes, packed
-	Bare               // the words of one segment, with no table
+	Bare               // the words of one segment, without a table
 )
 
-// Tariff is how a walk counts what it pays.
+// Tariff is the rule by which the cost of reading a message is counted, in words.
 type Tariff uint32
 
 const (
-	Strict Tariff = iota // each struct and list pays a word beside its size
-	Plain                // nothing beside it, as the traversal limit of the C++ implementation counts
+	Strict Tariff = iota // an object costs its size and a word more
+	Plain                // an object costs its size, as the traversal limit of the C++ implementation counts
 )
 
-// Style is how the text of a message is written.
+// Style is how the text that Show returns is written.
 type Style uint32
 
 const (
@@ -40,7 +44,9 @@ const (
 	JSONText              // the same, but a text in UTF-8 with its zero is a text: as `capn show --json --text`
 )
 
-// Limits are how much a call takes on. The root object has depth 1; walks pay words.
+// Limits are what a call accepts: the size of a message, the cost of reading it, and the depth of its objects, of which
+// the root has depth 1. A zero Limits, like a nil *Limits, is the default limits. Of any other each field is what it
+// says: begin with UsualLimits to change one.
 type Limits struct {
 	// c/limits.txt: fields in go
 
@@ -60,19 +66,19 @@ func UsualLimits() Limits {
 
 // c/limits.txt ends
 
-// Checked is what reading an accepted message costs.
+// Checked is what reading a valid message costs.
 type Checked struct {
-	Paid   uint32 // words that the walk paid
-	Visits uint32 // slots that it visited, each as often as it was met; the root is one
+	Paid   uint32 // the cost in words
+	Visits uint32 // the pointers that were followed, each as often as it was met: the root's is one, null ones count
 }
 
-// Figures are what a survey finds of an accepted message.
+// Figures are statistics of a valid message.
 type Figures struct {
 	Words         uint32 // of its segments
 	Segments      uint32 // 1 to 4,096
-	Paid          uint32 // words that the walk paid
-	Visits        uint32 // slots that it visited, each as often as it was met; the root is one
-	Depth         uint32 // the least depth under which it is accepted, 0 for a null root
+	Paid          uint32 // the cost of reading it, in words
+	Visits        uint32 // the pointers that were followed, as in Checked
+	Depth         uint32 // the least limit on depth under which it is accepted, 0 for a null root
 	HasCapability bool   // whether its value has a capability
 	Capability    uint32 // the index of the first one in preorder, else 0
 	Canonical     bool   // whether it has one segment, which is the canonical bytes of its value
@@ -81,7 +87,7 @@ type Figures struct {
 // Version returns the version of the library that runs, as "1.1.0-dev".
 func Version() string { return callVersion() }
 
-// Check returns what reading one message costs, or an error if the message is refused within limits.
+// Check returns what reading one message costs, or an error if the message is invalid or over a limit.
 func Check(message []byte, form Form, limits *Limits) (Checked, error) {
 	status, r := callCheck(form, message, limitsOf(limits))
 	if status != ok {
@@ -90,7 +96,7 @@ func Check(message []byte, form Form, limits *Limits) (Checked, error) {
 	return Checked{r.paid, r.visits}, nil
 }
 
-// Survey returns the figures of one message.
+// Survey returns statistics of one message.
 func Survey(message []byte, form Form, limits *Limits) (Figures, error) {
 	figures, status, r := callSurvey(form, message, limitsOf(limits))
 	if status != ok {
@@ -99,25 +105,26 @@ func Survey(message []byte, form Form, limits *Limits) (Figures, error) {
 	return figures, nil
 }
 
-// Canonical returns the canonical bytes of one message: the same for equal values alone, whichever encoder wrote the
-// message. There are at most 8 * (Budget + 1) of them.
+// Canonical returns the canonical bytes of one message. Two messages have the same ones if and only if they have the
+// same value, whichever encoder wrote them. There are at most 8 * (Budget + 1) of them. A message with a capability has
+// none: its error is ErrCapability.
 func Canonical(message []byte, form Form, limits *Limits) ([]byte, error) {
 	return AppendCanonical(nil, message, form, limits)
 }
 
-// AppendCanonical appends the canonical bytes of one message to dst. If the message is refused, it returns dst as it
-// was. The message may overlap dst, as in AppendCanonical(m[:0], m, ..): it stays as it is, and where it lies in what
-// would be written, a new slice is returned.
+// AppendCanonical appends the canonical bytes of one message to dst, which it grows as append does. If there is an
+// error, it returns dst unchanged. The message may overlap dst, as in AppendCanonical(m[:0], m, ..): it stays
+// unchanged, and where it lies in what would be written, a new slice is returned.
 func AppendCanonical(dst, message []byte, form Form, limits *Limits) ([]byte, error) {
 	l := limitsOf(limits)
-	// As long as the words that the message has: mostly enough. If it isn't, the call reports the length.
-	room := len(message)
-	if form == Packed {
-		room *= 4
-	}
 	into := dst
 	if overlap(message, dst[len(dst):cap(dst)]) {
 		into = dst[:len(dst):len(dst)]
+	}
+	// As long as the words of the message: mostly enough.
+	room, err := roomFor(message, form, l, 8, cap(into)-len(into))
+	if err != nil {
+		return dst, err
 	}
 	out, err := filled(into, room, func(out []byte) (uint32, report) { return callCanonical(form, message, l, out) })
 	if err != nil {
@@ -135,8 +142,8 @@ func overlap(one, other []byte) bool {
 	return from < to+uintptr(len(other)) && to < from+uintptr(len(one))
 }
 
-// Digest returns the SHA-256 of the canonical bytes of one message. It says nothing of the type of the value: sign a
-// statement over it that names the protocol and the type.
+// Digest returns the SHA-256 of the canonical bytes of one message. It says nothing of the type of the value: don't
+// sign it alone, sign a statement that names the protocol and the type too.
 func Digest(message []byte, form Form, limits *Limits) ([32]byte, error) {
 	digest, status, r := callHash(form, message, limitsOf(limits))
 	if status != ok {
@@ -145,9 +152,9 @@ func Digest(message []byte, form Form, limits *Limits) ([32]byte, error) {
 	return digest, nil
 }
 
-// Same reports whether two messages, both in one form, have the same value: whether their canonical bytes are equal,
-// of which none are made. It returns the error of the first message, as Canonical does, or if there is none that of the
-// second: Which of an *Error says of which.
+// Same reports whether two messages of the same form have the same value: whether their canonical bytes are equal. It
+// doesn't write these. It returns the error of the first message, as Canonical does, and if that has none the error of
+// the second: Which of an *Error says of which.
 func Same(first, second []byte, form Form, limits *Limits) (bool, error) {
 	which, status, r := callSame(form, first, second, limitsOf(limits))
 	switch status {
@@ -163,11 +170,12 @@ func Same(first, second []byte, form Form, limits *Limits) (bool, error) {
 	return false, err
 }
 
-// IsCanonicalIn reports whether one message is canonical: whether it has one segment, and that is the canonical bytes
-// of its value. It returns an error if the message is refused, or has a capability and so no canonical bytes.
-func IsCanonicalIn(message []byte, form Form, limits *Limits) (bool, error) {
+// IsCanonicalMessage reports whether one message is canonical: whether it has one segment, and that is the canonical
+// bytes of its value. Its form is Stream for a message with its segment table. It returns an error if the message is
+// invalid or over a limit, or has a capability and so no canonical bytes.
+func IsCanonicalMessage(message []byte, form Form, limits *Limits) (bool, error) {
 	if form == Bare {
-		return IsCanonical(message, limits)
+		return IsCanonicalWords(message, limits)
 	}
 	figures, err := Survey(message, form, limits)
 	if err == nil && figures.HasCapability {
@@ -176,30 +184,47 @@ func IsCanonicalIn(message []byte, form Form, limits *Limits) (bool, error) {
 	return err == nil && figures.Canonical, err
 }
 
-// IsCanonical reports whether bytes, read as Bare, are the canonical bytes of their value. It returns an error if they
-// have none. It takes no segment table: with its table before it, nearly any message of one segment passes as a bare
-// one that is canonical. Ask IsCanonicalIn about a Stream.
-func IsCanonical(bytes []byte, limits *Limits) (bool, error) {
-	status, r := callIsCanonical(bytes, limitsOf(limits))
+// IsCanonicalWords reports whether the words of a single segment, without a segment table, are the canonical bytes of
+// their value. It returns an error if they have none. Don't pass it a message with its segment table: nearly every one
+// of one segment passes, canonical or not. Ask IsCanonicalMessage about such a message.
+func IsCanonicalWords(words []byte, limits *Limits) (bool, error) {
+	status, r := callIsCanonical(words, limitsOf(limits))
 	if status != ok && status != notCanonical {
 		return false, failure(status, r)
 	}
 	return status == ok, nil
 }
 
-// Show returns the text of one message: what the program capn show writes of it in a style. It may be far longer than
-// the message, so have limits.
+// IsCanonicalIn is IsCanonicalMessage.
+//
+// Deprecated: Use IsCanonicalMessage, which is the same.
+func IsCanonicalIn(message []byte, form Form, limits *Limits) (bool, error) {
+	return IsCanonicalMessage(message, form, limits)
+}
+
+// IsCanonical is IsCanonicalWords.
+//
+// Deprecated: Use IsCanonicalMessage for a message with its segment table, which this call takes for words: nearly
+// every one of one segment passes. Use IsCanonicalWords for the words of a segment without a table.
+func IsCanonical(bytes []byte, limits *Limits) (bool, error) { return IsCanonicalWords(bytes, limits) }
+
+// Show returns the text that the program capn show prints of one message, in a style. It may be far longer than the
+// message, so set limits.
 func Show(message []byte, form Form, limits *Limits, style Style) (string, error) {
-	room := 4*len(message) + 256
-	if form == Packed {
-		room = 16*len(message) + 256
-	}
 	l := limitsOf(limits)
+	room := 0
+	if style <= JSONText { // else the call says which argument is wrong first
+		var err error
+		if room, err = roomFor(message, form, l, 32, 0); err != nil {
+			return "", err
+		}
+		room += 256
+	}
 	text, err := filled(nil, room, func(out []byte) (uint32, report) { return callShow(form, message, l, style, out) })
 	return string(text), err
 }
 
-// Pack returns whole words packed.
+// Pack returns words packed. There must be whole words.
 func Pack(words []byte) ([]byte, error) {
 	packed, err := filled(nil, len(words)/8*10, func(out []byte) (uint32, report) { return callPack(words, out) })
 	var refused *Error
@@ -211,19 +236,16 @@ func Pack(words []byte) ([]byte, error) {
 
 // Unpack returns the words of packed bytes, at most maxWords of them.
 func Unpack(packed []byte, maxWords uint32) ([]byte, error) {
-	room := 4 * len(packed)
-	if uint64(room) > 8*uint64(maxWords) {
-		room = int(8 * uint64(maxWords))
-	}
+	room := int(8 * packedWords(packed, uint64(maxWords)))
 	return filled(nil, room, func(out []byte) (uint32, report) { return callUnpack(packed, maxWords, out) })
 }
 
 // A message that is held in segments: each has whole words, and the first one begins with the root. These calls copy
-// the segments behind their table, and return what those above do.
+// the segments behind their table, once they are within MessageWords, and return what those above do.
 
 // CheckSegments is Check of a message that is held in segments.
 func CheckSegments(segments [][]byte, limits *Limits) (Checked, error) {
-	message, err := framed(segments)
+	message, err := framedWithin(segments, limitsOf(limits))
 	if err != nil {
 		return Checked{}, err
 	}
@@ -232,7 +254,7 @@ func CheckSegments(segments [][]byte, limits *Limits) (Checked, error) {
 
 // SurveySegments is Survey of a message that is held in segments.
 func SurveySegments(segments [][]byte, limits *Limits) (Figures, error) {
-	message, err := framed(segments)
+	message, err := framedWithin(segments, limitsOf(limits))
 	if err != nil {
 		return Figures{}, err
 	}
@@ -241,7 +263,7 @@ func SurveySegments(segments [][]byte, limits *Limits) (Figures, error) {
 
 // CanonicalSegments is Canonical of a message that is held in segments.
 func CanonicalSegments(segments [][]byte, limits *Limits) ([]byte, error) {
-	message, err := framed(segments)
+	message, err := framedWithin(segments, limitsOf(limits))
 	if err != nil {
 		return nil, err
 	}
@@ -250,7 +272,7 @@ func CanonicalSegments(segments [][]byte, limits *Limits) ([]byte, error) {
 
 // DigestSegments is Digest of a message that is held in segments.
 func DigestSegments(segments [][]byte, limits *Limits) ([32]byte, error) {
-	message, err := framed(segments)
+	message, err := framedWithin(segments, limitsOf(limits))
 	if err != nil {
 		return [32]byte{}, err
 	}
@@ -265,44 +287,101 @@ const (
 	// The words of the longest segment table, and the most segments that it may announce.
 	tableWords   = 2049
 	mostSegments = 4096
+	// The most words of a bare message.
+	bareWords = 1<<28 + 1
+	// The bytes from which on a message is checked before a buffer is made for its answer.
+	largeRoom = 1 << 20
 )
 
-// report is what a call reports beside its status.
+// report is what a call reports with its status.
 type report struct {
 	length, at                  uint64
 	paid, visits, segment, word uint32
 }
 
 func limitsOf(limits *Limits) Limits {
-	if limits == nil {
+	if limits == nil || *limits == (Limits{}) {
 		return UsualLimits()
 	}
 	return *limits
 }
 
-// filled appends what a call writes: with this room or, if the answer does not fit, with the length that it asks for.
-func filled(dst []byte, room int, call func([]byte) (uint32, report)) ([]byte, error) {
-	begin := len(dst)
-	grown := dst
-	for {
-		grown = withRoom(grown, begin, room)
-		status, r := call(grown[begin:cap(grown)])
-		if status == ok {
-			return grown[:begin+int(r.length)], nil
-		}
-		if status != noRoom {
-			return dst, failure(status, r)
-		}
-		room = int(r.length)
+// roomFor returns how long a buffer an answer needs that has so many bytes for each word of a message: no longer than
+// the words of the message and the limits allow, and, where it is large and longer than the buffer that is there, no
+// longer than the cost of the message allows. A message that is invalid, or over a limit, is then an error before a
+// buffer is made.
+func roomFor(message []byte, form Form, l Limits, perWord uint64, there int) (int, error) {
+	words, most := uint64(len(message)/8), uint64(l.MessageWords)+tableWords
+	switch form {
+	case Packed:
+		words = packedWords(message, most)
+	case Bare:
+		most = bareWords
 	}
+	if words > most {
+		words = 0 // the call rejects it
+	}
+	if words > uint64(l.Budget)+1 {
+		words = uint64(l.Budget) + 1
+	}
+	if perWord*words > largeRoom && perWord*words > uint64(there) {
+		status, r := callCheck(form, message, l)
+		if status != ok {
+			return 0, failure(status, r)
+		}
+		if words > uint64(r.paid)+1 {
+			words = uint64(r.paid) + 1
+		}
+	}
+	return int(perWord * words), nil
 }
 
-// withRoom is a slice of the same first bytes, with room for so many more.
-func withRoom(dst []byte, begin, room int) []byte {
-	if cap(dst)-begin >= room {
-		return dst
+// filled appends the answer of a call to dst. It has room for so many bytes at first and, if the answer doesn't fit,
+// for as many as the call reports. A buffer grows as append grows it, so that many answers in one buffer take linear
+// time; and an answer that is much shorter than a buffer made for it doesn't keep that.
+func filled(dst []byte, room int, call func([]byte) (uint32, report)) ([]byte, error) {
+	begin, grown, hasGrown := len(dst), dst, false
+	// The second length is exact, or enough: a third one is of a message that changes meanwhile.
+	for tries := 0; tries < 3; tries++ {
+		if cap(grown)-begin < room {
+			grown, hasGrown = append(dst, make([]byte, room)...)[:begin], true
+		}
+		status, r := call(grown[begin:cap(grown)])
+		if status == noRoom {
+			room = int(r.length)
+			continue
+		}
+		if status != ok {
+			return dst, failure(status, r)
+		}
+		answer := grown[:begin+int(r.length)]
+		if hasGrown && cap(answer) > 2*len(answer)+512 {
+			answer = append(make([]byte, 0, len(answer)), answer...)
+		}
+		return answer, nil
 	}
-	return append(make([]byte, 0, begin+room), dst[:begin]...)
+	return dst, failure(noRoom, report{})
+}
+
+// framedWithin returns the segments behind their table. Limits are looked at before anything is copied.
+func framedWithin(segments [][]byte, l Limits) ([]byte, error) {
+	// Of no bytes the library tests the limits alone.
+	if status, r := callFirst(nil, l); Kind(status) != ErrFrameEmpty {
+		return nil, failure(status, r)
+	}
+	if len(segments) <= mostSegments {
+		words := uint64(0)
+		for _, segment := range segments {
+			if len(segment)%8 != 0 {
+				return nil, &Error{Kind: ErrNotWhole, At: uint64(len(segment))}
+			}
+			words += uint64(len(segment) / 8)
+		}
+		if words > uint64(l.MessageWords) {
+			return nil, &Error{Kind: ErrTooManyWords, At: words}
+		}
+	}
+	return framed(segments)
 }
 
 // framed has the segments behind their table.
@@ -313,15 +392,9 @@ func framed(segments [][]byte) ([]byte, error) {
 	if len(segments) > mostSegments {
 		return nil, &Error{Kind: ErrTooManySegments, At: uint64(len(segments))}
 	}
-	size := 8 * (len(segments)/2 + 1)
-	begin := size
+	begin := 8 * (len(segments)/2 + 1)
+	size := begin
 	for _, segment := range segments {
-		if len(segment)%8 != 0 {
-			return nil, &Error{Kind: ErrNotWhole, At: uint64(len(segment))}
-		}
-		if uint64(len(segment)/8) >= 1<<32 {
-			return nil, &Error{Kind: ErrTooManyWords, At: uint64(len(segment) / 8)}
-		}
 		size += len(segment)
 	}
 	message := make([]byte, begin, size)

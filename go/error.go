@@ -6,22 +6,61 @@ import (
 	"io"
 )
 
-// ErrMemory says that memory was refused.
+// ErrMemory is returned if the library could not allocate memory.
 var ErrMemory = errors.New("capn: out of memory")
 
-// ErrUnsupported says that the package was built without cgo, or not for Linux on amd64.
+// ErrUnsupported is returned by each call if the package was built without cgo, or not for Linux on amd64.
 var ErrUnsupported = errors.New("capn: the library is for linux and amd64, and needs cgo")
 
-// ErrForm says that a form is none of the three.
+// ErrForm is returned if the form is none of the three.
 var ErrForm = errors.New("capn: the form is none of the three")
 
-// ErrLimits says that a limit is out of its range, or that the tariff is none of the two.
+// ErrLimits is returned if a limit is out of its range, or the tariff is none of the two.
 var ErrLimits = errors.New("capn: a limit is out of its range")
 
-// ErrStyle says that a style is none of the four.
+// ErrStyle is returned if the style is none of the four.
 var ErrStyle = errors.New("capn: the style is none of the four")
 
-// Kind is what is wrong with a message that is refused. It is an error that errors.Is compares others with.
+// ErrConcurrent is returned by Next of a Reader if another call of it runs, in another goroutine or in the Read that it
+// called. The call that returns it has changed nothing, and has read no byte of the stream.
+var ErrConcurrent = errors.New("capn: two calls of Next at once")
+
+// ErrBadReadCount is in the *ReadError that Next returns if the io.Reader returned an impossible count: one below 0, or
+// more bytes than it had room for. It ends the stream, since nobody knows then which bytes were read.
+var ErrBadReadCount = errors.New("capn: Read returned an impossible count")
+
+// StatusError is a fault of the package or its caller, not of a message: the library returned a status that the call
+// doesn't have. The bytes were changed while the call ran, or the library is newer than the package.
+type StatusError struct {
+	Status uint32
+}
+
+func (e *StatusError) Error() string {
+	return fmt.Sprintf("capn: the library returned the status %d, which the call doesn't have", e.Status)
+}
+
+// ReadError is an error of the io.Reader below a Reader, such as a timeout, with the place in the stream. errors.Is and
+// errors.As find what is below it.
+type ReadError struct {
+	Message int64 // which message was being read, from 1 on
+	Offset  int64 // where it begins
+	Err     error
+}
+
+func (e *ReadError) Error() string {
+	return fmt.Sprintf("capn: message %d at %d: %v", e.Message, e.Offset, e.Err)
+}
+
+// Unwrap returns the error of the io.Reader.
+func (e *ReadError) Unwrap() error { return e.Err }
+
+// Timeout reports whether the error is a timeout.
+func (e *ReadError) Timeout() bool {
+	var below interface{ Timeout() bool }
+	return errors.As(e.Err, &below) && below.Timeout()
+}
+
+// Kind is what is wrong with a message. It is an error that errors.Is compares others with.
 type Kind uint32
 
 const (
@@ -96,19 +135,19 @@ func (k Kind) Error() string { return "capn: " + k.String() }
 
 func (k Kind) isOfWalk() bool { return k >= ErrNoRoot && k <= ErrOverBudget }
 
-// Error is why a message is refused.
+// Error is why a message is rejected: it is invalid, or over a limit.
 type Error struct {
 	Kind          Kind
 	At            uint64 // the offset, count or index of a kind that has one, else 0
-	Segment, Word uint32 // of a refusal of the walk: the slot at which it came
-	Paid, Visits  uint32 // and what was paid and visited until then
+	Segment, Word uint32 // where the pointer is that the error is about, if it is about one
+	Paid, Visits  uint32 // and what reading had cost until then, and how many pointers it had followed
 	Message       int64  // of a message of a stream: which one it is, from 1 on, else 0
-	Offset        int64  // and where it begins
+	Offset        int64  // and where it begins in the stream
 	Which         int    // of Same: which of its messages it is, 0 or 1, else 0
 	ofWords       bool
 }
 
-// Text is what the program capn prints of it, without what comes before the colon.
+// Text is what the program capn prints of the error, without what comes before the colon.
 func (e *Error) Text() string {
 	switch {
 	case e.Kind.isOfWalk():
@@ -146,15 +185,15 @@ func (e *Error) Error() string {
 	return "capn: " + e.Text()
 }
 
-// Unwrap answers the kind, so that errors.Is(err, capn.ErrTooDeep) says whether it is that one.
+// Unwrap returns the kind, so that errors.Is(err, capn.ErrTooDeep) says whether it is that one.
 func (e *Error) Unwrap() error { return e.Kind }
 
-// Is says that what is cut is an unexpected end: errors.Is(err, io.ErrUnexpectedEOF).
+// Is says that what is truncated is an unexpected end: errors.Is(err, io.ErrUnexpectedEOF).
 func (e *Error) Is(target error) bool {
 	return target == io.ErrUnexpectedEOF && (e.Kind == ErrFrameCut || e.Kind == ErrPackedCut)
 }
 
-// failure is the error of a status that is no answer.
+// failure is the error of a status that is not ok.
 func failure(status uint32, r report) error {
 	switch status {
 	case unsupported:
@@ -169,6 +208,9 @@ func failure(status uint32, r report) error {
 		return ErrStyle
 	case 8:
 		return ErrMemory
+	}
+	if _, isNamed := names[Kind(status)]; !isNamed {
+		return &StatusError{status}
 	}
 	e := &Error{Kind: Kind(status), At: r.at}
 	if e.Kind.isOfWalk() {

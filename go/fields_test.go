@@ -163,30 +163,102 @@ func readStruct(t *testing.T, of Value) {
 	}
 }
 
-// readAny counts how many things a pointer and those below it are taken for, and how many pointers they are.
-func readAny(t *testing.T, v Value, things, pointers *int) {
+// A sum, FNV-1a of 64 bits, is what a line has of the numbers that were read as one thing. Each number is 8 bytes of
+// it, the least significant first.
+type sum uint64
+
+func newSum() *sum {
+	fresh := sum(0xcbf29ce484222325)
+	return &fresh
+}
+
+func (s *sum) byte(one byte) { *s = (*s ^ sum(one)) * 0x100000001b3 }
+
+func (s *sum) number(number uint64) {
+	for i := 0; i < 64; i += 8 {
+		s.byte(byte(number >> i))
+	}
+}
+
+func (s *sum) bytes(all []byte) {
+	s.number(uint64(len(all)))
+	for _, one := range all {
+		s.byte(one)
+	}
+}
+
+// record adds the fields of each width up to the bit 256, of which field i has the default i + 1, and the kinds of the
+// first four pointers.
+func (s *sum) record(of Value) {
+	for i := 0; i < 256; i++ {
+		s.number(uint64(digit(of.Bool(i, (i+1)%2 != 0))))
+	}
+	for i := 0; i < 32; i++ {
+		s.number(uint64(of.Uint8(i, uint8(i+1))))
+	}
+	for i := 0; i < 16; i++ {
+		s.number(uint64(of.Uint16(i, uint16(i+1))))
+	}
+	for i := 0; i < 8; i++ {
+		s.number(uint64(of.Uint32(i, uint32(i+1))))
+	}
+	for i := 0; i < 4; i++ {
+		s.number(of.Uint64(i, uint64(i+1)))
+	}
+	for k := 0; k < 4; k++ {
+		s.number(uint64(of.Slot(k).Kind()))
+	}
+}
+
+func (s *sum) write(lines *strings.Builder, as string) {
+	fmt.Fprintf(lines, " %s %016x", as, uint64(*s))
+}
+
+// readAny counts how many things a pointer and those below it are taken for, and how many pointers they are, and writes
+// a line for each.
+func readAny(t *testing.T, v Value, things, pointers *int, lines *strings.Builder) {
 	*pointers++
+	fmt.Fprintf(lines, "%d %v", *pointers, v.Kind())
 	if of, err := v.AsStruct(); err == nil {
 		readStruct(t, of)
 		*things++
+		sum := newSum()
+		sum.record(of)
+		sum.write(lines, "struct")
 	}
 	if data, err := v.AsData(); err == nil {
 		*things++
+		sum := newSum()
+		sum.bytes(data)
+		sum.write(lines, "data")
 		// A text that may not be UTF-8.
 		if v.Kind() == Null || len(data) > 0 && data[len(data)-1] == 0 {
 			*things++
+			text := []byte("none")
+			if v.Kind() != Null {
+				text = data[:len(data)-1]
+			}
+			sum := newSum()
+			sum.bytes(text)
+			sum.write(lines, "text")
 		}
 	}
 	// A list without size is one of structs, and of nothing else.
 	if v.Kind() == Null || v.Kind() == Voids || v.Kind() == Rows {
 		*things++
+		sum := newSum()
+		sum.number(uint64(v.Len()))
+		sum.write(lines, "void")
 	}
 	for _, bits := range []int{1, 8, 16, 32, 64} {
 		if numbers, err := v.AsNumbers(bits); err == nil {
 			*things++
+			sum := newSum()
+			sum.number(uint64(numbers.Len()))
 			for i := 0; i < numbers.Len() && i < 1000; i++ {
-				_ = numbers.At(i)
+				sum.number(numbers.At(i))
 			}
+			sum.write(lines, fmt.Sprint("numbers", bits))
 		}
 	}
 	for _, list := range []func() (Items, error){v.AsPointers, v.AsRows} {
@@ -199,19 +271,36 @@ func readAny(t *testing.T, v Value, things, pointers *int) {
 			readStruct(t, items.Item())
 		}
 	}
+	if items, err := v.AsPointers(); err == nil {
+		sum := newSum()
+		sum.number(uint64(items.Len()))
+		for i := 0; i < 100 && items.Next(); i++ {
+			sum.number(uint64(items.Item().Kind()))
+		}
+		sum.write(lines, "pointers")
+	}
+	if items, err := v.AsRows(); err == nil {
+		sum := newSum()
+		sum.number(uint64(items.Len()))
+		for i := 0; i < 100 && items.Next(); i++ {
+			sum.record(items.Item())
+		}
+		sum.write(lines, "rows")
+	}
+	lines.WriteByte('\n')
 	switch v.Kind() {
 	case Struct:
 		for k := 0; k < v.NumSlots(); k++ {
-			readAny(t, v.Slot(k), things, pointers)
+			readAny(t, v.Slot(k), things, pointers, lines)
 		}
 	case Pointers:
 		for items, _ := v.AsPointers(); items.Next(); {
-			readAny(t, items.Item(), things, pointers)
+			readAny(t, items.Item(), things, pointers, lines)
 		}
 	case Rows:
 		for items, _ := v.AsRows(); v.NumSlots() > 0 && items.Next(); {
 			for k := 0; k < v.NumSlots(); k++ {
-				readAny(t, items.Item().Slot(k), things, pointers)
+				readAny(t, items.Item().Slot(k), things, pointers, lines)
 			}
 		}
 	}
@@ -255,12 +344,18 @@ func TestFieldsOfWritten(t *testing.T) {
 		}
 	}
 	messages, pointers, things := 0, 0, 0
+	var lines strings.Builder
 	each(file("stream"), func(message []byte) {
 		if index, err := NewIndex(message, Stream, nil); err == nil {
 			messages++
-			readAny(t, index.Root(), &things, &pointers)
+			readAny(t, index.Root(), &things, &pointers, &lines)
 		}
 	})
+	if name := os.Getenv("CAPN_LINES"); name != "" {
+		if err := os.WriteFile(name, []byte(lines.String()), 0o666); err != nil {
+			t.Fatal(err)
+		}
+	}
 	got := fmt.Sprintf("%d messages, %d pointers, %d\n", messages, pointers, things)
 	if want := string(file("anything")); got != want {
 		t.Errorf("read as anything: %s, not %s", got, want)

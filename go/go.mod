@@ -1,3 +1,3 @@
-module capn
+module example.org/capn/go
 
 go 1.19

@@ -7,7 +7,7 @@ import (
 	"unicode/utf8"
 )
 
-// entry is what the pointer in a slot names, as the library lays it out.
+// entry is the object that a pointer refers to, as the library lays it out.
 type entry struct {
 	offset       uint64
 	count, span  uint32
@@ -15,21 +15,21 @@ type entry struct {
 	kind         uint32
 }
 
-// ValueKind is what a pointer names.
+// ValueKind is the kind of the object that a pointer refers to.
 type ValueKind uint32
 
 const (
 	Null       ValueKind = iota
 	Struct               // data words, then pointers
 	Voids                // a list of elements without size
-	Bits                 // of bits
-	Bytes                // of bytes
-	U16s                 // of numbers of 2 bytes
-	U32s                 // of 4
-	U64s                 // of 8
-	Pointers             // of pointers
-	Rows                 // of structs
-	Capability           // an index of a capability
+	Bits                 // a list of bits
+	Bytes                // a list of bytes: a Data or a Text
+	U16s                 // a list of numbers of 2 bytes
+	U32s                 // a list of numbers of 4 bytes
+	U64s                 // a list of numbers of 8 bytes
+	Pointers             // a list of pointers
+	Rows                 // a list of structs
+	Capability           // the index of a capability
 )
 
 var kindNames = [...]string{
@@ -44,26 +44,32 @@ func (k ValueKind) String() string {
 	return fmt.Sprintf("ValueKind(%d)", uint32(k))
 }
 
-// Index is a message that was accepted within limits, and is read in place: what is read of it follows no pointer. The
-// bytes of the message must not change as long as the index or a value of it is used.
+// Index is a valid message within limits, whose pointers are listed. Its values are read in place, and no pointer is
+// followed again. The bytes of the message must not change as long as the index or a value of it is used. Several
+// goroutines may read one index at once.
 type Index struct {
 	bytes   []byte
 	entries []entry
 	checked Checked
 }
 
-// NewIndex returns the index of one message. A packed message is unpacked first. An index takes 24 bytes for each slot;
-// there is at most one slot more than words were paid.
+// NewIndex returns the index of one message. Packed bytes are unpacked first. An index takes 24 bytes for each pointer
+// that is followed; there are at most Budget + 1.
 func NewIndex(message []byte, form Form, limits *Limits) (*Index, error) {
 	l := limitsOf(limits)
 	if form == Packed {
+		// Wrong limits are an error before the bytes are unpacked: of no bytes the library tests the limits alone.
+		if status, r := callFirst(nil, l); Kind(status) != ErrFrameEmpty {
+			return nil, failure(status, r)
+		}
 		words, err := Unpack(message, l.MessageWords+tableWords)
 		if err != nil {
 			return nil, err
 		}
 		message, form = words, Stream
 	}
-	entries := make([]entry, 64)
+	// Mostly there are fewer pointers than words.
+	entries := make([]entry, firstEntries(len(message)))
 	status, r := callIndex(form, message, l, entries)
 	if status == noRoom {
 		entries = make([]entry, r.visits)
@@ -72,17 +78,30 @@ func NewIndex(message []byte, form Form, limits *Limits) (*Index, error) {
 	if status != ok {
 		return nil, failure(status, r)
 	}
-	return &Index{message, entries[:r.visits], Checked{r.paid, r.visits}}, nil
+	found := entries[:r.visits]
+	if len(entries) > 2*len(found) {
+		found = append(make([]entry, 0, len(found)), found...)
+	}
+	return &Index{message, found, Checked{r.paid, r.visits}}, nil
 }
 
-// Checked is what reading the message cost.
+// firstEntries is how many entries are made at first for a message of so many bytes.
+func firstEntries(size int) int {
+	if size < 8*64 {
+		return size/8 + 1
+	}
+	return 64
+}
+
+// Checked is what reading the message costs.
 func (x *Index) Checked() Checked { return x.checked }
 
-// Root is what the root's slot has.
+// Root is the object that the root pointer refers to.
 func (x *Index) Root() Value { return x.value(0) }
 
-// Value is what a pointer leads to, or an element of a list of structs, whose kind is Struct. The zero Value is null.
-// Whoever wrote the message chose its kind: to read it by a schema, use the methods whose names begin with As.
+// Value is the object that a pointer refers to, or an element of a list of structs, whose kind is Struct. The zero
+// Value is null. The sender of the message chose its kind: to read it by a schema, use the methods whose names begin
+// with As.
 type Value struct {
 	index        *Index
 	kind         ValueKind
@@ -109,7 +128,7 @@ func (x *Index) value(at uint32) Value {
 // Kind is what the value is.
 func (v Value) Kind() ValueKind { return v.kind }
 
-// Len is the number of elements or rows of a list, else 0.
+// Len is the number of elements of a list, else 0.
 func (v Value) Len() int {
 	if v.kind < Voids || v.kind > Rows {
 		return 0
@@ -117,10 +136,10 @@ func (v Value) Len() int {
 	return int(v.count)
 }
 
-// DataWords is the number of data words of a struct or of each row, else 0.
+// DataWords is the number of data words of a struct, or of each struct of a list, else 0.
 func (v Value) DataWords() int { return int(v.words) }
 
-// NumSlots is the number of pointers of a struct or of each row, else 0.
+// NumSlots is the number of pointers of a struct, or of each struct of a list, else 0.
 func (v Value) NumSlots() int { return int(v.slots) }
 
 // CapabilityIndex is the index of a capability, else 0.
@@ -134,8 +153,8 @@ func (v Value) CapabilityIndex() uint32 {
 // next is the entry beside one.
 func (x *Index) next(at uint32) uint32 { return at + x.entries[at].span }
 
-// Slot is what slot i of a struct has: a null Value where the struct is shorter. It takes as long as there are slots
-// before it.
+// Slot is the object that pointer i of a struct refers to: a null Value where the struct has fewer. It takes as long as
+// there are pointers before it.
 func (v Value) Slot(i int) Value {
 	if v.kind != Struct || i < 0 || i >= int(v.slots) {
 		return Value{}
@@ -154,8 +173,8 @@ func (v Value) child(i uint32) Value {
 	return v.index.value(at)
 }
 
-// Pointers are the elements of a list of pointers, each what it leads to: nil for a value of another kind. The slice
-// has 40 bytes for each; AsPointers needs none, and reads lists of older and newer schemas.
+// Pointers are the objects that the pointers of a list refer to: nil for a value of another kind. The slice has 40
+// bytes for each; AsPointers needs none, and reads lists of older and newer schemas.
 func (v Value) Pointers() []Value {
 	if v.kind != Pointers {
 		return nil
@@ -169,8 +188,8 @@ func (v Value) Pointers() []Value {
 }
 
 // Rows are the structs of a list of structs: nil for a value of another kind. The slice has 40 bytes for each, and a
-// message of 24 bytes can have as many structs without fields as the budget allows. AsRows needs none, and reads lists
-// of older and newer schemas.
+// message of 24 bytes can have as many structs without fields as Budget allows. AsRows needs none, and reads lists of
+// older and newer schemas.
 func (v Value) Rows() []Value {
 	if v.kind != Rows {
 		return nil
@@ -200,8 +219,8 @@ func (v Value) Bytes() []byte {
 	return v.index.bytes[v.offset:end:end]
 }
 
-// Text is the text that a list of bytes is, without the zero byte at its end: false if there is no such byte, or if the
-// others are not UTF-8, or if the value is null or of another kind. AsText tells a null from what is wrong.
+// Text is a list of bytes as a text, without the zero byte at its end: false if there is no such byte, or if the others
+// are not UTF-8, or if the value is null or of another kind. AsText tells a null from what is wrong.
 func (v Value) Text() (string, bool) {
 	b := v.Bytes()
 	if len(b) == 0 || b[len(b)-1] != 0 || !utf8.Valid(b) {
@@ -230,8 +249,8 @@ func (v Value) At(i int) uint64 {
 	return 0
 }
 
-// A field of data is stored XOR its default, so what reads one takes the default, and answers it where the struct is
-// too short for the field. The offset counts fields of that size from the start of the data, as slot.offset of a
+// A data field is stored XOR its default, so the methods that read one take the default, and return it where the struct
+// is too short for the field. The offset counts fields of that size from the start of the data, as slot.offset of a
 // compiled schema does: bits[32, 64) of `capnp compile -ocapnp` is Uint32(1, ..). Each panics if the offset is less
 // than 0.
 

@@ -5,16 +5,16 @@ import (
 	"math/bits"
 )
 
-// unpacker reads the words of a packed text. It reads no group after that which has the last word that it is asked for,
-// and goes on after an error of its reader.
+// unpacker reads the words of packed bytes. It reads no group after the one that has the last word that is wanted, and
+// goes on after an error of its reader.
 type unpacker struct {
 	from  io.Reader
 	text  []byte // whole groups, and the one that has begun
 	begun int    // where that one begins,
 	need  int    // and where it ends at least
 	words int    // the words of the whole groups
-	left  []byte // words that were not asked for
-	taken uint64 // bytes of the text that were unpacked
+	left  []byte // words that were not wanted yet
+	taken uint64 // packed bytes that were unpacked
 }
 
 // maxGathered is how many words are gathered at once. A group has at most 256 words, and 2,050 bytes.
@@ -68,14 +68,43 @@ func (u *unpacker) gather(words int) error {
 	return nil
 }
 
-// readSome reads at least a byte, or answers an error.
+// readSome reads at least a byte, or returns an error.
 func readSome(from io.Reader, p []byte) (int, error) {
 	for idle := 0; idle < 100; idle++ {
-		if count, err := from.Read(p); count > 0 || err != nil {
+		if count, err := readOnce(from, p); count > 0 || err != nil {
 			return count, err
 		}
 	}
-	return 0, io.ErrNoProgress
+	return 0, &ReadError{Err: io.ErrNoProgress}
+}
+
+// readOnce is a call of Read. It can't have read less than nothing, nor more than it had room for; its error but for
+// io.EOF is a *ReadError.
+func readOnce(from io.Reader, p []byte) (int, error) {
+	count, err := from.Read(p)
+	if count < 0 || count > len(p) {
+		return 0, &ReadError{Err: ErrBadReadCount}
+	}
+	if err != nil && err != io.EOF {
+		err = &ReadError{Err: err}
+	}
+	return count, err
+}
+
+// packedWords is how many words some packed bytes have, or 0 if they are truncated or have more words than most.
+func packedWords(packed []byte, most uint64) uint64 {
+	words := uint64(0)
+	for len(packed) > 0 {
+		size := groupSize(packed)
+		if size > len(packed) {
+			return 0
+		}
+		if words += uint64(groupWords(packed)); words > most {
+			return 0
+		}
+		packed = packed[size:]
+	}
+	return words
 }
 
 // groupSize is how many bytes the group has at least that begins so.

@@ -126,7 +126,7 @@ func TestPackedTimeout(t *testing.T) {
 			t.Fatal(got, err)
 		}
 	}
-	if _, err := NewPackedReader(idle{}, nil).Next(); err != io.ErrNoProgress {
+	if _, err := NewPackedReader(idle{}, nil).Next(); !errors.Is(err, io.ErrNoProgress) {
 		t.Fatal(err)
 	}
 	wrong, err := Pack([]byte("\xff\xff\xff\xff\x00\x00\x00\x00"))

@@ -7,6 +7,7 @@ import (
 	"crypto/ed25519"
 	"encoding/hex"
 	"fmt"
+	"math/rand"
 	"os"
 	"os/exec"
 	"path/filepath"
@@ -39,19 +40,38 @@ func blocks(t *testing.T, page, language string) []string {
 	return found
 }
 
-// What the pages' functions are called by.
-const callers = `package main
+// What the functions of each block of the page are called by: a file beside it. A block without one is a program.
+var callers = []string{
+	"",
+	`package main
 
 import (
-	"bufio"
 	"crypto/ed25519"
 	"encoding/hex"
-	"errors"
 	"fmt"
 	"io"
 	"os"
+)
 
-	"capn"
+func main() {
+	key := ed25519.NewKeyFromSeed(make([]byte, 32))
+	message, _ := io.ReadAll(os.Stdin)
+	if os.Args[1] == "sign" {
+		signature, err := sign(message, key)
+		fmt.Println(hex.EncodeToString(signature), err)
+		return
+	}
+	keys := map[uint32]ed25519.PublicKey{7: key.Public().(ed25519.PublicKey)}
+	fmt.Printf("%v\n", receive(message, keys))
+}
+`,
+	`package main
+
+import (
+	"encoding/hex"
+	"fmt"
+	"io"
+	"os"
 )
 
 type marshaled []byte
@@ -59,170 +79,301 @@ type marshaled []byte
 func (m marshaled) Marshal() ([]byte, error) { return m, nil }
 
 func main() {
-	if len(os.Args) < 2 {
-		if err := showAll(bufio.NewReader(os.Stdin)); err != nil {
-			fmt.Fprintln(os.Stderr, err)
-			os.Exit(1)
-		}
-		return
-	}
 	message, _ := io.ReadAll(os.Stdin)
-	switch os.Args[1] {
-	case "digest":
+	if len(os.Args) == 1 {
 		digest, err := digestOf(marshaled(message))
 		fmt.Printf("%x %v\n", digest, err)
-	case "sign":
-		signature, err := sign(message, ed25519.NewKeyFromSeed(make([]byte, 32)))
-		fmt.Printf("%x %v\n", signature, err)
-	case "signed":
-		signature, _ := hex.DecodeString(os.Args[2])
-		signer := ed25519.NewKeyFromSeed(make([]byte, 32)).Public().(ed25519.PublicKey)
-		is, _ := isSigned(message, signature, signer)
-		fmt.Println(is)
-	case "explain":
-		fmt.Println(explain(message))
+		return
+	}
+	var digest [32]byte
+	hex.Decode(digest[:], []byte(os.Args[1]))
+	fmt.Println(hasDigest(message, digest, nil))
+}
+`,
+	`package main
+
+import (
+	"io"
+	"os"
+)
+
+func main() {
+	message, _ := io.ReadAll(os.Stdin)
+	if !isWithinLimits(message) {
+		os.Exit(1)
 	}
 }
+`,
+	`package main
+
+import (
+	"fmt"
+	"os"
+
+	capn "example.org/capn/go"
+)
+
+func main() {
+	if err := printDigests(os.Stdin, &capn.Limits{MessageWords: 1 << 17, Budget: 1 << 18, Depth: 32}); err != nil {
+		fmt.Println(err)
+		os.Exit(1)
+	}
+}
+`,
+	`package main
+
+import (
+	"fmt"
+	"io"
+	"os"
+)
+
+func main() {
+	message, _ := io.ReadAll(os.Stdin)
+	if err := printPerson(message, nil); err != nil {
+		fmt.Println(err)
+		os.Exit(1)
+	}
+}
+`,
+	`package main
+
+import (
+	"fmt"
+	"io"
+	"os"
+)
+
+func main() {
+	message, _ := io.ReadAll(os.Stdin)
+	fmt.Println(describe(message, nil))
+}
+`,
+}
+
+// What the block that signs and verifies says that it imports.
+const imports = `package main
+
+import (
+	"crypto/ed25519"
+	"errors"
+	"fmt"
+
+	"example.org/capn/go"
+)
 
 `
 
-// The functions of docs/GO.md, and those that sign and verify of docs/BESIDE-CAPNP.md, in a module of its own that is
-// made as the page says, with what the page says to install, do as the pages say.
+// The page is followed: the library and the module are installed as it says, in a module of its own, and each of its
+// blocks is compiled by itself and run.
 func TestPage(t *testing.T) {
 	shells, parts := blocks(t, "../docs/GO.md", "sh"), blocks(t, "../docs/GO.md", "go")
-	signing := blocks(t, "../docs/BESIDE-CAPNP.md", "go")
-	if len(shells) != 1 || len(parts) != 2 || len(signing) != 1 {
-		t.Fatalf("%d, %d and %d blocks", len(shells), len(parts), len(signing))
+	if len(shells) != 1 || len(parts) != len(callers) {
+		t.Fatalf("%d and %d blocks", len(shells), len(parts))
 	}
-	// Both pages have the limits, which are the same.
-	limits, signs, is := strings.Cut(signing[0], "\n\n")
-	if !is || !strings.HasPrefix(parts[0], limits+" //") {
-		t.Fatalf("other limits: %s", limits)
+	library := os.Getenv("CAPN_INSTALLED")
+	if library == "" {
+		t.Skip("CAPN_INSTALLED names no folder into which the library is installed")
 	}
 	folder := t.TempDir()
-	run := func(input []byte, words ...string) (string, string, int) {
+	run := func(input []byte, words ...string) (string, int) {
 		t.Helper()
 		ran := exec.Command(words[0], words[1:]...)
 		ran.Dir = folder
-		var out, errors bytes.Buffer
-		ran.Stdin, ran.Stdout, ran.Stderr = bytes.NewReader(input), &out, &errors
+		var out bytes.Buffer
+		ran.Stdin, ran.Stdout, ran.Stderr = bytes.NewReader(input), &out, &out
 		err := ran.Run()
 		if err != nil && ran.ProcessState == nil {
 			t.Fatal(err)
 		}
-		return out.String(), errors.String(), ran.ProcessState.ExitCode()
+		return out.String(), ran.ProcessState.ExitCode()
 	}
 	must := func(words ...string) {
 		t.Helper()
-		if out, errors, status := run(nil, words...); status != 0 {
-			t.Fatalf("%v: %s %s", words, out, errors)
+		if out, status := run(nil, words...); status != 0 {
+			t.Fatalf("%v: %s", words, out)
 		}
-	}
-	// An archive as the release has it: the library that the tests are linked with, and the module.
-	library := os.Getenv("CAPN_INSTALLED")
-	if library == "" {
-		t.Skip("CAPN_INSTALLED names no folder into which the library is installed")
 	}
 	here, err := os.Getwd()
 	if err != nil {
 		t.Fatal(err)
 	}
+	// An archive as the release has it: the library that the tests are linked with, and the module.
 	must("sh", "-ec", `mkdir capn-0 program
 		cp -r "$0/lib" "$0/include" capn-0
 		mkdir capn-0/go && cp "$1"/*.go "$1"/go.mod capn-0/go && rm capn-0/go/*_test.go
 		sed -i "s,^prefix=.*,prefix=$PWD/capn-0," capn-0/lib/pkgconfig/capn.pc
 		tar czf capn-0.tar.gz capn-0 && rm -r capn-0`, library, here)
-	program := callers + strings.Join([]string{parts[0], signs, parts[1]}, "\n")
-	if err := os.WriteFile(filepath.Join(folder, "program", "main.go"), []byte(program), 0o666); err != nil {
-		t.Fatal(err)
+	for i, part := range parts {
+		if !strings.HasPrefix(part, "package ") {
+			part = imports + part
+		}
+		part = strings.Replace(part, "package example\n", "package main\n", 1)
+		files := map[string]string{"page.go": part, "main.go": callers[i]}
+		for name, text := range files {
+			path := filepath.Join(folder, "program", fmt.Sprint("part", i), name)
+			if err := os.MkdirAll(filepath.Dir(path), 0o777); err != nil {
+				t.Fatal(err)
+			}
+			if text == "" {
+				continue
+			}
+			if err := os.WriteFile(path, []byte(text), 0o666); err != nil {
+				t.Fatal(err)
+			}
+		}
 	}
 	must("sh", "-ec", "(cd program; go mod init example.org/reader)\n"+shells[0]+
-		"unformatted=$(gofmt -l .)\n[ -z \"$unformatted\" ]\ngo vet .\nCGO_CFLAGS= go build -o ../reader .")
+		"unformatted=$(gofmt -l .)\n[ -z \"$unformatted\" ]\ngo vet ./...\n"+
+		"for part in part*; do CGO_CFLAGS= go build -o ../$part.run ./$part; done")
 	t.Setenv("LD_LIBRARY_PATH", filepath.Join(folder, "capn-0/lib"))
-
-	// A person of the age 30, named "abc", with a friend and two scores; and messages that are wrong, each in a way.
-	person, err := framed([][]byte{bare(1<<32|3<<48, 30^18, 8|1|2<<32|4<<35, 8|1|7<<32|1<<35,
-		16|1|3<<32|2<<35, 0x636261, 4|1<<48, 1|2<<32|4<<35, 0x7a7978, 0x00050003)})
-	if err != nil {
-		t.Fatal(err)
+	told := func(part int, input []byte, words ...string) string {
+		t.Helper()
+		out, status := run(input, append([]string{fmt.Sprintf("./part%d.run", part)}, words...)...)
+		if status != 0 {
+			out = fmt.Sprintf("%s(%d)\n", out, status)
+		}
+		return out
 	}
-	null := []byte("\x00\x00\x00\x00\x01\x00\x00\x00\x00\x00\x00\x00\x00\x00\x00\x00")
-	outside := []byte("\x00\x00\x00\x00\x01\x00\x00\x00\x00\x00\x00\x00\x01\x00\x00\x00")
-	// The name is a struct.
-	unexpected, err := framed([][]byte{bare(1<<32|1<<48, 0, 0xfffffffc)})
-	if err != nil {
-		t.Fatal(err)
-	}
-	both := func(one, other []byte) []byte { return append(append([]byte{}, one...), other...) }
-	const said = "abc 30\na friend: xyz\na score: 3\na score: 5\n"
-	for _, one := range []struct {
-		input       []byte
-		out, errors string
-		status      int
-	}{
-		{nil, "", "", 0},
-		{person, said, "", 0},
-		{both(null, person), "nobody 18\n" + said, "", 0},
-		{both(person, unexpected), said, "capn: text expected, struct found\n", 1},
-		{person[:39], "", "the stream is truncated: capn: message 1 at 0: frame: Cut\n", 1},
-		{both(outside, person), "", "capn: Range at 0:0, paid 0, visits 1\n", 1},
-		{both(person, bytes.Repeat([]byte{255}, 8)), said,
-			fmt.Sprintf("capn: message 2 at %d: frame: TooManySegments(4294967296)\n", len(person)), 1},
-	} {
-		out, errors, status := run(one.input, "./reader")
-		if out != one.out || errors != one.errors || status != one.status {
-			t.Errorf("%x: %q %q %d", one.input, out, errors, status)
+	is := func(what, want, got string) {
+		t.Helper()
+		if got != want {
+			t.Errorf("%s: %q, not %q", what, got, want)
 		}
 	}
 
-	told := func(input []byte, words ...string) string {
-		t.Helper()
-		out, errors, _ := run(input, append([]string{"./reader"}, words...)...)
-		return out + errors
-	}
+	// A person of the age 30, named "abc", with a friend and two scores; and messages that are wrong, each in a way.
+	person := stream(t, 1<<32|3<<48, 30^18, 8|1|2<<32|4<<35, 8|1|7<<32|1<<35,
+		16|1|3<<32|2<<35, 0x636261, 4|1<<48, 1|2<<32|4<<35, 0x7a7978, 0x00050003)
+	null, outside, other := stream(t, 0), stream(t, 1<<32), stream(t, 1<<32|1<<48, 0, 0xfffffffc)
+	hostile := stream(t, 1<<48|0xfffffffc)
+	both := func(all ...[]byte) []byte { return bytes.Join(all, nil) }
 	digest, err := Digest(person, Stream, nil)
 	if err != nil {
 		t.Fatal(err)
 	}
-	if got := told(person, "digest"); got != fmt.Sprintf("%x <nil>\n", digest) {
-		t.Error(got)
-	}
-	statement := fmt.Sprintf("capn statement 1\nprotocol: example.org/billing\ntype: Invoice\ncanonical form: 1\n"+
-		"sha-256: %x\n", digest)
-	signature := hex.EncodeToString(ed25519.Sign(ed25519.NewKeyFromSeed(make([]byte, 32)), []byte(statement)))
-	if got := told(person, "sign"); got != signature+" <nil>\n" {
-		t.Error(got)
-	}
-	canonical, err := Canonical(person, Stream, nil)
-	if err != nil {
-		t.Fatal(err)
-	}
-	again, err := framed([][]byte{canonical})
-	if err != nil {
-		t.Fatal(err)
-	}
-	changed := append([]byte{}, person...)
-	changed[16] ^= 1
+	canonical := framedCanonical(t, person)
+
+	hex0 := hex.EncodeToString(digest[:])
+	is("first", hex0+"\n", told(0, person))
+	is("first", "rejected: capn: trailing bytes at 88\n(1)\n", told(0, both(person, null)))
+	is("first, too long", "rejected: capn: frame: Cut\n(1)\n",
+		told(0, append(bare(1<<20<<32), make([]byte, 1<<21)...)))
+
+	is("digest", hex0+" <nil>\n", told(2, person))
+	is("digest", strings.Repeat("0", 64)+" capn: frame: Cut\n", told(2, person[:39]))
 	for _, one := range []struct {
 		message []byte
-		is      bool
+		want    string
 	}{
-		{person, true}, {again, true}, {changed, false}, {both(person, null), false}, {person[:39], false}, {nil, false},
+		{person, "true\n"}, {canonical, "true\n"}, {null, "false\n"}, {hostile, "false\n"},
+		{both(person, person), "false\n"},
 	} {
-		if got := told(one.message, "signed", signature); got != fmt.Sprintln(one.is) {
-			t.Errorf("%x: %s", one.message, got)
+		is("has a digest", one.want, told(2, one.message, hex0))
+	}
+
+	is("limits", "reading it costs 20 words and follows 7 pointers\n", told(3, person))
+	is("limits", "rejected: capn: TooDeep at 0:0, paid 64, visits 33\n(1)\n", told(3, hostile))
+
+	place := fmt.Sprintf("message 1 at 0: %x\n", digest)
+	is("stream", "", told(4, nil))
+	is("stream", place, told(4, person))
+	is("stream that goes on", place+"capn: message 2 at 88: Range at 0:0, paid 0, visits 1\n"+
+		"capn: message 3 at 104: TooDeep at 0:0, paid 64, visits 33\n"+fmt.Sprintf("message 4 at 120: %x\n", digest),
+		told(4, both(person, outside, hostile, person)))
+	is("stream with a damaged table", place+"capn: message 2 at 88: frame: TooManySegments(4294967296)\n(1)\n",
+		told(4, both(person, bytes.Repeat([]byte{255}, 8), person)))
+	is("truncated stream", place+"capn: message 2 at 88: frame: Cut\n(1)\n", told(4, both(person, person[:39])))
+
+	is("values", "30\nabc\nxyz\n3\n5\n", told(5, person))
+	is("values of null", "18\nnobody\n", told(5, null))
+	is("values of another type", "capn: text expected, struct found\n(1)\n", told(5, other))
+
+	is("why", "rejected: capn: Range at 0:0, paid 0, visits 1, pointer root\n", told(6, outside))
+	is("why", "rejected: capn: frame: Cut, pointer none\n", told(6, small[:20]))
+	is("why", "canonical: yes\n", told(6, canonical))
+	if got := told(6, small); !strings.HasPrefix(got, "canonical: no: at byte 8: 0000000002000000 (struct of ") {
+		t.Error(got)
+	}
+
+	// What is signed, and envelopes of it.
+	text := func(text string) *item {
+		list := &item{kind: 'l', code: 2, count: len(text), words: make([]uint64, (len(text)+7)/8)}
+		for i := range text {
+			list.words[i/8] |= uint64(text[i]) << (8 * (i % 8))
 		}
+		return list
 	}
-	if got := told(outside, "explain"); got != "capn: Range at 0:0, paid 0, visits 1, way: root\n" {
-		t.Error(got)
+	source := rand.New(rand.NewSource(96))
+	laidOut := func(root *item) []byte {
+		message, err := framed(bytesOf(segmentsOf(source, root, 1+source.Intn(3))))
+		if err != nil {
+			t.Fatal(err)
+		}
+		return message
 	}
-	if got := told(again, "explain"); got != "canonical: yes\n" {
-		t.Error(got)
+	lines := &item{kind: 'r', count: 2, code: 1 | 1<<16, words: []uint64{420, 1<<64 - 380},
+		below: []*item{text("tea\x00"), text("a cake\x00")}}
+	invoice := laidOut(&item{kind: 's', words: []uint64{2024117}, below: []*item{text("Ada\x00"), lines}})
+	unended := laidOut(&item{kind: 's', words: []uint64{1}, below: []*item{text("Ada"), {}}})
+	seven := &item{kind: 'l', code: 3, count: 1, words: []uint64{7}}
+	numbers := laidOut(&item{kind: 's', words: []uint64{1}, below: []*item{seven, {}}})
+	key := ed25519.NewKeyFromSeed(make([]byte, 32))
+	signed := func(message []byte, name string) string {
+		digest, err := Digest(message, Stream, nil)
+		if err != nil {
+			t.Fatal(err)
+		}
+		return string(ed25519.Sign(key, []byte(fmt.Sprintf("capn statement 1\nprotocol: example.org/billing\ntype: %s\n"+
+			"canonical form: 1\nsha-256: %x\n", name, digest))))
 	}
-	if got := told(small, "explain"); !strings.HasPrefix(got, "canonical: no: at byte 8: 0000000002000000 (struct of ") {
-		t.Error(got)
+	envelope := func(form, key uint64, signature string, message []byte) []byte {
+		return laidOut(&item{kind: 's', words: []uint64{form | key<<32},
+			below: []*item{text(signature), text(string(message))}})
 	}
-	if got := told(small[:20], "explain"); got != "capn: frame: Cut, way: none\n" {
-		t.Error(got)
+	is("sign", hex.EncodeToString([]byte(signed(invoice, "Invoice")))+" <nil>\n", told(1, invoice, "sign"))
+	is("sign", " capn: frame: Cut\n", told(1, invoice[:20], "sign"))
+	good := signed(invoice, "Invoice")
+	const accepted = "{accepted  2024117 Ada [{tea 420} {a cake -380}]}\n"
+	const tooDeep = "{bad message capn: TooDeep at 0:0, paid 64, visits 33 0  []}\n"
+	for _, one := range []struct {
+		what   string
+		upload []byte
+		want   string
+	}{
+		{"good", envelope(1, 7, good, invoice), accepted},
+		{"canonical", envelope(1, 7, good, framedCanonical(t, invoice)), accepted},
+		{"another key", envelope(1, 8, good, invoice), "{bad signature unknown key 0  []}\n"},
+		{"another type", envelope(1, 7, signed(invoice, "Offer"), invoice), "{bad signature wrong signature 0  []}\n"},
+		{"short", envelope(1, 7, good[:63], invoice), "{bad signature wrong signature 0  []}\n"},
+		{"no signature", envelope(1, 7, "", invoice), "{bad signature wrong signature 0  []}\n"},
+		{"another message", envelope(1, 7, good, person), "{bad signature wrong signature 0  []}\n"},
+		{"another form", envelope(2, 7, good, invoice), "{bad message another canonical form 0  []}\n"},
+		{"two messages", envelope(1, 7, good, both(invoice, invoice)),
+			fmt.Sprintf("{bad message capn: trailing bytes at %d 0  []}\n", len(invoice))},
+		{"a hostile message", envelope(1, 7, good, hostile), tooDeep},
+		{"a text without its zero", envelope(1, 7, signed(unended, "Invoice"), unended),
+			"{bad message capn: text expected, bytes found 0  []}\n"},
+		{"numbers in place of a text", envelope(1, 7, signed(numbers, "Invoice"), numbers),
+			"{bad message capn: text expected, u16 found 0  []}\n"},
+		{"a hostile envelope", hostile, tooDeep},
+		{"no bytes", nil, "{bad message capn: frame: Empty 0  []}\n"},
+		{"a long envelope", make([]byte, 1<<20+1), "{bad message too long 0  []}\n"},
+	} {
+		is(one.what, one.want, told(1, one.upload, "receive"))
 	}
+}
+
+// framedCanonical is the message that has the canonical bytes of one as its only segment.
+func framedCanonical(t *testing.T, message []byte) []byte {
+	t.Helper()
+	canonical, err := Canonical(message, Stream, nil)
+	if err != nil {
+		t.Fatal(err)
+	}
+	found, err := framed([][]byte{canonical})
+	if err != nil {
+		t.Fatal(err)
+	}
+	return found
 }

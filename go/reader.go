@@ -1,71 +1,108 @@
 package capn
 
-import "io"
+import (
+	"io"
+	"sync/atomic"
+)
 
-// Reader reads a stream message by message. It takes no byte after the message that it returns, and waits for none. So
+// Reader reads a stream message by message. It reads no byte after the message that it returns, and waits for none. So
 // let it read from a bufio.Reader where each read is a call of the system.
+//
+// It is for one goroutine at a time. A Next while another one runs is ErrConcurrent, and changes nothing. Number, Start
+// and Offset may be called at any time.
 type Reader struct {
-	from   io.Reader
+	read   func([]byte) (int, error)
 	limits Limits
 	held   []byte
-	have   int   // how many bytes of the message have come,
-	need   int   // and how many say more about it
-	number int64 // messages that were answered
-	offset int64 // where the next one begins
+	have   int // how many bytes of the message have come,
+	need   int // and how many say more about it
 	over   error
+	isBusy atomic.Bool
+	number atomic.Int64
+	start  atomic.Int64
+	offset atomic.Int64
 }
 
 const (
-	count = 4     // bytes by which a frame may be refused
+	count = 4     // bytes by which a frame may be rejected
 	head  = 8     // bytes that it has at least
 	most  = 65536 // bytes of memory that a frame has that has merely been announced
 )
 
-// NewReader returns a reader of a stream, which is not packed. MessageWords of the limits, of which nil are the default
-// ones, bounds each message; nothing else is checked.
+// NewReader returns a reader of a stream that is not packed. MessageWords of the limits, of which nil are the default
+// ones, bounds each message; nothing else of a message is checked.
 func NewReader(from io.Reader, limits *Limits) *Reader {
-	return &Reader{from: from, limits: limitsOf(limits), need: count}
+	return newReader(func(p []byte) (int, error) { return readOnce(from, p) }, limits)
 }
 
-// NewPackedReader returns a reader of a packed stream. It takes no byte after the group in which a message ends.
+// NewPackedReader returns a reader of a packed stream. It reads no byte after the group in which a message ends.
 func NewPackedReader(from io.Reader, limits *Limits) *Reader {
-	return NewReader(&unpacker{from: from}, limits)
+	return newReader((&unpacker{from: from}).Read, limits)
 }
 
-// Next returns the next message, with its segment table. At the end of the stream it returns io.EOF, and at the end of
-// one that is truncated an *Error that is io.ErrUnexpectedEOF by errors.Is. A refusal has the Message and Offset, and
-// comes from each call after it. After another error of the reader, such as a timeout, Next goes on where it was. The
-// bytes are the caller's.
+func newReader(read func([]byte) (int, error), limits *Limits) *Reader {
+	return &Reader{read: read, limits: limitsOf(limits), need: count}
+}
+
+// Next returns the next message, with its segment table. The bytes are the caller's.
+//
+// At the end of the stream it returns io.EOF, and at the end of one that is truncated an *Error that is
+// io.ErrUnexpectedEOF by errors.Is. An *Error has the Message and its Offset, and ends the stream, since nothing says
+// where the next message would begin: every later call returns it again. An error of the io.Reader, such as a timeout,
+// is a *ReadError with the same places. The next call then goes on where this one was.
+//
+// Next doesn't check what is in a message. After a message that a call such as Check rejects, it returns the next one.
 func (r *Reader) Next() ([]byte, error) {
+	if !r.isBusy.CompareAndSwap(false, true) {
+		return nil, ErrConcurrent
+	}
+	defer r.isBusy.Store(false)
 	if r.over != nil {
 		return nil, r.over
 	}
 	for {
 		if err := r.fill(); err != nil {
-			return nil, r.refuse(err)
+			return nil, r.placed(err)
 		}
 		status, told := callFirst(r.held[:r.have], r.limits)
 		switch Kind(status) {
 		case ok:
 			message := r.held[:r.have:r.have]
 			r.held, r.have, r.need = nil, 0, count
-			r.number++
-			r.offset += int64(len(message))
+			r.number.Add(1)
+			r.start.Store(r.offset.Load())
+			r.offset.Add(int64(len(message)))
 			return message, nil
 		case ErrFrameCut:
 			r.need = int(told.length)
 		default:
-			return nil, r.refuse(failure(status, told))
+			return nil, r.placed(failure(status, told))
 		}
 	}
 }
 
-// Number is how many messages Next has returned.
-func (r *Reader) Number() int64 { return r.number }
+// Number is how many messages Next has returned: the number of the last one.
+func (r *Reader) Number() int64 { return r.number.Load() }
 
-// Offset is where the next message begins in the stream: after a refusal where the refused one does, and at the end how
-// long the stream is. Of a packed stream it counts the bytes that are unpacked.
-func (r *Reader) Offset() int64 { return r.offset }
+// Start is where the message begins in the stream that Next returned last, and 0 before it. Of a packed stream it
+// counts the bytes that are unpacked.
+func (r *Reader) Start() int64 { return r.start.Load() }
+
+// Offset is where the next message begins in the stream: after an error of Next where that message does, and at the end
+// how long the stream is. Of a packed stream it counts the bytes that are unpacked.
+func (r *Reader) Offset() int64 { return r.offset.Load() }
+
+// Locate returns an error about the message that Next returned last with its place: of an *Error, such as Check
+// returns, a copy with the Message and the Offset. It returns every other error as it is.
+func (r *Reader) Locate(err error) error {
+	refused, is := err.(*Error)
+	if !is {
+		return err
+	}
+	located := *refused
+	located.Message, located.Offset = r.Number(), r.Start()
+	return &located
+}
 
 // fill reads until there are as many bytes as are needed. Memory grows as they come.
 func (r *Reader) fill() error {
@@ -88,7 +125,7 @@ func (r *Reader) fill() error {
 		if end > wanted {
 			end = wanted
 		}
-		came, err := r.from.Read(r.held[r.have:end])
+		came, err := r.read(r.held[r.have:end])
 		r.have += came
 		switch {
 		case err == io.EOF && r.have < r.need:
@@ -101,18 +138,26 @@ func (r *Reader) fill() error {
 			return err
 		case came == 0:
 			if idle++; idle == 100 {
-				return io.ErrNoProgress
+				return &ReadError{Err: io.ErrNoProgress}
 			}
 		}
 	}
 	return nil
 }
 
-// refuse keeps a refusal; but memory may be there later.
-func (r *Reader) refuse(err error) error {
-	if refused, is := err.(*Error); is {
-		refused.Message, refused.Offset = r.number+1, r.offset
-		r.over = err
+// placed is an error with the place of the message that was being read. An error of the stream is kept, since it ends
+// it, and so is an impossible count. The others may be gone at the next call.
+func (r *Reader) placed(err error) error {
+	message, offset := r.number.Load()+1, r.offset.Load()
+	switch e := err.(type) {
+	case *Error:
+		e.Message, e.Offset = message, offset
+		r.over = e
+	case *ReadError:
+		e.Message, e.Offset = message, offset
+		if e.Err == ErrBadReadCount {
+			r.over = e
+		}
 	}
 	return err
 }

@@ -4,11 +4,18 @@ package capn
 
 import (
 	"bytes"
+	"encoding/binary"
 	"errors"
+	"fmt"
 	"io"
+	"math"
 	"math/rand"
 	"net"
 	"os"
+	"runtime"
+	"strings"
+	"sync"
+	"sync/atomic"
 	"testing"
 	"testing/iotest"
 	"time"
@@ -138,7 +145,17 @@ func TestTimeout(t *testing.T) {
 	for _, cut := range []int{0, 3, 8, 31} {
 		go near.Write(small[:cut])
 		far.SetReadDeadline(time.Now().Add(30 * time.Millisecond))
-		if _, err := reader.Next(); !errors.Is(err, os.ErrDeadlineExceeded) {
+		_, err := reader.Next()
+		var timeout net.Error
+		if !errors.Is(err, os.ErrDeadlineExceeded) || !errors.As(err, &timeout) || !timeout.Timeout() {
+			t.Fatal(err)
+		}
+		var place *ReadError
+		if !errors.As(err, &place) || place.Message != reader.Number()+1 || place.Offset != reader.Offset() {
+			t.Fatal(err)
+		}
+		text := fmt.Sprintf("capn: message %d at %d: %v", place.Message, place.Offset, place.Err)
+		if err.Error() != text {
 			t.Fatal(err)
 		}
 		far.SetReadDeadline(time.Time{})
@@ -167,7 +184,7 @@ func TestRefusedStream(t *testing.T) {
 	if _, err := NewReader(bytes.NewReader(small), limitsWith(2, 9, 9, Strict)).Next(); !errors.Is(err, ErrTooManyWords) {
 		t.Fatal(err)
 	}
-	if _, err := NewReader(bytes.NewReader(small), &Limits{}).Next(); err != ErrLimits {
+	if _, err := NewReader(bytes.NewReader(small), &Limits{Depth: 1}).Next(); err != ErrLimits {
 		t.Fatal(err)
 	}
 }
@@ -193,7 +210,229 @@ type idle struct{}
 func (idle) Read([]byte) (int, error) { return 0, nil }
 
 func TestNoProgress(t *testing.T) {
-	if _, err := NewReader(idle{}, nil).Next(); err != io.ErrNoProgress {
+	if _, err := NewReader(idle{}, nil).Next(); !errors.Is(err, io.ErrNoProgress) {
 		t.Fatal(err)
+	}
+}
+
+// each are both kinds of readers of some messages.
+func each(t *testing.T, messages ...[]byte) map[string]func() *Reader {
+	t.Helper()
+	whole := bytes.Join(messages, nil)
+	text := packed(t, whole)
+	return map[string]func() *Reader{
+		"plain":  func() *Reader { return NewReader(bytes.NewReader(whole), nil) },
+		"packed": func() *Reader { return NewPackedReader(bytes.NewReader(text), nil) },
+	}
+}
+
+// After a message that a call rejects comes the next one, and each error has the place of its message.
+func TestKeepGoing(t *testing.T) {
+	outside := stream(t, 1<<32)
+	deep := stream(t, 1<<48, 1<<48, 1<<48, 0)
+	limits := limitsWith(9, 9, 2, Strict)
+	const want = "1 0 32 <nil>\n2 32 48 capn: message 2 at 32: Range at 0:0, paid 0, visits 1\n3 48 80 <nil>\n" +
+		"4 80 120 capn: message 4 at 80: TooDeep at 0:1, paid 2, visits 2\n5 120 152 <nil>\n5 120 152 EOF\n"
+	for name, reader := range each(t, small, outside, small, deep, small) {
+		var got strings.Builder
+		var digests [][32]byte
+		for r := reader(); ; {
+			message, err := r.Next()
+			if err == nil {
+				var digest [32]byte
+				if digest, err = Digest(message, Stream, limits); err == nil {
+					digests = append(digests, digest)
+				}
+				err = r.Locate(err)
+			}
+			fmt.Fprintln(&got, r.Number(), r.Start(), r.Offset(), err)
+			if err == io.EOF {
+				break
+			}
+		}
+		if got.String() != want {
+			t.Errorf("%s: %s, not %s", name, got.String(), want)
+		}
+		if len(digests) != 3 || digests[0] != digests[1] || digests[1] != digests[2] {
+			t.Errorf("%s: %x", name, digests)
+		}
+	}
+	// An error keeps what it is, and is not changed.
+	r := NewReader(bytes.NewReader(small), nil)
+	if _, err := r.Next(); err != nil {
+		t.Fatal(err)
+	}
+	one := &Error{Kind: ErrRange}
+	if located := r.Locate(one); one.Message != 0 || located.(*Error).Message != 1 || !errors.Is(located, ErrRange) {
+		t.Error(located)
+	}
+	if r.Locate(nil) != nil || r.Locate(io.EOF) != io.EOF {
+		t.Error("another error")
+	}
+}
+
+// A damaged table ends the stream: nothing says where the next message would begin.
+func TestDamagedTable(t *testing.T) {
+	for name, reader := range each(t, small, bare(1<<63), small) {
+		r := reader()
+		if _, err := r.Next(); err != nil {
+			t.Fatal(name, err)
+		}
+		for i := 0; i < 3; i++ {
+			message, err := r.Next()
+			if message != nil || fmt.Sprint(err) != "capn: message 2 at 32: frame: TooManyWords(2147483648)" {
+				t.Errorf("%s: %x, %v", name, message, err)
+			}
+		}
+	}
+}
+
+// waiting is a reader that waits in Read until it is let go.
+type waiting struct {
+	from          io.Reader
+	isHere, letGo chan struct{}
+}
+
+func (w *waiting) Read(p []byte) (int, error) {
+	w.isHere <- struct{}{}
+	<-w.letGo
+	return w.from.Read(p)
+}
+
+// A second Next while one runs is an error, and takes nothing from the stream.
+func TestConcurrent(t *testing.T) {
+	from := &waiting{bytes.NewReader(bytes.Repeat(small, 2)), make(chan struct{}), make(chan struct{})}
+	r := NewReader(from, nil)
+	answers := make(chan error)
+	go func() {
+		for i := 0; i < 2; i++ {
+			message, err := r.Next()
+			if err == nil && !bytes.Equal(message, small) {
+				err = fmt.Errorf("%x", message)
+			}
+			answers <- err
+		}
+	}()
+	for ended := 0; ended < 2; {
+		select {
+		case <-from.isHere:
+			if message, err := r.Next(); message != nil || err != ErrConcurrent {
+				t.Fatal(message, err)
+			}
+			_, _, _ = r.Number(), r.Start(), r.Offset()
+			from.letGo <- struct{}{}
+		case err := <-answers:
+			if ended++; err != nil {
+				t.Fatal(err)
+			}
+		}
+	}
+}
+
+// Many goroutines share a reader: each message comes once or not at all, and no call sees another one's state.
+func TestSharedReader(t *testing.T) {
+	const count = 2000
+	var messages [][]byte
+	for i := uint64(0); i < count; i++ {
+		messages = append(messages, append(bare((2+i%5)<<32, 1<<32, i), make([]byte, 8*(i%5))...))
+	}
+	for name, reader := range each(t, messages...) {
+		r := reader()
+		var seen [count]int32
+		var refused int64
+		var group sync.WaitGroup
+		for i := 0; i < 8; i++ {
+			group.Add(1)
+			go func() {
+				defer group.Done()
+				for {
+					message, err := r.Next()
+					switch {
+					case err == io.EOF:
+						return
+					case err == ErrConcurrent:
+						atomic.AddInt64(&refused, 1)
+						runtime.Gosched()
+					case err != nil:
+						t.Error(err)
+						return
+					default:
+						number := binary.LittleEndian.Uint64(message[16:])
+						if !bytes.Equal(message, messages[number]) {
+							t.Errorf("%x", message)
+						}
+						atomic.AddInt32(&seen[number], 1)
+					}
+				}
+			}()
+		}
+		group.Wait()
+		for i, times := range seen {
+			if times != 1 {
+				t.Errorf("%s: message %d came %d times", name, i, times)
+			}
+		}
+		if r.Number() != count {
+			t.Error(name, r.Number())
+		}
+	}
+}
+
+// lying is a reader that says once that it read an impossible number of bytes.
+type lying struct {
+	from   io.Reader
+	after  int // calls that tell the truth
+	answer int
+	err    error
+}
+
+func (l *lying) Read(p []byte) (int, error) {
+	if l.after--; l.after == -1 {
+		l.from.Read(p)
+		return l.answer, l.err
+	}
+	return l.from.Read(p)
+}
+
+// An io.Reader that says that it read less than nothing, or more than it had room for, ends the stream: no message that
+// nobody sent comes of it.
+func TestImpossibleCount(t *testing.T) {
+	long := append(bare(1000<<32), make([]byte, 8000)...)
+	for _, isPacked := range []bool{false, true} {
+		data := append(append([]byte{}, long...), long...)
+		if isPacked {
+			data = packed(t, data)
+		}
+		for after := 0; after < 4; after++ {
+			for _, answer := range []int{-1, -8, 9, 1 << 20, math.MaxInt, math.MinInt} {
+				for _, err := range []error{nil, io.EOF, io.ErrUnexpectedEOF} {
+					from := &lying{iotest.OneByteReader(bytes.NewReader(data)), after, answer, err}
+					r := NewReader(from, nil)
+					if isPacked {
+						r = NewPackedReader(from, nil)
+					}
+					for i := 0; i < 2; i++ {
+						var place *ReadError
+						message, err := r.Next()
+						if message != nil || !errors.Is(err, ErrBadReadCount) || !errors.As(err, &place) || place.Message != 1 {
+							t.Fatalf("packed %v, %d after %d: %x, %v", isPacked, answer, after, message, err)
+						}
+					}
+				}
+			}
+		}
+	}
+}
+
+// An error of the reader below that is a refusal itself, as of another stream, is an error of reading.
+func TestErrorOfAnotherStream(t *testing.T) {
+	other := &Error{Kind: ErrRange, Message: 7}
+	r := NewReader(io.MultiReader(bytes.NewReader(small[:9]), iotest.ErrReader(other)), nil)
+	for i := 0; i < 2; i++ {
+		var place *ReadError
+		_, err := r.Next()
+		if !errors.As(err, &place) || place.Message != 1 || place.Err != error(other) || other.Message != 7 {
+			t.Fatal(err)
+		}
 	}
 }

@@ -6,11 +6,11 @@ import (
 	"unicode/utf8"
 )
 
-// The methods whose names begin with As read a value by a schema. Whoever wrote the message chose the kind of each
-// value, so they check it: they take null for a field that is absent, accept what an older or a newer schema put there,
-// and return an *UnexpectedError for anything else. None of them allocates memory for the elements of a list.
+// The methods whose names begin with As read a value by a schema. The sender chose the kind of each value, so they test
+// it: they take null for an absent field, accept what a writer with an older or a newer schema put there, and return an
+// *UnexpectedError for anything else. None of them allocates memory for the elements of a list.
 
-// UnexpectedError says that a pointer leads to something else than the schema says.
+// UnexpectedError says that a pointer refers to an object of another kind than the schema has there.
 type UnexpectedError struct {
 	Wanted string    // such as "text"
 	Found  ValueKind // such as Rows
@@ -22,7 +22,7 @@ func (e *UnexpectedError) Error() string {
 
 func (v Value) unexpected(wanted string) error { return &UnexpectedError{wanted, v.kind} }
 
-// AsStruct returns a struct; for null one in which each field has its default.
+// AsStruct returns a struct. For null it is one in which each field has its default.
 func (v Value) AsStruct() (Value, error) {
 	if v.kind != Struct && v.kind != Null {
 		return Value{}, v.unexpected("struct")
@@ -54,10 +54,10 @@ func (v Value) AsData() ([]byte, error) {
 	return v.Bytes(), nil
 }
 
-// AsNumbers returns a list of numbers of 1, 8, 16, 32 or 64 bits, which is empty for null; with another number of bits
-// it panics. Where a newer schema made structs of the numbers, it is the first field of each; of bits there are no such
-// structs. A list of numbers of another size is an error, also of a greater one, which the reference implementation
-// reads.
+// AsNumbers returns a list of numbers of 1, 8, 16, 32 or 64 bits, which is empty for null. With another number of bits
+// it panics. Where a newer schema made structs of the numbers, it is the first field of each, and zero of a struct
+// without data words; a list of bits can't become such structs. A list of numbers of another size is an error, also of
+// a greater one, which the reference implementation reads.
 func (v Value) AsNumbers(bits int) (Numbers, error) {
 	var kind ValueKind
 	switch bits {
@@ -80,7 +80,9 @@ func (v Value) AsNumbers(bits int) (Numbers, error) {
 	case v.kind == kind:
 		size := (uint64(bits)*uint64(v.count) + 7) / 8
 		return Numbers{v.index.bytes[v.offset : v.offset+size], bits, bits, int(v.count)}, nil
-	case v.kind == Rows && v.words > 0 && bits > 1:
+	case v.kind == Rows && bits > 1 && v.words == 0:
+		return Numbers{count: int(v.count)}, nil
+	case v.kind == Rows && bits > 1:
 		size, begin := v.rowSize(), v.offset+8
 		return Numbers{v.index.bytes[begin : begin+size*uint64(v.count)], bits, int(8 * size), int(v.count)}, nil
 	}
@@ -89,8 +91,10 @@ func (v Value) AsNumbers(bits int) (Numbers, error) {
 
 // Numbers is a list of numbers that AsNumbers returned.
 type Numbers struct {
-	bytes             []byte
-	bits, step, count int // the bits of a number, those from one to the next, and how many numbers there are
+	bytes []byte
+	// The bits of a number, those from one to the next, and how many numbers there are. Of structs without data words
+	// there are no bits: each number is zero.
+	bits, step, count int
 }
 
 // Len is how many numbers there are.
@@ -102,7 +106,10 @@ func (n Numbers) At(i int) uint64 {
 	if i < 0 || i >= n.count {
 		panic(fmt.Sprintf("capn: number %d of %d", i, n.count))
 	}
-	if n.bits == 1 {
+	switch n.bits {
+	case 0:
+		return 0
+	case 1:
 		return uint64(n.bytes[i/8] >> (i % 8) & 1)
 	}
 	return number(n.bytes[i*(n.step/8):], n.bits)
@@ -122,7 +129,7 @@ func number(from []byte, bits int) uint64 {
 }
 
 // AsRows returns the structs of a list of structs, which is empty for null. Where an older schema has numbers or
-// pointers, each is a struct of that one field. Of bits there are no such structs.
+// pointers, each is a struct of that one field. A list of bits is an error.
 func (v Value) AsRows() (Items, error) {
 	list := Items{index: v.index, count: int(v.count), next: v.first, offset: v.offset, kind: Struct}
 	switch v.kind {
@@ -145,10 +152,10 @@ func (v Value) AsRows() (Items, error) {
 	return list, nil
 }
 
-// AsPointers returns what the pointers of a list lead to, which is empty for null. Where a newer schema made structs of
-// the pointers, it is the first pointer of each.
+// AsPointers returns the objects that the pointers of a list refer to, and an empty list for null. Where a newer schema
+// made structs of the pointers, it is the first pointer of each, and null of a struct without pointers.
 func (v Value) AsPointers() (Items, error) {
-	if v.kind != Null && v.kind != Pointers && (v.kind != Rows || v.slots == 0) {
+	if v.kind != Null && v.kind != Pointers && v.kind != Rows {
 		return Items{}, v.unexpected("list of pointers")
 	}
 	list, err := v.AsRows()
@@ -184,10 +191,13 @@ func (l *Items) Next() bool {
 		return false
 	}
 	l.count--
-	if l.kind == Pointers {
-		l.item = l.index.value(l.next)
-	} else {
+	switch {
+	case l.kind == Struct:
 		l.item = Value{l.index, Struct, 0, l.words, l.slots, l.part, l.areAlone, l.offset, l.next}
+	case l.slots == 0: // structs without pointers
+		l.item = Value{}
+	default:
+		l.item = l.index.value(l.next)
 	}
 	l.offset += l.step
 	if l.areAlone {

@@ -37,11 +37,11 @@ func TestListsInPlaceOfOthers(t *testing.T) {
 		count       func(Value) (int, error)
 	}{
 		{"bits", ".1........", func(v Value) (int, error) { return counted(v.AsNumbers(1)) }},
-		{"bytes", "..1.....1.", func(v Value) (int, error) { return counted(v.AsNumbers(8)) }},
-		{"u16", "...1....1.", func(v Value) (int, error) { return counted(v.AsNumbers(16)) }},
-		{"u32", "....1...1.", func(v Value) (int, error) { return counted(v.AsNumbers(32)) }},
-		{"u64", ".....1..1.", func(v Value) (int, error) { return counted(v.AsNumbers(64)) }},
-		{"pointers", "......1..1", func(v Value) (int, error) { return read(v.AsPointers()) }},
+		{"bytes", "..1....111", func(v Value) (int, error) { return counted(v.AsNumbers(8)) }},
+		{"u16", "...1...111", func(v Value) (int, error) { return counted(v.AsNumbers(16)) }},
+		{"u32", "....1..111", func(v Value) (int, error) { return counted(v.AsNumbers(32)) }},
+		{"u64", ".....1.111", func(v Value) (int, error) { return counted(v.AsNumbers(64)) }},
+		{"pointers", "......1111", func(v Value) (int, error) { return read(v.AsPointers()) }},
 		{"rows", "1.11111111", func(v Value) (int, error) { return read(v.AsRows()) }},
 	} {
 		var taken strings.Builder
@@ -154,6 +154,52 @@ func TestOlderAndNewer(t *testing.T) {
 	}
 	if err != nil || fmt.Sprint(kinds) != "[null struct bytes]" {
 		t.Error(kinds, err)
+	}
+}
+
+// Equal values read alike: a list of two structs of a word of zeros, or of a null pointer, has the same canonical bytes
+// as two structs of no words. A schema from before the list was upgraded has numbers or pointers there.
+func TestStructsOfNoWords(t *testing.T) {
+	word := stream(t, 1<<48, 1|7<<32|2<<35, 2<<2|1<<32, 0, 0)
+	pointer := stream(t, 1<<48, 1|7<<32|2<<35, 2<<2|1<<48, 0, 0)
+	nothing := stream(t, 1<<48, 1|7<<32, 2<<2)
+	for _, message := range [][]byte{word, pointer, nothing} {
+		if same, err := Same(message, nothing, Stream, nil); err != nil || !same {
+			t.Fatal(same, err)
+		}
+		index, err := NewIndex(message, Stream, nil)
+		if err != nil {
+			t.Fatal(err)
+		}
+		list := index.Root().Slot(0)
+		for _, bits := range []int{8, 16, 32, 64} {
+			numbers, err := list.AsNumbers(bits)
+			if err != nil || numbers.Len() != 2 || numbers.At(0) != 0 || numbers.At(1) != 0 {
+				t.Errorf("%x as numbers of %d bits: %v, %v", message, bits, numbers, err)
+			}
+			func() {
+				defer func() {
+					if recover() == nil {
+						t.Error("a third number")
+					}
+				}()
+				numbers.At(2)
+			}()
+		}
+		pointers, err := list.AsPointers()
+		count := 0
+		for ; pointers.Next(); count++ {
+			text, err := pointers.Item().AsText("none")
+			if pointers.Item().Kind() != Null || text != "none" || err != nil {
+				t.Errorf("%x as pointers: %v, %v", message, pointers.Item().Kind(), err)
+			}
+		}
+		if count != 2 || err != nil {
+			t.Errorf("%x as pointers: %d, %v", message, count, err)
+		}
+		if _, err := list.AsNumbers(1); err == nil {
+			t.Errorf("%x as bits", message)
+		}
 	}
 }
 

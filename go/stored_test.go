@@ -99,7 +99,7 @@ func answer(line string) string {
 	limits.MessageWords, limits.Budget, limits.Depth = number(last-3), number(last-2), number(last-1)
 	switch words[0] {
 	case "is_canonical":
-		canonical, err := IsCanonical(data, &limits)
+		canonical, err := IsCanonicalWords(data, &limits)
 		if err != nil {
 			return text(err, false)
 		}

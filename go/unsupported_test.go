@@ -24,6 +24,13 @@ func TestUnsupported(t *testing.T) {
 	errs = append(errs, err)
 	_, err = IsCanonicalIn(message, Stream, nil)
 	errs = append(errs, err)
+	_, err = IsCanonicalMessage(message, Stream, nil)
+	errs = append(errs, err)
+	_, err = IsCanonicalWords(message, nil)
+	errs = append(errs, err)
+	// One that would be checked before a buffer is made for its answer.
+	_, err = Canonical(make([]byte, 1<<21), Stream, nil)
+	errs = append(errs, err)
 	_, err = RefusalWay(message, Stream, nil)
 	errs = append(errs, err)
 	_, err = FindDeparture(message, Stream, nil)
@@ -37,6 +44,9 @@ func TestUnsupported(t *testing.T) {
 	_, err = NewIndex(message, Stream, nil)
 	errs = append(errs, err)
 	_, err = DigestSegments([][]byte{message}, nil)
+	errs = append(errs, err)
+	packed := []byte{0x10, 1}
+	_, err = NewIndex(packed, Packed, nil)
 	errs = append(errs, err)
 	_, err = NewReader(bytes.NewReader(message), nil).Next()
 	errs = append(errs, err)

@@ -7,9 +7,9 @@ import (
 	"strings"
 )
 
-// Way is the path from the root of a message to a pointer. A number leads from a struct to a pointer of it, from a list
-// of pointers to an element, and from a list of structs to an element, of which the next number says the pointer. The
-// way to the root has no numbers. A nil Way is none at all.
+// Way is the path from the root of a message to a pointer. In a struct a number selects a pointer, and in a list of
+// pointers an element. In a list of structs it selects an element, and the next number a pointer of that. The path of
+// the root has no numbers. A nil Way is no path at all.
 type Way []uint32
 
 // String is what capn show --at takes, such as "0.2", or "root".
@@ -27,10 +27,9 @@ func (w Way) String() string {
 	return strings.Join(numbers, ".")
 }
 
-// RefusalWay returns what Check says of one message, nil if it is accepted, and where a walk refuses it the way to the
-// pointer at which it stopped: what Segment and Word of the *Error say by their numbers. The way is nil if no walk
-// refuses the message. It walks a refused message twice, so call it where the way is of use, after Check or in place of
-// it.
+// RefusalWay returns the error that Check returns, and the path to the pointer that the error is about, which Segment
+// and Word of the *Error give by their numbers. The path is nil if the message is valid, or the error is about no
+// pointer. It checks an invalid message twice, so call it where the path is of use, after Check or in place of it.
 func RefusalWay(message []byte, form Form, limits *Limits) (Way, error) {
 	l := limitsOf(limits)
 	way := roomForWay(l)
@@ -44,7 +43,7 @@ func RefusalWay(message []byte, form Form, limits *Limits) (Way, error) {
 	return Way(way[:r.length/4]), failure(status, r)
 }
 
-// roomForWay has room for each way within limits.
+// roomForWay has room for every path within limits.
 func roomForWay(l Limits) []uint32 {
 	depth := l.Depth
 	if depth > maxDepth {
@@ -67,14 +66,14 @@ const (
 	DepartsAfter                           // words come after the canonical bytes
 )
 
-// Owner is what a word of canonical bytes belongs to, beside the way to a pointer.
+// Owner is what a word of canonical bytes is part of, beside the path to a pointer.
 type Owner uint32
 
 const (
 	OwnerNone     Owner = iota
-	OwnerPointer        // it is the pointer itself,
-	OwnerTag            // the tag of the list of structs that the pointer leads to,
-	OwnerLastWord       // or the last word of the list of bits, bytes or numbers that it leads to
+	OwnerPointer        // the pointer itself
+	OwnerTag            // the tag of the list of structs that the pointer refers to
+	OwnerLastWord       // the last word of the list of bits, bytes or numbers that the pointer refers to
 )
 
 // String is the word that capn explain has for an owner.
@@ -92,22 +91,22 @@ func (o Owner) String() string {
 	return fmt.Sprintf("Owner(%d)", uint32(o))
 }
 
-// Departure is the first reason why an accepted message is not canonical. A field that the kind doesn't speak of is
+// Departure is the first difference of a valid message from its canonical form. A field that a kind doesn't have is
 // zero.
 type Departure struct {
 	Kind          DepartureKind
 	Segments      uint32 // of DepartsSegments: how many there are
 	Capability    uint32 // of DepartsCapability: the index of the first one in preorder
-	Way           Way    // to that capability, or of DepartsWord to the pointer that Owner says the word by
-	Byte          uint64 // of a word: where it begins in the message, of a packed one in what it unpacks to
-	Word          uint64 // what it is there,
-	CanonicalWord uint64 // and of DepartsWord what it is in the canonical bytes,
-	Owner         Owner  // and what it belongs to there
+	Way           Way    // the path to that capability; of DepartsWord to the pointer that Owner is about
+	Byte          uint64 // where the first word that differs begins in the message, of a packed one in unpacked bytes
+	Word          uint64 // what the word is there,
+	CanonicalWord uint64 // of DepartsWord what it is in the canonical bytes,
+	Owner         Owner  // and what it is part of there
 }
 
-// FindDeparture returns the first reason why one message that is accepted is not canonical, and with DepartsNot that it
-// is. It walks the message several times, and allocates memory for its canonical bytes: IsCanonicalIn says sooner
-// whether there is a reason.
+// FindDeparture returns the first difference of a valid message from its canonical form. Of a canonical message its
+// Kind is DepartsNot. It reads the message several times, and allocates memory for its canonical bytes:
+// IsCanonicalMessage is faster if it is enough to know whether there is a difference.
 func FindDeparture(message []byte, form Form, limits *Limits) (Departure, error) {
 	l := limitsOf(limits)
 	way := roomForWay(l)
@@ -133,7 +132,7 @@ func FindDeparture(message []byte, form Form, limits *Limits) (Departure, error)
 	return found, nil
 }
 
-// departed is a departure as the library has it.
+// departed is a Departure as the library has it.
 type departed struct {
 	is, canonical                     uint64
 	kind, owner, word, count, numbers uint32

@@ -36,12 +36,19 @@ func packed(t *testing.T, words []byte) []byte {
 	return packed
 }
 
-func TestIsCanonicalIn(t *testing.T) {
+func TestIsCanonicalMessage(t *testing.T) {
 	// A struct of two words, 5 and 0, and a word to which nothing leads; and its canonical bytes.
 	loose, tight := stream(t, 2<<32, 5, 0, 9), stream(t, 1<<32, 5)
-	// Read bare, a table and its segment are a struct of data: the call of C has no form.
-	if is, err := IsCanonical(loose, nil); err != nil || !is {
-		t.Fatal(is, err)
+	// Read as words, a table and its segment are a struct of data; the earlier call reads them so.
+	for _, call := range []func([]byte, *Limits) (bool, error){IsCanonicalWords, IsCanonical} {
+		for _, one := range []struct {
+			words []byte
+			is    bool
+		}{{loose, true}, {loose[8:], false}, {tight[8:], true}} {
+			if is, err := call(one.words, nil); err != nil || is != one.is {
+				t.Fatal(is, err)
+			}
+		}
 	}
 	two, err := framed([][]byte{{}, {}})
 	if err != nil {
@@ -58,6 +65,9 @@ func TestIsCanonicalIn(t *testing.T) {
 		{tight, Stream, true}, {packed(t, tight), Packed, true}, {tight[8:], Bare, true},
 		{two, Stream, false}, {packed(t, two), Packed, false},
 	} {
+		if is, err := IsCanonicalMessage(one.message, one.form, nil); err != nil || is != one.is {
+			t.Errorf("%x: %v, %v", one.message, is, err)
+		}
 		if is, err := IsCanonicalIn(one.message, one.form, nil); err != nil || is != one.is {
 			t.Errorf("%x: %v, %v", one.message, is, err)
 		}
@@ -67,15 +77,15 @@ func TestIsCanonicalIn(t *testing.T) {
 		Stream: capability, Packed: packed(t, capability), Bare: capability[8:],
 	} {
 		var refused *Error
-		is, err := IsCanonicalIn(message, form, nil)
+		is, err := IsCanonicalMessage(message, form, nil)
 		if is || !errors.As(err, &refused) || *refused != (Error{Kind: ErrCapability, At: 7}) {
 			t.Error(is, err)
 		}
 	}
-	if is, err := IsCanonicalIn(tight[:20], Stream, nil); is || !errors.Is(err, ErrFrameCut) {
+	if is, err := IsCanonicalMessage(tight[:20], Stream, nil); is || !errors.Is(err, ErrFrameCut) {
 		t.Error(is, err)
 	}
-	if is, err := IsCanonicalIn(tight, Form(3), nil); is || err != ErrForm {
+	if is, err := IsCanonicalMessage(tight, Form(3), nil); is || err != ErrForm {
 		t.Error(is, err)
 	}
 }

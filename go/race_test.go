@@ -1,0 +1,6 @@
+//go:build race
+
+package capn
+
+// isRace says whether the race detector watches the tests.
+const isRace = true
