@@ -55,9 +55,9 @@ run: program
 	@.ci/stored-run built
 
 # The lines of the gate that need no prover; those that need what it builds. .ci/README.md says of each when it fails.
-PAGE_LINES := .ci/lines .ci/docs .ci/borders .ci/cited .ci/toolchain .ci/version .ci/lists .ci/readings .ci/counts \
-	.ci/places release/completions tests/pages/touched tests/cases release/symbols release/manual release/links \
-	tests/release/steps
+PAGE_LINES := .ci/lines .ci/docs .ci/borders .ci/cited .ci/toolchain .ci/version .ci/lists .ci/readings \
+	.ci/counts .ci/places release/completions tests/pages/touched tests/pages/words tests/cases release/symbols \
+	release/manual release/links tests/release/steps
 BUILT_LINES := release/recursion tests/program/statuses tests/program/full-disk tests/program/failures tests/vectors \
 	.ci/library release/installs release/glibc
 
@@ -71,7 +71,7 @@ test:
 test-all:
 	@.ci/needs test
 	@rm -f $(BUILD)/PROVED
-	@.ci/steps test-all $(PAGE_LINES) ".ci/prove --all $(ANEW)" $(BUILT_LINES) release/proved
+	@.ci/steps test-all $(PAGE_LINES) ".ci/prove --all $(ANEW)" $(BUILT_LINES) tests/c/two-compilers release/proved
 
 # All tests and stored cases, with no proof, for a tree that is being changed.
 quick:
@@ -95,7 +95,7 @@ bench:
 	cd crates/bench && rt run > /dev/null && ./out/bench times
 
 # The program and the library as it is called from C, Python and Rust, on every stored vector; a million calls from C,
-# and calls in two threads; the guide's recipes, and the programs of the pages for C and Python; the package for Python;
+# and calls in two threads; the guide's recipes, and the programs of the pages; the package for Python;
 # and where the reference implementation is installed: messages that it wrote, the lines of docs/DIFFERENCES.md, its
 # answers and those of the crate capnp to the cases of vectors/, pairs of messages that its builders wrote, and its
 # table of hostile inputs, by root in a root of Debian 13 too, with the languages over the library. With the program
@@ -103,7 +103,12 @@ bench:
 interop: $(if $(CAPN),,program library)
 	./tests/c/agree
 	./tests/c/watched
+	./tests/c/sanitized
 	./tests/pages/recipes
+	./tests/pages/readme
+	./tests/pages/signing
+	@if command -v python3 > /dev/null; then CAPN="$(CAPN)" python3 -B tests/pages/guide.py bash; \
+	else echo "guide: skipped, since there is no python3"; fi
 	./tests/pages/callers
 	./tests/pages/beside
 	./tests/reference/run

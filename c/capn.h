@@ -74,7 +74,7 @@ typedef struct capn_limits {
     uint32_t tariff;        /* CAPN_STRICT or CAPN_PLAIN */
 } capn_limits;
 
-/* The usual limits: 64 MiB of message, 64 MiB of reading, a depth of 64, the strict tariff. */
+/* The default limits: 64 MiB of message, 64 MiB of reading, a depth of 64, the strict tariff. */
 #define CAPN_USUAL_LIMITS { 8388608u, 8388608u, 64u, CAPN_STRICT }
 
 typedef struct capn_report {
@@ -194,7 +194,7 @@ enum capn_status_code {
     CAPN_MEMORY = 8,        /* an allocation failed */
     CAPN_NO_SCRATCH = 9,    /* only from capn_canonical_with_scratch; at: how many words are needed */
 
-    /* refusals of what was passed */
+    /* errors about the message */
     /* the bytes are not whole words */
     CAPN_NOT_WHOLE = 16,     /* at: how many bytes there are */
     CAPN_BARE_TOO_LONG = 17, /* at: how many words there are */

@@ -20,9 +20,9 @@ _RANGES = {
 @dataclass(frozen=True)
 class Limits:
     # c/limits.txt: fields in python
-    """How much a call takes on: the words of a message with a segment table (1 to 2^28), the traversal limit in words
-    (0 to 2^28), the nesting limit (1 to 256, the root has depth 1), and the counting rule for costs, "strict" or
-    "plain"."""
+    """The limits of what a call accepts: the words of a message with a segment table (1 to 2^28), the traversal limit
+    in words (0 to 2^28), the nesting limit (1 to 256, the root has depth 1), and the counting rule for costs, "strict"
+    or "plain"."""
 
     message_words: int = 8388608
     budget: int = 8388608

@@ -83,7 +83,7 @@ impl fmt::Display for Limit {
 
 impl Limits {
     // c/limits.txt: usual in rust
-    /// The usual limits: 64 MiB of message, 64 MiB of reading, a depth of 64, the strict tariff.
+    /// The default limits: 64 MiB of message, 64 MiB of reading, a depth of 64, the strict tariff.
     pub const fn usual() -> Self {
         Limits {
             message_words: 8_388_608,
