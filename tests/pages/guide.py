@@ -58,7 +58,7 @@ def tried(shell, capn):
 
 
 def main():
-    capn = os.environ.get("CAPN", str(TOP / "crates" / "capn" / "out" / "capn"))
+    capn = os.environ.get("CAPN") or str(TOP / "crates" / "capn" / "out" / "capn")
     failed = 0
     for shell in sys.argv[1:] or ["sh"]:
         ran, wrong = tried(shell, Path(capn).resolve())
