@@ -4,6 +4,7 @@
 #include "capn.hpp"
 #include <array>
 #include <cstdio>
+#include <fcntl.h>
 #include <list>
 #include <string>
 #include <sys/socket.h>
@@ -76,23 +77,36 @@ static void answers() {
     const capn::buffer packed = capn::pack(one);
     want("unpack", capn::bytes(capn::unpack(packed)).chars() == one);
     want("packed", capn::canonical(packed, capn::form::packed) == capn::canonical(one));
-    want("is canonical", capn::is_canonical(capn::canonical(one)) && !capn::is_canonical(one.substr(8)));
-    /* A frame of one segment whose last word isn't zero: read bare, with its table, it passes; as a stream it doesn't,
-     * for its struct has a zero word before a slot. */
+    want("canonical words", capn::is_canonical_words(capn::canonical(one)) && !capn::is_canonical_words(one.substr(8)));
+    /* A message of one segment whose last word isn't zero: its table and its words pass as words; the message doesn't,
+     * for its struct has a zero word before a pointer. */
     using capn::form;
     const capn::limits few(99, 2, 9);
     const std::string loose = framed(words({2ull << 32 | 1ull << 48, 5, 0, 1 | 0x22ull << 32, 0x636261}));
     const std::string tight = framed(words({1ull << 32, 5}));
     const std::string capability = framed(words({1ull << 48, 3 | 7ull << 32}));
-    want("a frame, read bare", capn::is_canonical(loose) && capn::is_canonical(loose, form::bare));
-    want("a frame", !capn::is_canonical(loose, form::stream) && capn::is_canonical(tight, form::stream));
+    want("a table, read as words", capn::is_canonical_words(loose) && capn::is_canonical(loose, form::bare));
+    want("a message", !capn::is_canonical_message(loose) && capn::is_canonical_message(tight));
+    want("a message with limits", !capn::is_canonical_message(loose, form::stream, {99, 10, 9}));
+    want("a form", !capn::is_canonical(loose, form::stream) && capn::is_canonical(tight, form::stream));
     want("a packed frame", !capn::is_canonical(packed, form::packed)
                                && capn::is_canonical(capn::pack(tight), form::packed));
     const std::string far = words({1 | 1ull << 32, 2, 2 | 1ull << 32, 1ull << 32, 5});
     want("two segments", !capn::is_canonical(far, form::stream));
-    want("limits without a form", capn::is_canonical(loose, {}) && thrown<capn::refusal>([&] {
-                                      capn::is_canonical(loose, few);
-                                  }) == "OverBudget at 0:0, paid 0, visits 1");
+    want("limits of words", capn::is_canonical_words(loose, {}) && thrown<capn::refusal>([&] {
+                                (void)capn::is_canonical_words(loose, few);
+                            }) == "OverBudget at 0:0, paid 0, visits 1");
+    /* The call without a form stays, and means words. */
+#if defined(__GNUC__)
+#pragma GCC diagnostic push
+#pragma GCC diagnostic ignored "-Wdeprecated-declarations"
+#endif
+    want("no form", capn::is_canonical(loose) && !capn::is_canonical(one.substr(8)) && capn::is_canonical(loose, {}));
+    want("limits without a form", thrown<capn::refusal>([&] { capn::is_canonical(loose, few); })
+                                      == "OverBudget at 0:0, paid 0, visits 1");
+#if defined(__GNUC__)
+#pragma GCC diagnostic pop
+#endif
     want("limits and a form", thrown<capn::refusal>([&] { capn::is_canonical(loose, form::stream, few); })
                                   == "OverBudget at 0:0, paid 0, visits 1");
     for (const auto written : {form::stream, form::bare}) {
@@ -102,6 +116,59 @@ static void answers() {
     /* An object that three pointers lead to is written three times: the answer is longer than the message. */
     const std::string shared = framed(words({3ull << 48, 8 | 1ull << 32, 4 | 1ull << 32, 1ull << 32, 7}));
     want("a longer answer", capn::canonical(shared).size() == 56 && shared.size() == 48);
+    /* Canonical bytes are a vector as any other, and give back what they didn't need. */
+    static_assert(std::is_same_v<decltype(capn::canonical(one)), std::vector<std::byte>>);
+    const std::string null_root = std::string("\0\0\0\0\0\0\2\0", 8) + std::string(1 << 20, '\0');
+    const std::vector<std::byte> small = capn::canonical(null_root);
+    want("no more room than needed", small.size() == 8 && small.capacity() < 128);
+    want("no more of a packed one", capn::canonical(capn::pack(one), form::packed).capacity() < 128);
+    want("no more of a text", capn::show(null_root).capacity() < 128);
+    /* The bytes of words, whose size isn't the number of words. */
+    const std::vector<std::uint64_t> counted = {2ull << 32, 5, 0};
+    want("the bytes of words", capn::as_bytes(counted).size() == 24
+                                   && capn::check(capn::as_bytes(counted), form::bare).paid == 3);
+}
+
+/* A message in segments: a vector, an array and a span of them, and the calls that copy them first. */
+static void pieces() {
+    const std::string far = words({2 | 1ull << 32}), rest = words({1ull << 32, 5});
+    const std::vector<capn_segment> two = {{far.data(), 1}, {rest.data(), 2}};
+    const std::array<capn_segment, 1> tight = {{{rest.data(), 2}}};
+    const std::string other = words({1ull << 32, 6}), whole = words({1 | 1ull << 32, 2, 2 | 1ull << 32, 1ull << 32, 5});
+    const capn_segment another[] = {{other.data(), 2}}, odd[] = {{nullptr, 0}, {far.data(), 1}, {rest.data(), 2}};
+    want("a vector of segments", capn::canonical(two) == capn::canonical(whole));
+    want("their size", capn::segments(two).bytes_in_all() == 24 && capn::segments(two).size() == 2);
+    want("an array of segments", capn::digest(tight) == capn::digest(two) && capn::check(tight).paid == 2);
+#ifdef __cpp_lib_span
+    want("a span of segments", capn::digest(std::span<const capn_segment>(two)) == capn::digest(two));
+#endif
+    want("the same segments", capn::same(two, tight) && !capn::same(two, another));
+    want("the dump of segments", capn::show(two) == capn::show(whole));
+    want("canonical segments", capn::is_canonical_message(tight) && !capn::is_canonical_message(two));
+    want("an index of segments", capn::index::of(two).size() == 1);
+    const capn::index index = capn::index::of(two);
+    want("a value of segments", index.root().as_struct().get<std::uint64_t>(0) == 5);
+    want("the copy", capn::bytes(index.message()).chars() == whole);
+    want("an empty segment", thrown<capn::refusal>([&] { (void)capn::index::of(odd); }) == "NoRoot"
+                                 || thrown<capn::refusal>([&] { (void)capn::index::of(odd); }).rfind("NoRoot", 0) == 0);
+    const std::vector<capn_segment> none, many(4097, two[1]);
+    want("no segments", thrown<capn::refusal>([&] { capn::show(none); }) == "frame: Empty");
+    want("too many", thrown<capn::refusal>([&] { capn::show(many); }) == "frame: TooManySegments(4097)");
+    const capn_segment loop[] = {{hostile.data() + 8, 1}};
+    const auto which = [](capn::segments first, capn::segments second) {
+        try {
+            (void)capn::same(first, second);
+        } catch (const capn::refusal &why) {
+            return why.name() + std::to_string(why.which());
+        }
+        return std::string("nothing");
+    };
+    want("the first one", which(loop, none) == "TooDeep0");
+    want("the second one", which(two, loop) == "TooDeep1");
+    /* Segments that say that they are too long are not copied. */
+    const capn_segment long_one[] = {{rest.data(), std::size_t{1} << 60}, {rest.data(), std::size_t{1} << 60}};
+    want("too long", thrown<capn::refusal>([&] { capn::show(long_one); }).rfind("frame: TooManyWords", 0) == 0);
+    want("too long for bytes", capn::segments(long_one).bytes_in_all() > 8ull << 28);
 }
 
 /* Canonical bytes into a buffer, with scratch that is lent: few segments, a packed text, and many segments. */
@@ -283,6 +350,227 @@ static void streams() {
     want("the cut one", thrown<capn::refusal>([&] { reader.next(); }) == "message 2 at 32: frame: Cut");
 }
 
+/* What a reader's function does wrong is no refusal, and no byte that it didn't write is read. */
+static void readers() {
+    /* The table has come, the rest not yet; then the function answers what its system call answers for an error. */
+    const std::string all = one + one;
+    for (const std::size_t wrong : {static_cast<std::size_t>(-1), std::size_t{25}, std::size_t{1} << 20}) {
+        std::size_t at = 0, calls = 0;
+        capn::reader reader([&](std::byte *to, std::size_t most) -> std::size_t {
+            if (++calls == 2) return wrong;
+            const std::size_t taken = std::min(most, all.size() - at);
+            std::memcpy(to, all.data() + at, taken);
+            at += taken;
+            return taken;
+        });
+        want("more than was asked for", thrown<capn::read_error>([&] { (void)reader.next(); })
+                                            == "the function of a reader returned more bytes than it was asked for");
+        const auto message = reader.next();
+        want("nothing is lost", message && message->chars() == one && reader.next()->chars() == one && !reader.next());
+    }
+    /* The same over a pipe without bytes, as whoever calls read(2) and forgets its errors would write it. */
+    int ends[2];
+    want("a pipe", pipe(ends) == 0 && fcntl(ends[0], F_SETFL, O_NONBLOCK) == 0 && write(ends[1], one.data(), 8) == 8);
+    capn::reader forgetful([&](std::byte *to, std::size_t most) {
+        return static_cast<std::size_t>(::read(ends[0], to, most));
+    });
+    want("an error that was forgotten", thrown<capn::read_error>([&] { (void)forgetful.next(); })
+                                            != "nothing");
+    /* And as it should be, by an exception, an optional and an expected. */
+    capn::reader careful([&](std::byte *to, std::size_t most) -> std::optional<std::size_t> {
+        const ssize_t came = ::read(ends[0], to, most);
+        return came < 0 ? std::nullopt : std::optional<std::size_t>(came);
+    });
+    want("nothing yet", thrown<capn::read_error>([&] { (void)careful.next(); }) == "the function of a reader failed");
+    want("the rest", write(ends[1], all.data(), all.size()) == static_cast<ssize_t>(all.size()));
+    want("the message", careful.next()->chars() == one);
+    close(ends[0]);
+    close(ends[1]);
+    const auto failing = [](std::byte *, std::size_t) -> capn::expected<std::size_t, int> { return -1; };
+    capn::reader failed(failing);
+    const auto why = failed.try_next();
+    want("an expected", !why && why.error().status() == capn::read_failed && !why.error().is_refusal()
+                            && why.error().name() == std::string("ReadFailed"));
+
+    /* A message that is rejected, and the next one after it: number, offset and error of each. */
+    const std::string mixed = one + hostile + one + hostile + cut;
+    const auto from = [&mixed](std::size_t most_at_once) {
+        return [&mixed, most_at_once, at = std::size_t{0}](std::byte *to, std::size_t most) mutable {
+            const std::size_t taken = std::min({most, most_at_once, mixed.size() - at});
+            std::memcpy(to, mixed.data() + at, taken);
+            at += taken;
+            return taken;
+        };
+    };
+    const std::string wanted = "1 0 good, 2 32 TooDeep at 0:0, paid 128, visits 65, 3 48 good, "
+                               "4 80 TooDeep at 0:0, paid 128, visits 65, message 5 at 96: frame: Cut";
+    for (const std::size_t most_at_once : {1, 3, 1000}) {
+        std::string told, other;
+        capn::reader reader(from(most_at_once));
+        try {
+            for (const capn::stream_message message : reader) {
+                told += std::to_string(message.number()) + " " + std::to_string(message.offset()) + " ";
+                want("the same number", message.number() == reader.number());
+                want("the same place", message.offset() == reader.message_offset()
+                                           && reader.offset() == message.offset() + message.size());
+                try {
+                    capn::check(message);
+                    told += "good, ";
+                } catch (const capn::refusal &error) {
+                    told += error.what() + std::string(", ");
+                }
+            }
+        } catch (const capn::refusal &error) {
+            told += error.what();
+            want("the place of the cut one", error.number() == 5 && error.offset() == 96
+                                                 && error.status() == CAPN_FRAME_CUT);
+        }
+        want("it goes on", told == wanted);
+        want("the last one", reader.number() == 4 && reader.message_offset() == 80 && reader.offset() == 96);
+        want("it stays cut", thrown<capn::refusal>([&] { (void)reader.next(); }) == "message 5 at 96: frame: Cut");
+
+        capn::reader again(from(most_at_once));
+        for (;;) {
+            const auto next = again.try_next();
+            if (!next) {
+                other += next.error().text();
+                break;
+            }
+            if (!*next) break;
+            other += std::to_string((*next)->number()) + " " + std::to_string((*next)->offset()) + " ";
+            const auto checked = capn::try_check(**next);
+            other += (checked ? "good" : checked.error().text()) + ", ";
+        }
+        want("it goes on without exceptions", other == wanted);
+    }
+    std::string told;
+    want("in memory", thrown<capn::refusal>([&] {
+                          capn::for_each(mixed, [&](capn::stream_message message) {
+                              told += std::to_string(message.number()) + " " + std::to_string(message.offset()) + " "
+                                      + (capn::try_check(message) ? "good, " : "bad, ");
+                          });
+                      }) == "message 5 at 96: frame: Cut");
+    want("all in memory", told == "1 0 good, 2 32 bad, 3 48 good, 4 80 bad, ");
+    /* A table that is wrong ends the stream: each call says so again. */
+    const std::string damaged = one + std::string(8, '\xff') + one;
+    std::size_t at = 0;
+    capn::reader ended([&](std::byte *to, std::size_t most) {
+        const std::size_t taken = std::min(most, damaged.size() - at);
+        std::memcpy(to, damaged.data() + at, taken);
+        at += taken;
+        return taken;
+    });
+    want("one message", ended.next().has_value());
+    for (int i = 0; i < 2; i++)
+        want("a wrong table", thrown<capn::refusal>([&] { (void)ended.next(); })
+                                  == "message 2 at 32: frame: TooManySegments(4294967296)");
+
+    /* A reader can be moved within a stream, and not be copied. */
+    static_assert(!std::is_copy_constructible_v<decltype(ended)> && !std::is_copy_assignable_v<decltype(ended)>);
+    capn::reader first(from(5));
+    const auto message = first.next();
+    capn::reader second = std::move(first);
+    want("a view stays", message->chars() == one && second.number() == 1 && second.offset() == 32);
+    want("it goes on after a move", second.next()->chars() == hostile && second.number() == 2);
+    want("nothing of it is left", first.number() == 0 && first.offset() == 0);
+}
+
+/* Streams of packed messages: the messages one by one, and as one text, whose groups go from one into the next. */
+static void packed_streams() {
+    const auto text = [](const std::string &message) { return std::string(capn::bytes(capn::pack(message)).chars()); };
+    std::string lengthy = framed(words({1 | 1ull << 32 | 2400ull << 35}));
+    lengthy[4] = static_cast<char>(3001 & 255);
+    lengthy[5] = static_cast<char>(3001 >> 8);
+    lengthy.resize(8 + 8 * 3001);
+    lengthy[8] = 1, lengthy[12] = 7;
+    for (std::size_t i = 16; i < lengthy.size(); i++) lengthy[i] = static_cast<char>(i % 700 < 300 ? 0 : i * i);
+    for (int i = 1; i < 8; i++) lengthy[8 + i] = lengthy[16 + i] = 0;
+    const std::vector<std::string> messages = {one, hostile, lengthy, framed(words({0})), one};
+    std::string apart, together;
+    std::vector<std::size_t> ends;
+    for (const std::string &message : messages) {
+        apart += text(message);
+        together += message;
+        ends.push_back(apart.size());
+    }
+    for (const std::string &stream : {apart, text(together)})
+        for (const std::size_t most_at_once : {1, 2, 7, 100000}) {
+            std::size_t at = 0, calls = 0, got = 0;
+            capn::packed_reader reader([&](std::byte *to, std::size_t most) -> std::size_t {
+                if (++calls % 3 == 0) throw calls;
+                const std::size_t taken = std::min({most, most_at_once, stream.size() - at});
+                std::memcpy(to, stream.data() + at, taken);
+                at += taken;
+                return taken;
+            });
+            std::uint64_t offset = 0;
+            for (bool more = true; more;) try {
+                const auto message = reader.next();
+                more = message.has_value();
+                if (!more) continue;
+                want("a packed message", got < messages.size() && message->chars() == messages[got]);
+                want("its place", reader.message_offset() == offset && reader.number() == got + 1);
+                if (stream == apart) want("no byte after it", at == ends[got]);
+                offset += messages[got++].size();
+            } catch (std::size_t) {
+            }
+            want("all packed messages", got == messages.size() && at == stream.size());
+        }
+    /* Cut anywhere. */
+    for (std::size_t size = 0; size < apart.size(); size += 1 + size / 40) {
+        std::size_t at = 0, got = 0;
+        const std::size_t whole = static_cast<std::size_t>(std::upper_bound(ends.begin(), ends.end(), size)
+                                                           - ends.begin());
+        const bool is_between = size == 0 || (whole > 0 && ends[whole - 1] == size);
+        capn::packed_reader reader([&](std::byte *to, std::size_t most) {
+            const std::size_t taken = std::min(most, size - at);
+            std::memcpy(to, apart.data() + at, taken);
+            at += taken;
+            return taken;
+        });
+        try {
+            for (const capn::stream_message message : reader) want("a message before", message.number() == ++got);
+            want("nothing is cut", is_between && got == whole);
+        } catch (const capn::refusal &error) {
+            want("it is cut", !is_between && got == whole && error.number() == whole + 1
+                                  && (error.status() == CAPN_FRAME_CUT || error.status() == CAPN_PACKED_CUT));
+            if (error.status() == CAPN_PACKED_CUT)
+                want("where", error.report().at < size && (whole == 0 || error.report().at >= ends[whole - 1]));
+        }
+    }
+    /* Few bytes that stand for many words: no more is unpacked than the message that was announced. */
+    std::string bomb = text(framed(words({0})));
+    for (int i = 0; i < 4000; i++) bomb += std::string("\0\xff", 2);
+    std::size_t at = 0, asked = 0;
+    capn::packed_reader reader([&](std::byte *to, std::size_t most) {
+        const std::size_t taken = std::min(most, bomb.size() - at);
+        std::memcpy(to, bomb.data() + at, taken);
+        at += taken;
+        asked = std::max(asked, most);
+        return taken;
+    }, {16, 16, 4});
+    want("the message before", reader.next()->size() == 16);
+    want("its packed bytes alone", at == text(framed(words({0}))).size());
+    std::size_t zeros = 0;
+    while (reader.next()) zeros++;
+    want("each null root", zeros == 4000 * 256 && asked < 3000);
+    capn::packed_reader wrong([](std::byte *, std::size_t most) { return most + 1; });
+    want("too many packed bytes", thrown<capn::read_error>([&] { (void)wrong.next(); })
+                                      == "the function of a reader returned more bytes than it was asked for");
+    const std::string big = text(framed(words({5, 6, 7, 8})));
+    at = 0;
+    capn::packed_reader limited([&](std::byte *to, std::size_t most) {
+        const std::size_t taken = std::min(most, big.size() - at);
+        std::memcpy(to, big.data() + at, taken);
+        at += taken;
+        return taken;
+    }, {3, 3, 3});
+    want("a limit", thrown<capn::refusal>([&] { (void)limited.next(); }) == "message 1 at 0: frame: TooManyWords(4)");
+    auto moved = std::move(limited);
+    want("a packed reader that was moved", thrown<capn::refusal>([&] { (void)moved.next(); })
+                                               == "message 1 at 0: frame: TooManyWords(4)");
+}
+
 /* Over a socket, whose peer waits for an answer to each message: none is waited for once it is there, and no byte after
  * the messages is taken. */
 static void sockets() {
@@ -357,8 +645,121 @@ static void fields() {
     want("many slots", capn::index::of(whole).size() == 201);
 }
 
+/* Canonical bytes leave out a section that is zero in each struct of a list. Whoever reads the list as numbers, or as
+ * pointers, reads zeros and nulls from it, as from the list before. */
+static void canonical_lists() {
+    const auto all = [](const capn::numbers<std::uint16_t> &numbers) {
+        return std::vector<std::uint16_t>(numbers.begin(), numbers.end());
+    };
+    const std::string with = framed(words({1ull << 48, 0x1700000001, 0x100000008, 0, 0}));
+    const std::string without = framed(words({1ull << 48, 0x700000001, 8}));
+    want("one value", capn::same(with, without));
+    for (const std::string &message : {with, without}) {
+        const capn::index index = capn::index::of(message);
+        const capn::value list = index.root().as_struct().slot(0);
+        want("zeros", all(list.list<std::uint16_t>()) == std::vector<std::uint16_t>{0, 0});
+        want("zeros as wide as a word", list.list<std::uint64_t>().at(1) == 0 && list.list<double>()[0] == 0);
+        want("no such zero", !list.list<std::uint8_t>().try_at(2));
+        want("structs", list.structs().size() == 2);
+        want("no bits", !list.try_list<bool>() && list.try_list<std::uint8_t>());
+        std::size_t count = 0;
+        for (const capn::record one : list.pointers()) count += one.slot(0).is_null();
+        want("nulls", count == 2);
+    }
+    /* Structs with pointers alone are zeros as numbers, and these pointers as pointers; and the other way round. */
+    const std::string pointed = framed(words({1ull << 48, 0x1700000001, 8 | 1ull << 48, 0, 3 | 9ull << 32}));
+    const capn::index index = capn::index::of(pointed);
+    const capn::rows rows = index.root().as_struct().slot(0).pointers();
+    want("a null, and a capability", rows.begin()->slot(0).is_null());
+    std::uint32_t last = 0;
+    for (const capn::record one : rows)
+        if (!one.slot(0).is_null()) last = one.slot(0).capability();
+    want("the capability", last == 9);
+    want("zeros beside pointers", all(index.root().as_struct().slot(0).list<std::uint16_t>())
+                                      == std::vector<std::uint16_t>{0, 0});
+    /* Lists of other numbers are no such lists. */
+    const std::string bytes_of_it = framed(words({1ull << 48, 1 | 0x12ull << 32, 0x0201}));
+    const capn::index other = capn::index::of(bytes_of_it);
+    const capn::value data = other.root().as_struct().slot(0);
+    want("bytes aren't 16 bits", !data.try_list<std::uint16_t>() && !data.try_pointers());
+    want("no list", !other.root().try_list<std::uint8_t>() && !other.root().try_pointers());
+    /* A field that is wider than the element of an older list has its default. */
+    const std::string older = framed(words({1ull << 48, 1 | 0xaull << 32, 5}));
+    const capn::index of_older = capn::index::of(older);
+    std::uint16_t field = 0;
+    std::uint8_t narrow = 0;
+    for (const capn::record one : of_older.root().as_struct().slot(0).structs()) {
+        field = one.get<std::uint16_t>(0, 7);
+        narrow = one.get<std::uint8_t>(0, 7);
+    }
+    want("a wider field has its default", field == 7 && narrow == (5 ^ 7));
+}
+
+/* Lists are ranges of the standard library, and so is a reader. */
+static void ranges() {
+    const std::string message = framed(words({2ull << 48, 5 | 0x23ull << 32, 5 | 0x1full << 32, 0x0004000300020001,
+                                              8 | 1ull << 32, 30, 40}));
+    const capn::index index = capn::index::of(message);
+    const auto numbers = index.root().as_struct().slot(0).list<std::uint16_t>();
+    const auto rows = index.root().as_struct().slot(1).structs();
+    auto it = numbers.begin();
+    want("forward", it[3] == 4 && *(it + 2) == 3 && *(2 + it) == 3 && numbers.end() - it == 4 && it < numbers.end());
+    want("and back", *(it += 3) == 4 && *--it == 3 && *(it -= 1) == 2 && *it++ == 2 && *it-- == 3 && *it == 2);
+    auto row = rows.begin();
+    want("a row", row++ == rows.begin() && row->get<std::uint64_t>(0) == 40 && ++row == rows.end());
+    want("a default one", capn::numbers<int>().empty() && capn::rows().empty() && capn::value().is_null());
+    const capn::numbers<std::uint16_t>::iterator singular{}, other{};
+    want("iterators by default", singular == other && capn::rows::iterator() == capn::rows::iterator());
+    /* clang 14 can't compile the views of libstdc++ 12. */
+#if defined(__cpp_lib_ranges) && (!defined(__clang__) || __clang_major__ > 15)
+    static_assert(std::ranges::random_access_range<capn::numbers<bool>> && std::ranges::view<capn::numbers<float>>);
+    static_assert(std::ranges::sized_range<capn::numbers<int>> && std::ranges::borrowed_range<capn::numbers<int>>);
+    static_assert(std::ranges::forward_range<capn::rows> && std::ranges::sized_range<capn::rows>);
+    static_assert(std::ranges::view<capn::rows> && std::ranges::borrowed_range<capn::rows>);
+    static_assert(std::ranges::contiguous_range<capn::bytes> && std::ranges::view<capn::bytes>);
+    using function = std::size_t (*)(std::byte *, std::size_t);
+    static_assert(std::ranges::input_range<capn::reader<function>>);
+    static_assert(std::ranges::input_range<capn::packed_reader<function>>);
+    std::uint64_t sum = 0;
+    for (const unsigned one : index.root().as_struct().slot(0).list<std::uint16_t>() | std::views::reverse
+                                  | std::views::take(2))
+        sum = 10 * sum + one;
+    const auto first = [](capn::record of) { return of.get<std::uint64_t>(0); };
+    for (const std::uint64_t one : rows | std::views::transform(first)) sum += one;
+    want("views", sum == 43 + 70 && std::ranges::max(numbers) == 4 && std::ranges::distance(rows) == 2);
+    std::size_t at = 0;
+    const std::string all = one + one;
+    capn::reader reader([&](std::byte *to, std::size_t most) {
+        std::memcpy(to, all.data() + at, std::min(most, all.size() - at));
+        at += std::min(most, all.size() - at);
+        return at == all.size() && most == 8 && at % 64 ? std::size_t{0} : most;
+    });
+    want("views of a reader", std::ranges::distance(reader | std::views::take(2)) == 2);
+#endif
+}
+
+/* What was moved from is empty. */
+static void moves() {
+    capn::index from = capn::index::of(one);
+    const capn::index to = std::move(from);
+    want("an index", to.size() == 1 && to.root().as_struct().get<std::uint64_t>(0) == 5);
+    want("one that was moved from", from.size() == 0 && from.data() == nullptr && from.root().is_null()
+                                        && from.message().empty());
+    from = capn::index::of(one);
+    want("one that is filled again", from.size() == 1 && from.root().kind() == capn::kind::structure);
+    capn::index &same = from;
+    from = std::move(same);
+    want("one that is moved to itself", from.size() == 1);
+}
+
 int main() {
     answers();
+    pieces();
+    canonical_lists();
+    ranges();
+    moves();
+    readers();
+    packed_streams();
     lent();
     comparisons();
     ways();

@@ -76,7 +76,7 @@ bool try_one() {
 
     const capn::buffer ours = capn::canonical(message);
     want("the canonical bytes of a builder", equal(ours, wanted));
-    want("they are canonical", capn::is_canonical(ours));
+    want("they are canonical", capn::is_canonical_words(ours));
     const capn::digest_bytes digest = capn::digest(message);
     want("the digest of a builder", digest == capn::digest(wanted, capn::form::bare));
     want("the digest of its segments", digest == capn::digest(held));

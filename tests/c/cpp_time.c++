@@ -73,7 +73,7 @@ void times(const std::vector<std::uint64_t> &words) {
            },
            [&] { return std::to_integer<unsigned>(capn::canonical(message, capn::form::stream, limits)[0]); });
     beside("is_canonical", size, [&] { return capn_is_canonical(bare.u8(), bare.size(), &limits, &report); },
-           [&] { return capn::is_canonical(bare, limits); });
+           [&] { return capn::is_canonical_words(bare, limits); });
     beside("digest", size, [&] { return capn_hash(CAPN_STREAM, data, size, &limits, digest, &report) + digest[0]; },
            [&] { return std::to_integer<unsigned>(capn::digest(message, capn::form::stream, limits)[0]); });
     beside("survey", size,

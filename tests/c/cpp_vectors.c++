@@ -131,7 +131,7 @@ std::string answer(const std::string &line) {
     limits.budget = static_cast<std::uint32_t>(std::stoul(word[from + 1]));
     limits.depth = static_cast<std::uint32_t>(std::stoul(word[from + 2]));
     if (call == "is_canonical")
-        return answered([&] { return std::string(capn::is_canonical(data, limits) ? "true" : "false"); });
+        return answered([&] { return std::string(capn::is_canonical_words(data, limits) ? "true" : "false"); });
     const capn::form form = form_of(word[1]);
     if (call == "canonicalise")
         return both(data, form, limits, [&](auto message, capn::form written) {
