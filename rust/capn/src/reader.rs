@@ -11,7 +11,7 @@ use crate::{Error, Limits, StreamError, Unpacker};
 /// Reads a stream message by message, with only the current one in memory.
 ///
 /// It returns a message as soon as its last byte has come, and reads no byte after it: the input can be read on from
-/// there. It asks for few bytes at a time, so pass a [`BufReader`](std::io::BufReader) unless the input is read on
+/// there. It reads few bytes at a time, so pass a [`BufReader`](std::io::BufReader) unless the input is read on
 /// after it. Memory grows with the bytes that come, not with what a segment table announces.
 ///
 /// Of the limits, `message_words` bounds each message. Nothing else is checked: the call that a message is passed to

@@ -8,7 +8,7 @@ use crate::{call, Error};
 ///
 /// Packed bytes come in groups, each of which unpacks to 1 to 256 words. It reads no group after the one that has the
 /// last byte that is asked for, and goes on after an error of its input. If the input ends within a group, the error
-/// has the kind [`UnexpectedEof`](io::ErrorKind::UnexpectedEof) and refers to an [`Error`]. It asks for few bytes at a
+/// has the kind [`UnexpectedEof`](io::ErrorKind::UnexpectedEof) and refers to an [`Error`]. It reads few bytes at a
 /// time, as [`Reader`](crate::Reader) does.
 ///
 /// ```
@@ -59,7 +59,7 @@ impl<R> Unpacker<R> {
 }
 
 impl<R: Read> Unpacker<R> {
-    /// Reads groups until they have so many words, or the input ends after one.
+    /// Reads groups until they have so many words, or the input ends.
     fn gather(&mut self, words: usize) -> io::Result<()> {
         while self.words < words.min(MOST_WORDS) {
             let need = self.begun + group_size(&self.packed[self.begun..]);
@@ -69,7 +69,7 @@ impl<R: Read> Unpacker<R> {
                 self.begun = have;
                 continue;
             }
-            self.packed.resize(need, 0);
+            lengthen(&mut self.packed, need)?;
             let came = self.input.read(&mut self.packed[have..]);
             let count = *came.as_ref().unwrap_or(&0);
             assert!(
@@ -80,14 +80,33 @@ impl<R: Read> Unpacker<R> {
             match came {
                 Err(why) if why.kind() == io::ErrorKind::Interrupted => {}
                 Err(why) => return Err(why),
-                Ok(0) if have > self.begun => {
+                // What came before is returned first.
+                Ok(0) if self.words > 0 || have == self.begun => break,
+                Ok(0) => {
                     let cut = Error::packed_cut(self.taken + self.begun as u64);
                     return Err(io::Error::new(io::ErrorKind::UnexpectedEof, cut));
                 }
-                Ok(0) => break,
                 Ok(_) => {}
             }
         }
+        Ok(())
+    }
+
+    /// Unpacks the complete groups.
+    fn unpack(&mut self) -> io::Result<()> {
+        self.unpacked.clear();
+        self.given = 0;
+        lengthen(&mut self.unpacked, 8 * self.words)?;
+        match call::unpack_some(&self.packed[..self.begun], &mut self.unpacked) {
+            Ok(length) => self.unpacked.truncate(length),
+            Err(why) => {
+                self.unpacked.clear();
+                return Err(io::Error::new(io::ErrorKind::Other, why));
+            }
+        }
+        self.taken += self.begun as u64;
+        self.packed.drain(..self.begun);
+        (self.begun, self.words) = (0, 0);
         Ok(())
     }
 }
@@ -96,19 +115,20 @@ impl<R: Read> Read for Unpacker<R> {
     fn read(&mut self, to: &mut [u8]) -> io::Result<usize> {
         if self.given == self.unpacked.len() {
             self.gather((to.len() + 7) / 8)?;
-            self.unpacked.resize(8 * self.words, 0);
-            self.given = 0;
-            let length = call::unpack_some(&self.packed, &mut self.unpacked);
-            let length = length.map_err(|why| io::Error::new(io::ErrorKind::Other, why))?;
-            self.unpacked.truncate(length);
-            self.taken += self.packed.len() as u64;
-            self.packed.clear();
-            (self.begun, self.words) = (0, 0);
+            self.unpack()?;
         }
         let count = (&self.unpacked[self.given..]).read(to)?;
         self.given += count;
         Ok(count)
     }
+}
+
+/// Adds zeros up to a length.
+fn lengthen(bytes: &mut Vec<u8>, length: usize) -> io::Result<()> {
+    let more = bytes.try_reserve(length - bytes.len());
+    more.map_err(|_| io::Error::new(io::ErrorKind::OutOfMemory, Error::Memory))?;
+    bytes.resize(length, 0);
+    Ok(())
 }
 
 /// How many bytes a group has at least that begins so.

@@ -265,9 +265,11 @@ fn a_packed_stream_that_is_rejected() {
     let text = "message 1 at 0: packed: Cut at 0";
     assert_eq!(reader.read().unwrap_err().to_string(), text);
     // What is used as an input of its own.
+    let mut unpacked = Vec::new();
     let error = capn::Unpacker::new(&[1, 5, 0x10][..])
-        .read_to_end(&mut Vec::new())
+        .read_to_end(&mut unpacked)
         .unwrap_err();
+    assert_eq!(unpacked, words(&[5]));
     assert_eq!(error.kind(), io::ErrorKind::UnexpectedEof);
     let error: &Error = error.get_ref().unwrap().downcast_ref().unwrap();
     assert_eq!(error.place(), Some(Place::At(2)));
