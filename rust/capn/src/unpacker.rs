@@ -22,6 +22,8 @@ use crate::{call, Error};
 #[derive(Debug)]
 pub struct Unpacker<R> {
     input: R,
+    /// Where the input puts its bytes, so that none are taken for read if it panics.
+    landing: Vec<u8>,
     /// Complete groups, and the one that has begun.
     packed: Vec<u8>,
     /// Where the one that has begun begins.
@@ -43,6 +45,7 @@ impl<R> Unpacker<R> {
     pub fn new(input: R) -> Self {
         Unpacker {
             input,
+            landing: Vec::new(),
             packed: Vec::new(),
             begun: 0,
             words: 0,
@@ -69,14 +72,15 @@ impl<R: Read> Unpacker<R> {
                 self.begun = have;
                 continue;
             }
-            lengthen(&mut self.packed, need)?;
-            let came = self.input.read(&mut self.packed[have..]);
+            lengthen(&mut self.landing, need - have)?;
+            reserve(&mut self.packed, need - have)?;
+            let came = self.input.read(&mut self.landing[..need - have]);
             let count = *came.as_ref().unwrap_or(&0);
             assert!(
                 count <= need - have,
                 "the input filled a part of the buffer"
             );
-            self.packed.truncate(have + count);
+            self.packed.extend_from_slice(&self.landing[..count]);
             match came {
                 Err(why) if why.kind() == io::ErrorKind::Interrupted => {}
                 Err(why) => return Err(why),
@@ -123,12 +127,19 @@ impl<R: Read> Read for Unpacker<R> {
     }
 }
 
-/// Adds zeros up to a length.
+/// Adds zeros up to a length, if there are fewer bytes.
 fn lengthen(bytes: &mut Vec<u8>, length: usize) -> io::Result<()> {
-    let more = bytes.try_reserve(length - bytes.len());
-    more.map_err(|_| io::Error::new(io::ErrorKind::OutOfMemory, Error::Memory))?;
-    bytes.resize(length, 0);
+    if bytes.len() < length {
+        reserve(bytes, length - bytes.len())?;
+        bytes.resize(length, 0);
+    }
     Ok(())
+}
+
+/// Makes room for so many bytes more.
+fn reserve(bytes: &mut Vec<u8>, more: usize) -> io::Result<()> {
+    let reserved = bytes.try_reserve(more);
+    reserved.map_err(|_| io::Error::new(io::ErrorKind::OutOfMemory, Error::Memory))
 }
 
 /// How many bytes a group has at least that begins so.

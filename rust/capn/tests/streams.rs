@@ -317,6 +317,51 @@ fn an_input_that_lies_ends_in_a_panic() {
     }
 }
 
+/// Panics now and then, after it has written into the buffer.
+struct Panicking<'a> {
+    rest: &'a [u8],
+    calls: usize,
+}
+
+impl Read for Panicking<'_> {
+    fn read(&mut self, to: &mut [u8]) -> io::Result<usize> {
+        self.calls += 1;
+        if self.calls % 3 == 0 {
+            to.fill(0xaa);
+            std::panic::resume_unwind(Box::new("caught"));
+        }
+        let most = to.len().min(1 + self.calls % 11);
+        self.rest.read(&mut to[..most])
+    }
+}
+
+fn read_all<R: Read>(mut reader: Reader<R>) -> Vec<Vec<u8>> {
+    let mut all = Vec::new();
+    loop {
+        let read = catch_unwind(AssertUnwindSafe(|| {
+            reader.read().unwrap().map(<[u8]>::to_vec)
+        }));
+        match read {
+            Ok(Some(message)) => all.push(message),
+            Ok(None) => return all,
+            Err(_) => {}
+        }
+    }
+}
+
+#[test]
+fn nothing_is_lost_where_an_input_panics() {
+    let mut source = Source(7);
+    for _ in 0..10 {
+        let messages: Vec<_> = (0..4).map(|_| source.message()).collect();
+        let stream = messages.concat();
+        let packed = capn::pack(&stream).unwrap();
+        let input = |rest| Panicking { rest, calls: 0 };
+        assert_eq!(read_all(Reader::new(input(&stream), USUAL)), messages);
+        assert_eq!(read_all(Reader::packed(input(&packed), USUAL)), messages);
+    }
+}
+
 #[test]
 fn limits_by_reference_and_by_value() {
     let stream = one();
