@@ -63,7 +63,6 @@ use crate::{Error, Limits, StreamError, Unpacker};
 ///     scope.spawn(|| reader.lock().unwrap().read().is_ok());
 /// });
 /// ```
-#[derive(Debug)]
 pub struct Reader<R> {
     input: R,
     limits: Limits,
@@ -271,6 +270,18 @@ impl<R> Reader<R> {
     /// Returns the input, to read on after the messages.
     pub fn into_inner(self) -> R {
         self.input
+    }
+}
+
+impl<R: fmt::Debug> fmt::Debug for Reader<R> {
+    fn fmt(&self, f: &mut fmt::Formatter<'_>) -> fmt::Result {
+        f.debug_struct("Reader")
+            .field("input", &self.input)
+            .field("limits", &self.limits)
+            .field("number", &self.number())
+            .field("start", &self.start())
+            .field("offset", &self.offset())
+            .finish_non_exhaustive()
     }
 }
 

@@ -1,4 +1,5 @@
 //! The words of a packed input, as they are asked for.
+use core::fmt;
 use std::io::{self, Read};
 use std::vec::Vec;
 
@@ -19,7 +20,6 @@ use crate::{call, Error};
 /// assert_eq!(words, [[5, 0, 0, 0, 0, 0, 0, 0], [0; 8], [0; 8]].concat());
 /// # Ok::<(), std::io::Error>(())
 /// ```
-#[derive(Debug)]
 pub struct Unpacker<R> {
     input: R,
     /// Where the input puts its bytes, so that none are taken for read if it panics.
@@ -124,6 +124,15 @@ impl<R: Read> Read for Unpacker<R> {
         let count = (&self.unpacked[self.given..]).read(to)?;
         self.given += count;
         Ok(count)
+    }
+}
+
+impl<R: fmt::Debug> fmt::Debug for Unpacker<R> {
+    fn fmt(&self, f: &mut fmt::Formatter<'_>) -> fmt::Result {
+        f.debug_struct("Unpacker")
+            .field("input", &self.input)
+            .field("taken", &self.taken)
+            .finish_non_exhaustive()
     }
 }
 
