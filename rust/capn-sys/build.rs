@@ -39,7 +39,7 @@ fn library_in(folder: &Path, wants_shared: bool) -> Option<(PathBuf, &'static st
     shared.exists().then_some((shared, "dylib"))
 }
 
-/// Refuses a relative path: it is not known here in which folder cargo was run.
+/// Rejects a relative path: cargo doesn't say in which folder it was called.
 fn absolute(folder: OsString) -> PathBuf {
     let folder = PathBuf::from(folder);
     if folder.is_relative() {

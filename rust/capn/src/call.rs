@@ -221,7 +221,7 @@ pub(crate) fn unpack(
     }
 }
 
-/// Of the first frame of a stream: whether it is whole, or how many bytes it needs at least.
+/// Whether the first message of a stream is complete, or how many bytes it has at least.
 #[cfg(feature = "std")]
 pub(crate) enum First {
     Whole,

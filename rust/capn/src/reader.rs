@@ -11,7 +11,7 @@ use crate::{Error, Limits, StreamError, Unpacker};
 /// Reads a stream message by message, with only the current one in memory.
 ///
 /// It returns a message as soon as its last byte has come, and reads no byte after it: the input can be read on from
-/// there. It asks for few bytes at a time, so pass a [`BufReader`](std::io::BufReader) unless the input is read on
+/// there. It reads few bytes at a time, so pass a [`BufReader`](std::io::BufReader) unless the input is read on
 /// after it. Memory grows with the bytes that come, not with what a segment table announces.
 ///
 /// Of the limits, `message_words` bounds each message. Nothing else is checked: the call that a message is passed to
@@ -63,7 +63,6 @@ use crate::{Error, Limits, StreamError, Unpacker};
 ///     scope.spawn(|| reader.lock().unwrap().read().is_ok());
 /// });
 /// ```
-#[derive(Debug)]
 pub struct Reader<R> {
     input: R,
     limits: Limits,
@@ -271,6 +270,18 @@ impl<R> Reader<R> {
     /// Returns the input, to read on after the messages.
     pub fn into_inner(self) -> R {
         self.input
+    }
+}
+
+impl<R: fmt::Debug> fmt::Debug for Reader<R> {
+    fn fmt(&self, f: &mut fmt::Formatter<'_>) -> fmt::Result {
+        f.debug_struct("Reader")
+            .field("input", &self.input)
+            .field("limits", &self.limits)
+            .field("number", &self.number())
+            .field("start", &self.start())
+            .field("offset", &self.offset())
+            .finish_non_exhaustive()
     }
 }
 

@@ -59,7 +59,7 @@ pub fn messages(stream: &[u8], limits: impl Into<Limits>) -> Messages<'_> {
 ///
 /// An error of it is one of a segment table, or of a stream that ends within a message. It is the last item: after a
 /// damaged segment table it isn't known where the next message begins.
-#[derive(Clone, Debug)]
+#[derive(Clone)]
 pub struct Messages<'a> {
     stream: &'a [u8],
     limits: Limits,
@@ -151,6 +151,17 @@ impl<'a> Iterator for Messages<'a> {
 }
 
 impl FusedIterator for Messages<'_> {}
+
+impl fmt::Debug for Messages<'_> {
+    fn fmt(&self, f: &mut fmt::Formatter<'_>) -> fmt::Result {
+        f.debug_struct("Messages")
+            .field("limits", &self.limits)
+            .field("number", &self.number)
+            .field("start", &self.start)
+            .field("offset", &self.offset)
+            .finish_non_exhaustive()
+    }
+}
 
 impl From<StreamError> for Error {
     fn from(located: StreamError) -> Self {

@@ -92,7 +92,7 @@ pub enum Departure {
         canonical: u64,
         /// What the word is part of.
         owner: Owner,
-        /// The path to the pointer that the owner refers to.
+        /// The path to the pointer that `owner` speaks of.
         way: Way,
     },
     /// Words come after the canonical bytes.

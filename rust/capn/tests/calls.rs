@@ -8,6 +8,22 @@ use std::os::unix::net::UnixStream;
 
 const USUAL: Limits = Limits::usual();
 
+/// What may be sent to other threads and shared with them.
+#[test]
+fn all_types_are_for_any_thread() {
+    fn is_shared<T: Send + Sync>() {}
+    is_shared::<(Error, Limits, SameError, ScratchError, capn::StreamError)>();
+    is_shared::<(Index, Value, capn::Struct, capn::Rows, capn::Pointers)>();
+    is_shared::<(
+        capn::Numbers<u64>,
+        capn::Messages,
+        capn::Departure,
+        capn::Way,
+    )>();
+    is_shared::<(Reader<UnixStream>, ReadError, capn::Unpacker<UnixStream>)>();
+    is_shared::<capn::IntoMessages<UnixStream>>();
+}
+
 fn words(words: &[u64]) -> Vec<u8> {
     words.iter().flat_map(|word| word.to_le_bytes()).collect()
 }

@@ -265,9 +265,11 @@ fn a_packed_stream_that_is_rejected() {
     let text = "message 1 at 0: packed: Cut at 0";
     assert_eq!(reader.read().unwrap_err().to_string(), text);
     // What is used as an input of its own.
+    let mut unpacked = Vec::new();
     let error = capn::Unpacker::new(&[1, 5, 0x10][..])
-        .read_to_end(&mut Vec::new())
+        .read_to_end(&mut unpacked)
         .unwrap_err();
+    assert_eq!(unpacked, words(&[5]));
     assert_eq!(error.kind(), io::ErrorKind::UnexpectedEof);
     let error: &Error = error.get_ref().unwrap().downcast_ref().unwrap();
     assert_eq!(error.place(), Some(Place::At(2)));
@@ -312,6 +314,51 @@ fn an_input_that_lies_ends_in_a_panic() {
         let packed = || Reader::packed(Lying(more), USUAL).read().is_ok();
         assert!(catch_unwind(AssertUnwindSafe(plain)).is_err());
         assert!(catch_unwind(AssertUnwindSafe(packed)).is_err());
+    }
+}
+
+/// Panics now and then, after it has written into the buffer.
+struct Panicking<'a> {
+    rest: &'a [u8],
+    calls: usize,
+}
+
+impl Read for Panicking<'_> {
+    fn read(&mut self, to: &mut [u8]) -> io::Result<usize> {
+        self.calls += 1;
+        if self.calls % 3 == 0 {
+            to.fill(0xaa);
+            std::panic::resume_unwind(Box::new("caught"));
+        }
+        let most = to.len().min(1 + self.calls % 11);
+        self.rest.read(&mut to[..most])
+    }
+}
+
+fn read_all<R: Read>(mut reader: Reader<R>) -> Vec<Vec<u8>> {
+    let mut all = Vec::new();
+    loop {
+        let read = catch_unwind(AssertUnwindSafe(|| {
+            reader.read().unwrap().map(<[u8]>::to_vec)
+        }));
+        match read {
+            Ok(Some(message)) => all.push(message),
+            Ok(None) => return all,
+            Err(_) => {}
+        }
+    }
+}
+
+#[test]
+fn nothing_is_lost_where_an_input_panics() {
+    let mut source = Source(7);
+    for _ in 0..10 {
+        let messages: Vec<_> = (0..4).map(|_| source.message()).collect();
+        let stream = messages.concat();
+        let packed = capn::pack(&stream).unwrap();
+        let input = |rest| Panicking { rest, calls: 0 };
+        assert_eq!(read_all(Reader::new(input(&stream), USUAL)), messages);
+        assert_eq!(read_all(Reader::packed(input(&packed), USUAL)), messages);
     }
 }
 
