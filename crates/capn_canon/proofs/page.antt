@@ -5,4 +5,5 @@ pub mod PointerWords
 pub mod Stands
 pub mod LaidFollows
 pub mod Denoted
+pub mod SamePlaces
 pub mod ThePage

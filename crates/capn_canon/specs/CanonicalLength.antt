@@ -9,8 +9,7 @@ use Rattle.capn_canon.specs.declared.length.CanonicalLength.{CanonicalLength}
 
 -- `message` is accepted with the value `v`, which has no capability. `c` has the length of the canonical bytes of `v`,
 -- the number of words that the walk pays, and the number of visits.
-pub record IsCanonicalLength (message : List (List ℕ)) (limits : Bounds) (v : Tree) (c : CanonicalLength)
-    : Type 0 where
+pub record IsCanonicalLength (message : List (List ℕ)) (limits : Bounds) (v : Tree) (c : CanonicalLength) : Type 0 where
   pub is : IsValueOf message limits v
   pub free : first_cap v ≡ None
   pub long : c.length ≡ length (canon v)

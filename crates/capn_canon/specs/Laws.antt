@@ -90,15 +90,13 @@ CanonicalExactlyByPage = (bs ws : List ℕ) (v : Tree) → IsBare bs ws → IsAt
 abbrev pub PageFormsDenote : Type 0
 PageFormsDenote = (ws : List ℕ) → IsPageForm ws → (v : Tree) × IsAt (ws ∷ []) root v × (first_cap v ≡ None)
 
--- `bs` are the bytes of words that follow the rules of the page. They denote a value that fits and is the same as `v`
--- (`Same`).
+-- `bs` are the bytes of words that follow the rules of the page. They denote a value that is the same as `v` (`Same`).
 pub record IsPageFormOf (bs : List ℕ) (v : Tree) : Type 0 where
   pub words : List ℕ
   pub bare : IsBare bs words
   pub form : IsPageForm words
   pub denoted : Tree
   pub is : IsAt (words ∷ []) root denoted
-  pub fits : Fits denoted
   pub same : Same denoted v
 
 -- Suppose that `v` fits, is in range and has no capability. Then `bs` are the canonical bytes of `v` if and only if

@@ -42,8 +42,7 @@ pub record WrittenInto (message : List (List ℕ)) (limits : Bounds) (old new : 
 -- `room`, and the number of words paid.
 abbrev pub RefusedInto : List (List ℕ) → Bounds → (room : ℕ) → IntoRefusal → Type 0
 RefusedInto message limits room (intos.Walk s) = IsWalkRefused message limits s.fault s.place s.paid s.visits
-RefusedInto message limits room (intos.Capability k) =
-    (v : Tree) × IsValueOf message limits v × (first_cap v ≡ Some k)
+RefusedInto message limits room (intos.Capability k) = (v : Tree) × IsValueOf message limits v × (first_cap v ≡ Some k)
 RefusedInto message limits room (intos.NoRoom n p) =
     (v : Tree) × IsValueOf message limits v × (first_cap v ≡ None) × (n ≡ length (canon v)) × (room < n)
     × (p ≡ paid message limits)

@@ -125,8 +125,9 @@ fn same_by_first<S: Space, T: Space, L: Ledger, M: Ledger>(
 /// Compares the values of the messages `a` and `b` within `limits`. Returns the result of [`same_messages`]. Reads and
 /// loop turns are counted in `first` for `a` and in `second` for `b`.
 ///
-/// There are at most 34 reads and turns for each word that the walk of a message pays, and 34 more. A refusal costs at
-/// most 34 for each word of the budget, and 34 more. If `a` is refused, nothing of `b` is read. Only the stack is used.
+/// Each counter has its own bound. If both messages have canonical bytes, it counts at most 34 reads and turns for each
+/// word that the walk of its message pays, and 34 more. In any case it counts at most 34 for each word of the budget,
+/// and 34 more. If `a` is refused, nothing of `b` is read. Only the stack is used.
 pub fn same_messages_counted<S: Space, T: Space, L: Ledger, M: Ledger>(
     a: &CountedSpace<'_, S, L>,
     b: &CountedSpace<'_, T, M>,

@@ -65,6 +65,12 @@ pub fn page()
 /// States that two results are equal if and only if the getters return the same from the values of both, along every
 /// path. Two messages that follow the rules of the encoding page have equal bytes if and only if the getters return the
 /// same from both. The getters return the same from the value of a result as from the value of its input.
+///
+/// The law speaks of each reader that computes what it answers from these getters (`Getters.antt` of capn_value). One
+/// of them reads a list of structs as the numbers or the pointers that its elements were before the schema changed,
+/// and finds zero or null where the structs are too short. A reader that rejects such structs tests how many words or
+/// pointers a struct was stored with. No getter tells that, and the law does not speak of such a reader: it may
+/// accept a message and reject the canonical bytes of the message.
 pub fn readers<A: Allocator>()
     ensures canon { CanonIsWhatIsTold }
     ensures page { PageFormsAreWhatIsTold }

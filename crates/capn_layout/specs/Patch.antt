@@ -38,8 +38,8 @@ abbrev pub cell : Bool → ℕ → Option ℕ
 cell true w = None
 cell false w = Some w
 
--- The list of words and holes that the marks `hs` and the bytes `bs` represent. Each word has one mark and 8 bytes.
--- (Our own.)
+-- The list of words and holes that the marks `hs` and the bytes `bs` represent. Each mark stands for the next 8 bytes,
+-- which are a word if the mark is `false`. Bytes after those of the last mark stand for nothing. (Our own.)
 unfoldable pub cells : List Bool → List ℕ → List (Option ℕ)
 cells [] bs = []
 cells (h ∷ hs) bs = cell h (word_number (take 8 bs)) ∷ cells hs (drop 8 bs)

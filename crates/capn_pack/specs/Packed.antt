@@ -30,8 +30,9 @@ pub data Group : Type 0 where
   -- one word, and `more`, the bytes of `count` words after it, all written in full
   Raw : (word : List ℕ) (count : ℕ) (more : List ℕ) → Group
 
--- The numbers of the group are in range. Counts are bytes, words have eight bytes, and a named group's tag is neither 0
--- nor 255. Bytes that the tag does not name are zero. (Our own: a tag may name zero bytes, and a run may end early.)
+-- The parts of the group fit together. A count is below 256, a word has eight bytes, and `more` has eight bytes for
+-- each word that is counted. The tag of a named group is neither 0 nor 255, and each byte that it does not name is
+-- zero. (Our own: a byte that the tag names may be zero, and a run may end although the next word would continue it.)
 abbrev pub IsGroup : Group → Type 0
 IsGroup (Zeros more) = more < 256
 IsGroup (Named tag word) = (0 < tag) × (tag < 255) × (length word ≡ 8) × IsNamedBy tag word

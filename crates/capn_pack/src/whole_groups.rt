@@ -8,7 +8,7 @@ use crate::unpack_block::{SLACK, take_block};
 use crate::unpack_group::{Stop, take_group};
 use std::alloc::{AllocError, Allocator};
 
-/// The length of the block that groups are read into, including its slack.
+/// The length in bytes of the block that words are unpacked into before they are appended, including its slack.
 const BLOCK: usize = 4096 + SLACK;
 
 /// The reason why no more groups were unpacked: what follows the unpacked groups.

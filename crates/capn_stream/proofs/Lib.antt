@@ -9,3 +9,5 @@ pub mod FrameRows
 pub mod OneSegment
 mod Joined
 mod Held
+pub mod Runs
+mod WorkedRuns

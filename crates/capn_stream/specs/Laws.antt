@@ -2,6 +2,8 @@
 use Rattle.std.specs.Prelude.{◌≡◌, ◌≢◌, ℕ, List}
 use Rattle.capn_stream.specs.Frames.{StandsFirst}
 use Rattle.capn_stream.specs.FrameRefusal.{IsFrameRefused}
+use Rattle.capn_stream.specs.StreamPieces.{Framing}
+use Rattle.capn_stream.specs.Calls.{Call, given, IsRun}
 use Rattle.capn_stream.specs.declared.fault.FrameFault.{FrameFault}
 use Rattle.capn_stream.specs.declared.fault.FrameFault.TheVariants.{Memory}
 
@@ -20,3 +22,9 @@ OneRefusal = (bs : List ℕ) (most : ℕ) (e f : FrameFault)
 abbrev pub FramedAreNotRefused : Type 0
 FramedAreNotRefused = (bs : List ℕ) (most : ℕ) (m : List (List ℕ)) (taken : ℕ) (e : FrameFault)
     → StandsFirst bs most m taken → IsFrameRefused bs most e → e ≡ Memory
+
+-- however the bytes `bs` are cut into pieces, a framer gives the same messages of them, and no more follow for the same
+-- reason (`IsRun`)
+abbrev pub HoweverCut : Type 0
+HoweverCut = (start : Framing) (bs : List ℕ) (calls others : List Call) (e f : FrameFault)
+    → IsRun start bs calls e → IsRun start bs others f → (given calls ≡ given others) × (e ≡ f)

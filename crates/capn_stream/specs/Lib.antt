@@ -3,6 +3,7 @@ pub mod Frames
 pub mod FrameRefusal
 pub mod Cuts
 pub mod StreamPieces
+pub mod Calls
 pub mod NextMessage
 pub mod Laws
 pub mod Display

@@ -1,7 +1,10 @@
--- The getters that a reader calls on a value, whatever its schema, and their results along a path. (Page: structs,
--- lists, capabilities, default values.)
-use Rattle.std.specs.Prelude.{ℕ, zero, suc, List, [], ◌∷◌, slice_index}
-use Rattle.capn_value.specs.NumberWidth.{NumberWidth}
+-- The getters that a reader calls on a value, whatever its schema, and their results along a path. A schema may have
+-- made structs of the elements of a list: a reader that expects numbers or pointers then finds the first bits of each
+-- struct's data, or its first pointer. If a struct is too short for them, it finds zero or null. A reader that tests
+-- how many words or pointers a struct was stored with, and rejects one that is too short, calls more than these
+-- getters. (Page: structs, lists, capabilities, default values. Zero and null of short structs are our own.)
+use Rattle.std.specs.Prelude.{ℕ, zero, suc, ◌%◌, ◌^◌, List, [], ◌∷◌, slice_index}
+use Rattle.capn_value.specs.NumberWidth.{NumberWidth, bits_in}
 use Rattle.capn_value.specs.Tree.{Tree, nil, node, voids, numbers, links, rows, cap, Bodies, no_bodies, body, tree_at}
 use Rattle.capn_value.specs.Fits.{elements}
 
@@ -36,16 +39,19 @@ abbrev pub pointer : Tree → ℕ → Tree
 pointer (node ws ss) j = tree_at ss j
 pointer _ j = nil
 
--- number `i` of a list of numbers, 0 past its end and for other values
-abbrev pub number : Tree → ℕ → ℕ
-number (numbers w xs) i = slice_index xs i
-number _ i = 0
-
 -- struct `i` of a list of structs, null past its end
 abbrev pub row_at : Bodies → ℕ → Tree
 row_at no_bodies i = nil
 row_at (body ws ss bs) zero = node ws ss
 row_at (body ws ss bs) (suc i) = row_at bs i
+
+-- Element `i` of a list for a reader that expects numbers of width `w`. Of a list of numbers it is number `i`, whatever
+-- `w` is: their own width is part of the kind. Of a list of structs it is the first bits of the data of struct `i`, and
+-- 0 if that struct has no data. It is 0 past the end of the list and for other values.
+abbrev pub number : NumberWidth → Tree → ℕ → ℕ
+number w (numbers v xs) i = slice_index xs i
+number w (rows bs) i = word (row_at bs i) 0 % 2 ^ bits_in w
+number w _ i = 0
 
 -- Element `i` of a list of pointers or of structs, null past its end and for other values. No getter returns a struct's
 -- numbers of words and of pointers.
@@ -59,15 +65,18 @@ abbrev pub index : Tree → ℕ
 index (cap k) = k
 index _ = 0
 
--- a step of a reader, to a pointer of a struct, or to an element of a list of pointers or structs
+-- A step of a reader: to a pointer of a struct, to an element of a list of pointers or structs, or to the first pointer
+-- of an element of a list of structs. A reader that expects pointers takes the last one if it finds structs.
 pub data Step : Type 0 where
   to_pointer : ℕ → Step
   to_element : ℕ → Step
+  to_row_pointer : ℕ → Step
 
 -- the value that the step leads to from the value `t`
 abbrev pub next : Tree → Step → Tree
 next t (to_pointer j) = pointer t j
 next t (to_element i) = element t i
+next t (to_row_pointer i) = pointer (element t i) 0
 
 -- the value that the path leads to from the value `t`, step by step
 abbrev pub at : Tree → List Step → Tree
@@ -79,11 +88,11 @@ pub record Answer : Type 0 where
   pub kind : Kind
   pub word : ℕ → ℕ
   pub elements : ℕ
-  pub number : ℕ → ℕ
+  pub number : NumberWidth → ℕ → ℕ
   pub index : ℕ
 
 abbrev pub told : Tree → Answer
-told t = record { kind = kind t; word = word t; elements = elements t; number = number t; index = index t }
+told t = record { kind = kind t; word = word t; elements = elements t; number = λ w. number w t; index = index t }
 
 -- the results of the getters on the value at the end of the path `p`
 abbrev pub get : Tree → List Step → Answer

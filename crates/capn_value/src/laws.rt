@@ -15,8 +15,9 @@ pub fn trimming()
 {}
 
 /// States that two values are the same if and only if all getters return the same for both along every path. Getters
-/// return the kind, each data word and pointer of a struct, and the elements of a list. Past the end of a struct,
-/// getters return zero and null. They therefore return the same for a value and for its trimmed value.
+/// return the kind, each data word and pointer of a struct, and the elements of a list. Of a list of structs, they also
+/// return the first bits of each struct's data, as a number of any width, and its first pointer. Past the end of a
+/// struct, getters return zero and null. They therefore return the same for a value and for its trimmed value.
 pub fn reading()
     ensures exactly { SameExactlyToGetters }
     ensures whole { SameToReaders }

@@ -9,6 +9,8 @@ use Rattle.capn_value.specs.FirstCap.{first_cap}
 use Rattle.capn_value.specs.Fits.{Fits}
 use Rattle.capn_value.specs.InRange.{InRange}
 use Rattle.capn_value.specs.Trim.{trimmed}
+use Rattle.capn_value.proofs.shared.Fitting.{fit_parts}
+use Rattle.capn_value.proofs.shared.SameTrimmed.{same_exactly_trimmed}
 use Rattle.capn_value.proofs.shared.StaysFit.{fits-trimmed}
 use Rattle.capn_target.specs.Shapes.{extent}
 use Rattle.capn_walk.specs.Accepted.{root, IsValueOf}
@@ -18,7 +20,7 @@ use Rattle.capn_walk.proofs.shared.InRangeAt.{in_range-at}
 use Rattle.capn_layout.specs.Layout.{size, words, canon}
 use Rattle.capn_layout.specs.Sound.{Sound}
 use Rattle.capn_layout.proofs.shared.Room.{room, length_words}
-use Rattle.capn_layout.proofs.shared.Sound.{sound}
+use Rattle.capn_layout.proofs.shared.Sound.{sound, sound-parts}
 use Rattle.capn_canon.specs.BareVerdict.{SaysCanonical, IsBareSurvey}
 use Rattle.capn_canon.specs.Denotes.{Denotes, Answers}
 use Rattle.capn_canon.specs.declared.form.Form.{Form}
@@ -28,9 +30,10 @@ use Rattle.capn_canon.specs.PageForm.{Met, null, object, WithoutGaps, IsPageForm
 use Rattle.capn_canon.proofs.places.CanonicalWords.{words-stand, stand-words, bytes-words}
 use Rattle.capn_canon.proofs.shared.BareCanon.{canon_is_bare}
 use Rattle.capn_canon.proofs.theorem.Headline.{denoted_fits, denoted_has_form}
-use Rattle.capn_canon.proofs.theorem.EqualExactlySame.{canon-trimmed, equal_exactly_same, trimmed_is_same}
+use Rattle.capn_canon.proofs.theorem.EqualExactlySame.{canon-trimmed, trimmed_is_same}
 use Rattle.capn_canon.proofs.theorem.CapOfTrimmed.{cap-trimmed}
 use Rattle.capn_canon.proofs.reading.ReadBack.{read_back}
+use Rattle.capn_canon.proofs.page.SamePlaces.{parts-same}
 use Rattle.capn_canon.proofs.page.Rules.{Follows, form-follows, follows-form}
 use Rattle.capn_canon.proofs.page.Stands.{value-stands}
 use Rattle.capn_canon.proofs.page.LaidFollows.{value-goes}
@@ -44,6 +47,17 @@ module _ (all : List ℕ) where
   begun [] next f = omega arith
   begun (null ∷ met) next f = begun met next f
   begun (object pointer start shape ∷ met) next f = let h = begun met (next + extent shape) f.1 in omega arith
+
+-- In this block the words `ws`, whose bytes are `bs`, denote a sound value `v` and follow the rules.
+module _ (bs ws : List ℕ) (v : Tree) (bare : IsBare bs ws) (at : IsAt (ws ∷ []) root v) (sound-v : Sound v) where
+  follows-sound : IsPageForm ws → (first_cap v ≡ None) × (canon v ≡ bs)
+  follows-sound p =
+      let some = begun ws p.pointers 1 p.no_gap in
+      let (met, f) = form-follows ws p in
+      let message = bare_message ws bare.each bare.room in
+      let k = value-stands ws message v 0 1 [] met at sound-v (omega arith) some f in
+      let same = words-stand ws v sound-v (omega arith) k.laid (ended ws (1 + size v) k.rest k.follows) in
+      (k.free, ap bytes same ∙ sym bare.same)
 
 -- In this block the words `ws`, whose bytes are `bs`, denote a value `v` that fits.
 module _ (bs ws : List ℕ) (v : Tree) (bare : IsBare bs ws) (at : IsAt (ws ∷ []) root v) (fits : Fits v) where
@@ -64,17 +78,9 @@ module _ (bs ws : List ℕ) (v : Tree) (bare : IsBare bs ws) (at : IsAt (ws ∷ 
       let (met, f) = value-goes ws message v 0 1 [] [] at is-sound free (omega arith) (omega arith) laid ends in
       follows-form ws met f
 
-  follows-canonical : IsPageForm ws → (first_cap v ≡ None) × (canon v ≡ bs)
-  follows-canonical p =
-      let some = begun ws p.pointers 1 p.no_gap in
-      let (met, f) = form-follows ws p in
-      let k = value-stands ws message v 0 1 [] met at is-sound (omega arith) some f in
-      let same = words-stand ws v is-sound (omega arith) k.laid (ended ws (1 + size v) k.rest k.follows) in
-      (k.free, (bytes-words bs ws v bare fits in_range).0 same)
-
   -- The words `ws` follow the rules if and only if `v` has no capability and `bs` are its canonical bytes.
   pub canonical_exactly_by_page : ((first_cap v ≡ None) × (canon v ≡ bs)) ↔ IsPageForm ws
-  canonical_exactly_by_page = ((λ e. canonical-follows e.0 e.1), follows-canonical)
+  canonical_exactly_by_page = ((λ e. canonical-follows e.0 e.1), follows-sound bs ws v bare at is-sound)
 
 -- If `v` fits, is in range and has no capability, its canonical bytes are its only page form (`IsPageFormOf`).
 pub canon_is_the_page_form : (v : Tree) (bs : List ℕ) → Fits v → InRange v → first_cap v ≡ None
@@ -94,16 +100,20 @@ canon_is_the_page_form v bs f r free = (there, back)
               (cap-trimmed v ∙ free, canon-trimmed v ∙ sym e);
           denoted = trimmed v;
           is = at;
-          fits = fit;
           same = trimmed_is_same v f r;
         }
 
     back : IsPageFormOf bs v → bs ≡ canon v
     back p =
         let m = bare_message p.words p.bare.each p.bare.room in
-        let c = (canonical_exactly_by_page bs p.words p.denoted p.bare p.is p.fits).1 p.form in
-        sym c.1
-        ∙ (equal_exactly_same p.denoted v p.fits (in_range-at (p.words ∷ []) m.each p.denoted root p.is) f r).1 p.same
+        let one = p.words ∷ [] in
+        let known = fit_parts v f in
+        let parts = parts-same one p.denoted v root p.same known.short p.is in
+        let whole = sound-parts p.denoted parts.narrow parts.short parts.even
+        (in_range-at one m.each p.denoted root p.is) in
+        let c = follows-sound bs p.words p.denoted p.bare p.is whole p.form in
+        let e = (same_exactly_trimmed p.denoted v parts.even known.even).0 p.same in
+        sym c.1 ∙ sym (canon-trimmed p.denoted) ∙ ap canon e ∙ canon-trimmed v
 
 -- An answer `out` is a page form of the value that `bs` denote (`IsPageFormOf`).
 pub answers_follow : (form : Form) (bs : List ℕ) (limits : Bounds) (out : List ℕ) (price : ℕ)

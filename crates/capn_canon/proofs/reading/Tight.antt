@@ -32,8 +32,8 @@ module _ (m : List (List ℕ)) where
     pub is : target m at ≡ Ok (targets.Content segment start shape 0)
     pub inside : Inside segment start
 
-  -- The given value is at the given place. No pointer in it has a landing pad, and each list of structs has exactly the
-  -- words of its structs.
+  -- The given value is at the given place. Neither the pointer at this place nor a pointer in the value has a landing
+  -- pad, and each list of structs has exactly the words of its structs.
   abbrev mutual
     pub TightAt : Place → Tree → Type 0
     TightAt at nil = target m at ≡ Ok targets.Nil

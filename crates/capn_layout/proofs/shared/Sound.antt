@@ -96,7 +96,7 @@ positive quad = omega arith
 positive oct = omega arith
 
 mutual
-  sound-parts : (t : Tree) → anywhere is_wide t ≡ false → anywhere is_long t ≡ false → anywhere is_ragged t ≡ false
+  pub sound-parts : (t : Tree) → anywhere is_wide t ≡ false → anywhere is_long t ≡ false → anywhere is_ragged t ≡ false
       → InRange t → Sound t
   sound-parts nil a b c r = tt
   sound-parts (cap k) a b c r = r

@@ -34,7 +34,8 @@ ends_from-append from (x ∷ xs) ys =
     ap (λ (ends : List ℕ). (from + x) ∷ ends) (ends_from-append (from + x) xs ys
     ∙ ap (λ (n : ℕ). ends_from (from + x) xs ++ ends_from n ys) e)
 
--- if the `sizes` fit into `len` words from `from` on, their ends never decrease and are at most `len`
+-- if `from` plus the sum of `sizes` is at most `len`, the ends of these sizes, from `from` on, never decrease, and are
+-- at least `from` and at most `len`
 pub AreRising-ends_from : (from : ℕ) (sizes : List ℕ) (len : ℕ) → from + sum sizes ≤ len
     → AreRising from (ends_from from sizes) len
 AreRising-ends_from from [] len h = omega arith

@@ -1,12 +1,14 @@
 -- Lemmas for `reading` and capn_canon: values are the same if and only if the getters agree on them along every path.
-use Rattle.std.proofs.Common.{◌≡◌, ◌↔◌, ℕ, zero, suc, List, [], ◌∷◌, length, get_or, refl, sym, ap, ap₂, subst}
+use Rattle.std.proofs.Common.{◌≡◌, ◌↔◌, ℕ, zero, suc, ◌%◌, ◌^◌, List, [], ◌∷◌, length, get_or, refl, sym, ap, ap₂}
+use Rattle.std.proofs.Common.{subst}
 use Rattle.capn_value.specs.Tree.{Tree, nil, node, voids, numbers, links, rows, cap, Trees}
 use Rattle.capn_value.specs.Tree.{no_trees, tree, Bodies, no_bodies, body, tree_at, count, count_rows}
-use Rattle.capn_value.specs.NumberWidth.{NumberWidth}
+use Rattle.capn_value.specs.NumberWidth.{NumberWidth, bits_in}
 use Rattle.capn_value.specs.Same.{AllNull, Same, SameSlots, SameEach, SameRows}
 use Rattle.capn_value.specs.Fits.{elements}
 use Rattle.capn_value.specs.Getters.{null, struct, list_of_numbers, list_of_pointers, list_of_structs, Step, to_pointer}
-use Rattle.capn_value.specs.Getters.{to_element, Answer, row_at, kind, word, number, index, next, told, get}
+use Rattle.capn_value.specs.Getters.{to_element, to_row_pointer, Answer, row_at, kind, word, number, pointer, element}
+use Rattle.capn_value.specs.Getters.{index, next, told, get}
 
 -- ---- if values are the same, the getters agree on them
 
@@ -51,23 +53,38 @@ rows_counted no_bodies no_bodies h = refl
 rows_counted (body ws ss bs) (body vs ts cs) h = ap suc (rows_counted bs cs h.2)
 rows_counted _ _ h = absurd h
 
+pointers_alike : (t u : Tree) → Same t u → (j : ℕ) → Same (pointer t j) (pointer u j)
+pointers_alike nil nil h j = tt
+pointers_alike (node ws ss) (node vs ts) h j = slots_alike ss ts h.1 j
+pointers_alike (voids m) (voids n) h j = tt
+pointers_alike (numbers w xs) (numbers v ys) h j = tt
+pointers_alike (links ss) (links ts) h j = tt
+pointers_alike (rows bs) (rows cs) h j = tt
+pointers_alike (cap k) (cap l) h j = tt
+pointers_alike _ _ h j = absurd h
+
+elements_alike : (t u : Tree) → Same t u → (i : ℕ) → Same (element t i) (element u i)
+elements_alike nil nil h i = tt
+elements_alike (node ws ss) (node vs ts) h i = tt
+elements_alike (voids m) (voids n) h i = tt
+elements_alike (numbers w xs) (numbers v ys) h i = tt
+elements_alike (links ss) (links ts) h i = each_alike ss ts h i
+elements_alike (rows bs) (rows cs) h i = rows_alike bs cs h i
+elements_alike (cap k) (cap l) h i = tt
+elements_alike _ _ h i = absurd h
+
 -- if `t` and `u` are the same, the values that the step `s` leads to are the same
 pub same_next : (t u : Tree) → Same t u → (s : Step) → Same (next t s) (next u s)
-same_next nil nil h (to_pointer j) = tt
-same_next nil nil h (to_element i) = tt
-same_next (node ws ss) (node vs ts) h (to_pointer j) = slots_alike ss ts h.1 j
-same_next (node ws ss) (node vs ts) h (to_element i) = tt
-same_next (voids m) (voids n) h (to_pointer j) = tt
-same_next (voids m) (voids n) h (to_element i) = tt
-same_next (numbers w xs) (numbers v ys) h (to_pointer j) = tt
-same_next (numbers w xs) (numbers v ys) h (to_element i) = tt
-same_next (links ss) (links ts) h (to_pointer j) = tt
-same_next (links ss) (links ts) h (to_element i) = each_alike ss ts h i
-same_next (rows bs) (rows cs) h (to_pointer j) = tt
-same_next (rows bs) (rows cs) h (to_element i) = rows_alike bs cs h i
-same_next (cap j) (cap k) h (to_pointer i) = tt
-same_next (cap j) (cap k) h (to_element i) = tt
-same_next _ _ h s = absurd h
+same_next t u h (to_pointer j) = pointers_alike t u h j
+same_next t u h (to_element i) = elements_alike t u h i
+same_next t u h (to_row_pointer i) = pointers_alike (element t i) (element u i) (elements_alike t u h i) 0
+
+-- if two lists have the same rows, the first words of the rows at each index are equal
+first_words_alike : (bs cs : Bodies) → SameRows bs cs → (i : ℕ) → word (row_at bs i) 0 ≡ word (row_at cs i) 0
+first_words_alike no_bodies no_bodies h i = refl
+first_words_alike (body ws ss bs) (body vs ts cs) h zero = h.0 0
+first_words_alike (body ws ss bs) (body vs ts cs) h (suc i) = first_words_alike bs cs h.2 i
+first_words_alike _ _ h i = absurd h
 
 pub same_told : (t u : Tree) → Same t u → told t ≡ told u
 same_told nil nil h = refl
@@ -75,7 +92,7 @@ same_told (node ws ss) (node vs ts) h = λ i. record {
   kind = struct;
   word = λ k. h.0 k i;
   elements = 0;
-  number = λ k. 0;
+  number = λ a k. 0;
   index = 0;
 }
 same_told (voids m) (voids n) h = ap (λ k. told (voids k)) h
@@ -84,14 +101,14 @@ same_told (links ss) (links ts) h = λ i. record {
   kind = list_of_pointers;
   word = λ k. 0;
   elements = each_counted ss ts h i;
-  number = λ k. 0;
+  number = λ a k. 0;
   index = 0;
 }
 same_told (rows bs) (rows cs) h = λ i. record {
   kind = list_of_structs;
   word = λ k. 0;
   elements = rows_counted bs cs h i;
-  number = λ k. 0;
+  number = λ a k. first_words_alike bs cs h k i % 2 ^ bits_in a;
   index = 0;
 }
 same_told (cap j) (cap k) h = ap (λ n. told (cap n)) h
@@ -119,8 +136,8 @@ alike_elements t u h = ap (λ (a : Answer). a.elements) (h [])
 alike_words : (t u : Tree) → Alike t u → (i : ℕ) → word t i ≡ word u i
 alike_words t u h i = ap (λ (a : Answer). a.word i) (h [])
 
-alike_numbers : (t u : Tree) → Alike t u → (i : ℕ) → number t i ≡ number u i
-alike_numbers t u h i = ap (λ (a : Answer). a.number i) (h [])
+alike_numbers : (w : NumberWidth) (t u : Tree) → Alike t u → (i : ℕ) → number w t i ≡ number w u i
+alike_numbers w t u h i = ap (λ (a : Answer). a.number w i) (h [])
 
 alike_index : (t u : Tree) → Alike t u → index t ≡ index u
 alike_index t u h = ap (λ (a : Answer). a.index) (h [])
@@ -153,7 +170,8 @@ mutual
   same_from_told (voids m) (voids n) h = alike_elements (voids m) (voids n) h
   same_from_told (numbers w xs) (numbers v ys) h = (
     same_width w v (alike_kind (numbers w xs) (numbers v ys) h),
-    equal_lists xs ys (alike_elements (numbers w xs) (numbers v ys) h) (alike_numbers (numbers w xs) (numbers v ys) h),
+    equal_lists xs ys (alike_elements (numbers w xs) (numbers v ys) h)
+        (alike_numbers w (numbers w xs) (numbers v ys) h),
   )
   same_from_told (links ss) (links ts) h =
       let below = alike_next (links ss) (links ts) h in

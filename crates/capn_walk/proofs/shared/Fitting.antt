@@ -26,19 +26,20 @@ use Rattle.capn_walk.proofs.shared.Costs.{cost-paid}
 
 -- ---- the tests for a value that fits
 
-not-wide : (ws : List ℕ) (ss : Trees) → length ws < 2 ^ 16 → count ss < 2 ^ 16 → is_wide_body ws ss ≡ false
+pub not-wide : (ws : List ℕ) (ss : Trees) → length ws < 2 ^ 16 → count ss < 2 ^ 16 → is_wide_body ws ss ≡ false
 not-wide ws ss a b = or_from _ _ (le-ltb 65535 (length ws) (omega arith)) (le-ltb 65535 (count ss) (omega arith))
 
-not-long : (t : Tree) → elements t < 2 ^ 29 → words_in_rows t < 2 ^ 29 → is_long t ≡ false
+pub not-long : (t : Tree) → elements t < 2 ^ 29 → words_in_rows t < 2 ^ 29 → is_long t ≡ false
 not-long t a b =
     or_from _ _ (le-ltb 536870911 (elements t) (omega arith)) (le-ltb 536870911 (words_in_rows t) (omega arith))
 
-record Rows (a b : ℕ) (bs : Bodies) : Type 0 where
-  narrow : has_wide_row bs ≡ false
-  even : are_even a b bs ≡ true
-  words : row_words bs ≡ count_rows bs * (a + b)
+-- each row has `a` words and `b` slots, which fit in the fields of a pointer
+pub record Rows (a b : ℕ) (bs : Bodies) : Type 0 where
+  pub narrow : has_wide_row bs ≡ false
+  pub even : are_even a b bs ≡ true
+  pub words : row_words bs ≡ count_rows bs * (a + b)
 
-not-ragged : (a b : ℕ) (bs : Bodies) → are_even a b bs ≡ true → is_ragged (rows bs) ≡ false
+pub not-ragged : (a b : ℕ) (bs : Bodies) → are_even a b bs ≡ true → is_ragged (rows bs) ≡ false
 not-ragged a b no_bodies h = refl
 not-ragged a b (body ws ss bs) h = not_from_true _ (even-first a b ws ss bs h)
   where
@@ -52,7 +53,7 @@ not-ragged a b (body ws ss bs) h = not_from_true _ (even-first a b ws ss bs h)
         rw (x, y) p.1
 
 module _ (m : List (List ℕ)) where
-  rows-of : (bs : Bodies) (a b s w : ℕ) → a < 2 ^ 16 → b < 2 ^ 16 → RowsAt m a b s w bs → Rows a b bs
+  pub rows-of : (bs : Bodies) (a b s w : ℕ) → a < 2 ^ 16 → b < 2 ^ 16 → RowsAt m a b s w bs → Rows a b bs
   rows-of no_bodies a b s w ha hb h = record { narrow = refl; even = refl; words = omega arith }
   rows-of (body ws ss bs) a b s w ha hb h =
       let rest = rows-of bs a b s (w + a + b) ha hb h.4 in
@@ -74,12 +75,12 @@ module _ (m : List (List ℕ)) where
 
   -- ---- the tests for a value that fits, at every level
 
-  record Parts (wide long ragged : Bool) : Type 0 where
-    narrow : wide ≡ false
-    short : long ≡ false
-    even : ragged ≡ false
+  pub record Parts (wide long ragged : Bool) : Type 0 where
+    pub narrow : wide ≡ false
+    pub short : long ≡ false
+    pub even : ragged ≡ false
 
-  joined : (a b c d e f : Bool) → a ≡ false → b ≡ false → c ≡ false → Parts d e f → Parts (a || d) (b || e) (c || f)
+  pub joined : (a b c d e f : Bool) → a ≡ false → b ≡ false → c ≡ false → Parts d e f → Parts (a || d) (b || e) (c || f)
   joined a b c d e f x y z p =
       record { narrow = or_from _ _ x p.narrow; short = or_from _ _ y p.short; even = or_from _ _ z p.even }
 

@@ -135,7 +135,8 @@ module _ (m : List (List ℕ)) where
       visits-deep zero z = ap (last_visit m base at) e
       visits-deep (suc d) z = absurd (omega arith)
 
-      -- if `d` is above 0, the visit of content pays the content's price, and then the content's slots are visited
+      -- if `d` is above 0, the visit of content pays the content's price and one for each word of landing pads, and
+      -- then the content's slots are visited
       pub visits-object : (d : ℕ) → 0 < d
           → visits m base d at
           ≡ pays at (price base shape + pads) ∷ flat_map (visits m base (d - 1)) (slots s start shape)
