@@ -2,7 +2,8 @@
 them are those of look.h.
 
 The library is linked into the module, and its names are seen by no other. CAPN_ARCHIVE names another archive than
-the one that `make library` leaves."""
+the one that `make library` leaves; a source distribution has that one and the header beside this file. With
+CAPN_SANITIZE the module is compiled with address and undefined-behaviour sanitizers."""
 import os
 from pathlib import Path
 
@@ -10,9 +11,11 @@ from cffi import FFI
 
 HERE = Path(__file__).resolve().parent
 TOP = HERE.parent
-HEADER = TOP / "c" / "capn.h"
+IS_ALONE = (HERE / "capn.h").is_file()
+HEADER = HERE / "capn.h" if IS_ALONE else TOP / "c" / "capn.h"
 LOOK = HERE / "look.h"
-ARCHIVE = Path(os.environ.get("CAPN_ARCHIVE", TOP / "build" / "libcapn.a")).resolve()
+OWN = HERE / "libcapn.a" if IS_ALONE else TOP / "build" / "libcapn.a"
+ARCHIVE = Path(os.environ.get("CAPN_ARCHIVE", OWN)).resolve()
 if not ARCHIVE.is_file():
     raise SystemExit(f"there is no {ARCHIVE}: run `make library` first, or name the archive by CAPN_ARCHIVE")
 
@@ -142,6 +145,10 @@ DECLARED = """
     void capn_read_packed(int file, capn_pipe *pipe);
 """
 
+SANITIZED = ["-fsanitize=address,undefined", "-fno-sanitize-recover=undefined", "-fno-omit-frame-pointer",
+             "-U_FORTIFY_SOURCE", "-g", "-O1"]
+SANITIZERS = SANITIZED if os.environ.get("CAPN_SANITIZE") else []
+
 binding = FFI()
 binding.cdef(DECLARED)
 binding.set_source(
@@ -149,6 +156,7 @@ binding.set_source(
     '#include "look.h"',
     include_dirs=[str(HEADER.parent), str(HERE)],
     extra_objects=[str(ARCHIVE)],
-    extra_link_args=["-Wl,--exclude-libs,ALL"],
+    extra_compile_args=SANITIZERS,
+    extra_link_args=["-Wl,--exclude-libs,ALL", *SANITIZERS],
     depends=[str(HEADER), str(LOOK), str(ARCHIVE), __file__],
 )

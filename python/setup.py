@@ -1,15 +1,59 @@
-"""Builds the module of the package `capn` with the proved library inside, after `make library`. The rest is in
-pyproject.toml.
+"""Builds the module of the package `capn` with the proved library inside. The rest is in pyproject.toml.
 
-The library's header, its archive and its licence lie beside this folder, in the repository's top."""
+In the repository the library's header, its archive and its licence lie outside of this folder, after `make library`.
+A source distribution has copies of them beside this file, so that it builds alone; nothing is written into this folder
+for that."""
+import runpy
 import shutil
 from pathlib import Path
 
 from setuptools import setup
+from setuptools.command.sdist import sdist
+
+try:
+    from setuptools.command.bdist_wheel import bdist_wheel
+except ImportError:
+    try:
+        from wheel.bdist_wheel import bdist_wheel
+    except ImportError:
+        # Without it there are no wheels: `setup.py build` needs none.
+        bdist_wheel = None
 
 HERE = Path(__file__).resolve().parent
-for name in ("LICENSE", "NOTICE"):
-    if (HERE.parent / name).is_file():
-        shutil.copyfile(HERE.parent / name, HERE / name)
+LICENCES = ("LICENSE", "NOTICE")
 
-setup(cffi_modules=["binding.py:binding"], options={"bdist_wheel": {"py_limited_api": "cp311"}})
+
+def place(name):
+    """Where a file is that the package has: beside this one, or in the top of the repository."""
+    beside = HERE / name
+    return beside if beside.is_file() else HERE.parent / name
+
+
+class SourceDistribution(sdist):
+    """A source distribution with what lies outside of this folder."""
+
+    def make_release_tree(self, base_dir, files):
+        super().make_release_tree(base_dir, files)
+        # What builds the module says where the library is.
+        binding = runpy.run_path(str(HERE / "binding.py"))
+        copied = {"capn.h": binding["HEADER"], "libcapn.a": binding["ARCHIVE"]}
+        for name, path in {**copied, **{name: place(name) for name in LICENCES}}.items():
+            if path.is_file():
+                shutil.copyfile(path, Path(base_dir) / name)
+
+
+commands = {"sdist": SourceDistribution}
+if bdist_wheel is not None:
+
+    class Wheel(bdist_wheel):
+        """A wheel with the licences, which lie outside of this folder."""
+
+        def write_wheelfile(self, wheelfile_base, *words, **options):
+            super().write_wheelfile(wheelfile_base, *words, **options)
+            for path in map(place, LICENCES):
+                if path.is_file():
+                    shutil.copyfile(path, Path(wheelfile_base) / path.name)
+
+    commands["bdist_wheel"] = Wheel
+
+setup(cmdclass=commands, cffi_modules=["binding.py:binding"], options={"bdist_wheel": {"py_limited_api": "cp311"}})

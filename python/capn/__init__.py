@@ -1,20 +1,39 @@
-"""Checks, canonicalises, hashes and packs Cap'n Proto messages, without a schema, by proved code.
+"""Checks Cap'n Proto messages, writes their canonical bytes, hashes and packs them, without a schema, by proved code.
 
-A call takes any object that has a buffer, and one message in it. It raises `Refusal` where the program `capn` refuses,
-and `MemoryError` where memory runs out; `TypeError` and `ValueError` for arguments that are wrong in themselves, before
-any byte is read. What is read of a message raises `Mismatch` where it has something else. Both are a `ValueError`:
-whatever a message has, reading it raises nothing else.
+A call takes any object that has a buffer, with one message in it. It raises `Refusal` if the message is invalid or goes
+over a limit, with the text that the program `capn` prints, and `MemoryError` if an allocation fails. It raises
+`TypeError` or `ValueError` for an argument that is wrong in itself, before any byte is read.
 
-Other threads run meanwhile, and the library relies on bytes that stay as they are. So those of an object that may
-change, as a `bytearray`, a mapped file or an array does, are copied first; `bytes` are not, nor a view of them. With
-`in_place=True` nothing is copied, and the caller sees to it that nothing changes the bytes until the call returns: a
-change can make the library read outside of them, which ends the process or ends up in the answer.
+What is read of a message raises `Mismatch` if the message has something else there. `Refusal` and `Mismatch` are both a
+`ValueError`: whatever a message contains, the calls of this package raise nothing else because of it. Only `words` and
+`view` are plain memoryviews, of which an index past the end raises an `IndexError`.
 
-`check`, `survey`, `canonical`, `is_canonical`, `digest`, `pack` and `unpack` take bytes, and `same` those of two
-messages; `read` makes a `Message` of them, whose root is a `Value`; `show` is its text; `departure` says why it is not
-canonical; `messages`, `digests`, `amessages` and `Splitter` are for streams. `check_segments`, `survey_segments`,
-`canonical_segments` and `digest_segments` take a message in segments."""
-from ._calls import Checked, Surveyed, canonical, check, digest, is_canonical, pack, same, survey, unpack
+Other threads run during a call, and the library relies on bytes that don't change. So the package first copies the
+bytes of an object that may change, such as a `bytearray`, a mapped file or an array. It doesn't copy `bytes`, nor a
+view of `bytes`. With `in_place=True` nothing is copied, and the caller guarantees that nothing changes the bytes until
+the call returns. A change can make the library read outside the bytes, which ends the process or shows in a result.
+
+- `check`, `survey`, `canonical`, `digest`, `is_canonical_message`, `is_canonical_words`, `pack` and `unpack` take
+  bytes.
+- `same` takes those of two messages.
+- `read` makes a `Message`, whose root is a `Value`.
+- `show` returns its text, and `departure` its first difference from the canonical form.
+- `messages`, `digests`, `amessages` and `Splitter` are for streams.
+- `check_segments`, `survey_segments`, `canonical_segments` and `digest_segments` take a message in segments."""
+from ._calls import (
+    Checked,
+    Surveyed,
+    canonical,
+    check,
+    digest,
+    is_canonical,
+    is_canonical_message,
+    is_canonical_words,
+    pack,
+    same,
+    survey,
+    unpack,
+)
 from ._capn import ffi as _ffi
 from ._capn import lib as _lib
 from ._departure import Departure, departure
@@ -44,12 +63,13 @@ from ._refusal import Refusal
 from ._segments import canonical_segments, check_segments, digest_segments, survey_segments
 from ._show import show
 from ._splitter import Splitter
-from ._stream import AsyncMessages, Digests, amessages, digests, messages
+from ._stream import AsyncMessages, AsyncOutcomes, Digests, Outcomes, amessages, digests, messages
 
 __version__: str = _ffi.string(_lib.capn_version()).decode()
 
 __all__ = [
     "AsyncMessages",
+    "AsyncOutcomes",
     "Bits",
     "Body",
     "Bytes",
@@ -65,6 +85,7 @@ __all__ = [
     "Null",
     "Numbers",
     "Object",
+    "Outcomes",
     "Pointers",
     "Refusal",
     "Row",
@@ -86,6 +107,8 @@ __all__ = [
     "digest_segments",
     "digests",
     "is_canonical",
+    "is_canonical_message",
+    "is_canonical_words",
     "messages",
     "pack",
     "read",

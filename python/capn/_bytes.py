@@ -35,7 +35,8 @@ def taken(data: Buffer, in_place: bool) -> Any:
             return data.tobytes()
     try:
         return _from_buffer(data)
-    except BufferError:
+    except (BufferError, ValueError):
+        # It has gaps, or another order of its elements: numpy says so by a `ValueError`.
         return copied(data)
     except TypeError:
         raise no_buffer(data) from None

@@ -1,8 +1,9 @@
 """The calls that take one message, or words."""
 from __future__ import annotations
 
+import warnings
 from operator import index
-from typing import Any, Callable, Literal, NamedTuple
+from typing import Any, Callable, Literal, NamedTuple, Sequence
 
 from ._bytes import Buffer, taken
 from ._capn import ffi, lib
@@ -14,42 +15,45 @@ Form = Literal["stream", "packed", "bare"]
 _FORMS: dict[str, int] = {"stream": lib.CAPN_STREAM, "packed": lib.CAPN_PACKED, "bare": lib.CAPN_BARE}
 _USUAL = Limits()
 # What `capn unpack` takes: the words of the usual limits, and those of the longest segment table.
-_USUAL_WORDS = 8388608 + 2049
+_TABLE_WORDS = 2049
+_USUAL_WORDS = 8388608 + _TABLE_WORDS
 _new, _report_type = ffi.new, ffi.typeof("capn_report *")
 _figures_type = ffi.typeof("capn_figures *")
 _room = ffi.new_allocator(should_clear_after_alloc=False)
 _room_type, _digest_type, _which_type = ffi.typeof("uint8_t[]"), ffi.typeof("uint8_t[32]"), ffi.typeof("uint32_t *")
 _capn_check, _new_tuple = lib.capn_check, tuple.__new__
+# The longest buffer that is allocated before a message was looked at: a longer result takes a second call.
+_MOST_ROOM = 1 << 28
 # Reports that no call uses. Each call takes one for itself, whatever threads and signal handlers run meanwhile.
 _reports: list[Any] = []
 
 
 class Checked(NamedTuple):
-    """What reading an accepted message costs."""
+    """What reading a valid message costs."""
 
     paid: int
-    """Words that the walk paid."""
+    """The cost in words."""
     visits: int
-    """Slots that it visited, each as often as it was met; the root is one."""
+    """How many pointers are followed, each as often as it is met. The root pointer is one, and null pointers count."""
 
 
 class Surveyed(NamedTuple):
-    """What a survey finds of an accepted message."""
+    """The statistics of a valid message."""
 
     words: int
-    """Words of its segments."""
+    """The words of all segments."""
     segments: int
-    """Segments that it has."""
+    """How many segments it has."""
     paid: int
-    """Words that the walk paid."""
+    """The cost of reading it, in words."""
     visits: int
-    """Slots that it visited, each as often as it was met; the root is one."""
+    """How many pointers are followed, each as often as it is met. The root pointer is one, and null pointers count."""
     depth: int
-    """The least depth under which it is accepted, 0 for a null root."""
+    """The least nesting limit within which it is valid; 0 for a null root."""
     capability: int | None
     """The index of its first capability, or None."""
     canonical: bool
-    """Whether it has one segment, which is the canonical bytes of its value."""
+    """Whether it has one segment, which has the canonical bytes of its value."""
 
 
 def _report() -> Any:
@@ -77,40 +81,42 @@ def _laid_out(limits: Limits) -> Any:
 
 def _taken(data: Buffer, form: str, limits: Limits, in_place: bool) -> tuple[int, Any, Any]:
     """What the library is given of the arguments: the number of the form, the bytes, the limits."""
+    # The bytes come last: an argument that is wrong locks no buffer.
     try:
-        given = data if type(data) is bytes else taken(data, in_place)
-        return _FORMS[form], given, limits._laid_out  # type: ignore[attr-defined]
+        number, bounds = _FORMS[form], limits._laid_out  # type: ignore[attr-defined]
     except (KeyError, TypeError, AttributeError):
-        return _form(form), taken(data, in_place), _laid_out(limits)
+        number, bounds = _form(form), _laid_out(limits)
+    return number, data if type(data) is bytes else taken(data, in_place), bounds
 
 
 def _filled(
-    call: Callable[[Any, int, Any], int], room: int, fault: Callable[[int, Any], Exception] = failure
+    call: Callable[[Any, int, Any], int], room: int, given: Sequence[Any], fault: Callable[[int, Any], Exception]
 ) -> bytes:
-    """What a call writes: with this room or, if the answer does not fit, with the length that the call asks for; or the
-    fault that it is."""
-    report = _report()
-    out = _room(_room_type, room)
-    status = call(out, room, report)
-    while status == lib.CAPN_NO_ROOM:
-        room = report.length
+    """What a call writes: into a buffer of this size or, if the result doesn't fit, of the length that it reports; or
+    the fault that it is. After an exception nothing holds the bytes that the call was given."""
+    try:
+        report, room = _report(), min(room, _MOST_ROOM)
         out = _room(_room_type, room)
         status = call(out, room, report)
-    if status != lib.CAPN_OK:
-        raise fault(status, report)
-    answer = bytes(ffi.buffer(out, report.length))
+        while status == lib.CAPN_NO_ROOM:
+            room = report.length
+            out = _room(_room_type, room)
+            status = call(out, room, report)
+        if status != lib.CAPN_OK:
+            raise fault(status, report)
+        answer = bytes(ffi.buffer(out, report.length))
+    except BaseException:
+        for one in given:
+            let_go(one)
+        raise
     _reports.append(report)
     return answer
 
 
-def _told(call: Callable[..., int], data: Buffer, form: str, limits: Limits, in_place: bool, *out: Any) -> None:
-    """A call on one message, with the buffer that it writes into, if there is one."""
-    number, given, bounds = _taken(data, form, limits, in_place)
-    report = _report()
-    status = call(number, given, len(given), bounds, *out, report)
-    if status != lib.CAPN_OK:
-        raise refused(status, report, number, data, given, bounds)
-    _reports.append(report)
+def _most_bytes(size: int, number: int, limits: Limits) -> int:
+    """How many bytes a message of these limits has at most, unpacked, in so many bytes of a form."""
+    unpacked = 1024 * size if number == lib.CAPN_PACKED else size
+    return min(unpacked, 8 * (limits.message_words + _TABLE_WORDS))
 
 
 def _surveyed(figures: Any) -> Surveyed:
@@ -122,7 +128,7 @@ def _surveyed(figures: Any) -> Surveyed:
 
 
 def check(data: Buffer, form: Form = "stream", limits: Limits = _USUAL, *, in_place: bool = False) -> Checked:
-    """Whether one message is accepted within limits: what reading it costs, or a refusal."""
+    """Checks that the bytes are one valid message within limits. Returns what reading it costs."""
     number, given, bounds = _taken(data, form, limits, in_place)
     report = _report()
     status = _capn_check(number, given, len(given), bounds, report)
@@ -134,32 +140,47 @@ def check(data: Buffer, form: Form = "stream", limits: Limits = _USUAL, *, in_pl
 
 
 def survey(data: Buffer, form: Form = "stream", limits: Limits = _USUAL, *, in_place: bool = False) -> Surveyed:
-    """What one message has and costs, within limits."""
-    figures = _new(_figures_type)
-    _told(lib.capn_survey, data, form, limits, in_place, figures)
+    """Checks one message within limits, and returns its statistics."""
+    number, given, bounds = _taken(data, form, limits, in_place)
+    return _survey(data, number, given, bounds)
+
+
+def _survey(data: Buffer, number: int, given: Any, bounds: Any) -> Surveyed:
+    """The same of what the library was given."""
+    figures, report = _new(_figures_type), _report()
+    status = lib.capn_survey(number, given, len(given), bounds, figures, report)
+    if status != lib.CAPN_OK:
+        raise refused(status, report, number, data, given, bounds)
+    _reports.append(report)
     return _surveyed(figures)
 
 
 def canonical(data: Buffer, form: Form = "stream", limits: Limits = _USUAL, *, in_place: bool = False) -> bytes:
-    """The canonical bytes of one message: the same for equal values alone, whoever wrote the message, and in whatever
-    form. At most 8 * (limits.budget + 1) of them."""
+    """Returns the canonical bytes of one message, at most 8 * (limits.budget + 1). Two messages have the same ones if
+    and only if they have the same value, whatever program wrote them, and in whatever form they are. A message with a
+    capability has none."""
     number, given, bounds = _taken(data, form, limits, in_place)
     size = len(given)
     # As long as the words that the message has: mostly enough. If it isn't, the call reports the length.
     room = 4 * size if form == "packed" else size
     return _filled(
-        lambda *out: lib.capn_canonical(number, given, size, bounds, *out), room,
+        lambda *out: lib.capn_canonical(number, given, size, bounds, *out),
+        min(room, _most_bytes(size, number, limits), 8 * (limits.budget + 1)), (given,),
         lambda status, report: refused(status, report, number, data, given, bounds))
 
 
 def same(
     first: Buffer, second: Buffer, form: Form = "stream", limits: Limits = _USUAL, *, in_place: bool = False
 ) -> bool:
-    """Whether two messages, both in one form, have the same value: whether their canonical bytes are equal, of which
-    none are made. Values are the same up to zero words and null pointers at the ends of structs. A refusal is that of
-    the first message, or if there is none that of the second, as `Refusal.which` says."""
+    """Compares the values of two messages of the same form, without writing their canonical bytes. Zero words and null
+    pointers at the ends of structs make no difference. A `Refusal` is about the first message, or, if that is valid,
+    about the second: its `which` is 0 or 1."""
     number, given, bounds = _taken(first, form, limits, in_place)
-    other = taken(second, in_place)
+    try:
+        other = taken(second, in_place)
+    except BaseException:
+        let_go(given)
+        raise
     report, which = _report(), _new(_which_type)
     status = lib.capn_same(number, given, len(given), other, len(other), bounds, which, report)
     if status not in (lib.CAPN_OK, lib.CAPN_DIFFERENT):
@@ -174,17 +195,53 @@ def same(
     return bool(status == lib.CAPN_OK)
 
 
-def is_canonical(
-    data: Buffer, limits: Limits = _USUAL, *, form: Form = "bare", in_place: bool = False
+def is_canonical_message(
+    message: Buffer, form: Form = "stream", limits: Limits = _USUAL, *, in_place: bool = False
 ) -> bool:
-    """Whether one message has one segment, which is the canonical bytes of its value. A refusal if it has none.
+    """Returns whether a message has one segment, which has the canonical bytes of its value. Raises a `Refusal` if the
+    message is invalid or has a capability.
 
-    Without a form the bytes are read bare. A frame is not bare words: with its table before it, nearly any message of
-    one segment passes as canonical. So for a frame pass `form="stream"`. A packed message is judged by what it unpacks
-    to."""
-    if form != "bare":
-        return _is_canonical_frame(data, form, limits, in_place)
-    given, bounds, report = taken(data, in_place), _laid_out(limits), _report()
+    The form is a message with its segment table unless it says otherwise, as for every call. For a packed message the
+    bytes count that it unpacks to."""
+    number, given, bounds = _taken(message, form, limits, in_place)
+    if number == lib.CAPN_BARE:
+        return _is_canonical(message, given, bounds)
+    surveyed = _survey(message, number, given, bounds)
+    if surveyed.capability is not None:
+        let_go(given)
+        report = _report()
+        report.at = surveyed.capability
+        raise failure(lib.CAPN_CAPABILITY, report)
+    return surveyed.canonical
+
+
+def is_canonical_words(words: Buffer, limits: Limits = _USUAL, *, in_place: bool = False) -> bool:
+    """Returns whether the words of a single segment, without a segment table, are the canonical bytes of their value.
+    Raises a `Refusal` if they are no valid message or have a capability.
+
+    Don't pass a message with its segment table: nearly every message of one segment passes here with its table,
+    canonical or not. Call `is_canonical_message` for that."""
+    bounds = _laid_out(limits)
+    return _is_canonical(words, taken(words, in_place), bounds)
+
+
+def is_canonical(
+    data: Buffer, limits: Limits = _USUAL, *, form: Form | None = None, in_place: bool = False
+) -> bool:
+    """Does the same as `is_canonical_message`, but with the form "bare" unless one is passed. Calling it without a form
+    is deprecated: call `is_canonical_message`, or `is_canonical_words` for the words of a single segment."""
+    if form is None:
+        warnings.warn(
+            "is_canonical without a form reads the words of one segment without its table: call"
+            " is_canonical_message for a message, or is_canonical_words for such words",
+            DeprecationWarning, stacklevel=2)
+        return is_canonical_words(data, limits, in_place=in_place)
+    return is_canonical_message(data, form, limits, in_place=in_place)
+
+
+def _is_canonical(data: Buffer, given: Any, bounds: Any) -> bool:
+    """The same of bare words, as the library was given them."""
+    report = _report()
     status = lib.capn_is_canonical(given, len(given), bounds, report)
     if status not in (lib.CAPN_OK, lib.CAPN_NOT_CANONICAL):
         raise refused(status, report, lib.CAPN_BARE, data, given, bounds)
@@ -192,36 +249,30 @@ def is_canonical(
     return bool(status == lib.CAPN_OK)
 
 
-def _is_canonical_frame(data: Buffer, form: Form, limits: Limits, in_place: bool) -> bool:
-    """The same of a message that has a table, by a survey."""
-    surveyed = survey(data, form, limits, in_place=in_place)
-    if surveyed.capability is not None:
-        report = _report()
-        report.at = surveyed.capability
-        raise failure(lib.CAPN_CAPABILITY, report)
-    return surveyed.canonical
-
-
 def digest(data: Buffer, form: Form = "stream", limits: Limits = _USUAL, *, in_place: bool = False) -> bytes:
-    """The SHA-256 of the canonical bytes of one message, 32 bytes."""
-    out = _new(_digest_type)
-    _told(lib.capn_hash, data, form, limits, in_place, out)
+    """Returns the SHA-256 of the canonical bytes of one message, 32 bytes."""
+    number, given, bounds = _taken(data, form, limits, in_place)
+    out, report = _new(_digest_type), _report()
+    status = lib.capn_hash(number, given, len(given), bounds, out, report)
+    if status != lib.CAPN_OK:
+        raise refused(status, report, number, data, given, bounds)
+    _reports.append(report)
     return bytes(ffi.buffer(out))
 
 
 def pack(data: Buffer, *, in_place: bool = False) -> bytes:
-    """The packed text of whole words."""
+    """Packs bytes that are whole words."""
     given = taken(data, in_place)
     size = len(given)
-    return _filled(lambda *out: lib.capn_pack(given, size, *out), size // 8 * 10, failure_of_words)
+    return _filled(lambda *out: lib.capn_pack(given, size, *out), size // 8 * 10, (given,), failure_of_words)
 
 
 def unpack(data: Buffer, max_words: int = _USUAL_WORDS, *, in_place: bool = False) -> bytes:
-    """The words of a packed text, at most `max_words`, a number below 2^32."""
+    """Unpacks packed bytes, to at most `max_words` words, a number below 2^32."""
     most = index(max_words)
     if not 0 <= most < 1 << 32:
         raise ValueError(f"max_words is a number from 0 to {(1 << 32) - 1}, not {most}")
     given = taken(data, in_place)
     size = len(given)
     room = min(4 * size, 8 * most)
-    return _filled(lambda *out: lib.capn_unpack(given, size, most, *out), room, failure_of_words)
+    return _filled(lambda *out: lib.capn_unpack(given, size, most, *out), room, (given,), failure_of_words)

@@ -28,30 +28,30 @@ _LISTS = ("voids", "bits", "bytes", "u16", "u32", "u64", "pointers")
 
 @dataclass(frozen=True)
 class Departure:
-    """The first reason why a message is not canonical; `departure` finds it. Its text is what `capn explain` writes
-    after `canonical: no: `; it is the package's own, in Python, and tested.
+    """The first difference of a message from its canonical form; `departure` finds it. Its text is what `capn explain`
+    prints after `canonical: no: `. It is made in Python, and tested.
 
-    What its kind does not speak of is None."""
+    Fields that the kind doesn't speak of are None."""
 
     kind: Literal["segments", "capability", "word", "after"]
-    """The message has several segments, or a capability; or a word is not that of the canonical bytes; or it comes
-    after these have ended."""
+    """The message has several segments, or a capability; or a word differs from the canonical bytes, or comes after
+    their end."""
     way: tuple[int, ...] | None = None
-    """The way from the root to the slot with the first capability, or to the slot whose word it is, as `Refusal.way`
-    has it."""
+    """The path from the root to the first capability, or to the pointer that the word is part of, as in
+    `Refusal.way`."""
     count: int | None = None
     """How many segments there are."""
     index: int | None = None
     """The index of the capability."""
     byte: int | None = None
-    """Where the word begins in the message, as `Refusal.byte` has it."""
+    """Where the word begins in the message, as in `Refusal.byte`."""
     word: int | None = None
     """The word in the message, a number below 2^64."""
     canonical_word: int | None = None
     """The same word of the canonical bytes."""
     owner: Literal["pointer", "tag", "last word"] | None = None
-    """Whose that is in the canonical bytes: it is the pointer of the slot; or of the list there the tag, or the last
-    word, of which not all bits are elements."""
+    """What the word is part of in the canonical bytes: it is the pointer at that path, or the tag or the last word of
+    the list that the pointer refers to. Not all bits of such a last word are elements."""
 
     def __str__(self) -> str:
         if self.kind == "segments":
@@ -70,11 +70,11 @@ class Departure:
 def departure(
     message: Message | Buffer, form: Form = "stream", limits: Limits = _USUAL, *, in_place: bool = False
 ) -> Departure | None:
-    """Where one message that was read, or bytes within limits, leave their canonical bytes, and why: None if the
-    message is canonical, which is if it has one segment, and that is the canonical bytes of its value.
+    """Returns the first difference of a message from its canonical form, or None if the message is canonical: if it has
+    one segment, which has the canonical bytes of its value. The message is one that was read, or bytes within limits.
 
-    It walks the message several times, and takes memory for the canonical bytes too: `is_canonical`, or `survey`, says
-    sooner whether there is a departure."""
+    The message is checked several times, and its canonical bytes are allocated. `is_canonical_message` and `survey` are
+    faster if only yes or no is wanted."""
     if isinstance(message, Message):
         number, given, bounds = message._whole()
     else:

@@ -28,8 +28,9 @@ _OF_KINDS = ("words", "slots", "word", "slot", "uint", "int", "float", "bool", "
 
 
 class Mismatch(ValueError):
-    """A message has something else than is asked for: an object of another kind, or fewer elements. Whoever sends a
-    message chooses that, so it is a `ValueError`, as a refusal is; it is an `IndexError` or an `AttributeError` too."""
+    """A message has something else than you ask for: an object of another kind, fewer elements, or bytes that aren't a
+    text. The sender chooses that, so it is a `ValueError`, as a `Refusal` is. It can be an `IndexError`, an
+    `AttributeError` or a `UnicodeDecodeError` too."""
 
 
 class _Missing(Mismatch, IndexError):
@@ -40,11 +41,15 @@ class _Other(Mismatch, AttributeError):
     """An object of this kind has no such attribute."""
 
 
-class Object:
-    """What is in a slot. Its `kind` is the word that `capn show` has for it.
+class _Undecodable(Mismatch, UnicodeDecodeError):
+    """The bytes of a text aren't UTF-8."""
 
-    Two objects are equal if they have the same value, as their canonical bytes would: data words of zero and null slots
-    at the end of a struct mean nothing. Such a comparison may read all that is below. No object has a hash."""
+
+class Object:
+    """What a pointer refers to. Its `kind` is the word that `capn show` prints for it.
+
+    Two objects are equal if they have the same value, as their canonical bytes would: zero words and null pointers at
+    the end of a struct make no difference. A comparison may read everything below an object. No object has a hash."""
 
     __slots__ = ("_message", "_entry", "_at")
 
@@ -54,29 +59,29 @@ class Object:
 
     @property
     def kind(self) -> str:
-        """The word that `capn show` has for it."""
+        """The word that `capn show` prints for it."""
         raise NotImplementedError
 
     def struct(self) -> Body:
-        """What is read as a struct: the struct that it is, and of a null pointer one without words and slots. A
-        `Mismatch` of anything else."""
+        """Returns the struct, or for a null pointer one without words and pointers. Raises a `Mismatch` for anything
+        else."""
         raise Mismatch(f"there is no struct, but {self!r}")
 
     def list(self) -> Sequence[Any]:
-        """What is read as a list: the list that it is, and of a null pointer one without elements. A `Mismatch` of
-        anything else. What its elements are is said by its `kind`."""
+        """Returns the list, whose `kind` says what its elements are, or for a null pointer one without elements. Raises
+        a `Mismatch` for anything else."""
         raise Mismatch(f"there is no list, but {self!r}")
 
     def rows(self) -> Sequence[Body]:
-        """What is read as a list of structs; of a null pointer none. Where an older schema has numbers or pointers,
-        each is a struct of that one field. A `Mismatch` of anything else, and of bits, which no schema makes structs
-        of."""
+        """Returns the elements as structs; for a null pointer none. If an older schema has numbers or pointers, each is
+        a struct of that one field. Raises a `Mismatch` for anything else, and for bits, which no schema turns into
+        structs."""
         raise Mismatch(f"there is no list of structs, but {self!r}")
 
     def numbers(self, bits: int) -> Sequence[int]:
-        """What is read as a list of numbers without sign, of 8, 16, 32 or 64 bits, or of 1, which are booleans; of a
-        null pointer none. Where a newer schema made structs of the numbers, it is the first field of each. A `Mismatch`
-        of anything else, and of numbers of another size."""
+        """Returns the elements as numbers without sign, of 8, 16, 32 or 64 bits, or of 1, which are booleans; for a
+        null pointer none. If a newer schema has structs, it is the first field of each, and 0 if they have no data
+        words. Raises a `Mismatch` for anything else, and for numbers of another size."""
         if bits not in _SIZES:
             raise ValueError(f"a number has 1, 8, 16, 32 or 64 bits, not {bits!r}")
         if self.kind != _SIZES[bits]:
@@ -85,8 +90,8 @@ class Object:
         return found  # type: ignore[no-any-return]
 
     def pointers(self) -> Sequence[Value]:
-        """What is read as a list of pointers: the object of each; of a null pointer none. Where a newer schema made
-        structs of the pointers, it is the first slot of each. A `Mismatch` of anything else."""
+        """Returns the object that each element refers to; for a null pointer none. If a newer schema has structs, it is
+        that of the first pointer of each, and null if they have no pointers. Raises a `Mismatch` for anything else."""
         raise Mismatch(f"there is no list of pointers, but {self!r}")
 
     def __eq__(self, other: object) -> bool:
@@ -113,7 +118,7 @@ class Capability(Object):
 
     @property
     def index(self) -> int:
-        """Which of the capabilities that came beside the message it is."""
+        """Which of the capabilities it is that came beside the message."""
         return int(self._entry.count)
 
     def __repr__(self) -> str:
@@ -182,7 +187,7 @@ class _Nothing(_Items[Any]):
 
 
 class Slots(_Items["Value"]):
-    """The objects of some slots that stand beside each other."""
+    """The objects that pointers beside each other refer to."""
 
     __slots__ = ("_message", "_places")
 
@@ -203,25 +208,27 @@ class Slots(_Items["Value"]):
 
 
 class Body:
-    """Words and slots: what a struct has, and a row of a list of structs.
+    """The data words and the pointers of a struct, or of an element of a list of structs.
 
-    A field of data is stored XOR its default, so what reads one takes the default, and answers it where the struct is
-    too short for the field. `offset` counts fields of that size from the start of the data, as `slot.offset` of a
+    A field of data is stored XOR its default. So the calls that read one take the default, and return it if the struct
+    is too short for the field. `offset` counts fields of that size from the start of the data, as `slot.offset` of a
     compiled schema does: `bits[32, 64)` of `capnp compile -ocapnp` is `uint(32, 1)`."""
 
     __slots__ = ()
     kind: Literal["struct"] = "struct"
     words: memoryview
-    """Its data words, each a number below 2^64; `words.cast("B")` are their bytes. It has those that are stored, and no
-    more: past its end an index is an `IndexError`, and `word` answers 0."""
+    """The data words that are stored, each a number below 2^64; `words.cast("B")` has their bytes. An index past the
+    end raises an `IndexError`, as with every memoryview; `word` returns 0 there."""
     slots: Slots
-    """The objects of its pointers."""
+    """The objects that its pointers refer to."""
+    _bits: builtins.int | None = None
+    # The bits of the data section, where that isn't all of `words`.
 
     def __init__(self) -> None:
         raise TypeError("bodies are of messages that are read")
 
     def uint(self, bits: builtins.int, offset: builtins.int, default: builtins.int = 0) -> builtins.int:
-        """A field without sign, of 8, 16, 32 or 64 bits; an enumerant is one of 16."""
+        """Returns a field without sign, of 8, 16, 32 or 64 bits. An enumerant has 16."""
         if bits not in _WIDTHS:
             raise ValueError(f"a number has 8, 16, 32 or 64 bits, not {bits!r}")
         if not 0 <= default < 1 << bits:
@@ -229,7 +236,7 @@ class Body:
         return self._field(bits, offset) ^ default
 
     def int(self, bits: builtins.int, offset: builtins.int, default: builtins.int = 0) -> builtins.int:
-        """A field with a sign, of 8, 16, 32 or 64 bits."""
+        """Returns a field with a sign, of 8, 16, 32 or 64 bits."""
         if bits not in _WIDTHS:
             raise ValueError(f"a number has 8, 16, 32 or 64 bits, not {bits!r}")
         half = 1 << bits - 1
@@ -239,7 +246,7 @@ class Body:
         return found - 2 * half if found & half else found
 
     def float(self, bits: builtins.int, offset: builtins.int, default: builtins.float = 0.0) -> builtins.float:
-        """A field with a floating point, of 32 or 64 bits."""
+        """Returns a field with a floating point, of 32 or 64 bits."""
         if bits not in (32, 64):
             raise ValueError(f"a number with a floating point has 32 or 64 bits, not {bits!r}")
         number, same = ("<f", "<I") if bits == 32 else ("<d", "<Q")
@@ -248,50 +255,71 @@ class Body:
         return answer
 
     def bool(self, offset: builtins.int, default: builtins.bool = False) -> builtins.bool:
-        """A bit."""
-        return bool(self._field(1, offset)) is not default
+        """Returns a field of one bit. The default is a boolean, also one of numpy, or 0 or 1."""
+        if default not in (0, 1):
+            raise ValueError(f"default is True or False, not {default!r}")
+        return bool(self._field(1, offset)) != bool(default)
 
     def word(self, i: builtins.int) -> builtins.int:
-        """A data word as it is stored, a number below 2^64; 0 where the struct is too short for it."""
-        return self._field(64, i)
+        """Returns a data word as it is stored, a number below 2^64, or 0 if the struct is too short for it."""
+        if i < 0:
+            raise ValueError(f"a word has a number from 0 on, not {i}")
+        words = self.words
+        return words[i] if i < len(words) else 0
 
     def slot(self, i: builtins.int) -> Value:
-        """The object of a slot; null where the struct doesn't have the slot."""
+        """Returns the object that pointer `i` refers to, or null if the struct doesn't have that pointer."""
         if i < 0:
             raise ValueError(f"a slot has a number from 0 on, not {i}")
         return self.slots[i] if i < len(self.slots) else Null(self.slots._message, -1)
 
     def struct(self) -> Body:
-        """Itself, as an object is read as a struct."""
+        """Returns itself, as an object that is read as a struct."""
         return self
 
-    def text(self, i: builtins.int, default: str = "") -> str:
-        """The text of a slot, or the default where it is null or missing. A `ValueError` if another object is there, or
-        no text in UTF-8."""
-        if i < 0:
-            raise ValueError(f"a slot has a number from 0 on, not {i}")
-        found = self.slots[i] if i < len(self.slots) else None
-        if found is None or found.kind == "null":
+    def text(self, i: builtins.int | None = None, default: str = "") -> str:
+        """Returns the text that pointer `i` refers to, or the default if the pointer is null or missing. Raises a
+        `Mismatch` if it refers to another object, or to bytes that aren't a text in UTF-8, and without `i`, since a
+        struct is no text."""
+        if i is None:
+            raise Mismatch(f"there is no text, but {self!r}")
+        found = self.slot(i)
+        if found.kind == "null":
             return default
         if found.kind != "bytes":
-            raise ValueError(f"slot {i} has no text, but {found!r}")
+            raise Mismatch(f"slot {i} has no text, but {found!r}")
         return found.text()
+
+    def data(self, i: builtins.int, default: bytes = b"") -> bytes:
+        """Returns the bytes of the Data that pointer `i` refers to, or the default if the pointer is null or missing.
+        Raises a `Mismatch` if it refers to another object."""
+        found = self.slot(i)
+        if found.kind == "null":
+            return default
+        if found.kind != "bytes":
+            raise Mismatch(f"slot {i} has no data, but {found!r}")
+        return bytes(found)
 
     def _field(self, bits: builtins.int, offset: builtins.int) -> builtins.int:
         """The bits of a field as they are stored, 0 where there are none."""
         if offset < 0:
             raise ValueError(f"an offset is a number from 0 on, not {offset}")
+        words = self.words
+        has = 64 * len(words) if self._bits is None else self._bits
+        if bits * offset + bits > has:
+            return 0
         word, bit = divmod(bits * offset, 64)
-        return self.words[word] >> bit & (1 << bits) - 1 if word < len(self.words) else 0
+        return words[word] >> bit & (1 << bits) - 1
 
 
 class Row(Body):
-    """A row of a list of structs."""
+    """An element of a list of structs. An element of a list of numbers that is read as a struct has those bits as its
+    data section, and a word of `words` that has zeros after them."""
 
-    __slots__ = ("words", "slots")
+    __slots__ = ("words", "slots", "_bits")
 
-    def __init__(self, words: memoryview, slots: Slots) -> None:
-        self.words, self.slots = words, slots
+    def __init__(self, words: memoryview, slots: Slots, bits: int | None = None) -> None:
+        self.words, self.slots, self._bits = words, slots, bits
 
     def __eq__(self, other: object) -> bool:
         if not isinstance(other, (Object, Row)):
@@ -302,21 +330,37 @@ class Row(Body):
         return f"<capn row, {len(self.words)} words, {len(self.slots)} slots>"
 
 
+def _no_words() -> memoryview:
+    """A view of no words."""
+    return memoryview(b"").cast("Q")
+
+
 class Null(Object, Body):
-    """A null pointer. It is read as a struct without words and slots, and as a list without elements."""
+    """A null pointer. It is read as a struct without words and pointers, as a list without elements, and as a text that
+    has its default."""
 
     __slots__ = ()
     kind: Literal["null"] = "null"  # type: ignore[assignment]
-    words = memoryview(b"").cast("Q")
 
     def __init__(self, message: Message, at: int) -> None:
         # A slot that a struct doesn't have has no entry.
         self._message, self._at, self._entry = message, at, message._entries[max(at, 0)]
 
     @property
+    def words(self) -> memoryview:  # type: ignore[override]
+        """None: a view that is the caller's, who may release it."""
+        return _no_words()
+
+    @property
     def slots(self) -> Slots:  # type: ignore[override]
         """None."""
         return Slots(self._message, ())
+
+    def text(self, i: builtins.int | None = None, default: str = "") -> str:
+        """The default, as for a text that is absent."""
+        if i is not None and i < 0:
+            raise ValueError(f"a slot has a number from 0 on, not {i}")
+        return default
 
     def struct(self) -> Body:
         """Itself: a struct without words and slots."""
@@ -395,7 +439,7 @@ class Voids(List[None]):
 
     def rows(self) -> Sequence[Body]:
         """As many structs without fields."""
-        return _Made(len(self), lambda i: Row(Null.words, Slots(self._message, ())))
+        return _Made(len(self), lambda i: Row(_no_words(), Slots(self._message, ())))
 
 
 class Bits(List[bool]):
@@ -431,8 +475,13 @@ class _Numbers(List[int]):
         return self.view[i]
 
     def rows(self) -> Sequence[Body]:
-        """A struct of each number."""
-        return _Made(len(self), lambda i: Row(memoryview(pack("<Q", self.view[i])).cast("Q"), Slots(self._message, ())))
+        """A struct of each number. A field that is wider than the number has its default."""
+        bits = 8 * self.view.itemsize
+
+        def row(i: int) -> Row:
+            return Row(memoryview(pack("<Q", self.view[i])).cast("Q"), Slots(self._message, ()), bits)
+
+        return _Made(len(self), row)
 
     def __bytes__(self) -> bytes:
         return self.view.tobytes()
@@ -457,13 +506,17 @@ class Bytes(_Numbers):
         return self.view[i].tobytes() if isinstance(i, slice) else super().__getitem__(i)
 
     def text(self, i: int | None = None, default: str = "") -> str:
-        """The text that it is, without the zero byte at its end. A `ValueError` if there is no such byte, or if the
-        others are not UTF-8; and if the text of a slot is asked for, as of a struct."""
+        """Returns the text, without the zero byte at its end. Raises a `Mismatch` if there is no such byte, or if the
+        others aren't UTF-8, which is a `UnicodeDecodeError` too, and with `i`, since a list of bytes has no
+        pointers."""
         if i is not None:
             raise Mismatch(f"there is no struct, but {self!r}")
         if not self.view or self.view[-1]:
-            raise ValueError("the last byte of a text is zero, and of this list of bytes it is not")
-        return self.view[:-1].tobytes().decode()
+            raise Mismatch("the last byte of a text is zero, and of this list of bytes it is not")
+        try:
+            return self.view[:-1].tobytes().decode()
+        except UnicodeDecodeError as wrong:
+            raise _Undecodable(*wrong.args) from None
 
 
 class Numbers(_Numbers):
@@ -479,7 +532,7 @@ class Numbers(_Numbers):
 
 
 class Pointers(List["Value"]):
-    """A list of pointers: the object of each."""
+    """A list of pointers: the object that each refers to."""
 
     __slots__ = ("_slots",)
     kind: Literal["pointers"] = "pointers"
@@ -494,7 +547,7 @@ class Pointers(List["Value"]):
     def rows(self) -> Sequence[Body]:
         """A struct of each pointer."""
         places = self._slots._places
-        return _Made(len(self), lambda i: Row(Null.words, Slots(self._message, places[i:i + 1])))
+        return _Made(len(self), lambda i: Row(_no_words(), Slots(self._message, places[i:i + 1])))
 
     def pointers(self) -> Sequence[Value]:
         """Itself."""
@@ -502,7 +555,7 @@ class Pointers(List["Value"]):
 
 
 class Rows(List[Row]):
-    """A list of structs, each a row with its words and its slots."""
+    """A list of structs, each with its words and its pointers."""
 
     __slots__ = ("_places",)
     kind: Literal["rows"] = "rows"
@@ -523,15 +576,17 @@ class Rows(List[Row]):
         return self
 
     def numbers(self, bits: int) -> Sequence[int]:
-        """The first field of each, which no list of bits has."""
-        if bits not in _WIDTHS or not self._entry.words:
+        """The first field of each: 0 where the structs have no data words. No list of structs is read as bits."""
+        if bits not in _WIDTHS:
             return super().numbers(bits)
+        if not self._entry.words:
+            return _Made(len(self), lambda i: 0)
         return _Made(len(self), lambda i: self._item(i).uint(bits, 0))
 
     def pointers(self) -> Sequence[Value]:
-        """The first slot of each."""
+        """The first pointer of each: null where the structs have no pointers."""
         if not self._entry.slots:
-            return super().pointers()
+            return _Made(len(self), lambda i: Null(self._message, -1))
         return Slots(self._message, self._places[::self._entry.slots])
 
     def __repr__(self) -> str:
@@ -539,7 +594,7 @@ class Rows(List[Row]):
 
 
 Value = Union[Null, Struct, Voids, Bits, Bytes, Numbers, Pointers, Rows, Capability]
-"""What may be in a slot, told by its `kind` or its class."""
+"""What a pointer may refer to, told by its `kind` or its class."""
 
 _KINDS: Any = {lib.CAPN_KIND_U16: "u16", lib.CAPN_KIND_U32: "u32", lib.CAPN_KIND_U64: "u64"}
 # The format of a number, and its bytes.
@@ -609,16 +664,16 @@ class _Closed:
 
 
 class Message:
-    """A message that was accepted within limits, and is read in place: what is read comes from the bytes that were
-    passed, or from their copy. It holds them until it is closed, or until no object of it is left.
+    """A message that is valid within limits, and is read in place: from the bytes that were passed, or from their copy.
+    It holds them until it is closed, or until no object of it is left.
 
     Two messages are equal if their roots are. A message has no hash."""
 
     __slots__ = ("_data", "_entries", "_form", "_bounds", "_places", "_views", "paid", "visits")
     paid: int
-    """Words that the walk paid."""
+    """The cost of reading it, in words."""
     visits: int
-    """Slots that it visited, each as often as it was met; the root is one."""
+    """How many pointers are followed, each as often as it is met. The root pointer is one, and null pointers count."""
 
     def __init__(
         self, data: memoryview, entries: Any, paid: int, visits: int, form: int, bounds: Any, in_place: bool
@@ -633,7 +688,7 @@ class Message:
 
     @property
     def words(self) -> int:
-        """Words of its segments."""
+        """The words of all segments."""
         words = len(self._data) // 8
         if self._form == lib.CAPN_BARE:
             return words
@@ -643,12 +698,12 @@ class Message:
 
     @property
     def root(self) -> Value:
-        """What the root's slot has."""
+        """What the root pointer refers to."""
         return self._object(0)
 
     def at(self, *way: int) -> Value | Row | None:
-        """What is at a way of numbers from the root, as `capn show --at` has it: of a struct a number means a slot, of
-        a list of pointers an element, of a list of structs a row. None if nothing is there."""
+        """Returns what is at a path of numbers from the root, as `capn show --at` prints it, or None if nothing is
+        there. In a struct a number means a pointer, and in a list of pointers or of structs an element."""
         found: Value | Row = self.root
         for step in way:
             number = index(step)
@@ -665,9 +720,16 @@ class Message:
         return found
 
     def close(self) -> None:
-        """Lets go of the bytes. An object that was read before raises a `ValueError` from then on; so does a view of
-        bytes that were taken in place, which may be changed and released again. A `BufferError` if another object still
-        uses such a view."""
+        """Releases the bytes. The message raises a `ValueError` from then on, and so does an object of it that is asked
+        for what it refers to, or for an element.
+
+        With `in_place=True` each `words` and `view` that the package made is released, so that it raises a
+        `ValueError` too, and the bytes may be changed again. A slice or a cast that the caller made of such a view is
+        the caller's: it keeps the bytes locked until it is released. If another object uses a view, as
+        `numpy.frombuffer` does, this raises a `BufferError`, and may be called again later.
+
+        Without it, a struct, a `words` or a `view` that was read before stays readable, since it holds bytes that
+        nothing changes."""
         for view in list(self._views.values()) if self._views is not None else []:
             view.release()
         self._data.release()
@@ -729,12 +791,13 @@ def read(
     most_slots: int | None = None,
     in_place: bool = False,
 ) -> Message:
-    """One message within limits, to be read in place: an index is made of it, and what is read follows no pointer. A
-    packed message is unpacked first.
+    """Checks one message within limits, and lists its pointers in an index, so that it can be read in place: what is
+    read after that follows no pointer. A packed message is unpacked first.
 
-    An index takes 24 bytes for each slot; there is at most one slot more than words were paid. With `most_slots` a
-    message with more of them is a `Refusal` of the name "TooManySlots", which has their number as `at`, before any
-    index is made. With `in_place` nothing may change the bytes as long as the message or an object of it is used."""
+    An index takes 24 bytes for each pointer. A message has at most one pointer more than it costs words. With
+    `most_slots` a message with more pointers raises a `Refusal` with the name "TooManySlots" and their number as `at`,
+    before its index is made. With `in_place` nothing may change the bytes as long as the message or an object of it is
+    used."""
     bounds, number = _laid_out(limits), _form(form)
     most = -1 if most_slots is None else index(most_slots)
     if most < 0 and most_slots is not None:
@@ -742,22 +805,26 @@ def read(
     if number == lib.CAPN_PACKED:
         data, number, in_place = _unpacked(data, limits.message_words + 2049, in_place=in_place), lib.CAPN_STREAM, False
     view, in_place = _viewed(data, in_place)
-    given = data if type(data) is bytes else ffi.from_buffer(view)
-    report, room = _report(), _FEW if most < 0 else min(most, _FEW)
-    entries = _room(_entries_type, room)
-    status = lib.capn_index(number, given, len(given), bounds, entries, room, report)
-    if status == lib.CAPN_NO_ROOM:
-        room = report.visits
-        if 0 <= most < room:
-            let_go(given)
-            view.release()
-            raise Refusal(f"too many slots: {room}", "TooManySlots", at=room)
+    given: Any = None
+    try:
+        given = data if type(data) is bytes else ffi.from_buffer(view)
+        report, room = _report(), _FEW if most < 0 else min(most, _FEW)
         entries = _room(_entries_type, room)
         status = lib.capn_index(number, given, len(given), bounds, entries, room, report)
-    if status != lib.CAPN_OK:
-        fault = refused(status, report, number, view, given, bounds)
+        if status == lib.CAPN_NO_ROOM:
+            room = report.visits
+            if 0 <= most < room:
+                raise Refusal(f"too many slots: {room}", "TooManySlots", at=room)
+            entries = _room(_entries_type, room)
+            status = lib.capn_index(number, given, len(given), bounds, entries, room, report)
+        if status != lib.CAPN_OK:
+            raise refused(status, report, number, view, given, bounds)
+    except BaseException:
+        # A traceback holds neither the caller's bytes nor a view of them.
+        if given is not None:
+            let_go(given)
         view.release()
-        raise fault
+        raise
     message = Message(view, entries, report.paid, report.visits, number, bounds, in_place)
     _reports.append(report)
     return message
@@ -776,6 +843,9 @@ def _viewed(data: Buffer, in_place: bool) -> tuple[memoryview, bool]:
     is_fixed = type(view.obj) is bytes
     if not view.c_contiguous or not is_fixed and not in_place:
         return memoryview(view.tobytes()), False
+    if not view.nbytes:
+        # A view with a zero in its shape can't be cast.
+        return memoryview(b""), False
     if view.format != "B" or view.ndim != 1:
         view = view.cast("B")
     return view.toreadonly(), not is_fixed

@@ -42,7 +42,7 @@ class Packed(Messages):
         return not (self._held or self._new or self._ready or splitter._held or splitter._text
                     or self._over is not None)
 
-    def __next__(self) -> bytes:
+    def _next(self) -> bytes:
         new = self._new
         if self._has_begun or new:
             return self._any()
@@ -232,8 +232,10 @@ class Piped(Packed):
     __slots__ = ("_number_of", "_pipe")
 
     def __init__(self, file: FileIO, splitter: Splitter) -> None:
-        pipe = self._pipe = ffi.gc(_room(_pipe_type), lib.capn_pipe_end)
-        lib.capn_pipe_begin(pipe, splitter._bounds, splitter._out, PIECE)
+        # What ends a pipe closes the numbers in it: so these are written before it can be called.
+        begun = _room(_pipe_type)
+        lib.capn_pipe_begin(begun, splitter._bounds, splitter._out, PIECE)
+        pipe = self._pipe = ffi.gc(begun, lib.capn_pipe_end)
         seen, number_of = ffi.buffer(pipe.seen), file.fileno
 
         def look(least: int) -> bytes:
@@ -243,7 +245,7 @@ class Piped(Packed):
         # The number that the system gave to the file; it raises an exception if the file is closed.
         self._number_of = number_of
 
-    def __next__(self) -> bytes:
+    def _next(self) -> bytes:
         if not self._has_begun and not self._new:
             pipe = self._pipe
             if not pipe.whole and not pipe.have:

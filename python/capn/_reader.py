@@ -12,7 +12,7 @@ from typing import Any, Callable, Iterator, NoReturn
 from ._bytes import copied
 from ._capn import ffi, lib
 from ._refusal import Refusal
-from ._splitter import FRAME_CUT, HEAD, LEAST, OK, ONE, PIECE, Splitter
+from ._splitter import FRAME_CUT, HEAD, LEAST, OK, ONE, PIECE, Splitter, busy
 
 __all__ = ["Ahead", "Buffered", "Messages", "Raw"]
 
@@ -21,19 +21,24 @@ _first, _read_one = lib.capn_first, lib.capn_read_one
 # How many tables are remembered at most, each with how many bytes follow it.
 _TABLES = 256
 _HEADS, _PIECES, _ONES = (HEAD,), (PIECE,), (1,)
+# What the messages take at most that are unpacked ahead, unless it is one message.
+_AHEAD = 1 << 18
 # From how many bytes on a buffered file is read without its buffer.
 _LITTLE = 2048
 
 
 class Messages(Iterator[bytes]):
-    """The messages of a stream, one frame each; `messages` makes it. It goes on after an exception of the file, and
-    after one of a signal's handler.
+    """The messages of a stream, each with its segment table; `messages` makes it. It goes on after an exception of the
+    file, and after one of a signal's handler.
 
-    A loop over it loses no message then. Where `next` is called, the exception may come when it has just answered: the
-    message is counted, and `last` has it."""
+    A loop over it loses no message then. If `next` is called, the exception may come when it is about to return: the
+    message is counted, and `last` is that message.
+
+    One call at a time may use it: while one runs, a `next` of another thread, or of a signal's handler, raises a
+    `ValueError`, as that of a generator does."""
 
     __slots__ = ("_splitter", "_read", "_report", "_bounds", "_sizes", "_new", "_held", "_need", "_over", "_taken",
-                 "_number", "_offset", "_last")
+                 "_number", "_offset", "_last", "_is_busy")
 
     def __init__(self, read: Callable[[int], Any], splitter: Splitter) -> None:
         self._read, self._splitter = read, splitter
@@ -51,13 +56,15 @@ class Messages(Iterator[bytes]):
         self._taken = 0
         self._number = self._offset = 0
         self._last: bytes | None = None
+        # Whether a call is being made.
+        self._is_busy = False
 
     def __repr__(self) -> str:
         return f"<capn messages, {self.number} so far>"
 
     @property
     def number(self) -> int:
-        """How many messages were handed out."""
+        """How many messages were returned."""
         return self._number
 
     @property
@@ -67,14 +74,29 @@ class Messages(Iterator[bytes]):
 
     @property
     def last(self) -> bytes | None:
-        """The message that was handed out last, or None."""
+        """The message that was returned last, or None."""
         return self._last
+
+    @property
+    def last_offset(self) -> int | None:
+        """Where the last message began, in the unpacked bytes, or None."""
+        return None if self._last is None else self.offset - len(self._last)
 
     def _is_between(self) -> bool:
         """Whether the file stands between two messages, and has not been refused."""
         return not self._held and not self._new and self._over is None
 
     def __next__(self) -> bytes:
+        # No line between the test and the flag calls anything, so no other thread and no handler runs there.
+        if self._is_busy:
+            raise busy("this stream")
+        self._is_busy = True
+        try:
+            return self._next()
+        finally:
+            self._is_busy = False
+
+    def _next(self) -> bytes:
         new = self._new
         if new or self._held or self._over is not None:
             return self._any()
@@ -189,7 +211,7 @@ class Buffered(Messages):
         # How many bytes the buffer has, unless others read of it: with fewer it is filled.
         self._left = 0
 
-    def __next__(self) -> bytes:
+    def _next(self) -> bytes:
         new = self._new
         if new or self._held or self._over is not None:
             return self._any()
@@ -243,7 +265,7 @@ class Raw(Messages):
         self._raw.limits, self._raw.have, self._raw.whole = self._bounds[0], 0, 0
         self._words = ffi.buffer(self._raw.out)
 
-    def __next__(self) -> bytes:
+    def _next(self) -> bytes:
         if self._held or self._new or self._over is not None:
             return self._any()
         raw = self._raw
@@ -274,7 +296,7 @@ class Ahead(Messages):
         # Messages that are whole, the last one first.
         self._ready: list[bytes] = []
 
-    def __next__(self) -> bytes:
+    def _next(self) -> bytes:
         while not self._ready:
             self._read_on()
         frame = self._ready[-1]
@@ -299,7 +321,7 @@ class Ahead(Messages):
             piece = new[-1]
             if not piece:
                 self._stop(piece)
-        found, fault = splitter._fed(piece if type(piece) is bytes else copied(piece))
+        found, fault = splitter._fed(piece if type(piece) is bytes else copied(piece), most=_AHEAD)
         self._ready = found[::-1]
         del new[:]
         if fault is not None:

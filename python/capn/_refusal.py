@@ -12,18 +12,20 @@ _FIRST_REFUSAL = 16
 
 
 class Refusal(ValueError):
-    """What was passed is refused. Its text is the program's.
+    """A message is rejected: it is invalid, goes over a limit, or has a capability. The text is the program's.
 
-    `name` is the name of its status, as "Range" or "FrameCut". A refusal of the walk has a `place`, the segment and
-    word of the slot at which it came, and what was `paid` and how many `visits` were made until then; the others have
-    none, and 0. `at` is the offset, count or index of a refusal that has one, or 0. Of a message of a stream, `number`
-    says which one it is, from 1 on, and `offset` where it begins, in the unpacked bytes; else both are None. Of a
-    message that `same` compares, `which` says which of the two it is, 0 or 1; else it is None.
+    - `name` is the name of the error, such as "Range" or "FrameCut".
+    - `place` is the segment and the word of the pointer that is wrong, or None if the error isn't about a pointer.
+    - `paid` is the cost in words until then, and `visits` is how many pointers were followed; else both are 0.
+    - `at` is the offset, count or index of an error that has one, or 0.
+    - `number` and `offset` say which message of a stream it is, from 1 on, and where it begins, in the unpacked bytes.
+      The text begins with both. They are None outside of a stream.
+    - `which` says which of the messages is meant that `same` compares, 0 or 1. It is None for other calls.
 
-    A refusal of the walk also says where it came by a `way`, and by a `byte` of the message. They are looked for when
-    one of them is first asked for, or when the refusal is copied or pickled, by a walk of the message again; for that
-    it holds the bytes until then, as its traceback does, but never bytes that may change. Of those that the call read
-    in place they are looked for at once. As any call may, that can raise a `MemoryError`."""
+    An error about a pointer also has a `way` and a `byte`. They are found by checking the message again, when one of
+    them is first asked for, or when the error is copied or pickled. Until then the error holds the bytes, as its
+    traceback does. It never holds bytes that may change: for bytes that the call read in place, both are found at once.
+    As with any call, that can raise a `MemoryError`."""
 
     number: int | None = None
     offset: int | None = None
@@ -44,21 +46,28 @@ class Refusal(ValueError):
 
     @property
     def way(self) -> tuple[int, ...] | None:
-        """The way from the root to the slot at which the walk stopped, which `capn explain` writes with dots: `()` of
-        the root. A number leads from a struct to a slot, from a list of pointers to an element, and from a list of
-        structs to a row, whose slot the next number says. None of a refusal that is not the walk's."""
+        """The path from the root to the pointer that is wrong, which `capn explain` prints with dots; `()` is the root.
+        A number leads from a struct to a pointer, from a list of pointers to an element, and from a list of structs to
+        an element, of which the next number is the pointer. None if the error isn't about a pointer."""
         return self._found()[0]
 
     @property
     def byte(self) -> int | None:
-        """Where the word of that slot begins in the message, as `capn explain` has it: a count of bytes from the start
-        of what was passed; of a packed message, of what it unpacks to; of one in segments, of their frame. Of a message
-        of a stream it counts from the start of that message, `offset`, and not of the stream. None of a refusal that
-        is not the walk's, and of a message without a first word."""
+        """Where the word of that pointer begins, as `capn explain` prints it. It counts bytes from the start of the
+        message: of what a packed message unpacks to, of the message with its segment table for one in segments, and of
+        the message at `offset` in a stream. None if the error isn't about a pointer, and for a message without a first
+        word."""
         return self._found()[1]
 
-    def __str__(self) -> str:
+    @property
+    def text(self) -> str:
+        """The error as the program prints it of one message, without `number` and `offset`."""
         return str(self.args[0])
+
+    def __str__(self) -> str:
+        if self.number is None:
+            return self.text
+        return f"message {self.number} at {self.offset}: {self.text}"
 
     def __reduce__(self) -> tuple[Any, ...]:
         # A copy has the place, and no message.
@@ -73,9 +82,8 @@ class Refusal(ValueError):
         return self._stop
 
     def _of_message(self, number: int, offset: int) -> Refusal:
-        """The same, of a message of a stream. A traceback tells it too."""
+        """The same, of a message of a stream."""
         self.number, self.offset = number, offset
-        self.add_note(f"message {number} at {offset}")
         return self
 
 
@@ -96,7 +104,7 @@ def failure_of_words(status: int, report: Any) -> Exception:
     """The same of words alone, as `pack` takes them: the program names no form."""
     fault = failure(status, report)
     if isinstance(fault, Refusal):
-        return Refusal(str(fault).removeprefix("bare: "), fault.name, at=fault.at)
+        return Refusal(fault.text.removeprefix("bare: "), fault.name, at=fault.at)
     return fault
 
 

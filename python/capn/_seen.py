@@ -72,7 +72,7 @@ class Seen(Messages):
         handed = self._found - len(self._ready)
         return self._offset + (self._ends[handed - 1] if handed else 0)
 
-    def __next__(self) -> bytes:
+    def _next(self) -> bytes:
         rest, new = self._rest, self._new
         if self._ready or rest._is_between() and self._is_found():
             ready = self._ready
@@ -102,7 +102,7 @@ class Seen(Messages):
         self._close()
         rest._number, rest._offset, rest._taken = self._number, self._offset, self._taken
         try:
-            return self._long() or rest.__next__()
+            return self._long() or rest._next()
         finally:
             self._number, self._offset, self._taken, self._last = rest._number, rest._offset, rest._taken, rest._last
 

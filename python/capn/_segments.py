@@ -2,9 +2,9 @@
 from __future__ import annotations
 
 from functools import partial
-from typing import Any, Callable, Iterable
+from typing import Any, Callable, Iterable, Sized
 
-from ._bytes import Buffer, taken
+from ._bytes import Buffer, no_buffer, taken
 from ._calls import (
     _USUAL,
     Checked,
@@ -24,6 +24,8 @@ from ._refusal import Refusal, failure
 from ._stop import kept, stop_of_segments
 
 _segments_type = ffi.typeof("capn_segment[]")
+# How many segments a message may have.
+_MOST = 4096
 
 
 class _Laid:
@@ -31,18 +33,22 @@ class _Laid:
 
     __slots__ = ("_data", "_given", "_held", "first", "count", "size")
 
-    def __init__(self, segments: Iterable[Buffer], in_place: bool) -> None:
+    def __init__(self, segments: Iterable[Buffer], limits: Limits, in_place: bool) -> None:
         if isinstance(segments, (str, bytes, bytearray, memoryview)):
             raise TypeError(f"segments are objects with a buffer, one after the other, not {type(segments).__name__}")
-        self._data = list(segments)
-        self._given = [taken(segment, in_place) for segment in self._data]
-        self._held = [ffi.from_buffer(one) if type(one) is bytes else one for one in self._given]
-        for one in self._held:
-            if len(one) % 8:
-                report = _report()
-                report.at = len(one)
-                raise self.refused(lib.CAPN_NOT_WHOLE, report, None)
-        self.first = _new(_segments_type, [(one, len(one) // 8) for one in self._held])
+        _laid_out(limits)
+        self._given: list[Any] = []
+        self._held: list[Any] = []
+        self._data = _counted(segments, limits.message_words)
+        try:
+            for segment in self._data:
+                one = taken(segment, in_place)
+                self._given.append(one)
+                self._held.append(ffi.from_buffer(one) if type(one) is bytes else one)
+            self.first = _new(_segments_type, [(one, len(one) // 8) for one in self._held])
+        except BaseException:
+            self._let_go()
+            raise
         self.count = len(self._held)
         self.size = sum(map(len, self._held))
 
@@ -56,9 +62,42 @@ class _Laid:
                 else:
                     fault._look = partial(stop_of_segments, own, bounds)
         finally:
-            for one in self._held:
-                ffi.release(one)
+            self._let_go()
         return fault
+
+    def _let_go(self) -> None:
+        for one in self._held:
+            ffi.release(one)
+
+
+def _counted(segments: Iterable[Buffer], message_words: int) -> list[Buffer]:
+    """The segments, of which nothing was copied: a refusal if they are no whole words, more than a message may have, or
+    longer. Of an iterator no more are taken than say so."""
+    count = len(segments) if isinstance(segments, Sized) else 0
+    found, words = [], 0
+    for segment in segments if count <= _MOST else ():
+        found.append(segment)
+        try:
+            with memoryview(segment) as view:
+                size = view.nbytes
+        except TypeError:
+            raise no_buffer(segment) from None
+        if size % 8:
+            raise _refused(lib.CAPN_NOT_WHOLE, size)
+        words += size // 8
+        if not count and (len(found) > _MOST or words > message_words):
+            break
+    if max(count, len(found)) > _MOST:
+        raise _refused(lib.CAPN_TOO_MANY_SEGMENTS, max(count, len(found)))
+    if words > message_words:
+        raise _refused(lib.CAPN_TOO_MANY_WORDS, words)
+    return found
+
+
+def _refused(status: int, at: int) -> Exception:
+    report = _report()
+    report.at = at
+    return failure(status, report)
 
 
 def _told(call: Callable[..., int], laid: _Laid, limits: Limits, *out: Any) -> Any:
@@ -71,35 +110,36 @@ def _told(call: Callable[..., int], laid: _Laid, limits: Limits, *out: Any) -> A
 
 
 def check_segments(segments: Iterable[Buffer], limits: Limits = _USUAL, *, in_place: bool = False) -> Checked:
-    """Whether a message in segments is accepted within limits: what reading it costs, or a refusal.
+    """Checks that some segments are one valid message within limits. Returns what reading it costs.
 
-    Each segment has whole words, at any address; else there is the refusal "NotWhole". The answers and the refusals are
-    those of the frame of these segments."""
-    report = _told(lib.capn_check_segments, _Laid(segments, in_place), limits)
+    Each segment has whole words, at any address; else there is a `Refusal` with the name "NotWhole". The result, or the
+    error, is otherwise that of the message with the segment table of these segments. They are counted before any of
+    them is copied."""
+    report = _told(lib.capn_check_segments, _Laid(segments, limits, in_place), limits)
     checked = Checked(report.paid, report.visits)
     _reports.append(report)
     return checked
 
 
 def survey_segments(segments: Iterable[Buffer], limits: Limits = _USUAL, *, in_place: bool = False) -> Surveyed:
-    """What a message in segments has and costs, within limits."""
+    """Checks a message in segments within limits, and returns its statistics."""
     figures = _new(_figures_type)
-    _reports.append(_told(lib.capn_survey_segments, _Laid(segments, in_place), limits, figures))
+    _reports.append(_told(lib.capn_survey_segments, _Laid(segments, limits, in_place), limits, figures))
     return _surveyed(figures)
 
 
 def canonical_segments(segments: Iterable[Buffer], limits: Limits = _USUAL, *, in_place: bool = False) -> bytes:
-    """The canonical bytes of a message in segments. At most 8 * (limits.budget + 1) of them."""
-    laid, bounds = _Laid(segments, in_place), _laid_out(limits)
+    """Returns the canonical bytes of a message in segments, at most 8 * (limits.budget + 1)."""
+    laid, bounds = _Laid(segments, limits, in_place), _laid_out(limits)
     # As long as the words that the message has: mostly enough. If it isn't, the call reports the length.
     room = min(laid.size, 8 * (limits.budget + 1))
     return _filled(
-        lambda *out: lib.capn_canonical_segments(laid.first, laid.count, bounds, *out), room,
+        lambda *out: lib.capn_canonical_segments(laid.first, laid.count, bounds, *out), room, laid._held,
         lambda status, report: laid.refused(status, report, bounds))
 
 
 def digest_segments(segments: Iterable[Buffer], limits: Limits = _USUAL, *, in_place: bool = False) -> bytes:
-    """The SHA-256 of the canonical bytes of a message in segments, 32 bytes."""
+    """Returns the SHA-256 of the canonical bytes of a message in segments, 32 bytes."""
     out = _new(_digest_type)
-    _reports.append(_told(lib.capn_hash_segments, _Laid(segments, in_place), limits, out))
+    _reports.append(_told(lib.capn_hash_segments, _Laid(segments, limits, in_place), limits, out))
     return bytes(ffi.buffer(out))

@@ -4,7 +4,7 @@ from __future__ import annotations
 from typing import Any, Iterable, Iterator
 
 from ._bytes import Buffer
-from ._calls import _USUAL, Form, _filled, _taken
+from ._calls import _USUAL, Form, _filled, _most_bytes, _taken
 from ._capn import ffi, lib
 from ._limits import Limits
 from ._message import Message, Object, Row, read
@@ -31,12 +31,14 @@ def show(
     json: bool = False,
     at: Iterable[int] = (),
 ) -> str:
-    """What `capn show` writes of one message that was read, of an object of it, or of bytes within limits. With `text`
-    a list of bytes that is a text is shown as one, as by `--text`; with `json` it is a line of JSON, as by `--json`,
-    and with both a line with texts; `at` says which part is shown, by a way of numbers, as `--at` does.
+    """Returns what `capn show` prints for one message that was read, for an object of it, or for bytes within limits.
 
-    The text of a whole message is that of the library. The text of a part, or of an object, is the package's own, in
-    Python, and tested."""
+    - With `text` a list of bytes that is a text is shown as one, as with `--text`.
+    - With `json` the result is a line of JSON, as with `--json`; with both it is a line with texts.
+    - `at` is the path to the part that is shown, as with `--at`.
+
+    The text of a whole message comes from the library. The text of a part, or of an object, is made in Python, and
+    tested."""
     way = tuple(at)
     found: Any = message
     if isinstance(message, (Object, Row)):
@@ -55,6 +57,7 @@ def _whole(message: Message | Buffer, form: Form, limits: Limits, style: int) ->
     """The text of a message by the library."""
     if isinstance(message, Message):
         number, given, bounds = message._whole()
+        limits = Limits(bounds.message_words, bounds.budget, bounds.depth)
     else:
         number, given, bounds = _taken(message, form, limits, False)
     size = len(given)
@@ -64,8 +67,9 @@ def _whole(message: Message | Buffer, form: Form, limits: Limits, style: int) ->
         return status
 
     # Mostly enough. If it isn't, the call reports the length, but makes the text for nothing.
-    room = (16 if number == lib.CAPN_PACKED else 4) * size + 256
-    text = _filled(call, room, lambda status, report: refused(status, report, number, message, given, bounds))
+    room = min((16 if number == lib.CAPN_PACKED else 4) * size, 4 * _most_bytes(size, number, limits),
+               64 * (limits.budget + 1)) + 256
+    text = _filled(call, room, (given,), lambda status, report: refused(status, report, number, message, given, bounds))
     return text.decode("utf-8")
 
 

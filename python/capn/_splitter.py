@@ -1,7 +1,7 @@
 """Streams of messages, from their bytes as they come."""
 from __future__ import annotations
 
-from typing import Literal
+from typing import Any, Literal
 
 from ._bytes import Buffer, copied
 from ._calls import _USUAL, _laid_out, _room, _room_type
@@ -10,7 +10,7 @@ from ._limits import Limits
 from ._refusal import Refusal, failure
 
 __all__ = ["FRAME_CUT", "Form", "HEAD", "LEAST", "MEMORY", "OK", "ONE", "PACKED_CUT", "PACKED_TOO_LONG", "PIECE",
-           "Splitter", "group", "of_form"]
+           "Splitter", "busy", "group", "of_form"]
 
 # How many bytes are asked of a file at a time at most, and for how many unpacked ones there is room.
 PIECE = 65536
@@ -21,6 +21,15 @@ _unpack_some, _look_at = lib.capn_unpack_some, lib.capn_look_at
 OK, MEMORY, FRAME_CUT = lib.CAPN_OK, lib.CAPN_MEMORY, lib.CAPN_FRAME_CUT
 PACKED_CUT, PACKED_TOO_LONG = lib.CAPN_PACKED_CUT, lib.CAPN_PACKED_TOO_LONG
 Form = Literal["stream", "packed"]
+# What the messages take at most that one `feed` of packed bytes returns, unless it is one message: so much, or so many
+# times what was fed; and what a message takes besides its bytes.
+_MOST, _TIMES, _BESIDE = 1 << 23, 16, 56
+
+
+def busy(what: str) -> ValueError:
+    """What a call raises where another one hasn't returned: of another thread, or of the one that a signal's handler
+    interrupted."""
+    return ValueError(f"{what} is being used by another call")
 
 
 def of_form(form: str) -> bool:
@@ -44,17 +53,23 @@ def group(text: bytes) -> int:
 
 
 class Splitter:
-    """The messages of a stream, from its bytes as they come: `feed` answers the messages that they complete, one frame
-    each, and `end` says that no more follow.
+    """Splits the bytes of a stream into messages as they come. `feed` returns the messages that some bytes complete,
+    each with its segment table, and `end` says that no more bytes follow.
 
-    No more is held than the message that has begun and what was fed at once. `limits.message_words` bounds each
-    message. Where the stream is refused, the messages before are answered first: the refusal is raised by the call that
-    would have no other answer, and by each one after it."""
+    No more is held than the message that has begun and what was fed last. `limits.message_words` bounds each message.
+    If the stream is damaged, the messages before that are returned first. The `Refusal` is raised by the call that
+    would have nothing else to return, and by each call after it.
 
-    __slots__ = ("_bounds", "_packed", "_report", "_look", "_held", "_need", "_text", "_out", "_taken", "_refusal",
-                 "number", "offset")
+    Packed bytes can unpack to a thousand times as many. So `feed` returns packed messages of at most about 8 MiB, or of
+    16 times what was fed, and leaves the rest packed. `wanted` is 0 then, and feeding nothing returns the next ones,
+    until it returns none.
+
+    One call at a time may use a splitter: a second one raises a `ValueError`."""
+
+    __slots__ = ("_bounds", "_packed", "_report", "_look", "_held", "_need", "_text", "_at", "_out", "_taken",
+                 "_is_left", "_is_busy", "_refusal", "number", "offset")
     number: int
-    """How many messages were answered."""
+    """How many messages were returned."""
     offset: int
     """Where the next one begins, in the unpacked bytes."""
 
@@ -63,56 +78,84 @@ class Splitter:
         self._report, self._look = ffi.new(_report_type), ffi.new(_look_type)
         # The bytes of the message that has begun, and how many say more about it.
         self._held, self._need = bytearray(), LEAST
-        # The bytes of the group that has begun, and how many were unpacked before it.
-        self._text, self._taken = b"", 0
+        # The packed bytes that are held, how many of these were unpacked already, and how many came before them: those
+        # of the group that has begun, or all that follow where messages are left.
+        self._text, self._at, self._taken = b"", 0, 0
+        # Whether there may be messages that were not answered, in what is held.
+        self._is_left = False
+        # Whether a call is being made.
+        self._is_busy = False
         self._out = _room(_room_type, PIECE) if self._packed else None
         self._refusal: Refusal | None = None
         self.number = self.offset = 0
 
     def __repr__(self) -> str:
-        return f"<capn splitter, {self.number} messages, {len(self._held) + len(self._text)} bytes held>"
+        held = len(self._held) + len(self._text) - self._at
+        return f"<capn splitter, {self.number} messages, {held} bytes held>"
 
     @property
     def wanted(self) -> int:
-        """How many bytes may be fed next so that none is after the message that has begun, or, of a packed stream,
-        after the group in which it ends. It is 0 only after a `MemoryError`: feed none then, to try again."""
+        """How many bytes may be fed next so that none of them comes after the message that has begun, or, in a packed
+        stream, after the group in which it ends. It is 0 if messages are left, and after a `MemoryError`: feed nothing
+        then, to get them or to try again."""
         missing = max(self._need, HEAD) - len(self._held)
-        if missing <= 0:
+        if missing <= 0 or self._is_left:
             return 0
-        return group(self._text) - len(self._text) if self._packed else missing
+        if not self._packed:
+            return missing
+        begun = self._text[self._at:self._at + 10]
+        return max(group(begun) - len(self._text) + self._at, 0)
 
     def feed(self, data: Buffer) -> list[bytes]:
-        """The messages that these bytes complete. They are copied. An exception that comes from elsewhere, as from a
-        signal's handler, leaves the splitter as it was: feed the same bytes again."""
-        if self._refusal is not None:
-            raise self._refusal
-        found, fault = self._fed(data if type(data) is bytes else copied(data))
-        if fault is not None:
-            raise fault
-        return found
+        """Returns the messages that these bytes complete. The bytes are copied. While messages are left, feed nothing
+        until it returns none: other bytes raise a `ValueError`. An exception that comes from elsewhere, as from a
+        signal's handler, leaves the splitter unchanged: feed the same bytes again."""
+        if self._is_busy:
+            raise busy("this splitter")
+        self._is_busy = True
+        try:
+            if self._refusal is not None:
+                raise self._refusal
+            given = data if type(data) is bytes else copied(data)
+            if self._is_left and given:
+                raise ValueError("messages are left: feed no bytes until none are returned")
+            found, fault = self._fed(given)
+            if fault is not None:
+                raise fault
+            return found
+        finally:
+            self._is_busy = False
 
-    def _fed(self, given: bytes, at: int = 0, words: int = 0) -> tuple[list[bytes], Exception | None]:
-        """Takes bytes in: the messages that they complete, or the fault where there are none. Of packed bytes, and of
-        those that were held, so many were unpacked already, to so many bytes of words. An exception that comes from
-        elsewhere leaves all as it was."""
+    def _fed(
+        self, given: bytes, at: int = 0, words: int = 0, most: int = 0
+    ) -> tuple[list[bytes], Exception | None]:
+        """Takes bytes in: the messages that they complete, or the fault where there are none; of packed bytes at most
+        so many bytes of messages, by `feed`'s measure unless it is said. Of packed bytes, and of those that were held,
+        so many were unpacked already, to so many bytes of words. An exception that comes from elsewhere leaves all as
+        it was."""
         if self._refusal is not None:
             return [], self._refusal
         held, text, taken, need, status = self._held, self._text, self._taken, self._need, OK
-        begin, end, count = len(held), 0, 0
+        begin, end, count, is_left = len(held), 0, 0, False
         found: list[bytes] = []
         fault: Exception | None = None
         refusal: Refusal | None = None
         try:
             if self._packed:
-                text += given
+                most = most or max(_MOST, _TIMES * (len(given) + len(text)))
+                if given:
+                    text, taken = text[self._at:] + given, taken + self._at
+                else:
+                    at = at or self._at
                 held += ffi.buffer(self._out, words)
-                at, status = self._unpack(text, at)
-                text, taken = text[at:], taken + at
+                at, end, need, status, is_left = self._unpack(text, at, found, most)
+                if not is_left:
+                    text, taken, at = text[at:], taken + at, 0
             else:
                 held += given
-            if status == OK and len(held) >= need:
-                end, need, status = self._whole(found)
-                count = len(found)
+                if len(held) >= need:
+                    end, need, status = self._whole(found, 0, need)
+            count = len(found)
             if status == MEMORY:
                 fault = failure(status, self._report)
             elif status not in (OK, FRAME_CUT):
@@ -124,11 +167,24 @@ class Splitter:
         self.number += count
         self.offset += end
         del held[:end]
-        self._need, self._text, self._taken, self._refusal = need, text, taken, refusal
+        self._need, self._text, self._at, self._taken, self._refusal = need, text, at, taken, refusal
+        self._is_left = is_left
         return found, None if found else fault
 
     def end(self) -> None:
-        """Ends the stream: a refusal if a message is cut."""
+        """Ends the stream. Raises a `Refusal` if its last message is truncated, and a `ValueError` if messages are
+        left."""
+        if self._is_busy:
+            raise busy("this splitter")
+        self._is_busy = True
+        try:
+            if self._is_left:
+                raise ValueError("messages are left: feed no bytes until none are returned")
+            self._ended()
+        finally:
+            self._is_busy = False
+
+    def _ended(self) -> None:
         if self._refusal is None and self._text:
             self._report.at = self._taken
             self._refuse(PACKED_CUT)
@@ -150,23 +206,38 @@ class Splitter:
             raise fault
         return fault._of_message(number, offset)
 
-    def _unpack(self, text: bytes, at: int) -> tuple[int, int]:
-        """Unpacks the whole groups of a text from a place on, to the words that are held: where they end, and OK or
-        MEMORY."""
-        report, out, status = self._report, self._out, PACKED_TOO_LONG
-        given = ffi.from_buffer("uint8_t[]", text)
-        while status == PACKED_TOO_LONG:
-            status = _unpack_some(given + at, len(text) - at, out, PIECE, report)
-            if status in (OK, PACKED_CUT, PACKED_TOO_LONG):
-                self._held += ffi.buffer(out, report.length)
-                at += report.at
-        return at, OK if status == PACKED_CUT else status
+    def _unpack(self, text: bytes, at: int, found: list[bytes], most: int) -> tuple[int, int, int, int, bool]:
+        """Unpacks the whole groups of a text from a place on, a piece at a time, and finds the frames in each piece
+        before the next one is unpacked: where the groups and the frames end, how many bytes say more about the next
+        frame, the status of what comes there, and whether messages may be left."""
+        report, out, held = self._report, self._out, self._held
+        end, need, status, more = 0, self._need, OK, PACKED_TOO_LONG
+        given: Any = ffi.from_buffer("uint8_t[]", text)
+        while True:
+            if len(held) - end >= need:
+                end, need, status = self._whole(found, end, need, most)
+                if status not in (OK, FRAME_CUT):
+                    return at, end, need, status, False
+                if len(held) - end >= need or more == PACKED_TOO_LONG and self._cost(found, end) >= most:
+                    return at, end, need, OK, True
+            if more != PACKED_TOO_LONG:
+                return at, end, need, OK, False
+            more = _unpack_some(given + at, len(text) - at, out, PIECE, report)
+            if more not in (OK, PACKED_CUT, PACKED_TOO_LONG):
+                return at, end, need, more, False
+            held += ffi.buffer(out, report.length)
+            at += report.at
 
-    def _whole(self, found: list[bytes]) -> tuple[int, int, int]:
-        """Finds the whole frames in what is held: where they end, how many bytes say more about the next one, and the
-        status of what comes there."""
-        held, need, report, look = self._held, self._need, self._report, self._look
-        status, have, at = OK, len(held), 0
+    @staticmethod
+    def _cost(found: list[bytes], end: int) -> int:
+        """What messages take, which have so many bytes."""
+        return end + _BESIDE * len(found)
+
+    def _whole(self, found: list[bytes], at: int, need: int, most: int | None = None) -> tuple[int, int, int]:
+        """Finds the whole frames in what is held, from a place on: where they end, how many bytes say more about the
+        next one, and the status of what comes there. It ends early where those that were found take so much."""
+        held, report, look = self._held, self._report, self._look
+        status, have = OK, len(held)
         with ffi.from_buffer("uint8_t[]", held) as base:
             whole = ffi.buffer(base)
             while have - at >= need:
@@ -178,5 +249,7 @@ class Splitter:
                 if status == FRAME_CUT:
                     need = report.length
                 elif status != OK:
+                    break
+                if most is not None and self._cost(found, at) >= most:
                     break
         return at, need, status

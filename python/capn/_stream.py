@@ -2,19 +2,33 @@
 from __future__ import annotations
 
 from io import BufferedReader, BytesIO
-from typing import Any, AsyncIterator, Awaitable, Callable, Iterator, Protocol
+from typing import (
+    Any,
+    AsyncIterator,
+    Awaitable,
+    Callable,
+    Generic,
+    Iterator,
+    Literal,
+    Protocol,
+    TypeVar,
+    Union,
+    overload,
+)
 
 from ._bytes import Buffer, copied
-from ._calls import _USUAL, digest
+from ._calls import _USUAL, check, digest
 from ._limits import Limits
 from ._reader import Ahead, Messages
 from ._refusal import Refusal
-from ._seen import reader
-from ._splitter import PIECE, Form, Splitter, of_form
+from ._seen import reader as _reader_of
+from ._splitter import PIECE, Form, Splitter, busy, of_form
+
+__all__ = ["AsyncMessages", "AsyncOutcomes", "Digests", "Outcomes", "amessages", "digests", "messages"]
 
 
 class Readable(Protocol):
-    """A binary file, as far as `messages` needs it: `read` answers no more bytes than it is asked for, none at the end,
+    """A binary file, as far as `messages` needs it: `read` returns no more bytes than it is asked for, none at the end,
     and None if there are none now."""
 
     def read(self, size: int, /) -> Any: ...
@@ -26,32 +40,77 @@ class AsyncReadable(Protocol):
     async def read(self, size: int, /) -> bytes: ...
 
 
+class _Counted(Protocol):
+    """A stream, as far as its messages are counted."""
+
+    @property
+    def number(self) -> int: ...
+    @property
+    def offset(self) -> int: ...
+
+
+_Source = TypeVar("_Source", bound=_Counted)
+
+
+def _is_packed(packed: bool | Form, form: Form | None) -> bool:
+    """Whether a stream is packed, by the two arguments that say so."""
+    if isinstance(packed, str):
+        said = of_form(packed)
+        if form is not None and of_form(form) != said:
+            raise ValueError(f"the form of a stream is {form!r}, and {packed!r}")
+        return said
+    is_packed = of_form(form) if form is not None else bool(packed)
+    if packed and not is_packed:
+        raise ValueError("the form of a stream is 'stream', and packed is True")
+    return is_packed
+
+
+@overload
+def messages(
+    file: Readable | Buffer, packed: bool | Form = False, limits: Limits = _USUAL, *, form: Form | None = None,
+    read_ahead: bool = False, keep_going: Literal[False] = False,
+) -> Messages: ...
+@overload
+def messages(
+    file: Readable | Buffer, packed: bool | Form = False, limits: Limits = _USUAL, *, form: Form | None = None,
+    read_ahead: bool = False, keep_going: Literal[True],
+) -> Outcomes: ...
+@overload
+def messages(
+    file: Readable | Buffer, packed: bool | Form = False, limits: Limits = _USUAL, *, form: Form | None = None,
+    read_ahead: bool = False, keep_going: bool,
+) -> Messages | Outcomes: ...
 def messages(
     file: Readable | Buffer,
-    packed: bool = False,
+    packed: bool | Form = False,
     limits: Limits = _USUAL,
     *,
     form: Form | None = None,
     read_ahead: bool = False,
-) -> Messages:
-    """The messages of a stream that a binary file has, or that an object with a buffer is, one frame each.
+    keep_going: bool = False,
+) -> Messages | Outcomes:
+    """Returns an iterator over the messages of a binary file, or of an object with a buffer, each with its segment
+    table. The stream is packed if `packed` is True or "packed", or if `form` is "packed".
 
-    Each is handed out as soon as it is there, and no byte after it is read; of a packed stream, none after the group in
-    which it ends. After an exception of the file, as `BlockingIOError` is, or of a signal's handler, `next` goes on,
-    and nothing is lost or read twice. `limits.message_words` bounds each message. A refusal comes when the messages
-    before have been handed out, and has the `number` of its message and the `offset` at which that begins; each `next`
-    after it raises it again.
+    - Each message is returned as soon as it is complete. No byte after it is read, or in a packed stream none after the
+      group in which it ends.
+    - After an exception of the file, such as `BlockingIOError`, or of a signal's handler, `next` goes on. Nothing is
+      lost or read twice.
+    - `limits.message_words` bounds each message. If the stream is damaged, the messages before that are returned first.
+      The `Refusal` has the `number` of its message, and the `offset` at which that begins. Each `next` after it raises
+      it again.
+    - The messages aren't checked: the call that a message is passed to does that.
+    - No more is held than the message that has begun, and the `last` one. A file with `seek`, such as one on a disk, is
+      looked at 64 KiB at a time. It stands at the end of the last message all the same.
 
-    No more is held than the message that has begun, and the `last` one that was handed out. But a file that can be
-    wound, as one on a disk, is looked at, 64 KiB at once; it stands at the end of the message that was handed out all
-    the same.
+    With `keep_going` each message is checked within all of the limits. In the place of a rejected message there is its
+    `Refusal`, and the next message follows. If nothing says where the next message begins, the stream ends by a
+    `Refusal` that is raised: if a segment table is damaged or announces more than `limits.message_words`, if packed
+    bytes are damaged, or if the last message is truncated.
 
-    With `read_ahead` up to 64 KiB are read at once, as many as there are, so that messages after this one may have been
-    taken off the file: faster, above all of what can't be wound, as a pipe or a socket."""
-    is_packed = of_form(form) if form is not None else bool(packed)
-    if packed and not is_packed:
-        raise ValueError("the form of a stream is 'stream', and packed is True")
-    splitter = Splitter("packed" if is_packed else "stream", limits)
+    With `read_ahead` up to 64 KiB are read at a time, as many as there are. That is faster, above all for a pipe or a
+    socket, but bytes after the message may have been read from the file."""
+    splitter = Splitter("packed" if _is_packed(packed, form) else "stream", limits)
     read = getattr(file, "read", None)
     if not callable(read):
         try:
@@ -62,95 +121,285 @@ def messages(
             kind = type(file).__name__
             raise TypeError(f"a stream is a file with a method read, or has a buffer, not {kind}") from None
         read = file.read
+    found: Messages
     if read_ahead:
         # `read` of a buffered file would wait until all are there.
-        return Ahead(read, getattr(file, "read1", read), splitter)
-    return reader(file, splitter)
+        found = Ahead(read, getattr(file, "read1", read), splitter)
+    else:
+        found = _reader_of(file, splitter)
+    return Outcomes(found, limits, _checked) if keep_going else found
 
 
-class Digests(Iterator[bytes]):
-    """The digests of the messages of a stream; `digests` makes it."""
+def _checked(message: bytes, limits: Limits) -> bytes:
+    """A message that is accepted."""
+    check(message, limits=limits)
+    return message
 
-    __slots__ = ("_messages", "_limits", "_frame", "_at")
 
-    def __init__(self, found: Messages, limits: Limits) -> None:
-        self._messages, self._limits = found, limits
-        # The message whose digest is next, if it was read, and where it begins.
+def _digest(message: bytes, limits: Limits) -> bytes:
+    """The digest of a message."""
+    return digest(message, limits=limits)
+
+
+class _Answers(Generic[_Source]):
+    """What a call answers of each message of a stream."""
+
+    __slots__ = ("_messages", "_limits", "_call", "_frame", "_at", "_last", "_last_at", "_is_busy")
+
+    def __init__(self, found: _Source, limits: Limits, call: Callable[[bytes, Limits], bytes]) -> None:
+        self._messages, self._limits, self._call = found, limits, call
+        # The message that is next to be answered, if it was read, and where it begins.
         self._frame: bytes | None = None
         self._at = 0
+        # The one that was answered last, and where it begins.
+        self._last: bytes | None = None
+        self._last_at: int | None = None
+        # Whether a call is being made.
+        self._is_busy = False
+
+    @property
+    def number(self) -> int:
+        """How many messages were returned, or rejected."""
+        return self._messages.number - (self._frame is not None)
+
+    @property
+    def offset(self) -> int:
+        """Where the next one begins, in the unpacked bytes."""
+        return self._messages.offset if self._frame is None else self._at
+
+    @property
+    def last(self) -> bytes | None:
+        """The message that was returned last, or rejected, or None."""
+        return self._last
+
+    @property
+    def last_offset(self) -> int | None:
+        """Where the last message began, in the unpacked bytes, or None."""
+        return self._last_at
+
+    def _answer(self, frame: bytes) -> tuple[bytes, Refusal | None]:
+        """What the call answers of the message that is next, and its refusal if it has one."""
+        refused, answer = None, b""
+        try:
+            answer = self._call(frame, self._limits)
+        except Refusal as refusal:
+            # It may be kept for long, and so may the frames of its traceback.
+            refused = refusal._of_message(self._messages.number, self._at).with_traceback(None)
+        # An exception of a signal's handler may come until here: the message is kept till then.
+        self._last, self._last_at, self._frame = frame, self._at, None
+        return answer, refused
+
+
+class _Read(_Answers[Messages]):
+    """The same of a file."""
+
+    __slots__ = ()
+
+    def _next(self) -> tuple[bytes, Refusal | None]:
+        if self._is_busy:
+            raise busy("this stream")
+        self._is_busy = True
+        try:
+            frame = self._frame
+            if frame is None:
+                self._at = self._messages.offset
+                self._frame = frame = self._messages.__next__()
+            return self._answer(frame)
+        finally:
+            self._is_busy = False
+
+
+class Outcomes(_Read, Iterator[Union[bytes, Refusal]]):
+    """The messages of a stream that are valid, or digests, and in the place of each other message its `Refusal`;
+    `messages` and `digests` make it with `keep_going`."""
+
+    __slots__ = ()
+
+    def __repr__(self) -> str:
+        return f"<capn outcomes, of {self.number} messages so far>"
+
+    def __next__(self) -> bytes | Refusal:
+        answer, refused = self._next()
+        return answer if refused is None else refused
+
+
+class Digests(_Read, Iterator[bytes]):
+    """The digests of the messages of a stream; `digests` makes it."""
+
+    __slots__ = ()
 
     def __repr__(self) -> str:
         return f"<capn digests, of {self.number} messages so far>"
 
-    @property
-    def number(self) -> int:
-        """How many messages were read."""
-        return self._messages.number - (self._frame is not None)
-
     def __next__(self) -> bytes:
-        # An exception of a signal's handler may come before the digest is handed out: the message is kept till then.
-        frame = self._frame
-        if frame is None:
-            self._at = self._messages.offset
-            self._frame = frame = self._messages.__next__()
-        try:
-            answer = digest(frame, limits=self._limits)
-        except Refusal as refusal:
-            refused = refusal._of_message(self._messages.number, self._at)
-            self._frame = None
+        answer, refused = self._next()
+        if refused is not None:
             raise refused
-        self._frame = None
         return answer
 
 
+@overload
+def digests(
+    file: Readable | Buffer, packed: bool | Form = False, limits: Limits = _USUAL, *, form: Form | None = None,
+    read_ahead: bool = False, keep_going: Literal[False] = False,
+) -> Digests: ...
+@overload
+def digests(
+    file: Readable | Buffer, packed: bool | Form = False, limits: Limits = _USUAL, *, form: Form | None = None,
+    read_ahead: bool = False, keep_going: Literal[True],
+) -> Outcomes: ...
+@overload
+def digests(
+    file: Readable | Buffer, packed: bool | Form = False, limits: Limits = _USUAL, *, form: Form | None = None,
+    read_ahead: bool = False, keep_going: bool,
+) -> Digests | Outcomes: ...
 def digests(
     file: Readable | Buffer,
-    packed: bool = False,
+    packed: bool | Form = False,
     limits: Limits = _USUAL,
     *,
     form: Form | None = None,
     read_ahead: bool = False,
-) -> Digests:
-    """The SHA-256 of the canonical bytes of each message of a stream, which is read as `messages` reads it.
+    keep_going: bool = False,
+) -> Digests | Outcomes:
+    """Returns an iterator over the digests of the messages of a stream: the SHA-256 of the canonical bytes of each. The
+    arguments are those of `messages`.
 
-    A refused message ends a loop; but `next` goes on with the message after it, unless the stream itself is refused."""
-    return Digests(messages(file, packed, limits, form=form, read_ahead=read_ahead), limits)
+    A rejected message ends a loop, but `next` goes on with the message after it, unless the stream itself is damaged.
+    With `keep_going` its `Refusal` is in the place of the digest, and the loop goes on."""
+    found = messages(file, packed, limits, form=form, read_ahead=read_ahead)
+    return Outcomes(found, limits, _digest) if keep_going else Digests(found, limits, _digest)
 
 
 class AsyncMessages(AsyncIterator[bytes]):
-    """The messages of a stream that is awaited; `amessages` makes it."""
+    """The messages of a stream that is awaited; `amessages` makes it.
 
-    __slots__ = ("_splitter", "_read", "_ready")
+    One call at a time may use it: while one runs, a second one raises a `ValueError`."""
 
-    def __init__(self, read: Callable[[int], Awaitable[bytes]], splitter: Splitter) -> None:
-        self._read, self._splitter = read, splitter
+    __slots__ = ("_splitter", "_read", "_is_ahead", "_piece", "_ready", "_number", "_offset", "_last", "_is_busy")
+
+    def __init__(
+        self, read: Callable[[int], Awaitable[bytes]], splitter: Splitter, is_ahead: bool = False
+    ) -> None:
+        self._read, self._splitter, self._is_ahead = read, splitter, is_ahead
+        # What was read, until the splitter has it.
+        self._piece: bytes | None = None
         # Messages that are whole, the last one first.
         self._ready: list[bytes] = []
+        self._number = self._offset = 0
+        self._last: bytes | None = None
+        # Whether a call is being made.
+        self._is_busy = False
 
     def __repr__(self) -> str:
         return f"<capn messages, {self.number} so far>"
 
     @property
     def number(self) -> int:
-        """How many messages were handed out."""
-        return self._splitter.number - len(self._ready)
+        """How many messages were returned."""
+        return self._number
+
+    @property
+    def offset(self) -> int:
+        """Where the next one begins, in the unpacked bytes."""
+        return self._offset
+
+    @property
+    def last(self) -> bytes | None:
+        """The message that was returned last, or None."""
+        return self._last
+
+    @property
+    def last_offset(self) -> int | None:
+        """Where the last message began, in the unpacked bytes, or None."""
+        return None if self._last is None else self._offset - len(self._last)
 
     async def __anext__(self) -> bytes:
+        if self._is_busy:
+            raise busy("this stream")
+        self._is_busy = True
+        try:
+            while not self._ready:
+                await self._read_on()
+            frame = self._ready[-1]
+            size = len(frame)
+            self._last = frame
+            self._number += 1
+            self._offset += size
+            del self._ready[-1]
+            return frame
+        finally:
+            self._is_busy = False
+
+    async def _read_on(self) -> None:
         splitter = self._splitter
-        while not self._ready:
-            wanted = splitter.wanted
-            piece = await self._read(min(wanted, PIECE)) if wanted else b""
-            if wanted and not piece:
-                splitter.end()
-                raise StopAsyncIteration
-            self._ready = splitter.feed(piece)[::-1]
-        frame = self._ready[-1]
-        del self._ready[-1]
-        return frame
+        wanted = splitter.wanted
+        if wanted and self._piece is None:
+            self._piece = await self._read(PIECE if self._is_ahead else min(wanted, PIECE))
+        if wanted and not self._piece:
+            self._piece = None
+            splitter.end()
+            raise StopAsyncIteration
+        found = splitter.feed(self._piece or b"")
+        self._ready, self._piece = found[::-1], None
 
 
-def amessages(reader: AsyncReadable, limits: Limits = _USUAL, *, form: Form = "stream") -> AsyncMessages:
-    """The same as `messages` of an `asyncio.StreamReader`, or of another reader whose `read` is awaited. If a read is
-    cancelled, nothing is lost. A packed stream is read group by group, which is slow: feed a `Splitter` where nothing
-    else follows on the stream."""
-    return AsyncMessages(reader.read, Splitter(form, limits))
+class AsyncOutcomes(_Answers[AsyncMessages], AsyncIterator[Union[bytes, Refusal]]):
+    """The messages of a stream that are valid, and in the place of each other message its `Refusal`; `amessages` makes
+    it with `keep_going`."""
+
+    __slots__ = ()
+
+    def __repr__(self) -> str:
+        return f"<capn outcomes, of {self.number} messages so far>"
+
+    async def __anext__(self) -> bytes | Refusal:
+        if self._is_busy:
+            raise busy("this stream")
+        self._is_busy = True
+        try:
+            frame = self._frame
+            if frame is None:
+                self._at = self._messages.offset
+                self._frame = frame = await self._messages.__anext__()
+            answer, refused = self._answer(frame)
+            return answer if refused is None else refused
+        finally:
+            self._is_busy = False
+
+
+@overload
+def amessages(
+    reader: AsyncReadable, packed: bool | Form | Limits = False, limits: Limits = _USUAL, *, form: Form | None = None,
+    read_ahead: bool = False, keep_going: Literal[False] = False,
+) -> AsyncMessages: ...
+@overload
+def amessages(
+    reader: AsyncReadable, packed: bool | Form | Limits = False, limits: Limits = _USUAL, *, form: Form | None = None,
+    read_ahead: bool = False, keep_going: Literal[True],
+) -> AsyncOutcomes: ...
+@overload
+def amessages(
+    reader: AsyncReadable, packed: bool | Form | Limits = False, limits: Limits = _USUAL, *, form: Form | None = None,
+    read_ahead: bool = False, keep_going: bool,
+) -> AsyncMessages | AsyncOutcomes: ...
+def amessages(
+    reader: AsyncReadable,
+    packed: bool | Form | Limits = False,
+    limits: Limits = _USUAL,
+    *,
+    form: Form | None = None,
+    read_ahead: bool = False,
+    keep_going: bool = False,
+) -> AsyncMessages | AsyncOutcomes:
+    """Does the same as `messages` for an `asyncio.StreamReader`, or another reader with a `read` that is awaited. It
+    takes the same arguments; limits may also come second. If a read is cancelled, nothing is lost.
+
+    A packed stream is read group by group, which is slow: pass `read_ahead` if nothing else follows in the stream."""
+    if isinstance(packed, Limits):
+        if limits is not _USUAL:
+            raise TypeError("limits were passed twice")
+        limits, packed = packed, False
+    splitter = Splitter("packed" if _is_packed(packed, form) else "stream", limits)
+    found = AsyncMessages(reader.read, splitter, bool(read_ahead))
+    return AsyncOutcomes(found, limits, _checked) if keep_going else found

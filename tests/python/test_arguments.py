@@ -9,8 +9,8 @@ from dataclasses import FrozenInstanceError
 import capn
 
 MESSAGE = bytes.fromhex("0000000003000000" "0000000002000000" "0500000000000000" "0000000000000000")
-CALLS = [capn.check, capn.canonical, capn.digest, capn.is_canonical, capn.pack, capn.unpack]
-OF_FORMS = [capn.check, capn.canonical, capn.digest]
+OF_FORMS = [capn.check, capn.canonical, capn.digest, capn.is_canonical_message]
+CALLS = [*OF_FORMS, capn.is_canonical_words, capn.pack, capn.unpack]
 
 
 class Arguments(unittest.TestCase):
@@ -28,7 +28,7 @@ class Arguments(unittest.TestCase):
                     call(MESSAGE, form)
 
     def test_limits_that_are_none(self):
-        for call in [*OF_FORMS, capn.is_canonical]:
+        for call in [*OF_FORMS, capn.is_canonical_words]:
             for limits in None, 64, {"depth": 64}, (1, 2, 3, "strict"):
                 with self.subTest(call=call, limits=limits), self.assertRaises(TypeError):
                     call(MESSAGE, limits=limits)
@@ -122,7 +122,7 @@ class Values(unittest.TestCase):
             (lambda: capn.check(bytes(4) + b"\xff" * 4), "TooManyWords", 4294967295, "frame: TooManyWords(4294967295)"),
             (lambda: capn.check(MESSAGE + b"x"), "Trailing", 32, "trailing bytes at 32"),
             (lambda: capn.check(bytes(9), "bare"), "NotWhole", 9, "bare: NotWhole(9)"),
-            (lambda: capn.is_canonical(bytes(9)), "NotWhole", 9, "bare: NotWhole(9)"),
+            (lambda: capn.is_canonical_words(bytes(9)), "NotWhole", 9, "bare: NotWhole(9)"),
             (lambda: capn.pack(bytes(9)), "NotWhole", 9, "NotWhole(9)"),
             (lambda: capn.check(b"\x01", "packed"), "PackedCut", 0, "packed: Cut at 0"),
             (lambda: capn.unpack(bytes(2), 0), "PackedTooLong", 0, "packed: TooLong at 0"),

@@ -90,7 +90,7 @@ class Changing(unittest.TestCase):
                         self.assertEqual(capn.unpack(capn.pack(data), in_place=in_place), one)
                         self.assertEqual(capn.read(data, in_place=in_place), capn.read(one))
                         self.assertEqual(capn.departure(data, in_place=in_place), capn.departure(one))
-            self.assertEqual(capn.is_canonical(bytearray(words), in_place=True), capn.is_canonical(words))
+            self.assertEqual(capn.is_canonical_words(bytearray(words), in_place=True), capn.is_canonical_words(words))
             packed = capn.pack(one)
             for in_place in False, True:
                 self.assertEqual(capn.survey(bytearray(packed), "packed", in_place=in_place), capn.survey(one))

@@ -99,7 +99,7 @@ class AsExplained(unittest.TestCase):
             self.assertEqual(capn.departure(capn.read(data, form, limits)), departure)
             kind = departure and (departure.kind, departure.owner)
             found[kind] = found.get(kind, 0) + 1
-        calls = CALLS + [lambda data, form, limits: capn.is_canonical(data, limits)] * (form == "bare")
+        calls = CALLS + [lambda data, form, limits: capn.is_canonical_words(data, limits)] * (form == "bare")
         for call in calls:
             refusal = refusal_of(call, data, form, limits)
             if told.get("accepted"):

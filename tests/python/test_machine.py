@@ -63,7 +63,7 @@ class Threads(unittest.TestCase):
         message = stream(SEGMENT)
         packed, look = capn.pack(message), self.looks(message[:-8] + b"\7" + bytes(7))
         calls = [lambda: capn.pack(message), lambda: capn.unpack(packed), lambda: capn.canonical(message),
-                 lambda: capn.digest(message), lambda: capn.check(message), lambda: capn.is_canonical(SEGMENT),
+                 lambda: capn.digest(message), lambda: capn.check(message), lambda: capn.is_canonical_words(SEGMENT),
                  lambda: capn.departure(message), look]
         for number, call in enumerate(calls):
             with self.subTest(number=number):

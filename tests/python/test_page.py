@@ -1,15 +1,21 @@
-"""The programs of docs/PYTHON.md do as the page says."""
+"""The programs of docs/PYTHON.md do as the page says, each alone."""
 import re
+import socket
 import subprocess
 import sys
 import tempfile
+import textwrap
 import unittest
 from pathlib import Path
 
 import capn
 
-PAGE = Path(__file__).resolve().parents[2] / "docs" / "PYTHON.md"
+TOP = Path(__file__).resolve().parents[2]
+PAGE = TOP / "docs" / "PYTHON.md"
+README = TOP / "python" / "README.md"
 MESSAGE = bytes.fromhex("0000000003000000" "0000000002000000" "0500000000000000" "0000000000000000")
+# A pointer to more than there is.
+WRONG = bytes.fromhex("0000000001000000" "0000000001000000")
 # Two children in slot 1, of which one has the name "ab".
 CHILDREN = bytes.fromhex("0000000007000000" "0000000000000200" "0000000000000000" "0100000017000000" "0800000000000100"
                          "050000001a000000" "0000000000000000" "6162000000000000")
@@ -22,10 +28,20 @@ def children(words):
     return bytes(4) + (len(segment) // 8).to_bytes(4, "little") + segment
 
 
+def blocks(page, language):
+    """The blocks of a page in a language."""
+    return re.findall(rf"^```{language}\n(.*?)^```$", page.read_text(), re.M | re.S)
+
+
 def programs():
-    """The programs of the page: the first one, and each other one after it."""
-    first, *others = re.findall(r"^```python\n(.*?)^```$", PAGE.read_text(), re.M | re.S)
-    return [first, *(f"{first}\n\n{block}" for block in others)]
+    """The programs of the page, each of which runs alone, and that of the package's own page."""
+    return blocks(PAGE, "python") + blocks(README, "python")
+
+
+def program(named):
+    """The one program of the page in which a text is."""
+    [found] = [block for block in blocks(PAGE, "python") if named in block]
+    return found
 
 
 def framed(words):
@@ -33,93 +49,147 @@ def framed(words):
     return bytes(4) + words.to_bytes(4, "little") + (1 << 32).to_bytes(8, "little") + bytes(8 * words - 8)
 
 
-class Page(unittest.TestCase):
-    def setUp(self):
-        self.first, self.read, self.stream = programs()
+def deep(levels):
+    """Structs in each other, so many."""
+    first = (levels << 32).to_bytes(8, "little")
+    return first + (1 << 48).to_bytes(8, "little") * (levels - 1) + bytes(8)
 
-    def run_on(self, message, program, more=""):
+
+class Page(unittest.TestCase):
+    def run_on(self, message, code, more=""):
         with tempfile.TemporaryDirectory() as folder:
             (Path(folder) / "message").write_bytes(message)
-            (Path(folder) / "messages").write_bytes(message * 2)
-            ran = subprocess.run([sys.executable, "-B", "-c", f"{program}\n{more}"], cwd=folder,
-                                 capture_output=True, check=False, text=True)
+            (Path(folder) / "messages").write_bytes(message)
+            # What is deprecated is an error.
+            ran = subprocess.run([sys.executable, "-B", "-W", "error::DeprecationWarning", "-c", f"{code}\n{more}"],
+                                 cwd=folder, capture_output=True, check=False, text=True)
         return ran.returncode, ran.stdout + ran.stderr
 
+    def test_all_programs_are_tried(self):
+        tried = "print(capn.digest(message).hex())", "def has_digest", "def is_within_limits", "print(capn.survey", \
+            "keep_going=True", "def receive", "root.uint(64, 0, default=7)", "def describe"
+        self.assertEqual(sorted(map(program, tried)), sorted(blocks(PAGE, "python")))
+
     def test_digest(self):
-        told = f"{capn.digest(MESSAGE).hex()}\nreading it costs 3 words\n"
-        self.assertEqual(self.run_on(MESSAGE, self.first), (0, told))
-        self.assertEqual(self.run_on(MESSAGE[:-8], self.first), (1, "refused: frame: Cut\n"))
-        self.assertEqual(self.run_on(MESSAGE * 2, self.first), (1, "refused: trailing bytes at 32\n"))
-        self.assertEqual(self.run_on(b"", self.first), (1, "refused: frame: Empty\n"))
-        # With its table 1 MiB, and what is longer is refused.
+        first = program("print(capn.digest(message).hex())")
+        self.assertEqual(self.run_on(MESSAGE, first), (0, f"{capn.digest(MESSAGE).hex()}\n"))
+        self.assertEqual(self.run_on(MESSAGE[:-8], first), (1, "rejected: frame: Cut\n"))
+        self.assertEqual(self.run_on(MESSAGE * 2, first), (1, "rejected: trailing bytes at 32\n"))
+        self.assertEqual(self.run_on(b"", first), (1, "rejected: frame: Empty\n"))
+        # With its table 1 MiB, and what is longer is rejected.
         most = framed((1 << 17) - 1)
-        told = f"{capn.digest(most).hex()}\nreading it costs 2 words\n"
-        self.assertEqual(self.run_on(most, self.first), (0, told))
+        self.assertEqual(self.run_on(most, first), (0, f"{capn.digest(most).hex()}\n"))
         for longer, why in (
             (most + b"x", "trailing bytes at 1048576"),
             (framed(1 << 17), "frame: Cut"),
             (bytes((1 << 20) + 1), "trailing bytes at 8"),
         ):
-            self.assertEqual(self.run_on(longer, self.first), (1, f"refused: {why}\n"))
-        # Structs in each other, 40 deep: within the usual limits, and not within those of the page.
-        deep = (41 << 32).to_bytes(8, "little") + (1 << 48).to_bytes(8, "little") * 40 + bytes(8)
-        self.assertEqual(self.run_on(deep, self.first), (1, "refused: TooDeep at 0:32, paid 64, visits 33\n"))
+            self.assertEqual(self.run_on(longer, first), (1, f"rejected: {why}\n"))
 
-    def after_digest(self, message, program):
-        """What a program says after the digest of its message, and what reading it costs."""
-        status, wrote = self.run_on(message, program)
-        digest, cost, rest = wrote.split("\n", 2)
-        self.assertEqual(digest, capn.digest(message).hex())
-        self.assertEqual(cost, f"reading it costs {capn.check(message).paid} words")
-        return status, rest
-
-    def test_verify(self):
+    def test_has_digest(self):
         digest = capn.digest(MESSAGE)
-        for message, expected in (MESSAGE, True), (MESSAGE[:-8], False), (MESSAGE * 2, False), (b"", False):
+        for message, expected in (MESSAGE, True), (MESSAGE[:-8], False), (MESSAGE * 2, False), (b"", False), \
+                (deep(41), False):
             asked = f"print(has_digest({message!r}, {digest!r}), has_digest({message!r}, bytes(32)))"
-            status, wrote = self.run_on(MESSAGE, self.first, asked)
-            self.assertEqual((status, wrote.splitlines()[-1]), (0, f"{expected} False"))
+            self.assertEqual(self.run_on(b"", program("def has_digest"), asked), (0, f"{expected} False\n"))
+
+    def test_is_within_limits(self):
+        for message, wrote in (
+            (MESSAGE, "reading it costs 3 words and follows 1 pointers\nTrue\n"),
+            (MESSAGE[:-8], "rejected: frame: Cut\nFalse\n"),
+            # Within the default limits, and not within those of the page.
+            (deep(41), "rejected: TooDeep at 0:32, paid 64, visits 33\nFalse\n"),
+        ):
+            asked = f"print(is_within_limits({message!r}))"
+            self.assertEqual(self.run_on(b"", program("def is_within_limits"), asked), (0, wrote))
 
     def test_read(self):
+        read = program("root.uint(64, 0, default=7)")
         # The number is stored XOR 7.
-        self.assertEqual(self.after_digest(TEXT, self.read), (0, "2 abc\n"))
-        self.assertEqual(self.after_digest(MESSAGE, self.read), (0, "2 nobody\n"))
-        self.assertEqual(self.after_digest(bytes(4) + b"\1" + bytes(11), self.read), (0, "7 nobody\n"))
-        self.assertEqual(self.after_digest(CHILDREN, self.read), (0, "7 nobody\nab\nnobody\n"))
+        self.assertEqual(self.run_on(TEXT, read), (0, "2 abc\n"))
+        self.assertEqual(self.run_on(MESSAGE, read), (0, "2 nobody\n"))
+        self.assertEqual(self.run_on(bytes(4) + b"\1" + bytes(11), read), (0, "7 nobody\n"))
+        self.assertEqual(self.run_on(CHILDREN, read), (0, "7 nobody\nab\nnobody\n"))
         # An older writer's children are texts, or numbers: each is a struct of that field.
-        self.assertEqual(self.after_digest(children("0100000016000000" "0500000012000000" "0000000000000000"
-                                                    "6100000000000000"), self.read), (0, "7 nobody\na\nnobody\n"))
+        self.assertEqual(self.run_on(children("0100000016000000" "0500000012000000" "0000000000000000"
+                                              "6100000000000000"), read), (0, "7 nobody\na\nnobody\n"))
         for numbers in "0100000010000000", "0100000012000000", "0100000013000000", "0100000014000000":
-            self.assertEqual(self.after_digest(children(numbers + "0500000000000000"), self.read),
+            self.assertEqual(self.run_on(children(numbers + "0500000000000000"), read),
                              (0, "7 nobody\nnobody\nnobody\n"))
         # Bits are no structs. Of three bytes the last one is no zero; a list of bytes is no struct, and a struct is no
-        # list.
+        # list; a text isn't UTF-8.
         for message, why in (
             (TEXT.replace(b"\x22", b"\x1a"), "the last byte of a text is zero"),
+            (TEXT.replace(b"abc", b"\xffbc"), "'utf-8' codec can't decode byte 0xff"),
             (bytes.fromhex("0000000002000000" "010000001a000000" "6162630000000000"), "there is no struct, but"),
             (CHILDREN.replace(b"\1\0\0\0\x17", b"\0\0\0\0\1"), "there is no list of structs, but"),
             (children("0100000011000000" "0300000000000000"), "there is no list of structs, but"),
+            (MESSAGE * 2, "trailing bytes at 32"),
+            (deep(41), "TooDeep"),
         ):
-            status, wrote = self.run_on(message, self.read)
+            status, wrote = self.run_on(message, read)
             self.assertEqual(status, 1)
-            self.assertRegex(wrote, f"\nrefused: {why}")
+            self.assertRegex(wrote, f"(?:^|\n)rejected: {why}")
 
-    def test_told(self):
+    def test_describe(self):
         # A zero word at the end of a struct, and more bytes in a list than there are.
         for message, expected in (
             (TEXT, "canonical"),
             (MESSAGE, "not canonical: at byte 8: 0000000002000000 (struct of 2 words and 0 slots, offset 0), canonical"
              " 0000000001000000 (struct of 1 words and 0 slots, offset 0), the pointer at root"),
-            (TEXT.replace(b"\x22", b"\x52"), "refused at byte 24, way (0,): Range at 0:2, paid 3, visits 2"),
-            (TEXT[:-1], "refused at byte None, way None: frame: Cut"),
+            (TEXT.replace(b"\x22", b"\x52"), "rejected: Range at 0:2, paid 3, visits 2, pointer (0,), byte 24"),
+            (TEXT[:-1], "rejected: frame: Cut"),
         ):
-            status, wrote = self.run_on(TEXT, self.first, f"print(told({message!r}))")
-            self.assertEqual((status, wrote.splitlines()[-1]), (0, expected))
+            asked = f"print(describe({message!r}))"
+            self.assertEqual(self.run_on(b"", program("def describe"), asked), (0, f"{expected}\n"))
 
     def test_stream(self):
+        stream = program("print(capn.survey")
         figures = capn.Surveyed(words=3, segments=1, paid=3, visits=1, depth=1, capability=None, canonical=False)
-        status, wrote = self.run_on(MESSAGE, self.stream)
-        self.assertEqual((status, wrote.splitlines()[2:]), (0, [str(figures)] * 2))
+        self.assertEqual(self.run_on(MESSAGE * 2, stream), (0, f"{figures}\n" * 2))
+        self.assertEqual(self.run_on(b"", stream), (0, ""))
+        self.assertEqual(self.run_on(MESSAGE + MESSAGE[:-8], stream),
+                         (1, f"{figures}\nrejected: message 2 at 32: frame: Cut\n"))
+
+    def test_keep_going(self):
+        kept = program("keep_going=True")
+        [printed] = blocks(PAGE, "text")
+        status, wrote = self.run_on(MESSAGE + WRONG + MESSAGE, kept)
+        self.assertEqual((status, sorted(wrote.splitlines())), (1, sorted(printed.splitlines())))
+        self.assertEqual(self.run_on(MESSAGE, kept), (0, "message 1 at 0: 32 bytes\n"))
+        self.assertEqual(self.run_on(MESSAGE + b"\xff" * 8, kept), (
+            1, "message 1 at 0: 32 bytes\nthe stream ends: message 2 at 32: frame: TooManySegments(4294967296)\n"))
+
+    def test_receive(self):
+        code = program("def receive")
+        found = {}
+        exec(code, found)
+        for sent, expected in (
+            (capn.pack(MESSAGE) * 3, 3), (b"", 0),
+            # 64 KiB of such bytes are more messages than come by one call.
+            (capn.pack(MESSAGE) + b"\0\xff" * 4, "message 2 at 32: "),
+            (capn.pack(MESSAGE * 2)[:-1], "message 2 at 32: packed: Cut at "),
+        ):
+            near, far = socket.socketpair()
+            with near, far:
+                near.sendall(sent)
+                near.shutdown(socket.SHUT_WR)
+                try:
+                    self.assertEqual(found["receive"](far), expected)
+                except capn.Refusal as refusal:
+                    self.assertIn(str(expected)[16:], str(refusal))
+
+
+class PackageReadme(unittest.TestCase):
+    def test_it_runs(self):
+        [block] = blocks(README, "python")
+        with tempfile.TemporaryDirectory() as folder:
+            (Path(folder) / "messages").write_bytes(MESSAGE + WRONG + MESSAGE)
+            ran = subprocess.run([sys.executable, "-B", "-c", textwrap.dedent(block)], cwd=folder, capture_output=True,
+                                 check=False, text=True)
+        self.assertEqual((ran.returncode, ran.stderr), (0, ""))
+        self.assertEqual(ran.stdout, f"{capn.digest(MESSAGE).hex()}\n"
+                                     "message 2 at 32: Range at 0:0, paid 0, visits 1\n")
 
 
 if __name__ == "__main__":

@@ -61,7 +61,7 @@ class Program(unittest.TestCase):
         checked = called(capn.check, data, "bare", LIMITS)
         if isinstance(checked, capn.Checked):
             try:
-                canonical = "canonical" if capn.is_canonical(data, LIMITS) else "not-canonical"
+                canonical = "canonical" if capn.is_canonical_words(data, LIMITS) else "not-canonical"
             except capn.Refusal as refusal:
                 self.fail(f"accepted, and refused as {refusal}")
             words = wrote.decode().split()
@@ -114,7 +114,7 @@ class OfTheReferenceImplementation(unittest.TestCase):
             self.assertEqual(capn.canonical(packed, "packed"), theirs)
             self.assertEqual(capn.canonical(capn.unpack(packed)), theirs)
             self.assertEqual(self.capnp("convert", "packed:canonical", data=capn.pack(message)), theirs)
-            self.assertTrue(capn.is_canonical(theirs))
+            self.assertTrue(capn.is_canonical_words(theirs))
             self.assertEqual(f"{capn.digest(message).hex()}\n".encode(), program("hash", data=message))
 
     def capnp(self, *words, data):

@@ -15,9 +15,9 @@ class OfValues(unittest.TestCase):
     @given(values())
     def test_each_layout_and_form_has_one_answer(self, value):
         canonical = bare(trimmed(value))
-        self.assertTrue(capn.is_canonical(canonical))
+        self.assertTrue(capn.is_canonical_words(canonical))
         for segment in bare(value), bare(value, backwards=True):
-            self.assertEqual(capn.is_canonical(segment), segment == canonical)
+            self.assertEqual(capn.is_canonical_words(segment), segment == canonical)
             self.assertEqual(capn.canonical(segment, "bare"), canonical)
             # A far pointer leads to no null.
             for message in [stream(segment), far(segment)] if value else [stream(segment)]:
@@ -75,7 +75,7 @@ class OfBytes(unittest.TestCase):
             self.assertEqual(str(refusal), f"capability {refusal.at}")
             return
         self.assertLessEqual(len(canonical), 8 * (checked.paid + 1))
-        self.assertTrue(capn.is_canonical(canonical, limits))
+        self.assertTrue(capn.is_canonical_words(canonical, limits))
         self.assertEqual(capn.digest(data, form, limits), hashlib.sha256(canonical).digest())
 
     @given(some.binary(max_size=400))

@@ -68,7 +68,7 @@ def answer(words):
         return hashed(data, words[4])
     limits = capn.Limits(*map(int, words[-4:-1]), tariff)
     if call == "is_canonical":
-        return str(capn.is_canonical(data, limits)).lower()
+        return str(capn.is_canonical_words(data, limits)).lower()
     if call == "survey":
         paid, visits = capn.check(data, words[1], limits)
         return f"paid {paid}, visits {visits}"

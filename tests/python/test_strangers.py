@@ -1,10 +1,16 @@
 """What a stranger chooses: a message of another schema, an older or newer one, a frame that passes for bare words. All
 that is raised of it is a `ValueError`."""
 import unittest
+import warnings
 
 import capn
 from messages import bare, stream
 from test_values import capability, of, text
+
+try:
+    import numpy
+except ImportError:
+    numpy = None
 
 SMALL = bytes.fromhex("0000000003000000" "0000000002000000" "0500000000000000" "0000000000000000")
 
@@ -16,10 +22,22 @@ class Canonical(unittest.TestCase):
         # One segment, whose last word isn't zero: with its table, read bare, it is a struct of data. Its own struct has
         # a zero word before a slot.
         loose = stream(bare(("struct", [5, 0], [text("abc")])))
-        self.assertTrue(capn.is_canonical(loose))
-        self.assertTrue(capn.is_canonical(loose, form="bare"))
+        with self.assertWarnsRegex(DeprecationWarning, "^is_canonical without a form reads the words") as caught:
+            self.assertTrue(capn.is_canonical(loose))
+        self.assertEqual(caught.filename, __file__)
+        with warnings.catch_warnings():
+            warnings.simplefilter("error")
+            self.assertTrue(capn.is_canonical(loose, form="bare"))
+            self.assertTrue(capn.is_canonical_words(loose))
+            self.assertFalse(capn.is_canonical_words(loose[8:]))
+            self.assertFalse(capn.is_canonical_message(loose))
+            self.assertFalse(capn.is_canonical_message(capn.pack(loose), "packed"))
+            self.assertFalse(capn.is_canonical_message(loose[8:], "bare"))
+            for layout in bytes, bytearray, memoryview:
+                self.assertTrue(capn.is_canonical_message(layout(stream(capn.canonical(loose))), in_place=True))
+                self.assertTrue(capn.is_canonical_words(layout(capn.canonical(loose)), in_place=True))
         self.assertFalse(capn.is_canonical(loose, form="stream"))
-        self.assertFalse(capn.is_canonical(loose[8:]))
+        self.assertFalse(capn.is_canonical(loose[8:], form="bare"))
         self.assertFalse(capn.is_canonical(capn.pack(loose), form="packed"))
         whole = stream(capn.canonical(SMALL))
         self.assertTrue(capn.is_canonical(whole, form="stream"))
@@ -109,7 +127,8 @@ class Schemas(unittest.TestCase):
             (None, [], [], []),
             (("list", 0, 2, b""), [(0, "null")] * 2, None, None),
             (("list", 1, 2, two), None, None, None),
-            (("list", 2, 3, two), [(3, "null"), (0, "null"), (1, "null")], None, None),
+            # A number of 8 bits has no field of 16.
+            (("list", 2, 3, two), [(0, "null")] * 3, None, None),
             (("list", 3, 2, two), [(3, "null"), (1, "null")], [3, 1], None),
             (("list", 4, 1, two), [(3, "null")], None, None),
             (("list", 5, 1, two), [(3, "null")], None, None),
@@ -117,9 +136,10 @@ class Schemas(unittest.TestCase):
             (("pointers", [text("abc"), None]), [(0, "bytes"), (0, "null")], None, ["bytes", "null"]),
             (("rows", 1, 2, [([0x10003], [None, None]), ([4], [text("abc"), None])]), [(3, "null"), (4, "bytes")],
              [3, 4], ["null", "bytes"]),
-            (("rows", 1, 0, [([5], [])]), [(5, "null")], [5], None),
-            (("rows", 0, 1, [([], [text("abc")])]), [(0, "bytes")], None, ["bytes"]),
-            (("rows", 0, 0, [([], [])] * 2), [(0, "null")] * 2, None, None),
+            # Structs without words have the default of the number, and those without pointers a null one.
+            (("rows", 1, 0, [([5], [])]), [(5, "null")], [5], ["null"]),
+            (("rows", 0, 1, [([], [text("abc")])]), [(0, "bytes")], [0], ["bytes"]),
+            (("rows", 0, 0, [([], [])] * 2), [(0, "null")] * 2, [0, 0], ["null", "null"]),
             (("struct", [1], [None]), None, None, None),
         ):
             slot = of(("struct", [], [value])).slot(0)
@@ -165,6 +185,102 @@ class Schemas(unittest.TestCase):
             self.assertRaises(ValueError, wrong)
             self.assertRaises(IndexError, wrong)
         self.assertEqual((of(None).list().kind, len(of(None).list())), ("null", 0))
+
+    def test_a_field_that_is_wider_than_the_number_of_an_older_list(self):
+        # Each list of numbers, read as structs: a field within the number is there, any other has its default.
+        stored = (0x8877665544332281).to_bytes(8, "little")
+        for width, code in (8, 2), (16, 3), (32, 4), (64, 5):
+            [row] = of(("list", code, 1, stored)).rows()
+            for bits in 8, 16, 32, 64:
+                for offset in range(64 // bits + 2):
+                    is_there = bits * (offset + 1) <= width
+                    number = int.from_bytes(stored, "little") >> bits * offset & (1 << bits) - 1 if is_there else 0
+                    with self.subTest(width=width, bits=bits, offset=offset):
+                        self.assertEqual(row.uint(bits, offset), number)
+                        self.assertEqual(row.uint(bits, offset, default=7), number ^ 7)
+                        if not is_there:
+                            self.assertEqual(row.int(bits, offset, default=-7), -7)
+                            if bits > 16:
+                                self.assertEqual(row.float(bits, offset, default=2.5), 2.5)
+            for bit in range(70):
+                is_set = bit < width and bool(stored[bit // 8] >> bit % 8 & 1)
+                self.assertEqual((row.bool(bit), row.bool(bit, True)), (is_set, not is_set))
+        # The byte 5, by a schema of a number of 16 bits with the default 7.
+        message = b"".join(word.to_bytes(8, "little") for word in (1 << 48, 1 | (2 | 1 << 3) << 32, 5))
+        self.assertEqual(capn.read(message, "bare").root.struct().slot(0).rows()[0].uint(16, 0, default=7), 7)
+
+    def test_structs_without_words_are_zeros_and_without_pointers_nulls(self):
+        # Two structs of a zero word, and their canonical bytes, where they have none.
+        long = [0x1000000000000, 0x1700000001, 0x100000008, 0, 0]
+        short = [0x1000000000000, 0x700000001, 0x8]
+        messages = [b"".join(word.to_bytes(8, "little") for word in words) for words in (long, short)]
+        self.assertTrue(capn.same(*messages, "bare"))
+        self.assertEqual(capn.canonical(messages[0], "bare"), messages[1])
+        for message in messages:
+            found = capn.read(message, "bare").root.struct().slot(0)
+            for bits in 8, 16, 32, 64:
+                self.assertEqual([*found.numbers(bits)], [0, 0])
+            self.assertEqual([one.kind for one in found.pointers()], ["null", "null"])
+            self.assertEqual([one.text(default="x") for one in found.pointers()], ["x", "x"])
+            for wrong in lambda: found.numbers(16)[2], lambda: found.pointers()[2], lambda: found.numbers(1):
+                self.assertRaises(capn.Mismatch, wrong)
+
+    def test_texts_and_data(self):
+        # What the sender chooses is a `Mismatch`, whatever else it is.
+        values = [None, ("struct", [1], [None]), ("list", 0, 3, b""), ("list", 1, 3, bytes(8)), text("abc"),
+                  ("list", 3, 1, bytes(8)), ("pointers", [None]), ("rows", 1, 1, [([5], [None])]),
+                  ("list", 2, 3, b"abc" + bytes(5)), ("list", 2, 0, b""), ("list", 2, 3, b"\xff\xfe\0" + bytes(5))]
+        for value in values:
+            root = of(("struct", [], [value]))
+            slot = root.slot(0)
+            for read in lambda: root.text(0, "x"), lambda: slot.text(default="x"):
+                with self.subTest(value=value):
+                    if value is None:
+                        self.assertEqual(read(), "x")
+                    elif value == text("abc"):
+                        self.assertEqual(read(), "abc")
+                    else:
+                        self.assertRaises(capn.Mismatch, read)
+            if value is None:
+                self.assertEqual((slot.text(), slot.text(0, "y"), root.data(0), root.data(0, b"z")),
+                                 ("", "y", b"", b"z"))
+            elif value[:2] == ("list", 2):
+                self.assertEqual(root.data(0), value[3][:value[2]])
+            else:
+                self.assertRaises(capn.Mismatch, root.data, 0)
+        self.assertEqual((root.text(9, "x"), root.data(9, b"x")), ("x", b"x"))
+        for wrong in lambda: root.text(-1), lambda: root.data(-1), lambda: of(None).text(-1):
+            self.assertRaises(ValueError, wrong)
+        with self.assertRaises(UnicodeDecodeError) as caught:
+            root.text(0)
+        wrong = caught.exception
+        self.assertIsInstance(wrong, capn.Mismatch)
+        self.assertEqual((wrong.encoding, wrong.object, wrong.start, wrong.end), ("utf-8", b"\xff\xfe", 0, 1))
+        for call in lambda: capn.read(bare(text("abc")), "bare").root.text(0), root.text, root.struct().text:
+            self.assertRaises(capn.Mismatch, call)
+
+    def test_the_default_of_a_bit(self):
+        root = of(("struct", [0b10], []))
+        kinds = [(False, True), (0, 1)]
+        if numpy is not None:
+            kinds.append((numpy.False_, numpy.True_))
+        for no, yes in kinds:
+            self.assertEqual([root.bool(i, no) for i in (0, 1, 99)], [False, True, False])
+            self.assertEqual([root.bool(i, yes) for i in (0, 1, 99)], [True, False, True])
+            self.assertIs(type(root.bool(0, no)), bool)
+        for wrong in 2, -1, "yes", None, b"":
+            self.assertRaises(ValueError, root.bool, 0, wrong)
+
+    def test_the_words_of_a_null_are_the_callers(self):
+        null = of(None)
+        with null.words as words:
+            self.assertEqual(len(words), 0)
+        words.release()
+        for again in null, of(None), null.slot(3):
+            self.assertEqual((len(again.words), again.uint(32, 0, default=7)), (0, 7))
+        for rows in of(("list", 0, 2, b"")).rows(), of(("pointers", [None])).rows():
+            rows[0].words.release()
+            self.assertEqual(rows[0].uint(32, 0, default=7), 7)
 
     def test_names_that_are_of_no_kind(self):
         with self.assertRaises(AttributeError) as caught:

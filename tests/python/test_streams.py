@@ -14,6 +14,7 @@ import sys
 import tempfile
 import threading
 import time
+import traceback
 import unittest
 import unittest.mock
 
@@ -210,7 +211,7 @@ class NoByteAfterIt(unittest.TestCase):
             try:
                 got.extend(capn.messages(file, packed=packed))
             except capn.Refusal as refusal:
-                refused, refusals = (str(refusal), refusal.number, refusal.offset), refusals + 1
+                refused, refusals = (refusal.text, refusal.number, refusal.offset), refusals + 1
             with self.subTest(sent=sent.hex(), packed=packed):
                 self.assertEqual((got, refused), ([frame for _, frame, _ in found], fault))
         self.assertGreater(refusals, 100)
@@ -611,8 +612,10 @@ class AfterAnException(unittest.TestCase):
                     next(found)
                 refusal = caught.exception
                 self.assertEqual((refusal.number, refusal.offset), (3, 40))
-                self.assertEqual(str(refusal), "frame: TooManySegments(4294967296)")
-            self.assertIn("message 3 at 40", refusal.__notes__)
+                self.assertEqual(str(refusal), "message 3 at 40: frame: TooManySegments(4294967296)")
+                self.assertEqual(refusal.text, "frame: TooManySegments(4294967296)")
+            told = "".join(traceback.format_exception(refusal))
+            self.assertEqual(told.count("message 3 at 40"), 1)
             again = pickle.loads(pickle.dumps(refusal))
             self.assertEqual((again.number, again.offset, again.args), (3, 40, refusal.args))
 
@@ -646,7 +649,9 @@ class AfterAnException(unittest.TestCase):
             return
         with self.assertRaises(capn.Refusal) as caught:
             call()
-        self.assertEqual((str(caught.exception), caught.exception.number, caught.exception.offset), fault)
+        self.assertEqual((caught.exception.text, caught.exception.number, caught.exception.offset), fault)
+        text, number, offset = fault
+        self.assertEqual(str(caught.exception), f"message {number} at {offset}: {text}")
 
     def test_four_bytes_are_enough_to_refuse(self):
         near, far = socket.socketpair()
@@ -686,7 +691,7 @@ class Ahead(unittest.TestCase):
                     try:
                         got.extend(found)
                     except capn.Refusal as refusal:
-                        refused = (str(refusal), refusal.number, refusal.offset)
+                        refused = (refusal.text, refusal.number, refusal.offset)
                         self.assertRaises(capn.Refusal, next, found)
                     ways.append((got, refused, found.number, found.offset))
                 self.assertEqual(ways[0], ways[1])
@@ -717,7 +722,7 @@ class Digests(unittest.TestCase):
         with self.assertRaises(capn.Refusal) as caught:
             next(found)
         self.assertEqual((caught.exception.number, caught.exception.offset), (2, 32))
-        self.assertEqual(str(caught.exception), "Range at 0:0, paid 0, visits 1")
+        self.assertEqual(str(caught.exception), "message 2 at 32: Range at 0:0, paid 0, visits 1")
         self.assertEqual((list(found), found.number), ([capn.digest(SMALL)], 3))
 
     def test_limits(self):
@@ -769,7 +774,7 @@ class Splitters(unittest.TestCase):
                         at += size
                     splitter.end()
                 except capn.Refusal as refusal:
-                    refused = (str(refusal), refusal.number, refusal.offset)
+                    refused = (refusal.text, refusal.number, refusal.offset)
                 self.assertEqual(got, [frame for _, frame, _ in found])
                 self.assertEqual(refused, fault)
 

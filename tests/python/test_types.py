@@ -59,12 +59,23 @@ def matched(value: capn.Value) -> int:
 async def later(reader: "asyncio.StreamReader") -> list[bytes]:
     return [message async for message in capn.amessages(reader)]
 
+async def all_of(reader: "asyncio.StreamReader") -> int:
+    refused = 0
+    async for found in capn.amessages(reader, True, capn.Limits(), keep_going=True):
+        assert_type(found, bytes | capn.Refusal)
+        refused += isinstance(found, capn.Refusal)
+    assert_type(capn.amessages(reader, capn.Limits()), capn.AsyncMessages)
+    return refused
+
 import asyncio, io, socket, subprocess, array, mmap
 with socket.socket() as one, open("x", "rb") as file, capn.read(array.array("Q"), in_place=True) as message:
     for source in (file, io.BytesIO(), one.makefile("rb")):
         assert_type(next(capn.messages(source)), bytes)
     assert_type(next(capn.messages(b"")), bytes)
     assert_type(next(capn.digests(file, form="packed")), bytes)
+    assert_type(next(capn.messages(file, "packed", keep_going=True)), bytes | capn.Refusal)
+    assert_type(next(capn.digests(file, keep_going=True)), bytes | capn.Refusal)
+    assert_type(capn.messages(file).last_offset, int | None)
     assert_type(message.at(0, 1), capn.Value | capn.Row | None)
     assert_type(capn.Splitter("packed").feed(bytearray()), list[bytes])
     assert_type(capn.show(message, json=True, at=(0,)), str)

@@ -27,7 +27,7 @@ class Refusals(unittest.TestCase):
                     self.assertEqual((refusal.name, refusal.place), ("Range", (0, 3)))
                     self.assertEqual(stop_of(refusal), ((1,), byte))
                 self.assertEqual(stop_of(refusal_of(capn.show, kind(data), form)), ((1,), byte))
-        self.assertEqual(stop_of(refusal_of(capn.is_canonical, BARE)), ((1,), 24))
+        self.assertEqual(stop_of(refusal_of(capn.is_canonical_words, BARE)), ((1,), 24))
         # At the slot of the root, and where there is none. A far pointer that is refused is the slot, not its pad.
         self.assertEqual(stop_of(refusal_of(capn.check, stream(bytes(4) + b"\1" + bytes(3)))), ((), 8))
         self.assertEqual(stop_of(refusal_of(capn.check, far(BARE))), ((1,), 48))
