@@ -105,6 +105,18 @@ template <class C>
 inline constexpr bool holds_bytes<C, std::void_t<element_of<C>, decltype(std::size(std::declval<const C &>()))>> =
     is_byte<element_of<C>> && !(std::is_array_v<C> && std::is_same_v<element_of<C>, char>);
 
+/* Whether a container is a view, so that its elements don't go when it goes. Without the ranges of C++20, a view is an
+ * address and a size that can be copied as they lie, and no array. */
+#ifdef __cpp_lib_span
+template <class C> inline constexpr bool is_view = std::ranges::borrowed_range<C>;
+#else
+template <class C, class = void> inline constexpr bool has_fixed_size = false;
+template <class C> inline constexpr bool has_fixed_size<C, std::void_t<decltype(std::tuple_size<C>::value)>> = true;
+template <class C>
+inline constexpr bool is_view = std::is_class_v<C> && std::is_trivially_copyable_v<C> && !has_fixed_size<C>
+                                && sizeof(C) <= 2 * sizeof(void *);
+#endif
+
 template <class C, class Of, class = void> inline constexpr bool holds = false;
 template <class C, class Of>
 inline constexpr bool holds<C, Of, std::void_t<element_of<C>, decltype(std::size(std::declval<const C &>()))>> =
@@ -118,8 +130,10 @@ class bytes {
 public:
     constexpr bytes() noexcept = default;
     bytes(const void *data, std::size_t size) noexcept : data_(static_cast<const std::byte *>(data)), size_(size) {}
-    template <class C, std::enable_if_t<detail::holds_bytes<C>, int> = 0>
+    template <class C, std::enable_if_t<detail::holds_bytes<C> && !detail::is_view<C>, int> = 0>
     bytes(const C &container CAPN_LIFETIMEBOUND) noexcept : bytes(std::data(container), std::size(container)) {}
+    template <class C, std::enable_if_t<detail::holds_bytes<C> && detail::is_view<C>, int> = 0>
+    bytes(const C &view) noexcept : bytes(std::data(view), std::size(view)) {}
 
     constexpr const std::byte *data() const noexcept { return data_; }
     constexpr std::size_t size() const noexcept { return size_; }
@@ -146,10 +160,14 @@ template <> inline constexpr bool std::ranges::enable_view<capn::bytes> = true;
 namespace capn {
 
 /* The bytes of a container of anything that can be copied as bytes, such as a vector of words. */
-template <class C> bytes as_bytes(const C &container CAPN_LIFETIMEBOUND) noexcept {
-    using element = detail::element_of<C>;
-    static_assert(std::is_trivially_copyable_v<element>, "a container of numbers, or of what is copied as bytes");
-    return {std::data(container), std::size(container) * sizeof(element)};
+template <class C, std::enable_if_t<!detail::is_view<C>, int> = 0>
+bytes as_bytes(const C &container CAPN_LIFETIMEBOUND) noexcept {
+    static_assert(std::is_trivially_copyable_v<detail::element_of<C>>, "elements that can be copied as bytes");
+    return {std::data(container), std::size(container) * sizeof(detail::element_of<C>)};
+}
+template <class C, std::enable_if_t<detail::is_view<C>, int> = 0> bytes as_bytes(const C &view) noexcept {
+    static_assert(std::is_trivially_copyable_v<detail::element_of<C>>, "elements that can be copied as bytes");
+    return {std::data(view), std::size(view) * sizeof(detail::element_of<C>)};
 }
 
 /* The statuses that a reader adds to those of capn.h: the function that it reads by failed, or broke its rule. */
@@ -629,8 +647,10 @@ inline expected<buffer> try_unpack(bytes packed, std::uint32_t most_words = 8388
 class segments {
 public:
     segments(const capn_segment *first, std::size_t count) noexcept : first_(first), count_(count) {}
-    template <class C, std::enable_if_t<detail::holds<C, capn_segment>, int> = 0>
+    template <class C, std::enable_if_t<detail::holds<C, capn_segment> && !detail::is_view<C>, int> = 0>
     segments(const C &all CAPN_LIFETIMEBOUND) noexcept : segments(std::data(all), std::size(all)) {}
+    template <class C, std::enable_if_t<detail::holds<C, capn_segment> && detail::is_view<C>, int> = 0>
+    segments(const C &view) noexcept : segments(std::data(view), std::size(view)) {}
     const capn_segment *data() const noexcept { return first_; }
     std::size_t size() const noexcept { return count_; }
     /* How many bytes the segments have. It stops counting once they are more than a message can have. */
@@ -892,7 +912,7 @@ public:
     explicit reader(Read read, const limits &most = {}) : read_(std::move(read)), most_(most) {}
     reader(const reader &) = delete;
     reader &operator=(const reader &) = delete;
-    /* The reader that was moved from is at the end of an empty stream once its function is. */
+    /* Don't read on by the reader that was moved from: bytes of its stream went with the other one. */
     reader(reader &&other) noexcept(std::is_nothrow_move_constructible_v<Read>)
         : read_(std::move(other.read_)), most_(other.most_), held_(std::exchange(other.held_, {})),
           have_(std::exchange(other.have_, 0)), number_(std::exchange(other.number_, 0)),
@@ -1402,20 +1422,8 @@ inline rows value::pointers() const { return expect(try_pointers(), "list of poi
 
 namespace detail {
 
-/* Whether a container owns its bytes, so that they go when it goes; a view can be copied. */
-#ifdef __cpp_lib_span
 template <class C>
-inline constexpr bool owns_bytes =
-    holds_bytes<C> && !std::is_base_of_v<bytes, C> && !std::ranges::borrowed_range<C>;
-#else
-/* A view is an address and a size, which are copied as they lie; and no array. */
-template <class C, class = void> inline constexpr bool has_fixed_size = false;
-template <class C> inline constexpr bool has_fixed_size<C, std::void_t<decltype(std::tuple_size<C>::value)>> = true;
-template <class C>
-inline constexpr bool owns_bytes = holds_bytes<C> && !std::is_base_of_v<bytes, C>
-                                   && (!std::is_trivially_copyable_v<C> || has_fixed_size<C>
-                                       || sizeof(C) > 2 * sizeof(void *));
-#endif
+inline constexpr bool owns_bytes = holds_bytes<C> && !std::is_base_of_v<bytes, C> && !is_view<C>;
 
 } // namespace detail
 

@@ -30,6 +30,7 @@ capn::value some_value();
 std::size_t read_some(std::byte *to, std::size_t most);
 long signed_read(std::byte *to, std::size_t most);
 extern const std::string stored;
+extern const std::array<std::uint64_t, 4> words_of_it;
 
 void right() {
     const std::vector<std::byte> message = make_vector();
@@ -48,8 +49,14 @@ void right() {
     (void)root.text({});
     const std::string fallback = make_string();
     const std::string_view name = root.text(fallback);
-    const std::string copy(root.text(std::string_view(fallback)));
+    const std::string_view other = root.text(std::string_view(fallback));
     (void)name;
+    (void)other;
+    const capn::bytes of_a_view = std::string_view(stored), of_bytes = capn::bytes(stored);
+    const capn::bytes copied = of_a_view, of_array = capn::as_bytes(words_of_it);
+    capn::check(of_bytes);
+    capn::check(copied);
+    capn::check(of_array);
     for (const auto one : root.as_struct().slot(0).list<std::uint16_t>()) (void)one;
     for (const auto one : root.as_struct().slot(1).structs()) (void)one.slot(0).text("none");
     const capn::index of_view = capn::index::of(view);
@@ -78,6 +85,12 @@ void right() {
     (void)capn::is_canonical(message, capn::form::stream);
 #ifdef __cpp_lib_span
     const capn::index of_span = capn::index::of(std::as_bytes(std::span(message)));
+    const capn::bytes bytes_of_span = std::span(message);
+    const capn::bytes words_of_span = capn::as_bytes(std::span(words_of_it));
+    const capn::segments segments_of_span = std::span(pieces);
+    capn::check(bytes_of_span);
+    capn::check(words_of_span);
+    capn::check(segments_of_span);
 #endif
 #ifdef WITH_KJ
     capnp::MallocMessageBuilder builder;
