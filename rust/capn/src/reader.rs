@@ -110,7 +110,7 @@ impl<R: Read> Reader<R> {
     /// Returns the next message with its segment table, or `None` at the end of the stream.
     ///
     /// After [`ReadError::Io`], such as a timeout or `WouldBlock`, call it again: it goes on where it was. After
-    /// [`ReadError::Refused`] it returns the same error again.
+    /// [`ReadError::Refused`] it returns the same error again; after a failed allocation it tries again.
     ///
     /// To go on after a message that a check rejects, handle its error within the loop:
     ///
