@@ -85,7 +85,8 @@ func TestShortAnswers(t *testing.T) {
 
 // A call that has room uses it, and makes none.
 func TestRoomThatIsThere(t *testing.T) {
-	message := append(bare((1<<18)<<32, (1<<18-1)<<32), bytes.Repeat([]byte{1}, 8*(1<<18-1))...)
+	const count = 1<<18 - 1
+	message := append(bare((count+1)<<32, 1|5<<32|count<<35), bytes.Repeat([]byte{1}, 8*count)...)
 	room := make([]byte, 0, len(message))
 	var answer []byte
 	var err error

@@ -232,7 +232,7 @@ func TestKeepGoing(t *testing.T) {
 	deep := stream(t, 1<<48, 1<<48, 1<<48, 0)
 	limits := limitsWith(9, 9, 2, Strict)
 	const want = "1 0 32 <nil>\n2 32 48 capn: message 2 at 32: Range at 0:0, paid 0, visits 1\n3 48 80 <nil>\n" +
-		"4 80 120 capn: message 4 at 80: TooDeep at 0:1, paid 2, visits 2\n5 120 152 <nil>\n5 120 152 EOF\n"
+		"4 80 120 capn: message 4 at 80: TooDeep at 0:2, paid 4, visits 3\n5 120 152 <nil>\n5 120 152 EOF\n"
 	for name, reader := range each(t, small, outside, small, deep, small) {
 		var got strings.Builder
 		var digests [][32]byte
