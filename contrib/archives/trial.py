@@ -180,8 +180,8 @@ def search() -> None:
     Path("archive").write_bytes(grace + ada * 20001)
     see(shell("search.sh", "archive", "0", "Ada") == (ada * 20001, "", 0), "more messages than one list has")
     Path("archive").write_bytes(ada + REFUSED + ada)
-    out, errors, status = shell("search.sh", "archive", "0", "Ada")
-    see(status == 2 and "message 2 at" in errors, f"a rejected message: {status}, {errors}")
+    _, errors, status = shell("search.sh", "archive", "0", "Ada")
+    see((status, errors) == (2, "capn: Range at 0:0, paid 0, visits 1\n"), f"a rejected message: {status}, {errors}")
 
 
 def differences() -> None:
