@@ -151,25 +151,27 @@ static uint64_t read_record(const capn_record *record) {
 }
 
 /* How many things an entry is taken for: the struct, the text, the data, and each kind of list. */
+static volatile uint64_t kept; /* so that what is read is used */
 static int read_any(const capn_entry *entry) {
     capn_record record;
     capn_items items;
     const char *text;
     const uint8_t *data;
     size_t length;
-    volatile uint64_t sum = 0;
+    uint64_t total = 0;
     int read = capn_struct(bytes, entry, &record);
-    sum += read_record(&record);
-    if (capn_text(bytes, entry, &text, &length) && ++read && text) sum += strlen(text) + (uint64_t)text[length];
+    total += read_record(&record);
+    if (capn_text(bytes, entry, &text, &length) && ++read && text) total += strlen(text) + (uint64_t)text[length];
     if (capn_data(bytes, entry, &data, &length) && ++read)
-        for (size_t i = 0; i < length; i++) sum += data[i];
+        for (size_t i = 0; i < length; i++) total += data[i];
     for (uint32_t kind = CAPN_KIND_VOID; kind <= CAPN_KIND_ROWS; kind++) {
         if (!capn_list(bytes, entry, kind, &items)) continue;
         read++;
         for (uint32_t i = 0; i < items.count && i < 1000; i++)
-            if (kind < CAPN_KIND_POINTERS) sum += capn_number(&items, i);
-        for (int i = 0; i < 1000 && capn_next(&items, &record); i++) sum += read_record(&record);
+            if (kind < CAPN_KIND_POINTERS) total += capn_number(&items, i);
+        for (int i = 0; i < 1000 && capn_next(&items, &record); i++) total += read_record(&record);
     }
+    kept = total;
     return read;
 }
 
