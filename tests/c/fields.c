@@ -150,8 +150,9 @@ static uint64_t read_record(const capn_record *record) {
     return sum;
 }
 
-/* How many things an entry is taken for: the struct, the text, the data, and each kind of list. */
 static volatile uint64_t kept; /* so that what is read is used */
+
+/* How many things an entry is taken for: the struct, the text, the data, and each kind of list. */
 static int read_any(const capn_entry *entry) {
     capn_record record;
     capn_items items;
