@@ -1,5 +1,9 @@
 pub mod Comparisons
 pub mod Counted
+pub mod Decided
+pub mod DecidedAnswers
+pub mod DecidedHeld
+pub mod DecidedRoom
 pub mod Delivered
 pub mod Digests
 pub mod Entered
