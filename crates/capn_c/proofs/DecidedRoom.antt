@@ -35,13 +35,13 @@ use Rattle.capn_c.proofs.DecidedHeld.{held_apart, one_held_refusal}
 abbrev pub IsRoom : (n size s : ℕ) → Type 0
 IsRoom n size s = ((s ≡ 0) × (size ≤ n)) ⊎ ((s ≡ 1) × (n < size))
 
-one_room : (n v w s t : ℕ) → v ≡ w → IsRoom n v s → IsRoom n w t → s ≡ t
+pub one_room : (n v w s t : ℕ) → v ≡ w → IsRoom n v s → IsRoom n w t → s ≡ t
 one_room n v w s t e (inl h) (inl k) = h.0 ∙ sym k.0
 one_room n v w s t e (inl h) (inr k) = absurd (omega (arith, e, h.1, k.1))
 one_room n v w s t e (inr h) (inl k) = absurd (omega (arith, e, h.1, k.1))
 one_room n v w s t e (inr h) (inr k) = h.0 ∙ sym k.0
 
-delivers_room : (n : ℕ) (text : List ℕ) (s size : ℕ) (old new : List ℕ) → length old ≡ n → length new ≡ n
+pub delivers_room : (n : ℕ) (text : List ℕ) (s size : ℕ) (old new : List ℕ) → length old ≡ n → length new ≡ n
     → Delivers text s size old new → IsRoom n (length text) s
 delivers_room n text s size old new o w d = elim d.either [
   | inl h ↦

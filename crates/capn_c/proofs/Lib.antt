@@ -4,6 +4,7 @@ pub mod Decided
 pub mod DecidedAnswers
 pub mod DecidedHeld
 pub mod DecidedRoom
+pub mod DecidedText
 pub mod Delivered
 pub mod Digests
 pub mod Entered

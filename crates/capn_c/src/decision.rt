@@ -16,6 +16,8 @@ use crate::hash_call::capn_hash;
 use crate::hash_segments_call::capn_hash_segments;
 use crate::index_call::capn_index;
 use crate::is_canonical_call::capn_is_canonical;
+use crate::same_call::capn_same;
+use crate::show_call::capn_show;
 use crate::survey_call::capn_survey;
 use crate::survey_segments_call::capn_survey_segments;
 use capn_abi::{CapnLimits, CapnReport};
@@ -199,5 +201,42 @@ pub fn index(
 {
     let one = capn_index(alloc, form, bytes, limits, out, first);
     let other = capn_index(alloc, form, bytes, limits, out, second);
+    (one, other)
+}
+
+/// States that the arguments of `capn_show` and the length of the buffer decide the status and the report, unless a
+/// status is 8.
+pub fn show(
+    alloc: Global,
+    form: u32,
+    bytes: &[u8],
+    limits: &CapnLimits,
+    style: u32,
+    out: &mut [u8],
+    first: &mut CapnReport,
+    second: &mut CapnReport,
+) -> (u32, u32)
+    ensures { Agree result.0 first.new result.1 second.new }
+{
+    let one = capn_show(alloc, form, bytes, limits, style, out, first);
+    let other = capn_show(alloc, form, bytes, limits, style, out, second);
+    (one, other)
+}
+
+/// States that the arguments of `capn_same` decide the status and the report, unless a status is 8.
+pub fn same(
+    alloc: Global,
+    form: u32,
+    message: &[u8],
+    compared: &[u8],
+    limits: &CapnLimits,
+    which: &mut u32,
+    first: &mut CapnReport,
+    second: &mut CapnReport,
+) -> (u32, u32)
+    ensures { Agree result.0 first.new result.1 second.new }
+{
+    let one = capn_same(alloc, form, message, compared, limits, which, first);
+    let other = capn_same(alloc, form, message, compared, limits, which, second);
     (one, other)
 }
