@@ -1,5 +1,10 @@
 pub mod Comparisons
 pub mod Counted
+pub mod Decided
+pub mod DecidedAnswers
+pub mod DecidedHeld
+pub mod DecidedRoom
+pub mod DecidedText
 pub mod Delivered
 pub mod Digests
 pub mod Entered

@@ -1,3 +1,4 @@
+pub mod Decision
 pub mod Compared
 pub mod Entries
 pub mod Figures

@@ -85,6 +85,9 @@ pub extern "C" fn capn_canonical_segments(
     // only if the tariff is out of its range.
     ensures limits { (result ≡ 3) ↔ (GiveLimits limits.now → ⊥) }
     ensures tariff { (result ≡ 4) ↔ (GiveLimits limits.now × (IsTariff limits.now.tariff → ⊥)) }
+    // `result` is 0 or 1, the status of an argument that is out of its range (3 or 4), or the status of a refusal. A
+    // refusal is never reported as a wrong argument.
+    ensures possible { (result ≤ 1) ⊎ (result ≡ 3) ⊎ (result ≡ 4) ⊎ (8 ≤ result) }
     // If `result` is 0 or 1, the message denotes one value, which has canonical bytes, and `paid` is the price. The
     // canonical bytes are in `out` if `result` is 0, and are too long for `out` if it is 1.
     ensures found { result ≤ 1 → (text : List ℕ)

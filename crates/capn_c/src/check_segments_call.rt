@@ -1,6 +1,6 @@
 //! The call `capn_check_segments`, which tests whether a message that is held in segments is accepted within limits.
 
-ghost use Rattle.std.specs.Prelude.{IsTrue, ◌≡◌, ◌≢◌, ◌↔◌, ◌≤◌};
+ghost use Rattle.std.specs.Prelude.{IsTrue, ◌≡◌, ◌≢◌, ◌⊎◌, ◌↔◌, ◌≤◌};
 ghost use Rattle.capn_value.specs.Tree.{Tree as Value};
 ghost use Rattle.capn_walk.specs.Accepted.{IsBounded};
 ghost use Rattle.capn_walk.specs.declared.survey_answer.Surveyed.{Surveyed as Survey};
@@ -52,6 +52,9 @@ pub extern "C" fn capn_check_segments(
     // only if the tariff is out of its range.
     ensures limits { (result ≡ 3) ↔ (GiveLimits limits.now → ⊥) }
     ensures tariff { (result ≡ 4) ↔ (GiveLimits limits.now × (IsTariff limits.now.tariff → ⊥)) }
+    // `result` is 0, the status of an argument out of its range (3 or 4), or the status of a refusal. A refusal is
+    // never reported as a short buffer (1) or as a wrong argument.
+    ensures possible { (result ≡ 0) ⊎ (result ≡ 3) ⊎ (result ≡ 4) ⊎ (8 ≤ result) }
     // If `result` is 0, the segments are an accepted message. `paid` is the price, `visits` the number of visits, and
     // all other fields of the report are 0.
     ensures found { result ≡ 0 → (s : Survey) × SurveysHeld (message_of segments.now) (bounds_of limits.now) s

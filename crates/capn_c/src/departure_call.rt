@@ -103,6 +103,9 @@ pub extern "C" fn capn_departure(
     ensures form { (result ≡ 2) ↔ (IsForm form → ⊥) }
     ensures limits { (result ≡ 3) ↔ (IsForm form × (GiveLimits limits.now → ⊥)) }
     ensures tariff { (result ≡ 4) ↔ (IsForm form × GiveLimits limits.now × (IsTariff limits.now.tariff → ⊥)) }
+    // `result` is 0, the status of an argument out of its range (2, 3 or 4), or the status of a refusal. A refusal is
+    // never reported as a short buffer (1) or as a wrong argument.
+    ensures possible { (result ≡ 0) ⊎ (result ≡ 2) ⊎ (result ≡ 3) ⊎ (result ≡ 4) ⊎ (8 ≤ result) }
     // If `result` is 0, the bytes are an accepted message, and `departed` is the mismatch of the message with its
     // canonical bytes. The path is in `way` if it fits. The report has the length of the path, the price and the number
     // of visits.

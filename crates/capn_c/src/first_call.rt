@@ -95,6 +95,9 @@ pub extern "C" fn capn_first(
     // only if the tariff is out of its range.
     ensures limits { (result ≡ 3) ↔ (GiveLimits limits.now → ⊥) }
     ensures tariff { (result ≡ 4) ↔ (GiveLimits limits.now × (IsTariff limits.now.tariff → ⊥)) }
+    // `result` is 0, the status of an argument out of its range (3 or 4), or the status of a refusal. A refusal is
+    // never reported as a short buffer (1) or as a wrong argument.
+    ensures possible { (result ≡ 0) ⊎ (result ≡ 3) ⊎ (result ≡ 4) ⊎ (8 ≤ result) }
     // If `result` is 0, the first `length` bytes are the frame of a message of at most `message_words` words.
     ensures found { result ≡ 0 → (message : List (List ℕ))
         × StandsFirst bytes.now limits.now.message_words message report.new.length }

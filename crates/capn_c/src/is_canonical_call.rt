@@ -52,6 +52,9 @@ pub extern "C" fn capn_is_canonical(
     // only if the tariff is out of its range.
     ensures limits { (result ≡ 3) ↔ (GiveLimits limits.now → ⊥) }
     ensures tariff { (result ≡ 4) ↔ (GiveLimits limits.now × (IsTariff limits.now.tariff → ⊥)) }
+    // `result` is 0 or 5, the status of an argument that is out of its range (3 or 4), or the status of a refusal. A
+    // refusal is never reported as a short buffer (1) or as a wrong argument.
+    ensures possible { (result ≡ 0) ⊎ (result ≡ 3) ⊎ (result ≡ 4) ⊎ (result ≡ 5) ⊎ (8 ≤ result) }
     // If `result` is 0 or 5, the bytes denote one value, which has no capability. `result` is 0 if the bytes are the
     // canonical bytes of that value.
     ensures yes { result ≡ 0 → SaysCanonical bytes.now (bounds_of limits.now) true }

@@ -19,6 +19,7 @@ mod canonical_segments_call;
 mod check_call;
 mod check_segments_call;
 mod compared;
+pub mod decision;
 mod departed;
 mod departure_call;
 mod entries;
