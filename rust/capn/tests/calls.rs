@@ -3,6 +3,7 @@ use capn::{
     segments, Error, Form, Index, Kind, Limit, Limits, Place, ReadError, Reader, SameError,
     ScratchError, Style, Tariff, Value, Which,
 };
+use std::ffi::CStr;
 use std::io::{self, Read, Write};
 use std::os::unix::net::UnixStream;
 
@@ -189,7 +190,6 @@ fn a_message_is_shown() {
     );
     let refused = capn::show(&hostile(), Form::Stream, &USUAL, Style::Text).unwrap_err();
     assert_eq!(refused.kind(), Some(Kind::TooDeep));
-    assert_eq!(Error::Style.to_string(), "the style is none of the four");
 }
 
 /// An object that three pointers lead to is written three times: the answer is longer than the message.
@@ -262,6 +262,22 @@ fn refusals_have_a_kind_a_place_and_the_text_of_the_program() {
     assert_eq!(
         Index::new(&[], Form::Packed, &USUAL).unwrap_err(),
         Error::Form
+    );
+}
+
+/// An error that isn't about the message has the text of its status.
+#[test]
+fn errors_of_calls_have_the_texts_of_the_library() {
+    let text = |status| {
+        let text = unsafe { CStr::from_ptr(capn_sys::capn_status_text(status)) };
+        text.to_str().expect("ASCII").to_owned()
+    };
+    assert_eq!(Error::Memory.to_string(), "out of memory");
+    assert_eq!(Error::Form.to_string(), text(capn_sys::CAPN_BAD_FORM));
+    assert_eq!(Error::Style.to_string(), text(capn_sys::CAPN_BAD_STYLE));
+    assert_eq!(
+        Error::OutOfRange(Limit::Depth).to_string(),
+        text(capn_sys::CAPN_BAD_LIMITS) + ": depth"
     );
 }
 
