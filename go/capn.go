@@ -311,14 +311,14 @@ func limitsOf(limits *Limits) Limits {
 // longer than the cost of the message allows. A message that is invalid, or over a limit, is then an error before a
 // buffer is made.
 func roomFor(message []byte, form Form, l Limits, perWord uint64, there int) (int, error) {
-	words, most := uint64(len(message)/8), uint64(l.MessageWords)+tableWords
+	words, longest := uint64(len(message)/8), uint64(l.MessageWords)+tableWords
 	switch form {
 	case Packed:
-		words = packedWords(message, most)
+		words = packedWords(message, longest)
 	case Bare:
-		most = bareWords
+		longest = bareWords
 	}
-	if words > most {
+	if words > longest {
 		words = 0 // the call rejects it
 	}
 	if words > uint64(l.Budget)+1 {

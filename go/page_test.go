@@ -272,7 +272,7 @@ func TestPage(t *testing.T) {
 		is("has a digest", one.want, told(2, one.message, hex0))
 	}
 
-	is("limits", "reading it costs 20 words and follows 7 pointers\n", told(3, person))
+	is("limits", "reading it costs 14 words and follows 5 pointers\n", told(3, person))
 	is("limits", "rejected: capn: TooDeep at 0:0, paid 64, visits 33\n(1)\n", told(3, hostile))
 
 	place := fmt.Sprintf("message 1 at 0: %x\n", digest)
@@ -299,7 +299,7 @@ func TestPage(t *testing.T) {
 	// What is signed, and envelopes of it.
 	text := func(text string) *item {
 		list := &item{kind: 'l', code: 2, count: len(text), words: make([]uint64, (len(text)+7)/8)}
-		for i := range text {
+		for i := 0; i < len(text); i++ {
 			list.words[i/8] |= uint64(text[i]) << (8 * (i % 8))
 		}
 		return list
