@@ -226,15 +226,17 @@ enum capn_status_code {
 /* Writes the canonical bytes of one message to `out`.
  * CAPN_NO_ROOM: the buffer is too small, and `length` is the exact length. With a `room` of 0 the call only checks the
  * message, and `length` is enough but not exact: 8 * (paid + 1).
- * CAPN_TRAILING: other bytes follow the message. Of CAPN_STREAM, `at` is its length: call again with that size. Of
+ * CAPN_TRAILING: other bytes follow the message. For CAPN_STREAM, `at` is its length: call again with that size. For
  * CAPN_PACKED, `at` is an offset in the unpacked bytes: unpack them first, by capn_unpack, and go on with CAPN_STREAM.
  * The same holds for capn_hash and capn_check.
+ *
  * It allocates for a packed message, and for the table of a stream of more than 64 segments. */
 capn_status capn_canonical(uint32_t form, const uint8_t *bytes, size_t size, const capn_limits *limits, uint8_t *out,
                            size_t room, capn_report *report);
 
 /* Whether a single segment without a table is canonical: CAPN_OK, CAPN_NOT_CANONICAL, or an error. With the first two
  * every field of the report is 0. It never allocates.
+ *
  * Do not pass a message with a segment table: read as CAPN_BARE, nearly every message of one segment looks canonical.
  * Call capn_survey for these, and read `canonical` of its figures. */
 capn_status capn_is_canonical(const uint8_t *bytes, size_t size, const capn_limits *limits, capn_report *report);
@@ -271,6 +273,7 @@ const char *capn_status_text(capn_status status);
  * CAPN_FRAME_EMPTY, CAPN_FRAME_CUT: the message is not complete. It has at least `length` bytes, which is more than
  * `size`: read up to that many, and call again. `length` is 8, then the length of the table, then that of the message,
  * which is at most 8 * (message_words + 2049). A caller that reads so never reads a byte after the message.
+ *
  * It allocates for the table of more than 64 segments, once the message is complete. */
 capn_status capn_first(const uint8_t *bytes, size_t size, const capn_limits *limits, capn_report *report);
 
@@ -280,6 +283,7 @@ capn_status capn_first(const uint8_t *bytes, size_t size, const capn_limits *lim
  * follow. If none follow, the packed bytes are truncated.
  * CAPN_PACKED_TOO_LONG: the group at `at` has more words than fit. Pass it again with another buffer.
  * CAPN_MEMORY: nothing was taken, and `out` is unchanged.
+ *
  * With the first three, `at` bytes were taken and `length` bytes were written, and the rest of `out` is unchanged. A
  * group has at most 2,050 bytes and 256 words. With a `room` of 2,048 each call therefore takes something, or needs
  * more bytes. It allocates for the words that it writes. */
@@ -298,6 +302,7 @@ capn_status capn_survey(uint32_t form, const uint8_t *bytes, size_t size, const 
  * CAPN_NO_ROOM: there are `visits` entries, more than `most_entries`. capn_count_entries of capn_fields.h returns that
  * number.
  * CAPN_BAD_FORM: the form is CAPN_PACKED. Unpack the message first.
+ *
  * With the first two, `length` is 24 * visits, the bytes of all entries. The entries are written only with CAPN_OK.
  * An entry never leads outside of `bytes`, also for a hostile message: all the content that its offset, its kind and
  * its numbers describe lies within them. The offset of a null and of a capability has no meaning.
@@ -311,6 +316,7 @@ capn_status capn_index(uint32_t form, const uint8_t *bytes, size_t size, const c
 /* Writes a message as text: exactly what `capn show` prints of it in that style, with the line `end`. No zero byte ends
  * it. `out` is written only with CAPN_OK. The report has `length`, `paid` and `visits`.
  * CAPN_NO_ROOM: the buffer is too small or has size 0, and `length` is exact.
+ *
  * It accepts and rejects what capn_check does. It allocates for the table of more than 64 segments, for a packed
  * message, and for the text of a valid message, also if the buffer is too small. The text of a small message may be
  * long: lower the limits for messages that you do not trust. */
@@ -326,10 +332,12 @@ capn_status capn_show(uint32_t form, const uint8_t *bytes, size_t size, const ca
  *   - In a list of pointers it selects an element.
  *   - In a list of structs it selects an element, and the next number selects a pointer of that element.
  *   - The path of the root is empty.
+ *
  * With an error from 64 to 74, `length` is 4 * the numbers of the path. If they are at most `most_numbers`, they are at
  * the start of `way`, and the rest is unchanged. Otherwise `way` is unchanged, and only `length` shows it: compare it
  * before you read `way`. 2 * `depth` numbers are always enough, and so are CAPN_LONGEST_PATH. With any other status
  * `way` is unchanged.
+ *
  * It allocates as capn_check does, and for the path. It reads an invalid message twice at most. */
 capn_status capn_refusal_way(uint32_t form, const uint8_t *bytes, size_t size, const capn_limits *limits, uint32_t *way,
                              size_t most_numbers, capn_report *report);
@@ -339,6 +347,7 @@ capn_status capn_refusal_way(uint32_t form, const uint8_t *bytes, size_t size, c
  * CAPN_DEPARTS_CAPABILITY and CAPN_DEPARTS_WORD there is a path, of `numbers` numbers. It is in `way` if they are at
  * most `most_numbers`; otherwise `way` is unchanged. The report has `length`, which is 4 * `numbers`, `paid` and
  * `visits`. `departed` and `way` are written only with CAPN_OK.
+ *
  * It accepts and rejects what capn_check does. It allocates for the table of a stream of more than 64 segments, for a
  * packed message, and, for a message of one segment that is not canonical, for its canonical bytes and for the path. It
  * reads a message several times. */
@@ -350,9 +359,11 @@ capn_status capn_departure(uint32_t form, const uint8_t *bytes, size_t size, con
 
 /* Compares the values of two messages of the same form, without writing their canonical bytes.
  * CAPN_OK: the values are the same. CAPN_DIFFERENT: they differ. With these two every field of the report is 0.
+ *
  * Otherwise the status is the error that capn_canonical returns for `a`, or, if `a` has canonical bytes, for `b`. The
  * call looks at `b` only if `a` has canonical bytes. Every call writes `which`, unless it is null: 1 if `b` is rejected
  * or an allocation for it failed, else 0.
+ *
  * `a` and `b` may overlap. It allocates as capn_check does. It reads both messages, and then compares them up to the
  * first difference. */
 capn_status capn_same(uint32_t form, const uint8_t *a, size_t size_a, const uint8_t *b, size_t size_b,
@@ -375,6 +386,7 @@ capn_status capn_same(uint32_t form, const uint8_t *a, size_t size_a, const uint
  * CAPN_NO_SCRATCH: the scratch is too small, and `at` is how many words are needed: call again with that many. For a
  * packed message the first call may count the unpacked words alone, so that the second asks for more. A third does not.
  * CAPN_NO_ROOM: the buffer is too small or has size 0, and `length` is exact.
+ *
  * Every other status is that of capn_canonical. `out` is written only with CAPN_OK. */
 capn_status capn_canonical_with_scratch(uint32_t form, const uint8_t *bytes, size_t size, const capn_limits *limits,
                                         void *scratch, size_t words, uint8_t *out, size_t room, capn_report *report);
@@ -390,6 +402,7 @@ capn_status capn_canonical_with_scratch(uint32_t form, const uint8_t *bytes, siz
  *   - With more words than `message_words` it is CAPN_TOO_MANY_WORDS. `at` is their number, or 2^64 - 1 if that is
  *     greater.
  *   - CAPN_BAD_FORM and the errors 16 to 33, 51 and 52 do not occur.
+ *
  * Only capn_hash_segments allocates, for the canonical bytes. It leaves `digest` unchanged on an error. */
 capn_status capn_canonical_segments(const capn_segment *segments, size_t count, const capn_limits *limits, uint8_t *out,
                                     size_t room, capn_report *report);

@@ -1,7 +1,6 @@
-"""Cap'n Proto messages by the proved library, over ctypes: canonical, is_canonical, digest, check, pack, unpack, each.
+"""The library for C through ctypes: canonical, is_canonical, digest, check, pack, unpack, each.
 
-Run as a program, it writes the canonical bytes of the message on standard input. CAPN_LIBRARY names the shared
-library."""
+As a program it writes the canonical bytes of the message on standard input. CAPN_LIBRARY names the shared library."""
 import ctypes
 import os
 import sys
@@ -28,7 +27,7 @@ class Report(ctypes.Structure):
 
 
 class Refused(ValueError):
-    """A call was refused: the status and the report of capn.h."""
+    """The error of a call: the status and the report of capn.h."""
 
     def __init__(self, status, report):
         super().__init__(f"status {status} at {report.at}, slot {report.segment}:{report.word}, paid {report.paid}")
@@ -51,7 +50,7 @@ for _name, _takes in {
 
 
 def _answer(call):
-    """Calls with no room, and then with the length that was reported: the answer and its price."""
+    """Calls with a buffer of size 0, and then of the length that was reported. Returns the bytes and their cost."""
     report = Report()
     status = call(None, 0, report)
     out = None
@@ -65,13 +64,13 @@ def _answer(call):
 
 
 def canonical(message, form=STREAM, limits=USUAL):
-    """The canonical bytes of one message, and what its walk paid."""
+    """Returns the canonical bytes of one message, and the cost of reading it in words."""
     return _answer(lambda out, room, report: _lib.capn_canonical(
         form, message, len(message), limits, out, room, report))
 
 
 def is_canonical(message, limits=USUAL):
-    """Whether bytes, read bare, are the canonical bytes of their value."""
+    """Returns whether a single segment without a table is canonical."""
     report = Report()
     status = _lib.capn_is_canonical(message, len(message), limits, report)
     if status not in (OK, NOT_CANONICAL):
@@ -80,7 +79,7 @@ def is_canonical(message, limits=USUAL):
 
 
 def digest(message, form=STREAM, limits=USUAL):
-    """The SHA-256 of the canonical bytes of one message."""
+    """Returns the SHA-256 of the canonical bytes of one message."""
     report, out = Report(), ctypes.create_string_buffer(32)
     status = _lib.capn_hash(form, message, len(message), limits, out, report)
     if status != OK:
@@ -89,7 +88,7 @@ def digest(message, form=STREAM, limits=USUAL):
 
 
 def check(message, form=STREAM, limits=USUAL):
-    """What the walk of one message pays, and how many visits it makes."""
+    """Checks one message. Returns the cost of reading it in words, and how many pointers that follows."""
     report = Report()
     status = _lib.capn_check(form, message, len(message), limits, report)
     if status != OK:
@@ -98,17 +97,17 @@ def check(message, form=STREAM, limits=USUAL):
 
 
 def pack(words):
-    """The packed text of whole words."""
+    """Packs whole words."""
     return _answer(lambda out, room, report: _lib.capn_pack(words, len(words), out, room, report))[0]
 
 
 def unpack(text, max_words=8388608 + 2049):
-    """The words of a packed text, at most max_words."""
+    """Unpacks packed bytes, to at most max_words words."""
     return _answer(lambda out, room, report: _lib.capn_unpack(text, len(text), max_words, out, room, report))[0]
 
 
 def each(stream, limits=USUAL):
-    """Each message of a stream, as its bytes: TRAILING says where the first one ends. None is copied but by itself."""
+    """Yields the bytes of each message of a stream. TRAILING reports where the first one ends."""
     report, start, size = Report(), ctypes.cast(stream, ctypes.c_void_p).value, len(stream)
     at = 0
     while at < size:

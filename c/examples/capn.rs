@@ -1,9 +1,9 @@
-//! Cap'n Proto messages by the proved library: canonical, is_canonical, digest, check, pack, unpack, each.
+//! The library for C, from Rust: canonical, is_canonical, digest, check, pack, unpack, each.
 //!
-//! Run as a program, it writes the canonical bytes of the message in a file.
+//! As a program it writes the canonical bytes of the message in a file.
 use std::io::Write;
 
-/// How the bytes of a message are written: after a segment table, the packed text of that, or the words alone.
+/// How the bytes of a message are encoded: after a segment table, the same packed, or a single segment without a table.
 #[repr(u32)]
 #[derive(Clone, Copy, PartialEq)]
 pub enum Form {
@@ -12,7 +12,7 @@ pub enum Form {
     Bare,
 }
 
-/// How a walk counts what it pays.
+/// How the cost of reading a message is counted.
 #[repr(u32)]
 #[derive(Clone, Copy)]
 pub enum Tariff {
@@ -55,7 +55,7 @@ pub struct Report {
     pub word: u32,
 }
 
-/// A call was refused: the status and the report of capn.h.
+/// The error of a call: the status and the report of capn.h.
 #[derive(Debug)]
 pub struct Refused {
     pub status: u32,
@@ -116,7 +116,7 @@ unsafe extern "C" {
     ) -> u32;
 }
 
-/// The report of a call, unless its status refuses.
+/// Returns the report of a call, or its error.
 fn reported(call: impl FnOnce(&mut Report) -> u32) -> Result<Report, Refused> {
     let mut report = Report::default();
     match call(&mut report) {
@@ -125,7 +125,7 @@ fn reported(call: impl FnOnce(&mut Report) -> u32) -> Result<Report, Refused> {
     }
 }
 
-/// Calls with no room, and then with the length that was reported: the answer and its price.
+/// Calls with a buffer of size 0, and then of the length that was reported. Returns the bytes and their cost.
 fn answer(call: impl Fn(&mut [u8], &mut Report) -> u32) -> Result<(Vec<u8>, u32), Refused> {
     let mut out = Vec::new();
     let report = match reported(|report| call(&mut out, report)) {
@@ -142,7 +142,7 @@ fn answer(call: impl Fn(&mut [u8], &mut Report) -> u32) -> Result<(Vec<u8>, u32)
     Ok((out, report.paid))
 }
 
-/// The canonical bytes of one message, and what its walk paid.
+/// Returns the canonical bytes of one message, and the cost of reading it in words.
 pub fn canonical(message: &[u8], form: Form, limits: &Limits) -> Result<(Vec<u8>, u32), Refused> {
     let (bytes, size) = (message.as_ptr(), message.len());
     answer(|out, report| unsafe {
@@ -158,7 +158,7 @@ pub fn canonical(message: &[u8], form: Form, limits: &Limits) -> Result<(Vec<u8>
     })
 }
 
-/// Whether bytes, read bare, are the canonical bytes of their value.
+/// Returns whether a single segment without a table is canonical.
 pub fn is_canonical(message: &[u8], limits: &Limits) -> Result<bool, Refused> {
     let (bytes, size) = (message.as_ptr(), message.len());
     match reported(|report| unsafe { capn_is_canonical(bytes, size, limits, report) }) {
@@ -170,7 +170,7 @@ pub fn is_canonical(message: &[u8], limits: &Limits) -> Result<bool, Refused> {
     }
 }
 
-/// The SHA-256 of the canonical bytes of one message.
+/// Returns the SHA-256 of the canonical bytes of one message.
 pub fn digest(message: &[u8], form: Form, limits: &Limits) -> Result<[u8; 32], Refused> {
     let (bytes, size) = (message.as_ptr(), message.len());
     let mut digest = [0; 32];
@@ -178,14 +178,14 @@ pub fn digest(message: &[u8], form: Form, limits: &Limits) -> Result<[u8; 32], R
     Ok(digest)
 }
 
-/// What the walk of one message pays, and how many visits it makes.
+/// Checks one message. Returns the cost of reading it in words, and how many pointers that follows.
 pub fn check(message: &[u8], form: Form, limits: &Limits) -> Result<(u32, u32), Refused> {
     let (bytes, size) = (message.as_ptr(), message.len());
     let report = reported(|report| unsafe { capn_check(form, bytes, size, limits, report) })?;
     Ok((report.paid, report.visits))
 }
 
-/// The packed text of whole words.
+/// Packs whole words.
 pub fn pack(words: &[u8]) -> Result<Vec<u8>, Refused> {
     let (bytes, size) = (words.as_ptr(), words.len());
     let (text, _) = answer(|out, report| unsafe {
@@ -194,7 +194,7 @@ pub fn pack(words: &[u8]) -> Result<Vec<u8>, Refused> {
     Ok(text)
 }
 
-/// The words of a packed text, at most `max_words`.
+/// Unpacks packed bytes, to at most `max_words` words.
 pub fn unpack(text: &[u8], max_words: u32) -> Result<Vec<u8>, Refused> {
     let (bytes, size) = (text.as_ptr(), text.len());
     let (words, _) = answer(|out, report| unsafe {
@@ -203,7 +203,7 @@ pub fn unpack(text: &[u8], max_words: u32) -> Result<Vec<u8>, Refused> {
     Ok(words)
 }
 
-/// Each message of a stream, as its bytes: `TRAILING` says where the first one ends.
+/// Yields the bytes of each message of a stream. `TRAILING` reports where the first one ends.
 pub fn each<'a>(mut stream: &'a [u8], limits: &Limits) -> impl Iterator<Item = &'a [u8]> {
     std::iter::from_fn(move || {
         if stream.is_empty() {

@@ -25,9 +25,10 @@ int main(void) {
     for (;;) {
         status = capn_first(bytes, have, &limits, &report);
         if (status == CAPN_FRAME_EMPTY || status == CAPN_FRAME_CUT) {
+            /* The buffer grows as bytes arrive, and not at once to the length that a segment table announces. */
             const size_t need = report.length;
-            if (need > room) {
-                room = need > 2 * room ? need : 2 * room;
+            if (have == room) {
+                room = room ? 2 * room : 4096;
                 uint8_t *more = realloc(bytes, room);
                 if (!more) {
                     status = CAPN_MEMORY;
@@ -35,7 +36,7 @@ int main(void) {
                 }
                 bytes = more;
             }
-            const ssize_t came = read(STDIN_FILENO, bytes + have, need - have);
+            const ssize_t came = read(STDIN_FILENO, bytes + have, (need < room ? need : room) - have);
             if (came == 0) break; /* the end of the stream */
             if (came > 0) have += (size_t)came;
             if (came > 0 || errno == EINTR) continue;

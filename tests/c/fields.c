@@ -4,11 +4,13 @@
  *     fields old | new   shows each message of a stream of fields.capnp as fields.c++ does, read by one of its types
  *     fields any         reads each pointer of each message of a stream as anything, and counts what it reads
  *     fields lines       the same, with a line for each pointer, in preorder, of what is read there
+ *     fields go          the same lines as go/fields_test.go writes
+ *     fields python      the same lines as tests/python/anything.py writes
  *
  * A line has ten parts, with a space between: the struct; the text; the data; the lists of numbers of 1, 8, 16, 32 and
  * 64 bits; the list of pointers; the list of structs. A part is `-` where the pointer refers to something else. Else it
  * is a sum (FNV-1a over numbers of 64 bits, in hexadecimal) of:
- *   - a struct: `fields`, below, of each width
+ *   - a struct: what a struct has, below
  *   - a text and a data: their length, and their bytes
  *   - a list of numbers: its length, and its numbers, at most a thousand
  *   - a list of pointers: its length, and of each, at most a thousand, the number of its kind
@@ -148,6 +150,8 @@ static uint64_t read_record(const capn_record *record) {
     return sum;
 }
 
+static volatile uint64_t kept; /* so that what is read is used */
+
 /* How many things an entry is taken for: the struct, the text, the data, and each kind of list. */
 static int read_any(const capn_entry *entry) {
     capn_record record;
@@ -155,19 +159,20 @@ static int read_any(const capn_entry *entry) {
     const char *text;
     const uint8_t *data;
     size_t length;
-    volatile uint64_t sum = 0;
+    uint64_t total = 0;
     int read = capn_struct(bytes, entry, &record);
-    sum += read_record(&record);
-    if (capn_text(bytes, entry, &text, &length) && ++read && text) sum += strlen(text) + (uint64_t)text[length];
+    total += read_record(&record);
+    if (capn_text(bytes, entry, &text, &length) && ++read && text) total += strlen(text) + (uint64_t)text[length];
     if (capn_data(bytes, entry, &data, &length) && ++read)
-        for (size_t i = 0; i < length; i++) sum += data[i];
+        for (size_t i = 0; i < length; i++) total += data[i];
     for (uint32_t kind = CAPN_KIND_VOID; kind <= CAPN_KIND_ROWS; kind++) {
         if (!capn_list(bytes, entry, kind, &items)) continue;
         read++;
         for (uint32_t i = 0; i < items.count && i < 1000; i++)
-            if (kind < CAPN_KIND_POINTERS) sum += capn_number(&items, i);
-        for (int i = 0; i < 1000 && capn_next(&items, &record); i++) sum += read_record(&record);
+            if (kind < CAPN_KIND_POINTERS) total += capn_number(&items, i);
+        for (int i = 0; i < 1000 && capn_next(&items, &record); i++) total += read_record(&record);
     }
+    kept = total;
     return read;
 }
 
@@ -240,9 +245,87 @@ static void show_line(const capn_entry *entry) {
     printf("\n");
 }
 
+/* ---- lines of other programs: each thing that a pointer is read as, by its name */
+
+static int is_go;
+static void add_number(uint64_t number) {
+    if (!is_go) add(number);
+    for (int i = 0; is_go && i < 64; i += 8) add(number >> i & 0xff); /* its bytes */
+}
+static void add_data(const void *data, size_t length, size_t most) {
+    add_number(length);
+    for (size_t i = 0; i < length && i < most; i++) add(((const uint8_t *)data)[i]);
+}
+static void add_kind_number(const capn_entry *entry) { add_number(entry ? entry->kind : CAPN_KIND_NULL); }
+
+static void add_struct(const capn_record *record) {
+    static const uint32_t widths[] = {1, 8, 16, 32, 64};
+    const uint32_t words = (record->bits + 63) / 64;
+    for (int w = 0; w < 5; w++)
+        for (uint32_t i = 0; i < (is_go ? 256 / widths[w] : 64 * words / widths[w] + 2); i++)
+            add_number(capn_field(record, i * widths[w], widths[w], is_go ? i + 1 : i));
+    if (!is_go) add_number(record->slots);
+    for (uint32_t k = 0; k < (is_go ? 4 : record->slots + 2); k++) add_kind_number(capn_slot(record, k));
+}
+
+static void end_named(const char *name) { printf(" %s %016" PRIx64, name, sum); }
+
+static void show_named(const capn_entry *entry) {
+    static const uint32_t kinds[] = {CAPN_KIND_BITS, CAPN_KIND_BYTES, CAPN_KIND_U16, CAPN_KIND_U32, CAPN_KIND_U64};
+    static const char *const names[2][5] = {{"bits", "u8", "u16", "u32", "u64"},
+                                            {"numbers1", "numbers8", "numbers16", "numbers32", "numbers64"}};
+    const size_t most = is_go ? SIZE_MAX : 1000;
+    const uint32_t most_rows = is_go ? 100 : 1000;
+    capn_record record;
+    capn_items items;
+    const char *text;
+    const uint8_t *data;
+    size_t length;
+    begin();
+    if (capn_struct(bytes, entry, &record)) add_struct(&record), end_named("struct");
+    for (int part = 0; part < 2; part++) { /* Go has the data first, Python the text */
+        begin();
+        if (part == is_go && capn_text(bytes, entry, &text, &length)) {
+            if (!text && is_go) text = "none", length = 4;
+            add_data(text, length, most);
+            end_named("text");
+        } else if (part != is_go && capn_data(bytes, entry, &data, &length)) {
+            add_data(data, length, most);
+            end_named("data");
+        }
+    }
+    begin();
+    if (capn_list(bytes, entry, CAPN_KIND_VOID, &items)) add_number(items.count), end_named("void");
+    for (int i = 0; i < 5; i++) {
+        begin();
+        if (!capn_list(bytes, entry, kinds[i], &items)) continue;
+        add_number(items.count);
+        for (uint32_t k = 0; k < items.count && k < 1000; k++) add_number(capn_number(&items, k));
+        end_named(names[is_go][i]);
+    }
+    begin();
+    if (capn_list(bytes, entry, CAPN_KIND_POINTERS, &items)) {
+        add_number(items.count);
+        for (uint32_t k = 0; k < most_rows && capn_next(&items, &record); k++)
+            add_kind_number(capn_slot(&record, 0));
+        end_named("pointers");
+    }
+    begin();
+    if (capn_list(bytes, entry, CAPN_KIND_ROWS, &items)) {
+        add_number(items.count);
+        for (uint32_t k = 0; k < most_rows && capn_next(&items, &record); k++) add_struct(&record);
+        end_named("rows");
+    }
+    printf("\n");
+}
+
 /* Each message of a stream, in memory of exactly its length. */
 static int show_stream(const char *as) {
-    uint64_t messages = 0, pointers = 0, read = 0;
+    static const char *const kinds[] = {"null", "struct", "void", "bits", "bytes", "u16", "u32", "u64", "pointers",
+                                        "rows", "capability"};
+    const int is_any = !strcmp(as, "any"), is_lines = !strcmp(as, "lines"), is_python = !strcmp(as, "python");
+    uint64_t number = 0, messages = 0, pointers = 0, read = 0;
+    is_go = !strcmp(as, "go");
     const capn_limits limits = CAPN_USUAL_LIMITS;
     size_t have = 0, room = 1 << 16, got;
     uint8_t *all = malloc(room);
@@ -260,20 +343,24 @@ static int show_stream(const char *as) {
             const uint32_t count = report.visits;
             capn_entry *entries = malloc(count * sizeof *entries);
             if (capn_index(CAPN_STREAM, message, size, &limits, entries, count, &report) != CAPN_OK) return 1;
-            if (!strcmp(as, "lines"))
-                for (uint32_t i = 0; i < count; i++) show_line(&entries[i]);
-            else if (!strcmp(as, "any"))
-                for (uint32_t i = 0; i < count; i++) read += (uint64_t)read_any(&entries[i]);
-            else show_message(entries, !strcmp(as, "new"));
+            for (uint32_t i = 0; i < count; i++)
+                if (is_lines) show_line(&entries[i]);
+                else if (is_any) read += (uint64_t)read_any(&entries[i]);
+                else if (is_go || is_python) {
+                    if (is_go) printf("%" PRIu64 " %s", pointers + i + 1, kinds[entries[i].kind]);
+                    else printf("%" PRIu64 " %" PRIu32, number, i);
+                    show_named(&entries[i]);
+                } else if (i == 0) show_message(entries, !strcmp(as, "new"));
             messages++;
             pointers += count;
             free(entries);
-        } else if (!strcmp(as, "lines")) printf("refused\n");
-        else if (strcmp(as, "any")) return 1;
+        } else if (is_lines) printf("refused\n");
+        else if (!is_any && !is_go && !is_python) return 1;
+        number++;
         free(message);
     }
     free(all);
-    if (!strcmp(as, "any"))
+    if (is_any)
         printf("%" PRIu64 " messages, %" PRIu64 " pointers, %" PRIu64 "\n", messages, pointers, read);
     return failed != 0;
 }
