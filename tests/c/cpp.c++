@@ -697,7 +697,7 @@ static void canonical_lists() {
 
 /* Lists are ranges of the standard library, and so is a reader. */
 static void ranges() {
-    const std::string message = framed(words({2ull << 48, 5 | 0x23ull << 32, 5 | 0x1full << 32, 0x0004000300020001,
+    const std::string message = framed(words({2ull << 48, 5 | 0x23ull << 32, 5 | 0x17ull << 32, 0x0004000300020001,
                                               8 | 1ull << 32, 30, 40}));
     const capn::index index = capn::index::of(message);
     const auto numbers = index.root().as_struct().slot(0).list<std::uint16_t>();

@@ -3,9 +3,10 @@
 // Each block of the page is compiled alone and linked with this. The first word says which one runs, over the bytes of
 // standard input.
 //
-//     cpp_page check | field | explain | reason | canonical | valid | each | packed | signed DIGEST
+//     cpp_page check | field | explain | reason | canonical | valid | each | packed | signed DIGEST | compare FILE
 #include <capn.hpp>
 #include <cstdio>
+#include <fstream>
 #include <iostream>
 #include <iterator>
 #include <string>
@@ -17,6 +18,7 @@
 std::vector<std::byte> canonical_bytes(capn::bytes message, const capn::limits &limits);
 bool has_digest(capn::bytes message, const capn::digest_bytes &digest, const capn::limits &limits);
 std::size_t write_canonical(capn::bytes message, void *out, std::size_t room, const capn::limits &limits) noexcept;
+std::string compare(capn::bytes first, capn::bytes second, const capn::limits &limits);
 bool is_within_limits(capn::bytes message);
 std::string reason_to_reject(capn::bytes message, const capn::limits &limits);
 std::uint64_t count_valid(int file, const capn::limits &limits);
@@ -51,6 +53,11 @@ int main(int count, char **words) try {
     if (word == "field") return print_person(message, limits), 0;
     if (word == "explain") return std::cout << describe(message, limits) << "\n", 0;
     if (word == "reason") return std::cout << reason_to_reject(message, limits) << "\n", 0;
+    if (word == "compare" && count > 2) {
+        std::ifstream file(words[2], std::ios::binary);
+        const std::string other((std::istreambuf_iterator<char>(file)), {});
+        return std::cout << compare(message, other, limits) << "\n", 0;
+    }
     if (word == "canonical") {
         const std::vector<std::byte> made = canonical_bytes(message, limits);
         put(made);

@@ -91,7 +91,10 @@ void times(const std::vector<std::uint64_t> &words) {
                std::free(all);
                return first;
            },
-           [&] { return std::uint64_t{capn::index::of(message, capn::form::stream, limits).data()[0].count}; });
+           [&] {
+               const capn::index made = capn::index::of(message, capn::form::stream, limits);
+               return std::uint64_t{made.data()[0].count};
+           });
 }
 
 } // namespace
