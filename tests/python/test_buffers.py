@@ -13,6 +13,7 @@ import unittest.mock
 
 import capn
 from messages import stream
+from tried import IS_SANITIZED
 
 try:
     import numpy
@@ -20,7 +21,6 @@ except ImportError:
     numpy = None
 
 SMALL = bytes.fromhex("0000000003000000" "0000000002000000" "0500000000000000" "0000000000000000")
-IS_SANITIZED = "libasan" in os.environ.get("LD_PRELOAD", "")
 GIB = 1 << 30
 
 

@@ -8,6 +8,7 @@ from pathlib import Path
 
 import capn
 from messages import stream
+from tried import IS_SANITIZED
 
 # The words of a segment whose root is a list of pointers, all null: 16 MiB.
 COUNT = (1 << 21) - 1
@@ -44,7 +45,8 @@ print(refusal.way, refusal.byte)
 
 # What docs/DIAGNOSTICS.md has for it.
 PAGE = Path(__file__).resolve().parents[2] / "docs" / "DIAGNOSTICS.md"
-TEXT = re.search(r"^\| `([^`]+)` \| memory was refused ", PAGE.read_text(encoding="utf-8"), re.M)[1]
+TEXT = re.search(r"^\| `([^`]+)` \| (?:memory was refused|(?:an|the) allocation failed|out of memory)\b",
+                 PAGE.read_text(encoding="utf-8"), re.M)[1]
 
 
 def child(*code):
@@ -116,6 +118,7 @@ class Threads(unittest.TestCase):
 
 
 @unittest.skipUnless(sys.platform == "linux", "how much memory a process has is read from /proc")
+@unittest.skipIf(IS_SANITIZED, "a sanitizer needs more address space")
 class Memory(unittest.TestCase):
     def test_the_library_finds_none(self):
         wrote = child(START, LITTLE, "capn.check(PACKED, 'packed')")

@@ -119,7 +119,8 @@ class Streams(unittest.TestCase):
                     for frame in capn.messages(Pieces(data, source.choice([1, 3, 7, 64, 65536])), packed=packed):
                         got.append(frame)
                 except capn.Refusal as refusal:
-                    refused = str(refusal)
+                    refused = refusal.text
+                    self.assertEqual(str(refusal), f"message {fault[1]} at {fault[2]}: {fault[0]}")
                 with self.subTest(data=data.hex(), packed=packed):
                     self.assertEqual(got, [frame for _, frame, _ in found])
                     self.assertEqual(refused, fault and fault[0])

@@ -41,7 +41,7 @@ def ran(words, data):
             for frame in capn.messages(data, limits=limits, form=form):
                 out += capn.show(frame, limits=limits, **options)
     except capn.Refusal as refusal:
-        return out.encode(), f"capn: {refusal}\n", 1
+        return out.encode(), f"capn: {refusal.text}\n", 1
     return out.encode(), "", 0
 
 

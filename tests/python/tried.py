@@ -1,4 +1,6 @@
-"""Hypothesis, or where that is not installed, what leaves out the tests that need it, and no other test."""
+"""Hypothesis, or where that is not installed, what leaves out the tests that need it, and no other test; and whether
+the module runs under sanitizers, which take more address space than a test may leave."""
+import os
 import unittest
 
 try:
@@ -29,4 +31,6 @@ except ImportError:
     def given(*strategies):
         return unittest.skip("there is no Python module hypothesis")
 
-__all__ = ["given", "settings", "some"]
+IS_SANITIZED = "libasan" in os.environ.get("LD_PRELOAD", "")
+
+__all__ = ["IS_SANITIZED", "given", "settings", "some"]
