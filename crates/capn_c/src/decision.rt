@@ -16,6 +16,7 @@ use crate::hash_call::capn_hash;
 use crate::hash_segments_call::capn_hash_segments;
 use crate::index_call::capn_index;
 use crate::is_canonical_call::capn_is_canonical;
+use crate::pack_calls::{capn_pack, capn_unpack};
 use crate::same_call::capn_same;
 use crate::show_call::capn_show;
 use crate::survey_call::capn_survey;
@@ -238,5 +239,38 @@ pub fn same(
 {
     let one = capn_same(alloc, form, message, compared, limits, which, first);
     let other = capn_same(alloc, form, message, compared, limits, which, second);
+    (one, other)
+}
+
+/// States that the bytes of `capn_pack` and the length of the buffer decide the status and the report, unless a status
+/// is 8.
+pub fn pack(
+    alloc: Global,
+    bytes: &[u8],
+    out: &mut [u8],
+    first: &mut CapnReport,
+    second: &mut CapnReport,
+) -> (u32, u32)
+    ensures { Agree result.0 first.new result.1 second.new }
+{
+    let one = capn_pack(alloc, bytes, out, first);
+    let other = capn_pack(alloc, bytes, out, second);
+    (one, other)
+}
+
+/// States that the arguments of `capn_unpack` and the length of the buffer decide the status and the report, unless a
+/// status is 8.
+pub fn unpack(
+    alloc: Global,
+    bytes: &[u8],
+    max_words: u32,
+    out: &mut [u8],
+    first: &mut CapnReport,
+    second: &mut CapnReport,
+) -> (u32, u32)
+    ensures { Agree result.0 first.new result.1 second.new }
+{
+    let one = capn_unpack(alloc, bytes, max_words, out, first);
+    let other = capn_unpack(alloc, bytes, max_words, out, second);
     (one, other)
 }
