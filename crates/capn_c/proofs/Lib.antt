@@ -4,6 +4,7 @@ pub mod Decided
 pub mod DecidedAnswers
 pub mod DecidedHeld
 pub mod DecidedPacked
+pub mod DecidedPath
 pub mod DecidedRoom
 pub mod DecidedText
 pub mod Delivered
