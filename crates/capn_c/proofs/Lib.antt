@@ -3,6 +3,8 @@ pub mod Counted
 pub mod Decided
 pub mod DecidedAnswers
 pub mod DecidedHeld
+pub mod DecidedPacked
+pub mod DecidedPath
 pub mod DecidedRoom
 pub mod DecidedText
 pub mod Delivered
