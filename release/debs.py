@@ -122,7 +122,7 @@ class Debs:
             return re.search(rf"^{name}: (.*)$", file.read(), re.M)[1]
 
     def needs(self, package, folder):
-        """What dpkg-shlibdeps says that the files of a package need; writes the list of symbols, too."""
+        """Returns what dpkg-shlibdeps says that the files of a package need; writes the list of symbols, too."""
         found = [os.path.join(folder, it) for it in packing.paths_of(folder)
                  if re.search(r"usr/bin/capn$|\.so(\.1)?$", it) and not os.path.islink(os.path.join(folder, it))]
         if not found:
