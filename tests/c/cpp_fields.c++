@@ -1,9 +1,7 @@
 // The fields of fields.capnp, by capn.hpp.
 //
-// Each message of a stream is shown as fields.c++ shows it, read by one of its types.
-//
-//     cpp_fields old | new
-//     cpp_fields lines       a line for each pointer of the messages of mixed.py, as fields.c writes it
+//     cpp_fields old | new   shows each message of a stream as fields.c++ shows it, read by one of its types
+//     cpp_fields lines       reads each pointer of each message of mixed.py as anything, with a line as fields.c has it
 #include "capn.hpp"
 #include <cinttypes>
 #include <cstdio>
