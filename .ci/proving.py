@@ -1,5 +1,5 @@
-"""What the scripts that prove crates share: the crates of crates.txt, copies of them, runs of `rt ci` with a line for
-each crate that is done, and the library for C."""
+"""What the scripts that prove crates share: the crates of crates.txt, copies of them, runs of `rt ci` that print a line
+for each crate that is done, and the library for C."""
 
 import glob
 import os
@@ -12,15 +12,15 @@ import time
 
 TOP = os.path.abspath(os.path.join(os.path.dirname(os.path.abspath(__file__)), ".."))
 BUILD = os.path.join(TOP, "build")
-# The library for C, of which `rt ci` builds no archive, and what is said while it is proved and built.
+# The library for C, of which `rt ci` builds no archive, and the line that is printed while it is proved and built.
 LIBRARY = "capn_c"
 LIBRARY_LOG = os.path.join(BUILD, "library.log")
-# Crates that are run before a proof, and proved in the whole run alone: this one, and those with tests.
+# Crates that are run before any proof, and proved in the whole run alone: this one, and those with tests.
 UNPROVED = ("bench",)
 
 
 class Stop(Exception):
-    """Why a script ends with status 1."""
+    """The reason for which a script ends with status 1."""
 
 
 def text_of(path):
@@ -29,14 +29,14 @@ def text_of(path):
 
 
 def crates(top=TOP):
-    """Each crate with the crates of the repository that it uses, in the order of crates.txt."""
+    """Returns each crate with the crates of the repository that it uses, in the order of crates.txt."""
     lines = re.findall(r"^(\w+)(?: staticlib)?:(.*)$", text_of(os.path.join(top, "crates.txt")), re.M)
     names = {name for name, _ in lines}
     return {name: [it for it in used.split() if it in names] for name, used in lines}
 
 
 def below(names, uses):
-    """These crates and all below them, in the order of crates.txt."""
+    """Returns these crates and all below them, in the order of crates.txt."""
     found, left = set(), list(names)
     while left:
         name = left.pop()
@@ -54,17 +54,18 @@ def has_tests(name):
 
 
 def edits_of(name):
-    """The edits of a crate that the prover must refuse."""
+    """Returns the edits of a crate that the prover must refuse."""
     return sorted(glob.glob(os.path.join(TOP, "crates", name, "must-fail", "*.edit")))
 
 
 def proved_by_the_gate(uses):
-    """The crates that the gate proves: all but those that are run before a proof."""
+    """Returns the crates that the gate proves: all but those that are only run before the proofs."""
     return below([it for it in uses if it not in UNPROVED and not has_tests(it)], uses)
 
 
 def copied(names, edits, room):
-    """Copies these crates, with the edits of some of them, as the top of a repository, and returns its folder."""
+    """Copies these crates, with the edits of some of them, into a folder that has the form of the top of the
+    repository. Returns the folder."""
     top = os.path.join(room, "repo")
     os.makedirs(os.path.join(top, ".git"))
     lines = text_of(os.path.join(TOP, "crates.txt")).split("\n")
@@ -80,7 +81,7 @@ def copied(names, edits, room):
 
 
 def told(line):
-    """Writes a line of how far a long command is, to the one who waits, also where its other output goes elsewhere."""
+    """Writes a line of progress to the user, also if the other output goes elsewhere."""
     at = os.environ.get("CAPN_PROGRESS")
     with os.fdopen(os.dup(int(at)), "w") if at else os.fdopen(os.dup(1), "w") as out:
         print(line, file=out, flush=True)
@@ -91,7 +92,7 @@ def minutes(since):
 
 
 class Run:
-    """A run of `rt ci` at a folder, whose output goes to a file and whose crates are told one by one."""
+    """A run of `rt ci` in a folder. Its output goes to a file, and each crate that is done is reported."""
 
     DONE = re.compile(r"^rt: (\w+)(: its tests are)? (proved|is kept|NOT PROVED)")
     TRIES = re.compile(r"^rt: (\w+): trying its must-fail edits \((\d+)\)")
@@ -101,7 +102,7 @@ class Run:
         self.done, self.since, self.lines, self.after = 0, since or time.time(), [], []
 
     def when(self, names, call):
-        """Calls this once, as soon as all of these crates are proved."""
+        """Calls this function once, as soon as all of these crates are proved."""
         self.after.append((set(names), call))
 
     def look(self, line):
@@ -137,7 +138,7 @@ class Run:
             return ran.wait() == 0
 
     def failures(self):
-        """What the prover said of each crate that is not proved, and what `rt ci` said at the end."""
+        """Returns the prover's lines on each crate that is not proved, and the last lines of `rt ci`."""
         text = "\n".join(self.lines)
         lines = r"^== \w+(?:: its tests)?\n(?:(?!^== ).*\n)*?^rt: \w+(?:: its tests are)? NOT PROVED.*$"
         parts = re.findall(lines, text, re.M)
@@ -151,14 +152,14 @@ def room():
 
 
 def kit():
-    """The folder of the kit."""
+    """Returns the folder of the kit."""
     said = subprocess.run(["rt", "doc"], stdout=subprocess.PIPE, text=True, check=True).stdout
     return os.path.dirname(said.strip())
 
 
 def library_started(top, jobs):
-    """Begins to prove the library for C and to build its archive, over the libraries that a run has left in the folders
-    out/ of their crates below `top`, and returns the command."""
+    """Starts a command that proves the library for C and builds its archive, and returns the command. It uses the
+    libraries that a run has left in the folders out/ of their crates below `top`."""
     kit_folder, folder = kit(), os.path.join(TOP, "crates", LIBRARY)
     words = ["-L", f"dependency={kit_folder}/rlibs"]
     for it in sorted(glob.glob(os.path.join(top, "crates", "*", "out", "rlib"))):
@@ -179,7 +180,7 @@ def library_started(top, jobs):
 
 
 def is_laid_out(name):
-    """Whether the files of a crate are as `rt fmt` lays them out."""
+    """Returns whether the files of a crate are as `rt fmt` lays them out."""
     kinds = (f"{part}/**/*.{kind}" for part in ("src", "specs", "proofs") for kind in ("rt", "antt"))
     folder = os.path.join(TOP, "crates", name)
     files = [it for kind in kinds for it in glob.glob(os.path.join(folder, kind), recursive=True)]
@@ -188,7 +189,7 @@ def is_laid_out(name):
 
 
 def ended(call):
-    """Runs a script, and ends with its status, or with why it failed."""
+    """Runs a script, and exits with its status. If it failed, prints why."""
     try:
         sys.exit(call())
     except Stop as why:

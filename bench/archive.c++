@@ -12,7 +12,7 @@
 
 static uint64_t state = 20260101;
 
-// The next of some numbers that look random, below a bound.
+// The next pseudo-random number below a bound.
 static uint64_t below(uint64_t bound) {
   state = state * 6364136223846793005 + 1442695040888963407;
   return (state >> 33) % bound;

@@ -1,5 +1,6 @@
-// The reference implementation on a framed message: `reference OPERATION STEPS < MESSAGE` does the operation STEPS
-// times and prints the number of bytes to divide its cost by; `reference write < MESSAGE` writes the canonical bytes.
+// Runs the reference implementation on a message with its segment table. `reference OPERATION STEPS < MESSAGE` does the
+// operation STEPS times, and prints the number of bytes by which to divide its cost. `reference write < MESSAGE` writes
+// the canonical bytes.
 #include <capnp/any.h>
 #include <capnp/message.h>
 #include <capnp/serialize-packed.h>

@@ -1,4 +1,4 @@
-"""The list of components of a release, by what NOTICE says of each."""
+"""The list of components of a release, made from what NOTICE says on each."""
 
 import datetime
 import json
@@ -10,8 +10,8 @@ from packing import VERSION
 
 
 def listed(made, seconds, commit, tree):
-    """The list, in the form of SPDX 2.3, of the files that were made. Of these no licence is concluded, since parts
-    that are linked into them state none."""
+    """Returns the list of components of these files, in the form of SPDX 2.3. It concludes no licence for the files,
+    since parts that are linked into them state none."""
     paths = {os.path.basename(it): it for it in made}
     day = datetime.datetime.fromtimestamp(seconds, datetime.timezone.utc)
     packages, relations, texts = [], [], {}

@@ -31,7 +31,7 @@ class Stop(Exception):
 
 
 def said(*words, cwd=TOP, env=None, text=True):
-    """What a command writes; if it fails, its own lines say why."""
+    """Returns what a command writes; if it fails, its own lines say why."""
     try:
         ran = subprocess.run(words, cwd=cwd, env=env, stdout=subprocess.PIPE, stderr=subprocess.PIPE, check=False)
     except FileNotFoundError:
@@ -51,13 +51,13 @@ def write(path, text, mode=0o644):
 
 
 def sum_of(path):
-    """The SHA-256 of a file."""
+    """Returns the SHA-256 of a file."""
     with open(path, "rb") as file:
         return hashlib.sha256(file.read()).hexdigest()
 
 
 def commit_of(top=TOP):
-    """The commit of a clone, its tree, its time in seconds, and whether nothing differs from it."""
+    """Returns the commit of a clone, its tree, its time in seconds, and whether nothing differs from it."""
     try:
         commit, tree, seconds = said("git", "show", "-s", "--format=%H %T %ct", "HEAD", cwd=top).split()
         return commit, tree, int(seconds), not said("git", "status", "--porcelain", cwd=top).strip()
@@ -66,7 +66,7 @@ def commit_of(top=TOP):
 
 
 def proof(commit, tree, is_clean):
-    """What the whole run wrote of this tree and these files; fails where there is nothing."""
+    """Returns what the whole run wrote of this tree and these files; fails where there is nothing."""
     if not os.path.exists(PROVED):
         raise Stop("the whole run has not passed here: make test-all")
     with open(PROVED, encoding="utf-8") as file:
@@ -83,7 +83,8 @@ def proof(commit, tree, is_clean):
 
 
 def installed(folder, prefix, libraries, *words):
-    """A folder into which the two targets of installing put what they install, by make with these words beside."""
+    """Returns a folder into which the two targets of installing put what they install, by make with these words
+    beside."""
     words = [f"DESTDIR={folder}", f"PREFIX={prefix}", f"LIBDIR={libraries}", *words]
     # what a make above passes on, as a prefix of its own, is not for this one
     env = {key: value for key, value in os.environ.items() if not key.startswith("MAKE") and key != "MFLAGS"}
@@ -121,7 +122,7 @@ def settle(folder, seconds):
 
 
 def paths_of(folder):
-    """The paths below a folder, sorted, each before those below it."""
+    """Returns the paths below a folder, sorted, each before those below it."""
     found = []
     for at, folders, names in os.walk(folder):
         found += [os.path.relpath(os.path.join(at, name), folder) for name in folders + names]
@@ -160,7 +161,7 @@ def write_zip(folder, names, path, seconds):
 
 
 def proved_in(path):
-    """The text of PROVED that a released file has within, or None."""
+    """Returns the text of PROVED that a released file has within, or None."""
     try:
         if path.endswith(".tar.gz"):
             with tarfile.open(path) as tar:
@@ -180,12 +181,12 @@ def proved_in(path):
 
 
 def claims_of(text):
-    """What a PROVED says, by the first word of each line of its head and of its sums."""
+    """Returns what a PROVED says, by the first word of each line of its head and of its sums."""
     return dict(re.findall(r"^(commit|tree|toolchain|sha256 \S+) (.+)$", text, re.M))
 
 
 def components():
-    """Each component that NOTICE names, as its fields."""
+    """Yields each component that NOTICE names, as its fields."""
     with open(os.path.join(TOP, "NOTICE"), encoding="utf-8") as file:
         text = file.read()
     for block in re.findall(r"^Component: .*(?:\n(?!\n).*)*", text, re.M):

@@ -18,18 +18,19 @@ Case = collections.namedtuple("Case", "crate path name call answer")
 
 
 def word_of(call):
-    """The word that says what is called."""
+    """Returns the word that says what is called."""
     words = call.split(" ")
     return words[1] if words[0] == "plain" and len(words) > 1 else words[0]
 
 
 def key_of(name):
-    """The name as one word, by which the cases of a file are ordered."""
+    """Returns the name as one word, by which the cases of a file are ordered."""
     return name.translate(WITHOUT)
 
 
 def cases_at(crate, path):
-    """The cases of a file. Raises ValueError if one hasn't three lines, stands in the wrong file, or not in order."""
+    """Yields the cases of a file. Raises ValueError if one hasn't three lines, stands in the wrong file, or not in
+    order."""
     with open(os.path.join(TOP, path), encoding="utf-8") as file:
         text = file.read()
     last = ""
@@ -49,14 +50,14 @@ def cases_at(crate, path):
 
 
 def cases_of(crate):
-    """The cases of a crate, in the order of their files and keys."""
+    """Yields the cases of a crate, in the order of their files and keys."""
     folder = os.path.join("crates", crate, "cases")
     for word in sorted(os.listdir(os.path.join(TOP, folder))):
         yield from cases_at(crate, os.path.join(folder, word))
 
 
 def all_cases():
-    """The cases of both crates. Raises ValueError if two have one name."""
+    """Returns the cases of both crates. Raises ValueError if two have one name."""
     found = [case for crate in CRATES for case in cases_of(crate)]
     for name, count in collections.Counter(case.name for case in found).items():
         if count > 1:
@@ -65,10 +66,10 @@ def all_cases():
 
 
 def asked(cases, before=""):
-    """The input of these cases, with a word before each call."""
+    """Returns the input of these cases, with a word before each call."""
     return "".join(f"{case.name}\n{before}{case.call}\n" for case in cases)
 
 
 def answered(cases):
-    """The output of these cases."""
+    """Returns the output of these cases."""
     return "".join(f"{case.name}\n{case.answer}\n" for case in cases)

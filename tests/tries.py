@@ -35,7 +35,7 @@ def text_of(*parts):
 
 
 def tests_of(crate):
-    """The names of the tests of a crate."""
+    """Returns the names of the tests of a crate."""
     found = []
     for folder, _, names in os.walk(os.path.join(TOP, "crates", crate, "src")):
         for name in sorted(names):
@@ -44,8 +44,8 @@ def tests_of(crate):
 
 
 def crates_of_calls(crate):
-    """The libraries that the answer to each call names, of one of the crates with cases: those of the module that
-    answers it, and of those that this one uses."""
+    """Yields the libraries that the answer to each call names, of one of the crates with cases: those of the module
+    that answers it, and of those that this one uses."""
     folder = os.path.join(TOP, "crates", crate, "src")
     modules = {name[:-3]: text_of("crates", crate, "src", name) for name in os.listdir(folder)}
 
@@ -69,7 +69,7 @@ def try_crate(crate, words, given=b""):
 
 
 def tests_job(crate):
-    """All tests of a crate."""
+    """Returns all tests of a crate."""
 
     def run():
         status, out, said = try_crate(crate, ["--test", "--seconds", str(SECONDS)])
@@ -81,7 +81,7 @@ def tests_job(crate):
 
 
 def bytes_beside(crate, name):
-    """The bytes of a file beside the src/ of a program, none if there is no file."""
+    """Returns the bytes of a file beside the src/ of a program, none if there is no file."""
     path = os.path.join(TOP, "crates", crate, name)
     if not os.path.exists(path):
         return b""
@@ -90,7 +90,7 @@ def bytes_beside(crate, name):
 
 
 def stored_job(crate):
-    """The stored run of a program, beside its src/."""
+    """Returns the stored run of a program, beside its src/."""
 
     def run():
         args, given, wanted = (bytes_beside(crate, name) for name in ("args", "stdin", "stdout"))
@@ -103,14 +103,14 @@ def stored_job(crate):
 
 
 def shown(text, at=0):
-    """A text, of a long one what is around a place."""
+    """Returns a text, of a long one what is around a place."""
     begin = max(0, at - 100)
     end = begin + 400
     return f"{'..' * (begin > 0)}{text[begin:end]}{'..' * (end < len(text))}"
 
 
 def differences(cases, out):
-    """What is wrong with the answers of a run over these cases."""
+    """Yields what is wrong with the answers of a run over these cases."""
     lines = out.split("\n")
     for at, case in enumerate(cases):
         name, got = (lines[2 * at:2 * at + 2] + ["", ""])[:2]
@@ -126,7 +126,7 @@ def differences(cases, out):
 
 
 def cases_job(crate, cases):
-    """Some cases of a crate, each compared with its answer."""
+    """Returns some cases of a crate, each compared with its answer."""
 
     def run():
         parts = [cases[at:at + AT_ONCE] for at in range(0, len(cases), AT_ONCE)]
@@ -154,7 +154,7 @@ def cases_job(crate, cases):
 
 
 def workers():
-    """How many crates are tried at once: one a processor, as memory allows."""
+    """Returns how many crates are tried at once: one a processor, as memory allows."""
     with open("/proc/meminfo", encoding="ascii") as file:
         free = int(re.search(r"^MemAvailable: +(\d+)", file.read(), re.M)[1]) // (MEMORY << 20)
     return max(1, min(len(os.sched_getaffinity(0)), free))
@@ -187,7 +187,7 @@ def run_all(jobs):
 
 
 def nearest(crate, names, tried):
-    """Those of these crates that reach a crate by the fewest steps, where those that name it take one."""
+    """Returns those of these crates that reach a crate by the fewest steps, where those that name it take one."""
     above = {crate}
     while above:
         found = [it for it in tried if it in above and it != crate]
@@ -198,8 +198,8 @@ def nearest(crate, names, tried):
 
 
 def calls_reaching(crate, names):
-    """The calls of cases that reach a crate, and the program that answers them: of the first program that has some,
-    those whose answer names the crate, or where none does, those that reach it."""
+    """Returns the calls of cases that reach a crate, and the program that answers them: of the first program that has
+    some, those whose answer names the crate, or where none does, those that reach it."""
     for one in stored.CRATES:
         found = dict(crates_of_calls(one))
         if crate == one or crate in names[one] and crate not in set().union(*found.values()):
@@ -212,6 +212,6 @@ def calls_reaching(crate, names):
 
 
 def reaching(crate):
-    """The nearest crates with tests that reach a crate, a program with cases that does, and their calls."""
+    """Returns the nearest crates with tests that reach a crate, a program with cases that does, and their calls."""
     names = proving.crates()
     return nearest(crate, names, [it for it in names if tests_of(it)]), *calls_reaching(crate, names)

@@ -41,7 +41,7 @@ class Part(NamedTuple):
     end: int | None
 
     def moved(self, found: re.Match[bytes]) -> bytes:
-        """A message's number and offset in this part, as those in the archive."""
+        """Returns a message's number and offset in this part, as those in the archive."""
         return b"%d at %d" % (int(found[1]) + self.before, int(found[2]) + self.begin)
 
 
@@ -55,7 +55,7 @@ class Answer(NamedTuple):
 
 
 def parts_of(path: str, limits: list[str], most: int) -> Iterator[Part]:
-    """The parts of an archive, each of this many bytes and somewhat more, as soon as they are known."""
+    """Yields the parts of an archive, each of this many bytes and somewhat more, as soon as they are known."""
     before = begin = last = 0
     command = [CAPN, "list", "--keep-going", *limits]
     with open(path, "rb") as archive, subprocess.Popen(
@@ -79,7 +79,7 @@ def parts_of(path: str, limits: list[str], most: int) -> Iterator[Part]:
 
 
 def answer(path: str, part: Part, command: list[str]) -> Answer:
-    """What a process writes of a part, with the numbers and offsets of the archive in each line."""
+    """Returns what a process writes of a part, with the numbers and offsets of the archive in each line."""
     with open(path, "rb") as archive:
         archive.seek(part.begin)
         given = {"stdin": archive} if part.end is None else {"input": archive.read(part.end - part.begin)}
@@ -89,7 +89,8 @@ def answer(path: str, part: Part, command: list[str]) -> Answer:
 
 
 def answers(path: str, parts: Iterator[Part], command: list[str], processes: int) -> Iterator[Answer]:
-    """What processes write of the parts, in order; some parts more than there are processes are begun at a time."""
+    """Yields what processes write of the parts, in order; some parts more than there are processes are begun at a
+    time."""
     waiting: deque[Future[Answer]] = deque()
     with ProcessPoolExecutor(processes) as pool:
         try:
@@ -124,7 +125,7 @@ def put_together(found: Iterator[Answer]) -> tuple[bytes, int]:
 
 
 def limits_of(options: list[str]) -> list[str]:
-    """The limits among these options, by which the archive is cut, too."""
+    """Returns the limits among these options, by which the archive is cut, too."""
     found: list[str] = []
     for at, option in enumerate(options):
         if option in LIMITS:
@@ -135,7 +136,7 @@ def limits_of(options: list[str]) -> list[str]:
 
 
 def is_for_parts(command: list[str]) -> bool:
-    """Whether an archive may be cut for this command: of no input it writes nothing, and finds no mistake."""
+    """Returns whether an archive may be cut for this command: of no input it writes nothing, and finds no mistake."""
     if command[0] not in COMMANDS or OTHER_FORMS & set(command):
         return False
     ran = subprocess.run([CAPN, *command], stdin=subprocess.DEVNULL, capture_output=True, check=False)

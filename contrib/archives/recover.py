@@ -57,7 +57,7 @@ class Span(NamedTuple):
 
 
 def message_of(line: bytes, offset: int) -> Message:
-    """The message of a line of `capn list`, which began to read at this offset."""
+    """Returns the message of a line of `capn list`, which began to read at this offset."""
     found = LINE.match(line)
     if not found:
         raise RuntimeError(f"not a line of capn list: {line!r}")
@@ -67,7 +67,7 @@ def message_of(line: bytes, offset: int) -> Message:
 
 
 def listed(path: str, offset: int) -> Iterator[Message]:
-    """The messages of a file from an offset on, and at last the fault of a frame that ended the list."""
+    """Yields the messages of a file from an offset on, and at last the fault of a frame that ended the list."""
     with open(path, "rb", buffering=0) as archive, tempfile.TemporaryFile() as errors:
         archive.seek(offset)
         with subprocess.Popen(LIST, stdin=archive, stdout=subprocess.PIPE, stderr=errors) as listing:
@@ -104,11 +104,12 @@ class Sample:
             self.has_null = self.has_null or cost == 0
 
     def takes(self, message: Message) -> bool:
-        """Whether a message is accepted, and not null where none of the sample is: two words of garbage can be so."""
+        """Returns whether a message is accepted, and not null where none of the sample is: two words of garbage can be
+        so."""
         return message.cost is not None and (message.cost > 0 or self.has_null)
 
     def is_like(self, message: Message) -> bool:
-        """Whether a message is accepted and not suspect."""
+        """Returns whether a message is accepted and not suspect."""
         return self.takes(message) and message.words <= min(self.words, self.unused + (message.cost or 0))
 
 
@@ -122,7 +123,7 @@ class Archive:
             self.data = mmap.mmap(file.fileno(), 0, access=mmap.ACCESS_READ) if self.size else b""
 
     def spans(self) -> Iterator[Span]:
-        """The bytes of the archive, in order, kept or passed over."""
+        """Yields the bytes of the archive, in order, kept or passed over."""
         at = 0
         while at < self.size:
             begin, messages, bad = at, 0, None
@@ -139,7 +140,8 @@ class Archive:
                 yield from self.between(bad, at)
 
     def next_good(self, bad: Message) -> int:
-        """The first byte after the beginning of a bad message where a row of good ones begins, or the archive's end."""
+        """Returns the first byte after the beginning of a bad message where a row of good ones begins, or the archive's
+        end."""
         rows: list[tuple[int, list[int]]] = []
         most, size = 1, 0
         if self.nested and bad.end > bad.begin and self.first_good([(bad.end, self.ends(bad.end))]):
@@ -155,7 +157,8 @@ class Archive:
         return self.first_good(rows) or self.size
 
     def ends(self, at: int) -> list[int]:
-        """The ends of a row of frames that begins here, by their tables; of fewer frames only if the archive ends."""
+        """Returns the ends of a row of frames that begins here, by their tables; of fewer frames only if the archive
+        ends."""
         ends: list[int] = []
         while len(ends) < self.row and at < self.size:
             at = self.end(at)
@@ -167,7 +170,8 @@ class Archive:
         return ends
 
     def end(self, at: int) -> int:
-        """Where the frame that begins here ends by its table, or 0 if it has more words than the sample allows."""
+        """Returns where the frame that begins here ends by its table, or 0 if it has more words than the sample
+        allows."""
         if at + 8 > self.size:
             return self.size + 1
         last, first = struct.unpack_from("<II", self.data, at)
@@ -180,7 +184,8 @@ class Archive:
         return at + table + 8 * words if words <= self.sample.words else 0
 
     def first_good(self, rows: list[tuple[int, list[int]]]) -> int:
-        """Where the first of these rows begins whose messages are all good, or 0. One process checks them all."""
+        """Returns where the first of these rows begins whose messages are all good, or 0. One process checks them
+        all."""
         frames = b"".join(self.data[begin:ends[-1]] for begin, ends in rows if ends)
         lines = subprocess.run(LIST, input=frames, capture_output=True, check=False).stdout.splitlines()
         messages = (message_of(line, 0) for line in lines)
@@ -191,8 +196,8 @@ class Archive:
         return 0
 
     def between(self, bad: Message, good: int) -> Iterator[Span]:
-        """The bytes from a bad message to a good one. If the frames between lead to the good one, each was where it
-        should be, so what is accepted is kept: also what was suspect."""
+        """Yields the bytes from a bad message to a good one. If the frames between lead to the good one, each was where
+        it should be, so what is accepted is kept: also what was suspect."""
         end = bad.begin
         with closing(listed(self.path, bad.begin)) as found:
             for message in found:

@@ -39,7 +39,7 @@ def see(is_so: bool, what: str) -> None:
 
 
 def seconds() -> float:
-    """What processes of this one took so far, of a processor."""
+    """Returns what processes of this one took so far, of a processor."""
     used = resource.getrusage(resource.RUSAGE_CHILDREN)
     return used.ru_utime + used.ru_stime
 
@@ -54,7 +54,7 @@ def script(name: str, *words: str) -> Ran:
 
 
 def fault_of(archive: bytes) -> str:
-    """What is wrong with the first message, as recover.py has it."""
+    """Returns what is wrong with the first message, as recover.py has it."""
     out, errors, _ = ran(CAPN, "list", "--keep-going", "--tariff", "plain", given=archive)
     if not out:
         return errors.strip().split(": ", 2)[2]
@@ -76,13 +76,13 @@ def recovered(what: str, damaged: bytes, kept: list[bytes], *places: Place, opti
 
 
 def nested(inner: bytes) -> bytes:
-    """A message whose only data is another message."""
+    """Returns a message whose only data is another message."""
     words = struct.unpack(f"<{len(inner) // 8}Q", inner)
     return framed([1 << 48, 1 | 2 << 32 | len(inner) << 35, *words])
 
 
 def sized(message: bytes, words: int) -> bytes:
-    """A message of one segment whose table says that it has this many words."""
+    """Returns a message of one segment whose table says that it has this many words."""
     return message[:4] + struct.pack("<I", words) + message[8:]
 
 
@@ -161,7 +161,7 @@ def shell(name: str, *words: str) -> Ran:
 
 
 def texted(text: str) -> bytes:
-    """A message whose root has one pointer, to a text."""
+    """Returns a message whose root has one pointer, to a text."""
     data = text.encode() + b"\0"
     words = struct.unpack(f"<{-(-len(data) // 8)}Q", data.ljust(-(-len(data) // 8) * 8, b"\0"))
     return framed([1 << 48, 1 | 2 << 32 | len(data) << 35, *words])

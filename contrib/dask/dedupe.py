@@ -55,7 +55,7 @@ class Report:
 
 
 def capn(*words: str, **given: Any) -> bytes:
-    """What `capn` writes. That it passed over refused messages is no failure, anything else is one."""
+    """Returns what `capn` writes. That it passed over refused messages is no failure, anything else is one."""
     ran = subprocess.run([os.environ.get("CAPN", "capn"), *words], capture_output=True, check=False, **given)
     if ran.returncode and not (ran.stderr.count(b"\n") == 1 and PASSED_OVER in ran.stderr):
         raise RuntimeError(f"capn {' '.join(words)}: status {ran.returncode}: {ran.stderr.decode().strip()}")
@@ -63,7 +63,7 @@ def capn(*words: str, **given: Any) -> bytes:
 
 
 def message_of(line: str) -> Message:
-    """The message of a line of `capn list`."""
+    """Returns the message of a line of `capn list`."""
     head, _, refusal = line.partition(" refused ")
     words = head.split()
     named = dict(zip(words[1::2], words[2::2]))
@@ -78,7 +78,7 @@ def messages_of(listing: bytes) -> list[Message]:
 
 
 def cut(path: str, most: int) -> list[Part]:
-    """The parts of a file: whole messages, at most this many bytes of them, or a single longer one."""
+    """Returns the parts of a file: whole messages, at most this many bytes of them, or a single longer one."""
     with open(path, "rb") as file:
         try:
             messages = messages_of(capn("list", "--keep-going", stdin=file))
@@ -94,12 +94,12 @@ def cut(path: str, most: int) -> list[Part]:
 
 
 def digests(part: Part) -> list[Message]:
-    """The messages of a part, checked, with the digest of the canonical bytes of each."""
+    """Returns the messages of a part, checked, with the digest of the canonical bytes of each."""
     return messages_of(capn("list", "--digest", "--keep-going", input=part.read()))
 
 
 def frames(part: Part, kept: list[Message], is_canonical: bool) -> bytes:
-    """The frames of messages of a part, as they stand or in canonical form."""
+    """Returns the frames of messages of a part, as they stand or in canonical form."""
     data = part.read()
     found = b"".join(data[message.begin:message.end] for message in kept)
     return capn("canonical", "--framed", input=found) if is_canonical else found
@@ -114,7 +114,7 @@ class Choice:
         self.offset = 0
 
     def of(self, part: Part, messages: list[Message]) -> list[Message]:
-        """The messages of the next part that are kept."""
+        """Returns the messages of the next part that are kept."""
         kept = []
         for number, message in enumerate(messages, self.report.messages + 1):
             if message.refusal:
@@ -129,7 +129,8 @@ class Choice:
 
 
 def tasks(client: Client, *call: Any, **options: Any) -> list[Future]:
-    """A task for each argument of a call. Its key is new, since Dask's keys by content can't tell two parts apart."""
+    """Returns a task for each argument of a call. Its key is new, since Dask's keys by content can't tell two parts
+    apart."""
     return client.map(*call, **options, pure=False)
 
 
@@ -144,7 +145,7 @@ def dedupe(client: Client, paths: list[str], out: BinaryIO, most: int, is_canoni
 
 
 def told(report: Report) -> str:
-    """The lines of a report, of which the last one is that of `capn`."""
+    """Returns the lines of a report, of which the last one is that of `capn`."""
     lines = [f"{report.kept} of {report.messages - len(report.refused)}"]
     lines += [f"message {number} at {offset}: {refusal}" for number, offset, refusal in report.refused]
     if report.refused:

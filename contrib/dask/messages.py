@@ -13,14 +13,14 @@ from pathlib import Path
 
 
 def framed(*segments: list[int]) -> bytes:
-    """A message of these segments, after its segment table."""
+    """Returns a message of these segments, after its segment table."""
     table = struct.pack(f"<{len(segments) + 1}I", len(segments) - 1, *map(len, segments))
     contents = b"".join(struct.pack(f"<{len(words)}Q", *words) for words in segments)
     return table + bytes(-len(table) % 8) + contents
 
 
 def text_of(number: int) -> tuple[int, list[int]]:
-    """The pointer to a text that follows it, and the words of the text."""
+    """Returns the pointer to a text that follows it, and the words of the text."""
     text = f"this is number {number}\0".encode()
     padded = text + bytes(-len(text) % 8)
     return 1 | 2 << 32 | len(text) << 35, list(struct.unpack(f"<{len(padded) // 8}Q", padded))
@@ -42,7 +42,7 @@ def in_two_segments(number: int) -> bytes:
 
 
 def message(source: random.Random, at: int, values: int) -> bytes:
-    """The message of this place in the archive."""
+    """Returns the message of this place in the archive."""
     if at % 5000 == 1000:
         return framed([1 << 32 | 9 << 2])
     if at % 5000 == 3000:

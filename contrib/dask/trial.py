@@ -40,7 +40,7 @@ class Ending(io.BytesIO):
 
 
 def by_one_process(data: bytes, *words: str) -> tuple[bytes, str]:
-    """What one process of `capn` writes, and its line on standard error."""
+    """Returns what one process of `capn` writes, and its line on standard error."""
     ran = subprocess.run([os.environ["CAPN"], *words], input=data, capture_output=True, check=False)
     return ran.stdout, ran.stderr.decode().removeprefix("capn: ").strip()
 
@@ -53,13 +53,13 @@ def run_command(paths: list[str]) -> subprocess.CompletedProcess[bytes]:
 
 
 def by_command(paths: list[str]) -> tuple[bytes, str]:
-    """What the example's own command writes in canonical form, and its last line."""
+    """Returns what the example's own command writes in canonical form, and its last line."""
     ran = run_command(paths)
     return Path("framed").read_bytes(), ran.stdout.decode().strip().split("\n")[-1]
 
 
 def is_named(paths: list[str]) -> bool:
-    """Whether a file that is cut is named, and the result of an earlier run stays, with nothing beside it."""
+    """Returns whether a file that is cut is named, and the result of an earlier run stays, with nothing beside it."""
     before = Path("framed").read_bytes()
     cut = Path("cut.messages")
     cut.write_bytes(Path(paths[0]).read_bytes()[:-8])
@@ -71,7 +71,7 @@ def is_named(paths: list[str]) -> bool:
 
 
 def is_counted(report: Report, data: bytes) -> bool:
-    """Whether a report has the counts of one process, and its line."""
+    """Returns whether a report has the counts of one process, and its line."""
     counted, line = by_one_process(data, "uniq", "--count", "--keep-going")
     lines = told(report).split("\n")
     return lines[0] == counted.decode().strip() and lines[-1] == line

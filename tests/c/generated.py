@@ -9,7 +9,7 @@ REFERENCE = Path(__file__).resolve().parents[1] / "reference"
 
 
 def script(name):
-    """A program of tests/reference, as a module."""
+    """Returns a program of tests/reference, as a module."""
     spec = spec_from_loader(name, SourceFileLoader(name, str(REFERENCE / name)))
     module = module_from_spec(spec)
     spec.loader.exec_module(module)

@@ -8,7 +8,7 @@ import sys
 
 
 def run(words, data):
-    """The status, what was written, and the refusal."""
+    """Returns the status, what was written, and the refusal."""
     ran = subprocess.run([os.environ["CAPN"], *words], input=data, capture_output=True)
     return ran.returncode, ran.stdout, ran.stderr.decode().removeprefix("capn: ").removesuffix("\n")
 
@@ -18,7 +18,7 @@ def digits(data):
 
 
 def priced(words, data):
-    """What the one message costs, as `check` writes it, and whether a bare one is canonical."""
+    """Returns what the one message costs, as `check` writes it, and whether a bare one is canonical."""
     status, wrote, refusal = run(["check", *words], data)
     if status:
         return None, None, refusal

@@ -12,7 +12,7 @@ DIFFERS = re.compile(
 
 
 def departure(value):
-    """What the line `canonical` says, in the words of `ways answers`."""
+    """Returns what the line `canonical` says, in the words of `ways answers`."""
     if value == "yes":
         return value
     differs = DIFFERS.fullmatch(value)
@@ -23,7 +23,7 @@ def departure(value):
 
 
 def told(lines):
-    """What `explain` tells in these lines; `?` of bytes that are not read."""
+    """Returns what `explain` tells in these lines; `?` of bytes that are not read."""
     values = dict(line.split(": ", 1) for line in lines if ": " in line)
     if "way" in values:
         return f"way {values['way']}"

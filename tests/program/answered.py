@@ -22,18 +22,18 @@ NUMBERS = ("N", "K")
 
 
 def options_of(command):
-    """The options of a command, but `--help`."""
+    """Returns the options of a command, but `--help`."""
     return [option for option in help_texts.options_of(HELP[command]) if option.name != "--help"]
 
 
 def call_of(command):
-    """The function of a command."""
+    """Returns the function of a command."""
     name = f"run_{command}"
     return getattr(model, name) if hasattr(model, name) else getattr(explained, name)
 
 
 def answer(line, data):
-    """What is written of an input, the line on standard error, and the exit status."""
+    """Returns what is written of an input, the line on standard error, and the exit status."""
     command, *rest = line
     takes, options = {option.name: option.takes for option in options_of(command)}, {}
     while rest:
@@ -46,7 +46,8 @@ def answer(line, data):
 
 
 def values_of(option):
-    """Values of an option: its words, two small numbers, or the example of help; of one that takes none, no word."""
+    """Returns values of an option: its words, two small numbers, or the example of help; of one that takes none, no
+    word."""
     if not option.takes:
         return [[]]
     words = ["1", "2"] if option.takes in NUMBERS else option.words or re.findall(r", as `([^`]+)`", option.said)
@@ -55,7 +56,7 @@ def values_of(option):
 
 
 def lines():
-    """The line of each command without options, and with each one of its options."""
+    """Yields the line of each command without options, and with each one of its options."""
     for command in HELP:
         if command not in ("", "make"):
             yield [command]

@@ -6,7 +6,7 @@ KINDS = ["voids", "bits", "bytes", "u16", "u32", "u64", "pointers"]
 
 
 def decoded(word):
-    """What a word says as a pointer."""
+    """Returns what a word says as a pointer."""
     if word == 0:
         return "null"
     kind, offset = word & 3, (word & 0xFFFFFFFF) >> 2
@@ -24,7 +24,7 @@ def decoded(word):
 
 
 def tag_of(word):
-    """What a word says as the tag of a list of structs."""
+    """Returns what a word says as the tag of a list of structs."""
     if word & 3:
         return decoded(word)
     return f"tag of {(word & 0xFFFFFFFF) >> 2} structs of {word >> 32 & 0xFFFF} words and {word >> 48} slots"
@@ -50,7 +50,7 @@ class Explanation(model.Walk):
             self.refused = str(refused)
 
     def byte(self, segment, at):
-        """The byte of a word of a segment."""
+        """Returns the byte of a word of a segment."""
         return self.begin + 8 * (self.table + sum(map(self.words, range(segment))) + at)
 
     def slot(self, segment, at, depth, is_root=False):
@@ -97,7 +97,7 @@ class Explanation(model.Walk):
         return f"content: words {begin} to {end} of segment {segment}, which has {self.words(segment)}\n"
 
     def slot_lines(self):
-        """The lines about the slot at which the walk was refused."""
+        """Returns the lines about the slot at which the walk was refused."""
         fault = self.refused.split(" ")[0]
         segment, at = self.visited
         word = self.word(segment, at)
@@ -143,12 +143,12 @@ class Explanation(model.Walk):
 
 
 def segments_line(segments):
-    """The line about the segments of a message."""
+    """Returns the line about the segments of a message."""
     return sizes_line([len(segment) // 8 for segment in segments])
 
 
 def sizes_line(sizes):
-    """The line about segments of these sizes, which has those of the first eight where there are several."""
+    """Returns the line about segments of these sizes, which has those of the first eight where there are several."""
     first = ", ".join(map(str, sizes[:8])) + (", .." if len(sizes) > 8 else "")
     return f"segments: {len(sizes)} of {sum(sizes)} words{': ' + first if len(sizes) > 1 else ''}\n"
 
@@ -179,7 +179,7 @@ class Owner(Explanation):
 
 
 def difference(walk, segment, canonical):
-    """Which word of a segment is not that of its canonical bytes, and whose that is."""
+    """Returns which word of a segment is not that of its canonical bytes, and whose that is."""
     at = next(i for i in range(0, len(segment), 8) if segment[i:i + 8] != canonical[i:i + 8])
     word, other = segment[at:at + 8], canonical[at:at + 8]
     line = f"at byte {walk.byte(0, at // 8)}: {word.hex()}"
@@ -194,7 +194,7 @@ def difference(walk, segment, canonical):
 
 
 def accepted_lines(walk, segments):
-    """The lines of a message that is accepted, after those about its place."""
+    """Returns the lines of a message that is accepted, after those about its place."""
     out = [f"accepted: paid {walk.paid} visits {walk.visits} depth {walk.height}\n"]
     canonical = model.canonical(walk.value) if walk.capability is None else None
     if len(segments) == 1 and canonical == segments[0]:
@@ -212,7 +212,7 @@ def accepted_lines(walk, segments):
 
 
 def came(data, form, offset):
-    """What came of the message at an offset, which is refused before its walk, and of the group that is cut."""
+    """Returns what came of the message at an offset, which is refused before its walk, and of the group that is cut."""
     if form != "packed":
         return data[offset:], b""
     words, group = model.unpacked(data)
@@ -220,7 +220,7 @@ def came(data, form, offset):
 
 
 def table_lines(rest):
-    """The line about the segments, if all sizes of a table came that has not too many."""
+    """Returns the line about the segments, if all sizes of a table came that has not too many."""
     count = model.number(rest, 0, 4) + 1
     if count > model.MOST_SEGMENTS or len(rest) < 4 + 4 * count:
         return []
@@ -228,14 +228,15 @@ def table_lines(rest):
 
 
 def least(rest):
-    """The bytes of a frame, if those of its table that are missing are zeros."""
+    """Returns the bytes of a frame, if those of its table that are missing are zeros."""
     count = model.number(rest, 0, 4) + 1
     sizes = [model.number(rest[:4 + 4 * count], at, 4) for at in range(4, len(rest), 4)]
     return 8 * (1 + count // 2) + 8 * sum(sizes)
 
 
 def needed(group):
-    """The bytes that a group has at least: its tag, those that it names, and of two tags a count and as many words."""
+    """Returns the bytes that a group has at least: its tag, those that it names, and of two tags a count and as many
+    words."""
     size = 1 + bin(group[0]).count("1")
     if group[0] not in (0, 255):
         return size
@@ -243,7 +244,7 @@ def needed(group):
 
 
 def fault_lines(fault, message_words, rest, group):
-    """The lines of a message that is refused before its walk, of which so much came."""
+    """Returns the lines of a message that is refused before its walk, of which so much came."""
     text, index, offset = fault
     out = [f"message: {index} at {offset}\n"]
     if not text.startswith("bare: "):
@@ -265,7 +266,7 @@ def fault_lines(fault, message_words, rest, group):
 
 
 def walked(message, form, limits):
-    """The walk of a message, and the lines that explain why that is refused, if it is; but for its place."""
+    """Returns the walk of a message, and the lines that explain why that is refused, if it is; but for its place."""
     offset, _frame, segments = message
     walk = Explanation(segments, limits, offset, 0 if form == "bare" else len(segments) // 2 + 1)
     lines = [segments_line(segments)]
@@ -276,8 +277,8 @@ def walked(message, form, limits):
 
 
 def explain(data, form="stream", message_words=8388608, wanted=None, **limits):
-    """What `explain` writes, with the number that it has or None, the line on standard error, and its exit status. The
-    limits are those of the walk."""
+    """Returns what `explain` writes, with the number that it has or None, the line on standard error, and its exit
+    status. The limits are those of the walk."""
     found, fault = model.messages(data, form, message_words)
     for index, message in enumerate(found, 1):
         if wanted not in (None, index):
@@ -296,7 +297,7 @@ def explain(data, form="stream", message_words=8388608, wanted=None, **limits):
 
 
 def explain_refused(data, form="stream", message_words=8388608, **limits):
-    """The same of every message that is refused, with an empty line after each."""
+    """Returns the same of every message that is refused, with an empty line after each."""
     found, fault = model.messages(data, form, message_words)
     out, passed = [], []
     for index, message in enumerate(found, 1):

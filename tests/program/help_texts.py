@@ -12,7 +12,7 @@ HERE = os.path.dirname(os.path.abspath(__file__))
 
 
 def helps():
-    """The texts of help, by the command that each is of; that of the program by the empty name."""
+    """Returns the texts of help, by the command that each is of; that of the program by the empty name."""
     with open(os.path.join(HERE, "help"), encoding="utf-8") as file:
         parts = re.split(r"^\$ capn ?(.*)$", file.read(), flags=re.M)[1:]
     asked = zip(parts[::2], parts[1::2])
@@ -20,7 +20,7 @@ def helps():
 
 
 def part_of(text, title):
-    """The lines below a title of a text of help."""
+    """Returns the lines below a title of a text of help."""
     found = re.search(rf"^{title}:\n(.*?)(?:\n\n|\Z)", text, re.M | re.S)
     return found[1] if found else ""
 
@@ -35,38 +35,38 @@ class Option(typing.NamedTuple):
 
     @property
     def what(self):
-        """What it is, in short."""
+        """Returns what it is, in short."""
         return re.split(r"[;:.] | \[default", self.said)[0]
 
     @property
     def words(self):
-        """The words of which it takes one."""
+        """Returns the words of which it takes one."""
         return re.findall(r"`([a-z]+)`(?=[ ,;.])", self.said) if self.takes else []
 
     @property
     def needs(self):
-        """The options without which it doesn't go."""
+        """Returns the options without which it doesn't go."""
         return re.findall(r"^With `(--[\w-]+)`:", self.said)
 
     @property
     def excludes(self):
-        """The options with which it doesn't go."""
+        """Returns the options with which it doesn't go."""
         return re.findall(r"`(--[\w-]+)`", self.said.partition("goes without")[2])
 
 
 def options_of(text):
-    """The options that a text of help lists."""
+    """Returns the options that a text of help lists."""
     items = re.split(r"\n(?=(?: {6}|  -\w, )--)", part_of(text, "Options"))
     found = [re.match(r" +(?:(-\w), )?(--[\w-]+)(?: <(\w+)>)? +(.*)", item, re.S) for item in items]
     return [Option(it[2], it[1] or "", it[3] or "", " ".join(it[4].split())) for it in found if it]
 
 
 def commands_of(text):
-    """The commands, each with what it does."""
+    """Returns the commands, each with what it does."""
     return re.findall(r"^  (\w+) +(.*)", part_of(text, "Commands"), re.M)
 
 
 def exit_statuses_of(text):
-    """The exit statuses that a text of help lists, each with what it says."""
+    """Returns the exit statuses that a text of help lists, each with what it says."""
     found = re.findall(r"^  (\d)  (.*(?:\n     .*)*)", part_of(text, "Exit status"), re.M)
     return {status: " ".join(said.split()) for status, said in found}

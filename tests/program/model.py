@@ -28,7 +28,7 @@ def number(data, at, size):
 
 
 def first_frame(data, at, most):
-    """The segments of the frame at an offset and the offset after it, or None if the stream ends there."""
+    """Returns the segments of the frame at an offset and the offset after it, or None if the stream ends there."""
     if at == len(data):
         return None
     if len(data) - at < 4:
@@ -53,8 +53,8 @@ def first_frame(data, at, most):
 
 
 def unpacked(data, most=None):
-    """The words that a packed text holds in its whole groups, and the offset of a group that is cut, or None. A group
-    that passes a maximum of words is refused."""
+    """Returns the words that a packed text holds in its whole groups, and the offset of a group that is cut, or None. A
+    group that passes a maximum of words is refused."""
     out, at = bytearray(), 0
     while at < len(data):
         tag, begun = data[at], at
@@ -86,7 +86,7 @@ def unpacked(data, most=None):
 
 
 def packed(data):
-    """The packed text of whole words, of which no run ends before it has to."""
+    """Returns the packed text of whole words, of which no run ends before it has to."""
     words, text, at = [data[begin:begin + 8] for begin in range(0, len(data), 8)], bytearray(), 0
     while at < len(words):
         word = words[at]
@@ -236,7 +236,7 @@ def cut(items, zero):
 
 
 def canonical(value):
-    """The canonical bytes of a value without capabilities."""
+    """Returns the canonical bytes of a value without capabilities."""
     out = [0]
 
     def pointer(at, to, low, high):
@@ -298,7 +298,7 @@ def canonical(value):
 
 
 def quoted(items):
-    """What is written between quotes for a list of bytes that is a text, or None for any other."""
+    """Returns what is written between quotes for a list of bytes that is a text, or None for any other."""
     if not items or not all(0x20 <= byte <= 0x7E for byte in items[:-1]):
         return None
     if items[-1] and not 0x20 <= items[-1] <= 0x7E:
@@ -308,7 +308,7 @@ def quoted(items):
 
 
 def shown(value, level=0, with_texts=False):
-    """The text of a value, as `show` writes it, or with texts as `show --text` does."""
+    """Returns the text of a value, as `show` writes it, or with texts as `show --text` does."""
     kind, pad = value[0], "  " * level
     if kind == "null":
         return f"{pad}null\n"
@@ -348,7 +348,7 @@ class Marked:
         return offset + (f"{name}\t" if self.ways else "") + "  " * level + text + "\n"
 
     def leads(self, segment, at):
-        """Where what the word's pointer names begins, and the word that describes it."""
+        """Returns where what the word's pointer names begins, and the word that describes it."""
         word = self.walk.word(segment, at)
         if word & 3 != 2:
             return segment, start(word, at), word
@@ -398,7 +398,7 @@ class Marked:
         return text
 
     def below(self, there, step):
-        """What is one step below a slot, or below a row: that of a number, or None."""
+        """Returns what is one step below a slot, or below a row: that of a number, or None."""
         segment, at, row = there
         if row is None:
             word = self.walk.word(segment, at)
@@ -415,7 +415,7 @@ class Marked:
         return (segment, at + row[0] + step, None) if step < row[1] else None
 
     def part(self, way):
-        """The lines of what is at a way from the root, or the line `none`."""
+        """Returns the lines of what is at a way from the root, or the line `none`."""
         there = (0, 0, None)
         for step in way:
             there = there and self.below(there, step)
@@ -435,7 +435,8 @@ class Marked:
 
 
 def text_of(items):
-    """The text that a list of bytes is in JSON, or None: UTF-8 without control characters, and a zero after it."""
+    """Returns the text that a list of bytes is in JSON, or None: UTF-8 without control characters, and a zero after
+    it."""
     if not items or items[-1] != 0:
         return None
     try:
@@ -446,7 +447,7 @@ def text_of(items):
 
 
 def plain_of(value, with_texts):
-    """A value as what `json` writes, and with texts a list of bytes that is one as a text."""
+    """Returns a value as what `json` writes, and with texts a list of bytes that is one as a text."""
     kind = value[0]
     if kind == "null":
         return None
@@ -466,7 +467,7 @@ def plain_of(value, with_texts):
 
 
 def stands(value, way):
-    """What is at a way of numbers from a value, or None."""
+    """Returns what is at a way of numbers from a value, or None."""
     for step in way:
         if value[0] not in ("struct", "pointers", "rows"):
             return None
@@ -478,7 +479,8 @@ def stands(value, way):
 
 
 def styled(value, style):
-    """The text of what is somewhere, if anything is, in a style: plain, text, json or both. What ends it follows."""
+    """Returns the text of what is somewhere, if anything is, in a style: plain, text, json or both. What ends it
+    follows."""
     if style in ("json", "both"):
         if value is None:
             return "\n"
@@ -490,8 +492,9 @@ def styled(value, style):
 
 
 def each(data, text_of, form="stream", message_words=8388608, one=False, **limits):
-    """The texts of messages, by their walk, their segments, their offset and their frame, up to the first one that is
-    refused, or of exactly one; the line on standard error, and the exit status. The limits are those of the walk."""
+    """Returns the texts of messages, by their walk, their segments, their offset and their frame, up to the first one
+    that is refused, or of exactly one; the line on standard error, and the exit status. The limits are those of the
+    walk."""
     if one:
         try:
             segments = only_message(data, form, message_words)
@@ -536,14 +539,14 @@ def run_hash(data, **options):
 
 
 def without_capability(walk):
-    """A walk, of a message that is refused where it has a capability."""
+    """Returns a walk, of a message that is refused where it has a capability."""
     if walk.capability is not None:
         raise Refused(f"capability {walk.capability}")
     return walk
 
 
 def is_own(walk, segments):
-    """Whether a message that is accepted is one segment, its canonical bytes."""
+    """Returns whether a message that is accepted is one segment, its canonical bytes."""
     return walk.capability is None and len(segments) == 1 and canonical(walk.value) == segments[0]
 
 
@@ -551,8 +554,8 @@ def is_own(walk, segments):
 
 
 def messages(data, form, most):
-    """Each message with its offset, its bytes and the words of the frame's end; then the refusal that ends the stream,
-    with its number and offset, or None."""
+    """Returns each message with its offset, its bytes and the words of the frame's end; then the refusal that ends the
+    stream, with its number and offset, or None."""
     if form == "bare":
         if len(data) % 8:
             return [], (f"bare: NotWhole({len(data)})", 1, 0)
@@ -579,14 +582,14 @@ def messages(data, form, most):
 
 
 def line_of(fault):
-    """The line on standard error of a refusal, from its text, the number of its message and its offset."""
+    """Returns the line on standard error of a refusal, from its text, the number of its message and its offset."""
     text, index, offset = fault
     return f"capn: message {index} at {offset}: {text}\n"
 
 
 def passed_line(passed, count):
-    """The line on standard error of messages that were passed over, by their numbers and offsets, of this many in all;
-    none if there are none."""
+    """Returns the line on standard error of messages that were passed over, by their numbers and offsets, of this many
+    in all; none if there are none."""
     if not passed:
         return ""
     index, offset = passed[0]
@@ -598,7 +601,7 @@ def digest(value):
 
 
 def listed(head, walk, segments, with_digest):
-    """The line of `list` for a message that is accepted, after what it begins with."""
+    """Returns the line of `list` for a message that is accepted, after what it begins with."""
     is_free = walk.capability is None
     end = f" sha256 {digest(walk.value) if is_free else '-'}" if with_digest else ""
     own = "yes" if is_own(walk, segments) else "no"
@@ -607,7 +610,8 @@ def listed(head, walk, segments, with_digest):
 
 
 def needed(greatest, found, tariff):
-    """The lines of `limits`: the number of messages, and the greatest figures, each with the number of its message."""
+    """Returns the lines of `limits`: the number of messages, and the greatest figures, each with the number of its
+    message."""
     most = 2**28
     words, paid, deep = (greatest[name][0] for name in greatest)
     lines = [f"messages {found}"]
@@ -620,9 +624,9 @@ def needed(greatest, found, tariff):
 
 def run(task, data, form="stream", message_words=8388608, keep_going=False, with_digest=False, count=False,
         only_canonical=False, **limits):
-    """What a command over an archive writes, what is on standard error, and its exit status. The task is list, limits,
-    canonical, uniq or filter; `with_digest` is for list, `count` for uniq, and `only_canonical` for filter. The limits
-    are those of the walk."""
+    """Returns what a command over an archive writes, what is on standard error, and its exit status. The task is list,
+    limits, canonical, uniq or filter; `with_digest` is for list, `count` for uniq, and `only_canonical` for filter. The
+    limits are those of the walk."""
     found, fault = messages(data, form, message_words)
     out, passed, greatest = [], [], {"message-words": (0, 0), "budget": (0, 0), "depth": (0, 0)}
     kept = set()
@@ -683,7 +687,7 @@ def run_filter(data, canonical=False, **options):
 
 
 def apart(first, other):
-    """The first lines in which the texts of two canonical bytes differ, with the way before each line."""
+    """Returns the first lines in which the texts of two canonical bytes differ, with the way before each line."""
     texts = [Marked([it], 0, False, True).part(()).splitlines() + ["\tend"] for it in (first, other)]
     return next(both for both in zip(*texts) if both[0] != both[1])
 
@@ -714,7 +718,8 @@ def run_canonical(data, framed=False, keep_going=False, **options):
 
 
 def pick(data, form="stream", message_words=8388608, first=1, last=2**64 - 1):
-    """What `pick` writes, from one number of a message to another, the line on standard error, and its exit status."""
+    """Returns what `pick` writes, from one number of a message to another, the line on standard error, and its exit
+    status."""
     if last < first:
         return b"", "", 0
     found, fault = messages(data, form, message_words)
@@ -725,7 +730,7 @@ def pick(data, form="stream", message_words=8388608, first=1, last=2**64 - 1):
 
 
 def pick_only(data, ranges, form="stream", message_words=8388608):
-    """The same for `pick --only`, whose ranges ascend."""
+    """Returns the same for `pick --only`, whose ranges ascend."""
     found, fault = messages(data, form, message_words)
     out = b"".join(frame for _, frame, _ in (one for first, last in ranges for one in found[first - 1:last]))
     if fault is None or len(found) >= ranges[-1][1]:
@@ -745,7 +750,7 @@ def run_pick(data, to=2**64 - 1, only=None, **options):
 
 
 def only_message(data, form, message_words):
-    """The segments of the one message that an input is."""
+    """Returns the segments of the one message that an input is."""
     if form == "bare":
         if len(data) % 8:
             raise Refused(f"bare: NotWhole({len(data)})")
@@ -764,8 +769,8 @@ def only_message(data, form, message_words):
 
 
 def canonical_of_one(data, form="stream", message_words=8388608, **limits):
-    """What `canonical` writes of one message, the line on standard error, and its exit status. The limits are those of
-    the walk."""
+    """Returns what `canonical` writes of one message, the line on standard error, and its exit status. The limits are
+    those of the walk."""
     try:
         walk = Walk(only_message(data, form, message_words), **limits)
         return canonical(without_capability(walk).value), "", 0
@@ -792,12 +797,12 @@ def run_unpack(data, message_words=8388608, streaming=False):
 
 
 def pack_streaming(data):
-    """What `pack --streaming` writes, the line on standard error, and its exit status."""
+    """Returns what `pack --streaming` writes, the line on standard error, and its exit status."""
     text = packed(data[:len(data) // 8 * 8])
     return (text, f"capn: NotWhole({len(data)})\n", 1) if len(data) % 8 else (text, "", 0)
 
 
 def unpack_streaming(data):
-    """What `unpack --streaming` writes, the line on standard error, and its exit status."""
+    """Returns what `unpack --streaming` writes, the line on standard error, and its exit status."""
     words, cut_at = unpacked(data)
     return (words, "", 0) if cut_at is None else (words, f"capn: packed: Cut at {cut_at}\n", 1)
