@@ -1,8 +1,7 @@
 #!/usr/bin/env python3
 """Runs every `sh` and `bash` block of docs/GUIDE.md, in order, each in a shell of its own and all in one folder.
 
-Where a `text` block follows, the output must be that block. CAPN names the program; the shells are those of the
-arguments.
+If a `text` block follows, the output must be that block. CAPN names the program. The arguments name the shells.
 
     CAPN=path tests/pages/guide.py dash bash
 """
@@ -19,7 +18,7 @@ BLOCK = re.compile(r"^```(sh|bash|text)\n(.*?)^```$", re.M | re.S)
 
 
 def pairs(page):
-    """Yields each block that is run, with its language and the output that the page shows, or None."""
+    """Yields each block, with its language and the output that the page shows, or None."""
     found = BLOCK.findall(page)
     for at, (language, block) in enumerate(found):
         if language != "text":
@@ -28,7 +27,7 @@ def pairs(page):
 
 
 def tried(shell, capn):
-    """Returns how many blocks ran, and how many printed something else than the page shows."""
+    """Returns how many blocks ran, and how many printed other output than the page shows."""
     ran = wrong = 0
     with tempfile.TemporaryDirectory() as folder:
         here = Path(folder)
