@@ -1,6 +1,6 @@
 /* Compares pairs of messages by the library. Two messages that follow each other on standard input are a pair. For each
-   pair it prints a line. The line is `same` or `different` if all of these agree: the canonical bytes of both, and
-   capn_same of both in each form and in each order. Otherwise the line says which of them is wrong. */
+ * pair it prints a line. The line is `same` or `different` if all of these agree: the canonical bytes of both, and
+ * capn_same of both in each form and in each order. Otherwise the line says which of them is wrong. */
 #include "capn.h"
 
 #include <stdint.h>
