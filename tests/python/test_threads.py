@@ -20,7 +20,7 @@ SECONDS = float(os.environ.get("CAPN_SECONDS", "0.7"))
 
 
 def numbered(count):
-    """This many messages, no two of which are equal. Each is a struct of words."""
+    """Returns this many messages, no two of which are equal. Each is a struct of words."""
     source, made = random.Random(3), []
     for number in range(1, count + 1):
         words = source.choice([2, 4, 39, 199])
