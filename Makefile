@@ -94,12 +94,13 @@ write:
 bench:
 	cd crates/bench && rt run > /dev/null && ./out/bench times
 
-# The program and the library as it is called from C, Python and Rust, on every stored vector; a million calls from C,
-# and calls in two threads; the guide's recipes, and the programs of the pages; the package for Python;
-# and where the reference implementation is installed: messages that it wrote, the lines of docs/DIFFERENCES.md, its
-# answers and those of the crate capnp to the cases of vectors/, pairs of messages that its builders wrote, and its
-# table of hostile inputs, by root in a root of Debian 13 too, with the languages over the library. With the program
-# that the gate builds, or with an installed one: make interop CAPN=/usr/local/bin/capn.
+# The program and the library as it is called from each language, on every stored vector; a million calls from C, and
+# calls in two threads; the tests of C, C++ and Python once more under sanitizers, and those of Go under the race
+# detector; the guide's recipes, and the programs of the pages; 20,000 messages, valid and hostile, that C++, Rust, Go
+# and Python read as C does. And where the reference implementation is installed: messages that it wrote, the lines of
+# docs/DIFFERENCES.md, its answers and those of the crate capnp to the cases of vectors/, pairs of messages that its
+# builders wrote, and its table of hostile inputs, by root in a root of Debian 13 too, with the languages over the
+# library. With the program that the gate builds, or with an installed one: make interop CAPN=/usr/local/bin/capn.
 interop: $(if $(CAPN),,program library)
 	./tests/c/agree
 	./tests/c/watched
@@ -119,7 +120,7 @@ interop: $(if $(CAPN),,program library)
 	@if command -v python3 > /dev/null; then ./tests/program/archives && ./tests/program/marks && ./tests/program/texts \
 		&& ./tests/program/memory; else echo "archives, marks, texts, memory: skipped, since there is no python3"; fi
 	./contrib/dask/run
-	@if command -v python3 > /dev/null; then ./tests/python/run && ./tests/reference/hostile; \
+	@if command -v python3 > /dev/null; then ./tests/python/run && ./tests/python/sanitized && ./tests/reference/hostile; \
 	else echo "python, hostile: skipped, since there is no python3"; fi
 	./tests/c/languages
 

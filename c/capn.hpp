@@ -409,6 +409,12 @@ template <class Out, class Call> expected<Out> made(std::size_t capacity, Call c
     });
 }
 
+/* Whether a message of so many bytes may be accepted: a longer one has more words than the limit, so the call that
+ * rejects it needs no buffer. A packed word has at most 10 bytes. */
+inline bool may_fit(std::size_t size, form written, const limits &most) noexcept {
+    return written == form::bare || size / (written == form::packed ? 10 : 8) <= std::size_t{most.message_words} + 2049;
+}
+
 /* The first capacity for the canonical bytes of a message of so many bytes: they are mostly no longer than it is, and
  * never longer than the traversal limit allows. */
 inline std::size_t first_room(std::size_t size, const limits &most) noexcept {
@@ -497,7 +503,8 @@ inline filled canonical_into(bytes message, void *scratch, std::size_t words, vo
 /* The canonical bytes of one message. */
 inline expected<buffer> try_canonical(bytes message, form written = form::stream, const limits &most = {}) noexcept {
     /* Of a packed one the library says what is enough. */
-    const std::size_t capacity = written == form::packed ? 0 : detail::first_room(message.size(), most);
+    const bool is_known = written != form::packed && detail::may_fit(message.size(), written, most);
+    const std::size_t capacity = is_known ? detail::first_room(message.size(), most) : 0;
     return detail::made<buffer>(capacity, [&](std::uint8_t *out, std::size_t room, capn_report *report) {
         return capn_canonical(detail::number(written), message.u8(), message.size(), &most, out, room, report);
     });
@@ -580,7 +587,8 @@ inline expected<bool> try_is_canonical_message(bytes message, form written = for
 inline expected<std::string> try_show(bytes message, form written = form::stream, const limits &most = {},
                                       style as = style::lines) noexcept {
     const std::size_t most_at_first = 64 * (std::size_t{most.budget} + 1);
-    const std::size_t capacity = std::min((written == form::packed ? 16 : 4) * message.size(), most_at_first) + 256;
+    const std::size_t likely = std::min((written == form::packed ? 16 : 4) * message.size(), most_at_first) + 256;
+    const std::size_t capacity = detail::may_fit(message.size(), written, most) ? likely : 0;
     return detail::made<std::string>(capacity, [&](std::uint8_t *at, std::size_t room, capn_report *report) {
         return capn_show(detail::number(written), message.u8(), message.size(), &most, static_cast<std::uint32_t>(as),
                          reinterpret_cast<char *>(at), room, report);

@@ -11,7 +11,7 @@ const char *capn_version(void) { return CAPN_VERSION_TEXT; }
 const char *capn_status_text(capn_status status) {
     switch (status) {
     /* c/statuses.txt: texts */
-    case CAPN_OK: return "success";
+    case CAPN_OK: return "the call succeeded";
     case CAPN_NO_ROOM: return "the buffer is too small";
     case CAPN_BAD_FORM: return "the call doesn't take this form";
     case CAPN_BAD_LIMITS: return "a limit is out of its range";

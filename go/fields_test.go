@@ -4,6 +4,8 @@ package capn
 
 import (
 	"bytes"
+	"encoding/binary"
+	"errors"
 	"fmt"
 	"io"
 	"math"
@@ -11,10 +13,12 @@ import (
 	"path/filepath"
 	"strings"
 	"testing"
+	"unicode/utf8"
 )
 
 // The fields of tests/c/fields.capnp, read as its older or its newer type, and each message of other schemas as
 // anything. CAPN_FIELDS names a folder with what the reference implementation's generated code wrote and read.
+// CAPN_MIXED names a file with messages of tests/c/mixed.py, and CAPN_LINES the file that is written of them.
 
 // reading reads fields until one is not as the schema says.
 type reading struct {
@@ -163,102 +167,30 @@ func readStruct(t *testing.T, of Value) {
 	}
 }
 
-// A sum, FNV-1a of 64 bits, is what a line has of the numbers that were read as one thing. Each number is 8 bytes of
-// it, the least significant first.
-type sum uint64
-
-func newSum() *sum {
-	fresh := sum(0xcbf29ce484222325)
-	return &fresh
-}
-
-func (s *sum) byte(one byte) { *s = (*s ^ sum(one)) * 0x100000001b3 }
-
-func (s *sum) number(number uint64) {
-	for i := 0; i < 64; i += 8 {
-		s.byte(byte(number >> i))
-	}
-}
-
-func (s *sum) bytes(all []byte) {
-	s.number(uint64(len(all)))
-	for _, one := range all {
-		s.byte(one)
-	}
-}
-
-// record adds the fields of each width up to the bit 256, of which field i has the default i + 1, and the kinds of the
-// first four pointers.
-func (s *sum) record(of Value) {
-	for i := 0; i < 256; i++ {
-		s.number(uint64(digit(of.Bool(i, (i+1)%2 != 0))))
-	}
-	for i := 0; i < 32; i++ {
-		s.number(uint64(of.Uint8(i, uint8(i+1))))
-	}
-	for i := 0; i < 16; i++ {
-		s.number(uint64(of.Uint16(i, uint16(i+1))))
-	}
-	for i := 0; i < 8; i++ {
-		s.number(uint64(of.Uint32(i, uint32(i+1))))
-	}
-	for i := 0; i < 4; i++ {
-		s.number(of.Uint64(i, uint64(i+1)))
-	}
-	for k := 0; k < 4; k++ {
-		s.number(uint64(of.Slot(k).Kind()))
-	}
-}
-
-func (s *sum) write(lines *strings.Builder, as string) {
-	fmt.Fprintf(lines, " %s %016x", as, uint64(*s))
-}
-
-// readAny counts how many things a pointer and those below it are taken for, and how many pointers they are, and writes
-// a line for each.
-func readAny(t *testing.T, v Value, things, pointers *int, lines *strings.Builder) {
+// readAny counts how many things a pointer and those below it are taken for, and how many pointers they are.
+func readAny(t *testing.T, v Value, things, pointers *int) {
 	*pointers++
-	fmt.Fprintf(lines, "%d %v", *pointers, v.Kind())
 	if of, err := v.AsStruct(); err == nil {
 		readStruct(t, of)
 		*things++
-		sum := newSum()
-		sum.record(of)
-		sum.write(lines, "struct")
 	}
 	if data, err := v.AsData(); err == nil {
 		*things++
-		sum := newSum()
-		sum.bytes(data)
-		sum.write(lines, "data")
 		// A text that may not be UTF-8.
 		if v.Kind() == Null || len(data) > 0 && data[len(data)-1] == 0 {
 			*things++
-			text := []byte("none")
-			if v.Kind() != Null {
-				text = data[:len(data)-1]
-			}
-			sum := newSum()
-			sum.bytes(text)
-			sum.write(lines, "text")
 		}
 	}
 	// A list without size is one of structs, and of nothing else.
 	if v.Kind() == Null || v.Kind() == Voids || v.Kind() == Rows {
 		*things++
-		sum := newSum()
-		sum.number(uint64(v.Len()))
-		sum.write(lines, "void")
 	}
 	for _, bits := range []int{1, 8, 16, 32, 64} {
 		if numbers, err := v.AsNumbers(bits); err == nil {
 			*things++
-			sum := newSum()
-			sum.number(uint64(numbers.Len()))
 			for i := 0; i < numbers.Len() && i < 1000; i++ {
-				sum.number(numbers.At(i))
+				_ = numbers.At(i)
 			}
-			sum.write(lines, fmt.Sprint("numbers", bits))
 		}
 	}
 	for _, list := range []func() (Items, error){v.AsPointers, v.AsRows} {
@@ -271,38 +203,178 @@ func readAny(t *testing.T, v Value, things, pointers *int, lines *strings.Builde
 			readStruct(t, items.Item())
 		}
 	}
-	if items, err := v.AsPointers(); err == nil {
-		sum := newSum()
-		sum.number(uint64(items.Len()))
-		for i := 0; i < 100 && items.Next(); i++ {
-			sum.number(uint64(items.Item().Kind()))
-		}
-		sum.write(lines, "pointers")
-	}
-	if items, err := v.AsRows(); err == nil {
-		sum := newSum()
-		sum.number(uint64(items.Len()))
-		for i := 0; i < 100 && items.Next(); i++ {
-			sum.record(items.Item())
-		}
-		sum.write(lines, "rows")
-	}
-	lines.WriteByte('\n')
+	eachBelow(v, func(below Value) { readAny(t, below, things, pointers) })
+}
+
+// eachBelow calls back with the object of each pointer of an object, in order.
+func eachBelow(v Value, call func(Value)) {
 	switch v.Kind() {
 	case Struct:
 		for k := 0; k < v.NumSlots(); k++ {
-			readAny(t, v.Slot(k), things, pointers, lines)
+			call(v.Slot(k))
 		}
 	case Pointers:
 		for items, _ := v.AsPointers(); items.Next(); {
-			readAny(t, items.Item(), things, pointers, lines)
+			call(items.Item())
 		}
 	case Rows:
 		for items, _ := v.AsRows(); v.NumSlots() > 0 && items.Next(); {
 			for k := 0; k < v.NumSlots(); k++ {
-				readAny(t, items.Item().Slot(k), things, pointers, lines)
+				call(items.Item().Slot(k))
 			}
 		}
+	}
+}
+
+// A sum is what a line has of the numbers that were read as one thing: FNV-1a, with numbers of 64 bits in place of
+// bytes.
+type sum uint64
+
+func sumOf(numbers ...uint64) *sum {
+	fresh := sum(0xcbf29ce484222325)
+	for _, number := range numbers {
+		fresh.add(number)
+	}
+	return &fresh
+}
+
+func (s *sum) add(number uint64) { *s = (*s ^ sum(number)) * 0x100000001b3 }
+
+func sumOfBytes(all []byte) *sum {
+	s := sumOf(uint64(len(all)))
+	for _, one := range all {
+		s.add(uint64(one))
+	}
+	return s
+}
+
+// fields adds each fifth bit and the fields of each width up to the bit 256, of which field i has the default i + 1, or
+// with a sign -(i + 1); then how many pointers a struct has, and the kinds of the first four.
+func (s *sum) fields(of Value) {
+	for i := 0; i < 256; i += 5 {
+		s.add(uint64(digit(of.Bool(i, (i+1)%2 != 0))))
+	}
+	for i := 0; i < 32; i++ {
+		s.add(uint64(of.Uint8(i, uint8(i+1))))
+	}
+	for i := 0; i < 16; i++ {
+		s.add(uint64(of.Uint16(i, uint16(i+1))))
+	}
+	for i := 0; i < 8; i++ {
+		s.add(uint64(of.Uint32(i, uint32(i+1))))
+	}
+	for i := 0; i < 4; i++ {
+		s.add(of.Uint64(i, uint64(i+1)))
+	}
+	for i := 0; i < 32; i++ {
+		s.add(uint64(of.Int8(i, int8(-i-1))))
+	}
+	for i := 0; i < 16; i++ {
+		s.add(uint64(of.Int16(i, int16(-i-1))))
+	}
+	for i := 0; i < 8; i++ {
+		s.add(uint64(of.Int32(i, int32(-i-1))))
+	}
+	for i := 0; i < 4; i++ {
+		s.add(uint64(of.Int64(i, int64(-i-1))))
+	}
+	s.add(uint64(of.NumSlots()))
+	for k := 0; k < 4; k++ {
+		s.add(uint64(of.Slot(k).Kind()))
+	}
+}
+
+// writeLines writes a line for a pointer and for each below it, as tests/c/fields.c does.
+func writeLines(out *bytes.Buffer, v Value) {
+	fmt.Fprint(out, v.Kind())
+	write := func(s *sum, err error) {
+		if err != nil {
+			out.WriteString(" -")
+			return
+		}
+		fmt.Fprintf(out, " %016x", uint64(*s))
+	}
+	of, err := v.AsStruct()
+	s := sumOf()
+	s.fields(of)
+	write(s, err)
+	data, err := v.AsData()
+	switch {
+	case v.Kind() == Null:
+		text, err := v.AsText("none")
+		write(sumOfBytes([]byte(text)), err)
+	case err == nil && len(data) > 0 && data[len(data)-1] == 0:
+		// A text that may not be UTF-8. If it is, AsText has it.
+		text := data[:len(data)-1]
+		if utf8.Valid(text) {
+			valid, err := v.AsText("none")
+			write(sumOfBytes([]byte(valid)), err)
+		} else {
+			write(sumOfBytes(text), nil)
+		}
+	default:
+		_, err := v.AsText("none")
+		write(sumOf(), err)
+	}
+	write(sumOfBytes(data), err)
+	// A list without size is one of structs, and of nothing else.
+	if v.Kind() == Null || v.Kind() == Voids || v.Kind() == Rows {
+		write(sumOf(uint64(v.Len())), nil)
+	} else {
+		out.WriteString(" -")
+	}
+	for _, bits := range []int{1, 8, 16, 32, 64} {
+		numbers, err := v.AsNumbers(bits)
+		s := sumOf(uint64(numbers.Len()))
+		for i := 0; i < numbers.Len() && i < 1000; i++ {
+			s.add(numbers.At(i))
+		}
+		write(s, err)
+	}
+	items, err := v.AsPointers()
+	s = sumOf(uint64(items.Len()))
+	for i := 0; i < 20 && items.Next(); i++ {
+		s.add(uint64(items.Item().Kind()))
+	}
+	write(s, err)
+	items, err = v.AsRows()
+	s = sumOf(uint64(items.Len()))
+	for i := 0; i < 20 && items.Next(); i++ {
+		s.fields(items.Item())
+	}
+	write(s, err)
+	out.WriteByte('\n')
+	eachBelow(v, func(below Value) { writeLines(out, below) })
+}
+
+// Each message of mixed.py has its length before it.
+func TestLinesOfMixed(t *testing.T) {
+	mixed, to := os.Getenv("CAPN_MIXED"), os.Getenv("CAPN_LINES")
+	if mixed == "" || to == "" {
+		t.Skip("CAPN_MIXED and CAPN_LINES name no files")
+	}
+	left, err := os.ReadFile(mixed)
+	if err != nil {
+		t.Fatal(err)
+	}
+	var lines bytes.Buffer
+	for len(left) > 0 {
+		length := 4 + int(binary.LittleEndian.Uint32(left))
+		message := append([]byte{}, left[4:length]...)
+		left = left[length:]
+		index, err := NewIndex(message, Stream, nil)
+		var rejected *Error
+		switch {
+		case err == nil:
+			writeLines(&lines, index.Root())
+		case errors.As(err, &rejected):
+			fmt.Fprintf(&lines, "rejected: %s\n", rejected.Text())
+		default:
+			t.Fatal(err)
+		}
+	}
+	if err := os.WriteFile(to, lines.Bytes(), 0o666); err != nil {
+		t.Fatal(err)
 	}
 }
 
@@ -344,18 +416,12 @@ func TestFieldsOfWritten(t *testing.T) {
 		}
 	}
 	messages, pointers, things := 0, 0, 0
-	var lines strings.Builder
 	each(file("stream"), func(message []byte) {
 		if index, err := NewIndex(message, Stream, nil); err == nil {
 			messages++
-			readAny(t, index.Root(), &things, &pointers, &lines)
+			readAny(t, index.Root(), &things, &pointers)
 		}
 	})
-	if name := os.Getenv("CAPN_LINES"); name != "" {
-		if err := os.WriteFile(name, []byte(lines.String()), 0o666); err != nil {
-			t.Fatal(err)
-		}
-	}
 	got := fmt.Sprintf("%d messages, %d pointers, %d\n", messages, pointers, things)
 	if want := string(file("anything")); got != want {
 		t.Errorf("read as anything: %s, not %s", got, want)

@@ -4,13 +4,25 @@
 #include "capn.hpp"
 #include <array>
 #include <cstdio>
+#include <cstdlib>
 #include <fcntl.h>
 #include <list>
 #include <string>
+#include <sys/mman.h>
 #include <sys/socket.h>
 #include <thread>
 #include <unistd.h>
 #include <vector>
+
+/* The largest allocation of C++ so far. */
+static std::size_t largest = 0;
+void *operator new(std::size_t size) {
+    largest = std::max(largest, size);
+    void *const out = std::malloc(size ? size : 1);
+    return out ? out : throw std::bad_alloc();
+}
+void operator delete(void *at) noexcept { std::free(at); }
+void operator delete(void *at, std::size_t) noexcept { std::free(at); }
 
 static int failed = 0;
 static void want(const char *what, bool is) {
@@ -123,6 +135,19 @@ static void answers() {
     want("no more room than needed", small.size() == 8 && small.capacity() < 128);
     want("no more of a packed one", capn::canonical(capn::pack(one), form::packed).capacity() < 128);
     want("no more of a text", capn::show(null_root).capacity() < 128);
+    /* A message that is longer than the limit is rejected before anything of its size is allocated: here 4 GiB, all of
+     * them one page of zeros. */
+    const std::size_t huge = std::size_t{1} << 32;
+    void *const pages = mmap(nullptr, huge, PROT_READ, MAP_PRIVATE | MAP_ANONYMOUS | MAP_NORESERVE, -1, 0);
+    want("pages", pages != MAP_FAILED);
+    const capn::bytes zeros(pages, huge);
+    largest = 0;
+    for (const auto written : {form::stream, form::packed}) {
+        want("no canonical bytes of too much", !capn::try_canonical(zeros, written));
+        want("no dump of too much", !capn::try_show(zeros, written));
+    }
+    want("nothing large is allocated", largest < 1 << 20);
+    munmap(pages, huge);
     /* The bytes of words, whose size isn't the number of words. */
     const std::vector<std::uint64_t> counted = {2ull << 32, 5, 0};
     want("the bytes of words", capn::as_bytes(counted).size() == 24
@@ -737,9 +762,10 @@ static void ranges() {
     std::size_t at = 0;
     const std::string all = one + one;
     capn::reader reader([&](std::byte *to, std::size_t most) {
-        std::memcpy(to, all.data() + at, std::min(most, all.size() - at));
-        at += std::min(most, all.size() - at);
-        return at == all.size() && most == 8 && at % 64 ? std::size_t{0} : most;
+        const std::size_t taken = std::min(most, all.size() - at);
+        std::memcpy(to, all.data() + at, taken);
+        at += taken;
+        return taken;
     });
     want("views of a reader", std::ranges::distance(reader | std::views::take(2)) == 2);
 #endif

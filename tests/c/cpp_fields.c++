@@ -1,13 +1,15 @@
 // The fields of fields.capnp, by capn.hpp.
 //
-// Each message of a stream is shown as fields.c++ shows it, read by one of its types.
-//
-//     cpp_fields old | new
+//     cpp_fields old | new   shows each message of a stream as fields.c++ shows it, read by one of its types
+//     cpp_fields lines       reads each pointer of each message of mixed.py as anything, with a line as fields.c has it
 #include "capn.hpp"
 #include <cinttypes>
 #include <cstdio>
+#include <cstring>
 #include <iostream>
 #include <iterator>
+#include <string>
+#include <vector>
 
 namespace {
 
@@ -90,10 +92,121 @@ void show_message(capn::bytes message, bool is_new) {
     std::printf("\n");
 }
 
+// What is read of a pointer, as one number: FNV-1a, with numbers of 64 bits in place of bytes.
+class sum {
+public:
+    void add(std::uint64_t number) { sum_ = (sum_ ^ number) * 0x100000001b3; }
+    void add(capn::bytes data) {
+        add(data.size());
+        for (const std::byte one : data) add(std::to_integer<std::uint64_t>(one));
+    }
+    void add(capn::value slot) { add(static_cast<std::uint64_t>(slot.kind())); }
+    template <class T> void add_fields(capn::record from) {
+        constexpr std::uint32_t width = 8 * sizeof(T);
+        for (std::uint32_t i = 0; i < 256 / width; i++) {
+            const std::int64_t number = std::is_signed_v<T> ? -std::int64_t{i} - 1 : std::int64_t{i} + 1;
+            add(static_cast<std::uint64_t>(from.get<T>(i * width, static_cast<T>(number))));
+        }
+    }
+    void add(capn::record from) {
+        for (std::uint32_t i = 0; i < 256; i += 5) add(std::uint64_t{from.get<bool>(i, i % 2 == 0)});
+        add_fields<std::uint8_t>(from);
+        add_fields<std::uint16_t>(from);
+        add_fields<std::uint32_t>(from);
+        add_fields<std::uint64_t>(from);
+        add_fields<std::int8_t>(from);
+        add_fields<std::int16_t>(from);
+        add_fields<std::int32_t>(from);
+        add_fields<std::int64_t>(from);
+        add(from.slots());
+        for (std::uint32_t k = 0; k < 4; k++) add(from.slot(k));
+    }
+    template <class T> void add(capn::numbers<T> list) {
+        add(list.size());
+        std::uint32_t left = 1000;
+        for (const T one : list)
+            if (left > 0) left--, add(static_cast<std::uint64_t>(one));
+    }
+    void show() const { std::printf(" %016" PRIx64, sum_); }
+
+private:
+    std::uint64_t sum_ = 0xcbf29ce484222325;
+};
+
+template <class T, class Add> void show_part(const capn::expected<T, capn::kind> &found, Add add) {
+    sum all;
+    if (found) add(all, *found), all.show();
+    else std::printf(" -");
+}
+template <class T> void show_numbers(capn::value at) {
+    show_part(at.try_list<T>(), [](sum &all, capn::numbers<T> list) { all.add(list); });
+}
+template <class Add> void show_rows(const capn::expected<capn::rows, capn::kind> &found, Add add) {
+    show_part(found, [&](sum &all, capn::rows list) {
+        all.add(list.size());
+        std::uint32_t left = 20;
+        for (const capn::record one : list) {
+            if (left-- == 0) break;
+            add(all, one);
+        }
+    });
+}
+
+void show_lines(capn::value at) {
+    static constexpr const char *kinds[] = {"null", "struct", "void", "bits", "bytes", "u16", "u32", "u64", "pointers",
+                                            "rows", "capability"};
+    std::printf("%s", kinds[static_cast<std::uint32_t>(at.kind())]);
+    show_part(at.try_struct(), [](sum &all, capn::record from) { all.add(from); });
+    show_part(at.try_text("none"), [](sum &all, std::string_view text) { all.add(capn::bytes(text)); });
+    show_part(at.try_data(), [](sum &all, capn::bytes data) { all.add(data); });
+    // A list without size is one of structs, and of nothing else.
+    const bool is_void = at.is_null() || at.kind() == capn::kind::voids || at.kind() == capn::kind::rows;
+    if (is_void) show_part(at.try_structs(), [](sum &all, capn::rows list) { all.add(list.size()); });
+    else std::printf(" -");
+    show_numbers<bool>(at);
+    show_numbers<std::uint8_t>(at);
+    show_numbers<std::uint16_t>(at);
+    show_numbers<std::uint32_t>(at);
+    show_numbers<std::uint64_t>(at);
+    show_rows(at.try_pointers(), [](sum &all, capn::record one) { all.add(one.slot(0)); });
+    show_rows(at.try_structs(), [](sum &all, capn::record one) { all.add(one); });
+    std::printf("\n");
+    const auto show_slots = [](capn::record from) {
+        for (std::uint32_t k = 0; k < from.slots(); k++) show_lines(from.slot(k));
+    };
+    if (at.kind() == capn::kind::structure) show_slots(at.as_struct());
+    if (at.kind() == capn::kind::pointers)
+        for (const capn::record one : at.pointers()) show_lines(one.slot(0));
+    if (at.kind() == capn::kind::rows)
+        for (const capn::record one : at.structs()) {
+            if (one.slots() == 0) break;
+            show_slots(one);
+        }
+}
+
+// The messages of mixed.py, each with its length before it, and in memory of exactly its length.
+void show_mixed(const std::string &all) {
+    for (std::size_t from = 0; from + 4 <= all.size();) {
+        std::uint32_t size;
+        std::memcpy(&size, &all[from], sizeof size);
+        const char *first = all.data() + from + sizeof size;
+        const std::vector<char> message(first, first + size);
+        from += sizeof size + size;
+        try {
+            const capn::index index = capn::index::of(message);
+            show_lines(index.root());
+        } catch (const capn::refusal &refusal) { std::printf("rejected: %s\n", refusal.what()); }
+    }
+}
+
 } // namespace
 
 int main(int count, char **words) {
     if (count != 2) return 2;
     const std::string stream((std::istreambuf_iterator<char>(std::cin)), {});
+    if (!std::strcmp(words[1], "lines")) {
+        show_mixed(stream);
+        return 0;
+    }
     capn::for_each(stream, [&](capn::bytes message) { show_message(message, words[1] == std::string("new")); });
 }

@@ -3,21 +3,23 @@
  *     fields             tests on entries that are written by hand
  *     fields old | new   shows each message of a stream of fields.capnp as fields.c++ does, read by one of its types
  *     fields any         reads each pointer of each message of a stream as anything, and counts what it reads
- *     fields lines       the same, with a line for each pointer, in preorder, of what is read there
- *     fields go          the same lines as go/fields_test.go writes
- *     fields python      the same lines as tests/python/anything.py writes
+ *     fields lines       the same with the messages of mixed.py, and a line for each pointer of what is read there
  *
- * A line has ten parts, with a space between: the struct; the text; the data; the lists of numbers of 1, 8, 16, 32 and
- * 64 bits; the list of pointers; the list of structs. A part is `-` where the pointer refers to something else. Else it
- * is a sum (FNV-1a over numbers of 64 bits, in hexadecimal) of:
+ * A message that is rejected has the line `rejected: ` with the text of the error. Of another one each pointer has a
+ * line, in preorder: the word of its kind, and eleven parts for what it is read as. These are a struct; a text; a data;
+ * a list of elements without size; lists of numbers of 1, 8, 16, 32 and 64 bits; a list of pointers; a list of structs.
+ * A part is `-` where the pointer refers to something else. Else it is a sum (FNV-1a over numbers of 64 bits, in
+ * hexadecimal) of:
  *   - a struct: what a struct has, below
- *   - a text and a data: their length, and their bytes
+ *   - a text and a data: their length, and their bytes; of a null pointer the text is the default `none`
+ *   - a list without size: its length
  *   - a list of numbers: its length, and its numbers, at most a thousand
- *   - a list of pointers: its length, and of each, at most a thousand, the number of its kind
- *   - a list of structs: its length, and of each, at most a thousand, what a struct has
- * What a struct has: for each width of 1, 8, 16, 32 and 64 bits, the fields at the multiples of it below 256, each with
- * the default 7, of which a field of one bit has the lowest bit; and of its first four pointers the numbers of their
- * kinds. A message that is refused has the line `refused`. */
+ *   - a list of pointers: its length, and of each, at most twenty, the number of its kind
+ *   - a list of structs: its length, and of each, at most twenty, what a struct has
+ * What a struct has: its fields of 1 bit at the multiples of 5 below 256; for each width of 8, 16, 32 and 64 bits the
+ * fields without sign at the multiples of it below 256; and the same with a sign. Field i of a width has the default
+ * i + 1 in so many bits, or with a sign -(i + 1). Then how many pointers it has, and of the first four the numbers of
+ * their kinds. */
 #include "capn_fields.h"
 #include <inttypes.h>
 #include <stdio.h>
@@ -182,16 +184,22 @@ static uint64_t sum;
 static void begin(void) { sum = UINT64_C(0xcbf29ce484222325); }
 static void add(uint64_t number) { sum = (sum ^ number) * UINT64_C(0x100000001b3); }
 static void end(int is_read) {
-    if (is_read) printf("%016" PRIx64, sum);
-    else printf("-");
+    if (is_read) printf(" %016" PRIx64, sum);
+    else printf(" -");
 }
 
 static void add_kind(const capn_entry *entry) { add(entry ? entry->kind : CAPN_KIND_NULL); }
 
 static void add_record(const capn_record *record) {
-    static const uint32_t widths[] = {1, 8, 16, 32, 64};
-    for (int i = 0; i < 5; i++)
-        for (uint32_t at = 0; at < 256; at += widths[i]) add(capn_field(record, at, widths[i], 7));
+    static const uint32_t widths[] = {8, 16, 32, 64};
+    for (uint32_t i = 0; i < 256; i += 5) add(capn_field(record, i, 1, i + 1));
+    for (int w = 0; w < 4; w++)
+        for (uint32_t i = 0; i < 256 / widths[w]; i++)
+            add(capn_field(record, i * widths[w], widths[w], i + 1));
+    for (int w = 0; w < 4; w++)
+        for (uint32_t i = 0; i < 256 / widths[w]; i++)
+            add((uint64_t)capn_field_int(record, i * widths[w], widths[w], -(int64_t)i - 1));
+    add(record->slots);
     for (uint32_t k = 0; k < 4; k++) add_kind(capn_slot(record, k));
 }
 
@@ -201,162 +209,134 @@ static void add_bytes(const void *data, size_t length) {
 }
 
 static void show_line(const capn_entry *entry) {
+    static const char *const kinds[] = {"null", "struct", "void", "bits", "bytes", "u16", "u32", "u64", "pointers",
+                                        "rows", "capability"};
     static const uint32_t numbers[] = {CAPN_KIND_BITS, CAPN_KIND_BYTES, CAPN_KIND_U16, CAPN_KIND_U32, CAPN_KIND_U64};
-    enum { MOST = 1000 };
     capn_record record;
     capn_items items;
     const char *text;
     const uint8_t *data;
     size_t length;
+    printf("%s", kinds[entry->kind]);
     begin();
     int is_read = capn_struct(bytes, entry, &record);
     add_record(&record);
     end(is_read);
-    printf(" ");
     begin();
     is_read = capn_text(bytes, entry, &text, &length);
-    add_bytes(text, length);
+    if (text) add_bytes(text, length);
+    else add_bytes("none", 4);
     end(is_read);
-    printf(" ");
     begin();
     is_read = capn_data(bytes, entry, &data, &length);
     add_bytes(data, length);
     end(is_read);
+    begin();
+    is_read = capn_list(bytes, entry, CAPN_KIND_VOID, &items);
+    add(items.count);
+    end(is_read);
     for (int i = 0; i < 5; i++) {
-        printf(" ");
         begin();
         is_read = capn_list(bytes, entry, numbers[i], &items);
         add(items.count);
-        for (uint32_t k = 0; k < items.count && k < MOST; k++) add(capn_number(&items, k));
+        for (uint32_t k = 0; k < items.count && k < 1000; k++) add(capn_number(&items, k));
         end(is_read);
     }
-    printf(" ");
     begin();
     is_read = capn_list(bytes, entry, CAPN_KIND_POINTERS, &items);
     add(items.count);
-    for (int k = 0; k < MOST && capn_next(&items, &record); k++) add_kind(capn_slot(&record, 0));
+    for (int k = 0; k < 20 && capn_next(&items, &record); k++) add_kind(capn_slot(&record, 0));
     end(is_read);
-    printf(" ");
     begin();
     is_read = capn_list(bytes, entry, CAPN_KIND_ROWS, &items);
     add(items.count);
-    for (int k = 0; k < MOST && capn_next(&items, &record); k++) add_record(&record);
+    for (int k = 0; k < 20 && capn_next(&items, &record); k++) add_record(&record);
     end(is_read);
     printf("\n");
 }
 
-/* ---- lines of other programs: each thing that a pointer is read as, by its name */
+/* ---- streams */
 
-static int is_go;
-static void add_number(uint64_t number) {
-    if (!is_go) add(number);
-    for (int i = 0; is_go && i < 64; i += 8) add(number >> i & 0xff); /* its bytes */
-}
-static void add_data(const void *data, size_t length, size_t most) {
-    add_number(length);
-    for (size_t i = 0; i < length && i < most; i++) add(((const uint8_t *)data)[i]);
-}
-static void add_kind_number(const capn_entry *entry) { add_number(entry ? entry->kind : CAPN_KIND_NULL); }
-
-static void add_struct(const capn_record *record) {
-    static const uint32_t widths[] = {1, 8, 16, 32, 64};
-    const uint32_t words = (record->bits + 63) / 64;
-    for (int w = 0; w < 5; w++)
-        for (uint32_t i = 0; i < (is_go ? 256 / widths[w] : 64 * words / widths[w] + 2); i++)
-            add_number(capn_field(record, i * widths[w], widths[w], is_go ? i + 1 : i));
-    if (!is_go) add_number(record->slots);
-    for (uint32_t k = 0; k < (is_go ? 4 : record->slots + 2); k++) add_kind_number(capn_slot(record, k));
-}
-
-static void end_named(const char *name) { printf(" %s %016" PRIx64, name, sum); }
-
-static void show_named(const capn_entry *entry) {
-    static const uint32_t kinds[] = {CAPN_KIND_BITS, CAPN_KIND_BYTES, CAPN_KIND_U16, CAPN_KIND_U32, CAPN_KIND_U64};
-    static const char *const names[2][5] = {{"bits", "u8", "u16", "u32", "u64"},
-                                            {"numbers1", "numbers8", "numbers16", "numbers32", "numbers64"}};
-    const size_t most = is_go ? SIZE_MAX : 1000;
-    const uint32_t most_rows = is_go ? 100 : 1000;
-    capn_record record;
-    capn_items items;
-    const char *text;
-    const uint8_t *data;
-    size_t length;
-    begin();
-    if (capn_struct(bytes, entry, &record)) add_struct(&record), end_named("struct");
-    for (int part = 0; part < 2; part++) { /* Go has the data first, Python the text */
-        begin();
-        if (part == is_go && capn_text(bytes, entry, &text, &length)) {
-            if (!text && is_go) text = "none", length = 4;
-            add_data(text, length, most);
-            end_named("text");
-        } else if (part != is_go && capn_data(bytes, entry, &data, &length)) {
-            add_data(data, length, most);
-            end_named("data");
-        }
-    }
-    begin();
-    if (capn_list(bytes, entry, CAPN_KIND_VOID, &items)) add_number(items.count), end_named("void");
-    for (int i = 0; i < 5; i++) {
-        begin();
-        if (!capn_list(bytes, entry, kinds[i], &items)) continue;
-        add_number(items.count);
-        for (uint32_t k = 0; k < items.count && k < 1000; k++) add_number(capn_number(&items, k));
-        end_named(names[is_go][i]);
-    }
-    begin();
-    if (capn_list(bytes, entry, CAPN_KIND_POINTERS, &items)) {
-        add_number(items.count);
-        for (uint32_t k = 0; k < most_rows && capn_next(&items, &record); k++)
-            add_kind_number(capn_slot(&record, 0));
-        end_named("pointers");
-    }
-    begin();
-    if (capn_list(bytes, entry, CAPN_KIND_ROWS, &items)) {
-        add_number(items.count);
-        for (uint32_t k = 0; k < most_rows && capn_next(&items, &record); k++) add_struct(&record);
-        end_named("rows");
-    }
-    printf("\n");
-}
-
-/* Each message of a stream, in memory of exactly its length. */
-static int show_stream(const char *as) {
-    static const char *const kinds[] = {"null", "struct", "void", "bits", "bytes", "u16", "u32", "u64", "pointers",
-                                        "rows", "capability"};
-    const int is_any = !strcmp(as, "any"), is_lines = !strcmp(as, "lines"), is_python = !strcmp(as, "python");
-    uint64_t number = 0, messages = 0, pointers = 0, read = 0;
-    is_go = !strcmp(as, "go");
+/* The entries of a message, and how many they are; NULL if it is rejected. */
+static capn_entry *entries_of(const uint8_t *message, size_t size, uint32_t *count, capn_status *status,
+                              capn_report *report) {
     const capn_limits limits = CAPN_USUAL_LIMITS;
-    size_t have = 0, room = 1 << 16, got;
+    *status = capn_index(CAPN_STREAM, message, size, &limits, NULL, 0, report);
+    if (*status != CAPN_NO_ROOM) return NULL;
+    *count = report->visits;
+    capn_entry *entries = malloc(*count * sizeof *entries);
+    *status = capn_index(CAPN_STREAM, message, size, &limits, entries, *count, report);
+    want("the second index", *status, CAPN_OK);
+    return entries;
+}
+
+static uint8_t *all_of_input(size_t *have) {
+    size_t room = 1 << 16, got;
     uint8_t *all = malloc(room);
-    while ((got = fread(all + have, 1, room - have, stdin)) > 0)
-        if ((have += got) == room) all = realloc(all, room *= 2);
+    *have = 0;
+    while ((got = fread(all + *have, 1, room - *have, stdin)) > 0)
+        if ((*have += got) == room) all = realloc(all, room *= 2);
+    return all;
+}
+
+/* In memory of exactly its length, so that a sanitizer sees a read past it. */
+static uint8_t *alone(const uint8_t *from, size_t size) {
+    uint8_t *message = malloc(size);
+    if (size) memcpy(message, from, size);
+    return message;
+}
+
+/* Each message of mixed.py, with its length before it. */
+static int show_lines(void) {
+    size_t have;
+    uint8_t *all = all_of_input(&have);
+    for (size_t from = 0; from + 4 <= have;) {
+        const uint8_t *at = all + from;
+        const size_t size = at[0] | at[1] << 8 | at[2] << 16 | (size_t)at[3] << 24;
+        uint32_t count;
+        capn_status status;
+        capn_report report;
+        char text[128];
+        uint8_t *message = alone(at + 4, size);
+        from += 4 + size;
+        bytes = message;
+        capn_entry *entries = entries_of(message, size, &count, &status, &report);
+        if (!entries) {
+            want("the room of a text", capn_refusal_text(status, &report, text, sizeof text) < sizeof text, 1);
+            printf("rejected: %s\n", text);
+        } else
+            for (uint32_t i = 0; i < count; i++) show_line(&entries[i]);
+        free(entries);
+        free(message);
+    }
+    free(all);
+    return failed != 0;
+}
+
+/* Each message of a stream. */
+static int show_stream(const char *as) {
+    const int is_any = !strcmp(as, "any");
+    const capn_limits limits = CAPN_USUAL_LIMITS;
+    uint64_t messages = 0, pointers = 0, read = 0;
+    size_t have;
+    uint8_t *all = all_of_input(&have);
     for (size_t from = 0; from < have;) {
+        uint32_t count;
+        capn_status status;
         capn_report report;
         if (capn_first(all + from, have - from, &limits, &report) != CAPN_OK) return 1;
         const size_t size = report.length;
-        uint8_t *message = malloc(size);
-        memcpy(message, all + from, size);
+        uint8_t *message = alone(all + from, size);
         from += size;
         bytes = message;
-        if (capn_index(CAPN_STREAM, message, size, &limits, NULL, 0, &report) == CAPN_NO_ROOM) {
-            const uint32_t count = report.visits;
-            capn_entry *entries = malloc(count * sizeof *entries);
-            if (capn_index(CAPN_STREAM, message, size, &limits, entries, count, &report) != CAPN_OK) return 1;
-            for (uint32_t i = 0; i < count; i++)
-                if (is_lines) show_line(&entries[i]);
-                else if (is_any) read += (uint64_t)read_any(&entries[i]);
-                else if (is_go || is_python) {
-                    if (is_go) printf("%" PRIu64 " %s", pointers + i + 1, kinds[entries[i].kind]);
-                    else printf("%" PRIu64 " %" PRIu32, number, i);
-                    show_named(&entries[i]);
-                } else if (i == 0) show_message(entries, !strcmp(as, "new"));
+        capn_entry *entries = entries_of(message, size, &count, &status, &report);
+        if (entries) {
+            if (!is_any) show_message(entries, !strcmp(as, "new"));
+            for (uint32_t i = 0; is_any && i < count; i++) read += (uint64_t)read_any(&entries[i]);
             messages++;
             pointers += count;
-            free(entries);
-        } else if (is_lines) printf("refused\n");
-        else if (!is_any && !is_go && !is_python) return 1;
-        number++;
+        } else if (!is_any) return 1;
+        free(entries);
         free(message);
     }
     free(all);
@@ -530,7 +510,7 @@ static void by_hand(void) {
 }
 
 int main(int count, char **words) {
-    if (count == 2) return show_stream(words[1]);
+    if (count == 2) return strcmp(words[1], "lines") ? show_stream(words[1]) : show_lines();
     by_hand();
     by_another_schema();
     printf("fields: %d failed\n", failed);

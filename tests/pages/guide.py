@@ -1,7 +1,8 @@
 #!/usr/bin/env python3
 """Runs every `sh` and `bash` block of docs/GUIDE.md, in order, each in a shell of its own and all in one folder.
 
-If a `text` block follows, the output must be that block. CAPN names the program. The arguments name the shells.
+Where a `text` block follows, the output must be that block. CAPN names the program; the shells are those of the
+arguments that are installed. Says which block is left out, since a tool isn't there.
 
     CAPN=path tests/pages/guide.py dash bash
 """
@@ -14,6 +15,7 @@ import tempfile
 from pathlib import Path
 
 TOP = Path(__file__).resolve().parents[2]
+TOOLS = ("git", "jq", "openssl")
 BLOCK = re.compile(r"^```(sh|bash|text)\n(.*?)^```$", re.M | re.S)
 
 
@@ -42,6 +44,10 @@ def tried(shell, capn):
 
         run("sh", "git init -q . && git config user.name someone && git config user.email someone@localhost")
         for language, block, wanted in pairs((TOP / "docs" / "GUIDE.md").read_text()):
+            missing = [tool for tool in TOOLS if re.search(rf"\b{tool} ", block) and not shutil.which(tool)]
+            if missing:
+                print(f"guide: skipped, since there is no {missing[0]}: {block.splitlines()[0]}")
+                continue
             if "git diff" in block:
                 run("sh", "cp message a.message && git add a.message && git commit -qm one && cp other a.message")
             got = run("bash" if language == "bash" else shell, block)
@@ -59,7 +65,7 @@ def tried(shell, capn):
 def main():
     capn = os.environ.get("CAPN") or str(TOP / "crates" / "capn" / "out" / "capn")
     failed = 0
-    for shell in sys.argv[1:] or ["sh"]:
+    for shell in filter(shutil.which, sys.argv[1:] or ["sh"]):
         ran, wrong = tried(shell, Path(capn).resolve())
         print(f"guide: {ran} blocks ran in {shell}, {wrong} wrong")
         failed += wrong

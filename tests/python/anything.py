@@ -1,79 +1,94 @@
-"""Reads each pointer of each message of a stream as whatever it may be, as the programs of the other languages do.
+"""Reads each pointer of each message as whatever it may be, as the programs of the other languages do.
 
-    anything.py any      how many messages are accepted, how many pointers these have, and as how many things each of
-                         these can be read, all added up: a struct, a text, a data, and a list of each kind
-    anything.py values   a line for each of these pointers: `MESSAGE POINTER`, by their numbers from 0 on, then for each
-                         of these things that it can be read as the name and a sum of what is read
+    anything.py any     of a stream: how many messages are accepted, how many pointers these have, and as how many
+                        things each of these can be read, all added up: a struct, a text, a data, a list of each kind
+    anything.py lines   of the messages of tests/c/mixed.py: a line for each of these pointers, or for a message that is
+                        rejected, as the head of tests/c/fields.c says
 
-The stream is the standard input; a message that is refused is left out, but counted by MESSAGE. Pointers are those of
-the index, in its order. A list is read as far as its first 1,000 elements.
-
-A sum is 64 bits: from 0xcbf29ce484222325 on, each number is XORed in, and the sum is multiplied by 0x100000001b3. Of a
-struct these are the fields of 1, 8, 16, 32 and 64 bits, one width after the other, each from the first one to the first
-two that are beyond its words, with the number of the field as the default, in as many bits; then how many pointers it
-has, and the kind of each and of the two beyond. Of an element of a list of numbers the words are those that have a bit
-of it. Of a text or a data: its bytes, after their number. Of a list: its elements, after their number; of pointers the
-kind of each, and of structs what a struct has. Kinds are those of capn_entry."""
+The messages are the standard input."""
 import sys
 
 import capn
 
-MOST, START, PRIME, MASK = 1000, 0xCBF29CE484222325, 0x100000001B3, (1 << 64) - 1
+MOST_NUMBERS, MOST_ROWS, START, PRIME, MASK = 1000, 20, 0xCBF29CE484222325, 0x100000001B3, (1 << 64) - 1
 KINDS = ["null", "struct", "void", "bits", "bytes", "u16", "u32", "u64", "pointers", "rows", "capability"]
-NUMBERS = (("bits", 1), ("u8", 8), ("u16", 16), ("u32", 32), ("u64", 64))
 
 
-def folded(numbers, total=START):
+def folded(numbers):
+    """The sum of some numbers, in hexadecimal."""
+    total = START
     for number in numbers:
-        total = (total ^ number) * PRIME & MASK
-    return total
+        total = (total ^ number & MASK) * PRIME & MASK
+    return f"{total:016x}"
 
 
 def of_struct(body):
     """The numbers of a struct."""
-    words, slots = len(body.words), len(body.slots)
-    for width in 1, 8, 16, 32, 64:
-        for offset in range(64 * words // width + 2):
-            default = offset & (1 << width) - 1
-            yield int(body.bool(offset, default)) if width == 1 else body.uint(width, offset, default)
-    yield slots
-    for slot in range(slots + 2):
+    for i in range(0, 256, 5):
+        yield int(body.bool(i, (i + 1) % 2 != 0))
+    for width in 8, 16, 32, 64:
+        for i in range(256 // width):
+            yield body.uint(width, i, i + 1)
+    for width in 8, 16, 32, 64:
+        for i in range(256 // width):
+            yield body.int(width, i, -i - 1)
+    yield len(body.slots)
+    for slot in range(4):
         yield KINDS.index(body.slot(slot).kind)
 
 
-def of_list(items, of_each):
+def of_list(items, most, of_each):
     """The number of elements, and the numbers of the first of them."""
     yield len(items)
-    for i in range(min(len(items), MOST)):
+    for i in range(min(len(items), most)):
         yield from of_each(items[i])
 
 
-def things(found):
-    """What can be read of a pointer: the name of each thing, and its numbers."""
-    kind = found.kind
+def text_of(found):
+    """The bytes of a text. It need not be UTF-8 in C."""
+    if not isinstance(found, (capn.Null, capn.Bytes)):
+        raise capn.Mismatch(f"there is no text, but {found!r}")
+    try:
+        return found.text(default="none").encode()
+    except UnicodeDecodeError:
+        return found[:-1]
 
-    def read(name, call, numbers):
+
+def data_of(found):
+    """The bytes of a data."""
+    if found.kind not in ("null", "bytes"):
+        raise capn.Mismatch(f"there is no data, but {found!r}")
+    return b"" if found.kind == "null" else found[:]
+
+
+def elements_of(found):
+    """The elements of a list without size: one of structs, and of nothing else."""
+    if found.kind not in ("null", "void", "rows"):
+        raise capn.Mismatch(f"there are no such elements, but {found!r}")
+    return found.rows()
+
+
+def things(found):
+    """What a pointer is read as: for each thing the call, and the numbers of what it returns."""
+    yield found.struct, of_struct
+    for bytes_of in text_of, data_of:
+        yield lambda: bytes_of(found), lambda data: (len(data), *data)
+    yield lambda: elements_of(found), lambda items: (len(items),)
+    for width in 1, 8, 16, 32, 64:
+        yield lambda: found.numbers(width), lambda items: of_list(items, MOST_NUMBERS, lambda number: (int(number),))
+    yield found.pointers, lambda items: of_list(items, MOST_ROWS, lambda one: (KINDS.index(one.kind),))
+    yield found.rows, lambda items: of_list(items, MOST_ROWS, of_struct)
+
+
+def parts(found, shown):
+    """What a line has of each thing: what its numbers are shown as, or `-` where it can't be read as that."""
+    for call, numbers in things(found):
         try:
             answer = call()
         except capn.Mismatch:
-            return
-        yield name, numbers(answer)
-
-    yield from read("struct", found.struct, of_struct)
-    # A text need not be UTF-8 in C.
-    if kind == "null" or kind == "bytes" and len(found) and not found[-1]:
-        stored = b"" if kind == "null" else found[:-1]
-        yield "text", (len(stored), *stored[:MOST])
-    if kind in ("null", "bytes"):
-        stored = b"" if kind == "null" else found[:]
-        yield "data", (len(stored), *stored[:MOST])
-    if kind in ("null", "void", "rows"):
-        yield "void", (0 if kind == "null" else len(found),)
-    for name, width in NUMBERS:
-        yield from read(
-            name, lambda width=width: found.numbers(width), lambda items: of_list(items, lambda number: (int(number),)))
-    yield from read("pointers", found.pointers, lambda items: of_list(items, lambda one: (KINDS.index(one.kind),)))
-    yield from read("rows", found.rows, lambda items: of_list(items, of_struct))
+            yield "-"
+        else:
+            yield shown(numbers(answer))
 
 
 def pointers(found):
@@ -92,28 +107,38 @@ def pointers(found):
         left += below[::-1]
 
 
-def main(mode):
+def any_of(stream):
+    """The numbers of messages, of pointers, and of the things that these are read as."""
     messages = slots = read = 0
-    for number, frame in enumerate(capn.messages(sys.stdin.buffer, read_ahead=True)):
+    for frame in capn.messages(stream, read_ahead=True):
         try:
             root = capn.read(frame).root
         except capn.Refusal:
             continue
         messages += 1
-        for at, found in enumerate(pointers(root)):
+        for found in pointers(root):
             slots += 1
-            lines = []
-            for name, numbers in things(found):
-                read += 1
-                total = folded(numbers)
-                lines.append(f"{name} {total:016x}")
-            if mode == "values":
-                print(number, at, *lines)
-    if mode == "any":
-        print(f"{messages} messages, {slots} pointers, {read}")
+            read += sum(part != "-" for part in parts(found, str))
+    return f"{messages} messages, {slots} pointers, {read}"
+
+
+def lines(stream):
+    """The lines of messages, each of which has its length before it."""
+    while length := stream.read(4):
+        try:
+            root = capn.read(stream.read(int.from_bytes(length, "little"))).root
+        except capn.Refusal as refusal:
+            yield f"rejected: {refusal}"
+            continue
+        for found in pointers(root):
+            yield f"{found.kind} {' '.join(parts(found, folded))}"
 
 
 if __name__ == "__main__":
-    if sys.argv[1:] not in (["any"], ["values"]):
-        sys.exit("usage: anything.py any | values")
-    main(sys.argv[1])
+    if sys.argv[1:] == ["any"]:
+        print(any_of(sys.stdin.buffer))
+    elif sys.argv[1:] == ["lines"]:
+        for line in lines(sys.stdin.buffer):
+            print(line)
+    else:
+        sys.exit("usage: anything.py any | lines")

@@ -147,11 +147,21 @@ class AsExplained(unittest.TestCase):
             refused = refusal_of(capn.check, frame, limits=limits)
             for call in SEGMENTS:
                 for kind, in_place in (bytes, False), (bytearray, False), (bytearray, True), (memoryview, True):
-                    refusal = refusal_of(call, map(kind, segments), limits, in_place=in_place)
-                    if refused is not None:
-                        self.assertEqual(refusal.args, refused.args)
-                        self.assertEqual(stop_of(refusal), stop_of(refused))
-                        ways.add(refusal.way)
+                    given = list(map(kind, segments))
+                    refusal = refusal_of(call, given, limits, in_place=in_place)
+                    of_iterator = refusal_of(call, iter(given), limits, in_place=in_place)
+                    if refused is None:
+                        continue
+                    self.assertEqual(refusal.args, refused.args)
+                    self.assertEqual(stop_of(refusal), stop_of(refused))
+                    ways.add(refusal.way)
+                    if refused.name == "TooManyWords":
+                        # Of an iterator no more segments are taken than say so.
+                        self.assertEqual(of_iterator.name, refused.name)
+                        self.assertTrue(limits.message_words < of_iterator.at <= refused.at)
+                    else:
+                        self.assertEqual(of_iterator.args, refused.args)
+                        self.assertEqual(stop_of(of_iterator), stop_of(refused))
         self.assertGreater(len(ways), 10)
 
     def test_long_tables(self):

@@ -164,6 +164,47 @@ class EachCall(unittest.TestCase):
                     self.assertEqual((got, splitter.number), (MESSAGES, len(MESSAGES)))
 
 
+class Loops(unittest.TestCase):
+    """A loop that a handler's exception ends, and that goes on: it loses no message, and has none twice."""
+
+    def test_loops_go_on(self):
+        is_in_loop, raised = False, 0
+
+        def handler(*_):
+            nonlocal is_in_loop
+            if is_in_loop:
+                is_in_loop = False
+                raise Interrupted
+
+        # By the time of the process, so that each call has some between two signals, whatever else runs.
+        before = signal.signal(signal.SIGVTALRM, handler)
+        messages = [stream((2 << 32).to_bytes(8, "little") + number.to_bytes(16, "little")) for number in range(20000)]
+        try:
+            for packed in False, True:
+                data = b"".join(map(capn.pack, messages)) if packed else b"".join(messages)
+                for options in {}, {"read_ahead": True}, {"keep_going": True}:
+                    for call in capn.messages, capn.digests:
+                        found, got, is_done = call(io.BytesIO(data), packed, **options), [], False
+                        signal.setitimer(signal.ITIMER_VIRTUAL, 0.004, 0.004)
+                        while not is_done:
+                            try:
+                                is_in_loop = True
+                                for one in found:
+                                    got.append(one)
+                                is_in_loop, is_done = False, True
+                            except Interrupted:
+                                raised += 1
+                        signal.setitimer(signal.ITIMER_VIRTUAL, 0)
+                        with self.subTest(packed=packed, options=options, call=call):
+                            wanted = messages if call is capn.messages else list(map(capn.digest, messages))
+                            self.assertEqual((got == wanted, len(got)), (True, len(messages)))
+        finally:
+            is_in_loop = False
+            signal.setitimer(signal.ITIMER_VIRTUAL, 0)
+            signal.signal(signal.SIGVTALRM, before)
+        self.assertGreater(raised, 10)
+
+
 class Signals(unittest.TestCase):
     """Signals right after what comes through a pipe or a socket in pieces: the handler raises while `next` runs."""
 

@@ -70,6 +70,7 @@ class Refusals(unittest.TestCase):
             for make in copy.copy, copy.deepcopy, lambda one: pickle.loads(pickle.dumps(one)):
                 refusal = refusal_of(capn.check, REFUSED)
                 refusal._of_message(7, 99)
+                refusal.add_note("of the peer at the door")
                 if asked:
                     self.assertEqual(refusal.way, (1,))
                 other = make(refusal)

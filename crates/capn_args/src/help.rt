@@ -25,23 +25,23 @@ pub const TITLE: &str =
 
 /// The page of help for the program.
 pub const PROGRAM: Page = Page {
-    first: "To see what a message holds, and to refuse one before a reader gets it:
+    first: "To see what a message contains, and to reject it before a reader gets it:
   capn show < message
   capn check --budget 100000 --depth 20 < message",
     usage: "capn <COMMAND> [OPTIONS] < INPUT",
-    about: "Shows, checks, lists, canonicalises, hashes, compares, packs and unpacks
-messages, tells which limits they need, and explains why one is refused. No
-message can make it read forever: following a pointer costs words of a budget,
-and the depth of objects has a limit.",
+    about: "Shows, checks, lists, hashes, compares, packs and unpacks messages, writes their
+canonical bytes, finds which limits they need, and explains errors. No message
+can make it read forever: following a pointer costs words of the traversal limit
+(`--budget`), and the depth of objects has a limit (`--depth`).",
     more: "Input is standard input, and output is standard output.
-`capn <COMMAND> --help` says what it is for, what it takes and what it writes.
+`capn <COMMAND> --help` says what a command is for, what it reads and writes.
 
 Exit status:
   0  Done
-  1  The input or a message in it was refused, or `cmp` found that one differs
+  1  The input or a message in it was rejected, or `cmp` found that one differs
   2  The command line is wrong
   3  Reading or writing failed, the input is longer than the command takes, or
      memory ran out
-With 1 and 3 one line on standard error says why, but not that one differs; the
-manual page explains it under DIAGNOSTICS.",
+With status 1 or 3, one line on standard error says why, but `cmp` writes what
+differs to standard output. The manual page has these lines under DIAGNOSTICS.",
 };

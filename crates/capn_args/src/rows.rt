@@ -75,10 +75,10 @@ pub const OPTIONS: [OptionRow; 30] = [
     OptionRow {
         name: "form",
         taken: FORM,
-        help: "How the input holds its messages: `stream`, each
-after its segment table; `packed`, the same, packed;
-or `bare`, one message with no table, like canonical
-bytes",
+        help: "The form of the input: `stream`, messages with their
+segment tables; `packed`, the same, packed; or `bare`,
+one message of one segment without a table, such as
+canonical bytes",
         commands: &[
             "show", "check", "explain", "list", "limits", "hash", "uniq", "filter",
         ],
@@ -86,34 +86,34 @@ bytes",
     OptionRow {
         name: "form",
         taken: FORM,
-        help: "How the input holds its message, or its messages:
-`stream`, each after its segment table; `packed`, the
-same, packed; or `bare`, one message with no table,
-like canonical bytes",
+        help: "The form of the input: `stream`, messages with their
+segment tables; `packed`, the same, packed; or `bare`,
+one message of one segment without a table, such as
+canonical bytes",
         commands: &["canonical"],
     },
     OptionRow {
         name: "form",
         taken: FORM,
-        help: "How the input holds its messages: `stream`, each
-after its segment table; or `packed`, the same,
+        help: "The form of the input: `stream`, messages with their
+segment tables; or `packed`, the same,
 packed",
         commands: &["cmp", "pick"],
     },
     OptionRow {
         name: "form",
         taken: FORM,
-        help: "How messages are written: `stream`, each after its
-segment table; `packed`, the same, packed; or `bare`,
-one message with no table, like canonical
-bytes",
+        help: "The form of the output: `stream`, messages with their
+segment tables; `packed`, the same, packed; or `bare`,
+one message of one segment without a
+table",
         commands: &["make"],
     },
     OptionRow {
         name: "message-words",
         taken: WORDS,
-        help: "The most words of a message, from 1 to 268435456;
-this doesn't bound a bare input, whose most is
+        help: "The most words of a message, from 1 to 268435456. It
+doesn't limit a bare input, which may have
 268435457 words",
         commands: UNFRAMED,
     },
@@ -127,44 +127,44 @@ this doesn't bound a bare input, whose most is
     OptionRow {
         name: "message-words",
         taken: WORDS,
-        help: "The most words of a message, from 1 to 268435456; the
-input may hold 2049 more, those of the longest
-segment table",
+        help: "The most words of a message, from 1 to 268435456. The
+output may have 2049 more, for the longest segment
+table",
         commands: &["unpack"],
     },
     OptionRow {
         name: "budget",
         taken: Taken::Number("8388608", 0, MOST_COST as i64),
-        help: "The most words that reading one message may cost,
-from 0 to 268435456",
+        help: "The traversal limit: the most words that reading one
+message may cost, from 0 to 268435456",
         commands: LIMITED,
     },
     OptionRow {
         name: "depth",
         taken: Taken::Number("64", 1, MOST_HEIGHT as i64),
-        help: "The most objects one below the other, from 1 to 256;
-the root object has depth 1",
+        help: "The nesting limit: the most objects one below the
+other, from 1 to 256. The root object has depth 1",
         commands: LIMITED,
     },
     OptionRow {
         name: "tariff",
         taken: Taken::Usual("TARIFF", "strict"),
-        help: "What reading a struct or list costs beside its words:
-`strict` adds 1 for each; `plain` adds nothing, like
-capnp's traversal limit",
+        help: "The counting rule of `--budget`: `strict` counts one
+word more for each struct and list; `plain` counts
+their words alone, like capnp's traversal limit",
         commands: LIMITED,
     },
     OptionRow {
         name: "at",
         taken: Taken::Asked("P"),
-        help: "The way from the root to what is written: numbers
-parted by dots, as `0.3.1`",
+        help: "The path from the root to what is written: numbers
+with dots between them, such as `0.3.1`",
         commands: &["show"],
     },
     OptionRow {
         name: "text",
         taken: Taken::Flag,
-        help: "Write a list of bytes that is a text between quotes",
+        help: "Write a list of bytes that is a text in quotes",
         commands: &["show"],
     },
     OptionRow {
@@ -176,57 +176,57 @@ parted by dots, as `0.3.1`",
     OptionRow {
         name: "offsets",
         taken: Taken::Flag,
-        help: "Begin each line with the byte of what it is about,
+        help: "Begin each line with the byte at which its part lies,
 and a tab",
         commands: &["show"],
     },
     OptionRow {
         name: "ways",
         taken: Taken::Flag,
-        help: "Begin each line with the way to what it is about, and
-a tab; with `--offsets` the byte comes first",
+        help: "Begin each line with the path to its part, and a tab;
+with `--offsets` the byte comes first",
         commands: &["show"],
     },
     OptionRow {
         name: "one",
         taken: Taken::Flag,
-        help: "Take exactly one message: all of the input is read
-first, and refused if it has none, or more than one;
-a bare input is one anyway",
+        help: "Take exactly one message: the whole input is read
+first, and rejected if it has none, or more than one.
+A bare input is always one",
         commands: &["show", "check", "hash"],
     },
     OptionRow {
         name: "number",
         taken: Taken::Asked("K"),
-        help: "The number of the message to explain, from 1; usually
-the first one that is refused",
+        help: "The number of the message to explain, from 1; by
+default it is the first one that is rejected",
         commands: &["explain"],
     },
     OptionRow {
         name: "framed",
         taken: Taken::Flag,
-        help: "Take every message of the input, and write a frame of
-one segment for each",
+        help: "Take every message of the input, and write each as a
+message of one segment with its segment table",
         commands: &["canonical"],
     },
     OptionRow {
         name: "keep-going",
         taken: Taken::Flag,
-        help: "Pass over a message that is refused, and go on with
-the next one",
+        help: "Skip a message that is rejected, and go on with the
+next one",
         commands: &["list", "limits", "uniq", "filter"],
     },
     OptionRow {
         name: "keep-going",
         taken: Taken::Flag,
-        help: "With `--framed`: pass over a message that is refused,
-and go on with the next one",
+        help: "With `--framed`: skip a message that is rejected, and
+go on with the next one",
         commands: &["canonical"],
     },
     OptionRow {
         name: "keep-going",
         taken: Taken::Flag,
-        help: "Explain every message that is refused, and write an
+        help: "Explain every message that is rejected, and write an
 empty line after each; it goes without `--number`",
         commands: &["explain"],
     },
@@ -240,14 +240,14 @@ the message, or `-` if it has a capability",
     OptionRow {
         name: "count",
         taken: Taken::Flag,
-        help: "Write no message, but at the end a line `U of N`: how
+        help: "Write no message, but a line `U of N` at the end: how
 many would be written, and of how many",
         commands: &["uniq"],
     },
     OptionRow {
         name: "canonical",
         taken: Taken::Flag,
-        help: "Let only canonical messages through: of one segment
+        help: "Write only canonical messages: those of one segment
 that is the canonical bytes of its value",
         commands: &["filter"],
     },
@@ -260,41 +260,42 @@ that is the canonical bytes of its value",
     OptionRow {
         name: "to",
         taken: Taken::Place("18446744073709551615"),
-        help: "The number of the last message; none is written if it
-is below `--from`",
+        help: "The number of the last message; if it is below
+`--from`, no message is written",
         commands: &["pick"],
     },
     OptionRow {
         name: "only",
         taken: Taken::Asked("LIST"),
-        help: "The numbers of the messages, and ranges of them, in
-ascending order, as `3,7,9-12`; it goes without
+        help: "Numbers of messages, and ranges of them, in ascending
+order, such as `3,7,9-12`; it goes without
 `--from` and `--to`",
         commands: &["pick"],
     },
     OptionRow {
         name: "text",
         taken: Taken::Flag,
-        help: "Take a list of bytes on one line, too, as `show
---text` writes it: `bytes 3 \"ab\\0\"`, or without its
-count",
+        help: "Also take a list of bytes on one line, as `show
+--text` writes it: `bytes 3 \"ab\\0\"`, with its count
+or without it",
         commands: &["make"],
     },
     OptionRow {
         name: "streaming",
         taken: Taken::Flag,
-        help: "Write while the input comes in, which may have up to
-2^64 - 1 bytes, in at most 2 MiB of memory; what was
-written before a refusal stays written",
+        help: "Write while the input comes in, in at most 2 MiB of
+memory. The input may have up to 2^64 - 1 bytes. What
+was written before an error stays written",
         commands: &["pack"],
     },
     OptionRow {
         name: "streaming",
         taken: Taken::Flag,
-        help: "Write while the input comes in, which may have up to
-2^64 - 1 bytes and any number of words, in at most
-2 MiB of memory; what was written before a refusal
-stays written. It goes without `--message-words`",
+        help: "Write while the input comes in, in at most 2 MiB of
+memory. The input may have up to 2^64 - 1 bytes, and
+unpack to any number of words. What was written before
+an error stays written. It goes without
+`--message-words`",
         commands: &["unpack"],
     },
 ];

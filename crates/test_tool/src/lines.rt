@@ -111,6 +111,6 @@ fn help_says_what_the_program_does_below_the_version(rt: HostRuntime) {
     let text = text.expect(&rt, "help");
     let (title, below) = text.as_str().split_once('\n').expect(&rt, "lines");
     assert!(rt; title.starts_with("capn 1.1.0-dev: "));
-    assert!(rt; below.starts_with("\nTo see what a message holds, "));
+    assert!(rt; below.starts_with("\nTo see what a message contains, "));
     assert!(rt; below.contains("\n\nShows, checks, "));
 }

@@ -4,7 +4,7 @@
 //!
 //!     fields old | new
 //!     fields any         reads each pointer of each message as whatever it may be, and counts what it reads
-//!     fields lines       the same, with a line for each pointer of what is read there, as `tests/c/fields.c` has it
+//!     fields lines       a line for each pointer of the messages of `tests/c/mixed.py`, as `tests/c/fields.c` has it
 use capn::{Error, Form, Index, Limits, Number, Struct, Value};
 use std::io::{self, Read, Write};
 
@@ -179,14 +179,31 @@ impl Sum {
         self.0 = (self.0 ^ number).wrapping_mul(0x0100_0000_01b3);
     }
 
-    /// What a struct has: fields of each width, of which the default is 7, and the kinds of its first pointers.
+    /// The fields of one width, of which field `i` has the default `i + 1`, or with a sign `-(i + 1)`.
+    fn add_fields<T: Number>(
+        &mut self,
+        of: &Struct,
+        default: impl Fn(i64) -> T,
+        number: impl Fn(T) -> u64,
+    ) {
+        let width = T::BITS;
+        (0..256 / width).for_each(|i| self.add(number(of.get(i * width, default(i.into())))));
+    }
+
+    /// What a struct has: bits, fields of each width, how many pointers, and the kinds of its first ones.
     fn add_struct(&mut self, of: &Struct) {
-        let multiples = |width: usize| (0..256).step_by(width);
-        multiples(1).for_each(|at| self.add(of.get(at, true).into()));
-        multiples(8).for_each(|at| self.add(of.get::<u8>(at, 7).into()));
-        multiples(16).for_each(|at| self.add(of.get::<u16>(at, 7).into()));
-        multiples(32).for_each(|at| self.add(of.get::<u32>(at, 7).into()));
-        multiples(64).for_each(|at| self.add(of.get::<u64>(at, 7)));
+        (0..256)
+            .step_by(5)
+            .for_each(|i| self.add(of.get(i, i % 2 == 0).into()));
+        self.add_fields(of, |i| (i + 1) as u8, u64::from);
+        self.add_fields(of, |i| (i + 1) as u16, u64::from);
+        self.add_fields(of, |i| (i + 1) as u32, u64::from);
+        self.add_fields(of, |i| (i + 1) as u64, u64::from);
+        self.add_fields(of, |i| (-i - 1) as i8, |number| number as u64);
+        self.add_fields(of, |i| (-i - 1) as i16, |number| number as u64);
+        self.add_fields(of, |i| (-i - 1) as i32, |number| number as u64);
+        self.add_fields(of, |i| -i - 1, |number| number as u64);
+        self.add(of.slots().into());
         (0..4).for_each(|k| self.add(kind(&of.slot(k))));
     }
 }
@@ -210,16 +227,17 @@ fn kind(value: &Value) -> u64 {
     at.expect("a kind of capn.h") as u64
 }
 
-/// How many elements of a list are read.
-const MOST: usize = 1000;
+/// How many numbers of a list are read, and how many pointers or structs.
+const MOST_NUMBERS: usize = 1000;
+const MOST_ROWS: usize = 20;
 
-/// What a pointer is read as, a part for each.
+/// The kind of a pointer, and what it is read as, a part for each.
 fn line(value: &Value) -> String {
     fn part<T, E>(read: Result<T, E>, sum: impl FnOnce(T) -> Sum) -> String {
         read.map_or_else(|_| " -".into(), |it| format!(" {:016x}", sum(it).0))
     }
-    fn bytes(read: Result<Option<&[u8]>, Error>) -> String {
-        part(read.map(Option::unwrap_or_default), |bytes| {
+    fn bytes(read: Result<Option<&[u8]>, Error>, default: &[u8]) -> String {
+        part(read.map(|bytes| bytes.unwrap_or(default)), |bytes| {
             Sum::of(
                 std::iter::once(bytes.len() as u64).chain(bytes.iter().map(|byte| (*byte).into())),
             )
@@ -227,30 +245,38 @@ fn line(value: &Value) -> String {
     }
     fn numbers<T: Number + Into<u64>>(value: &Value) -> String {
         part(value.as_list::<T>(), |all| {
-            Sum::of(std::iter::once(all.len() as u64).chain(all.take(MOST).map(Into::into)))
+            Sum::of(std::iter::once(all.len() as u64).chain(all.take(MOST_NUMBERS).map(Into::into)))
         })
     }
-    let mut line = part(value.as_struct(), |of| {
+    let mut line = value.kind().to_string();
+    line += &part(value.as_struct(), |of| {
         let mut sum = Sum::of([]);
         sum.add_struct(&of);
         sum
     });
-    line += &bytes(value.as_text_bytes());
-    line += &bytes(value.as_data());
+    line += &bytes(value.as_text_bytes(), b"none");
+    line += &bytes(value.as_data(), b"");
+    // A list without size is one of structs, and of nothing else.
+    line += &match value {
+        Value::Null | Value::Void(_) | Value::Rows(_) => {
+            part(value.as_rows(), |all| Sum::of([all.len() as u64]))
+        }
+        _ => " -".into(),
+    };
     line += &numbers::<bool>(value);
     line += &numbers::<u8>(value);
     line += &numbers::<u16>(value);
     line += &numbers::<u32>(value);
     line += &numbers::<u64>(value);
     line += &part(value.as_pointers(), |all| {
-        Sum::of(std::iter::once(all.len() as u64).chain(all.take(MOST).map(|it| kind(&it))))
+        Sum::of(std::iter::once(all.len() as u64).chain(all.take(MOST_ROWS).map(|it| kind(&it))))
     });
     line += &part(value.as_rows(), |all| {
         let mut sum = Sum::of([all.len() as u64]);
-        all.take(MOST).for_each(|row| sum.add_struct(&row));
+        all.take(MOST_ROWS).for_each(|row| sum.add_struct(&row));
         sum
     });
-    line.split_off(1)
+    line
 }
 
 /// The lines of a pointer and of those below it, in preorder.
@@ -278,10 +304,15 @@ fn main() -> Result<(), Box<dyn std::error::Error>> {
     }
     let mut out = io::BufWriter::new(io::stdout().lock());
     if word == "lines" {
-        for message in capn::messages(&stream, Limits::usual()) {
-            match Index::new(message?, Form::Stream, &Limits::usual()) {
+        let mut left = stream.as_slice();
+        while !left.is_empty() {
+            let (length, after) = left.split_at(4);
+            let length = u32::from_le_bytes(length.try_into()?);
+            let (message, after) = after.split_at(length as usize);
+            left = after;
+            match Index::new(message, Form::Stream, &Limits::usual()) {
                 Ok(index) => lines(&index.root(), &mut out)?,
-                Err(_) => writeln!(out, "refused")?,
+                Err(error) => writeln!(out, "rejected: {error}")?,
             }
         }
         return Ok(out.flush()?);
