@@ -50,7 +50,7 @@ def values_of(option):
     no word."""
     if not option.takes:
         return [[]]
-    words = ["1", "2"] if option.takes in NUMBERS else option.words or re.findall(r", as `([^`]+)`", option.said)
+    words = ["1", "2"] if option.takes in NUMBERS else option.words or re.findall(r", such as `([^`]+)`", option.said)
     assert words, f"help has no example of a value of {option.name}"
     return [[word] for word in words]
 
