@@ -179,7 +179,7 @@ static void write(const Value& value) {
     capnp::writeMessageToFd(STDOUT_FILENO, message);
     return;
   }
-  // It is copied from a reader, so the copy has no gaps.
+  // The object is copied from a reader, so the copy has no gaps.
   capnp::MallocMessageBuilder copy(1 + below(40), strategy);
   copy.setRoot(message.getRoot<capnp::AnyPointer>().asReader());
   capnp::writeMessageToFd(STDOUT_FILENO, copy);
