@@ -86,7 +86,7 @@ const char *capn_status_name(capn_status status) {
     }
 }
 
-/* A text of which as much is written as fits, and its whole length. */
+/* A text that is written as far as the buffer has room, with its full length. */
 struct text {
     char *out;
     size_t room, length;

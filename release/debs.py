@@ -16,8 +16,8 @@ LIBRARIES = "/usr/lib/x86_64-linux-gnu"
 
 
 class Debs:
-    """What makes them needs a release, which has a folder `work`, a time `seconds`, a text `proved`, a `debian_version`
-    and a list `made`."""
+    """The methods that make packages of Debian, for a release that has a folder `work`, a time `seconds`, a text
+    `proved`, a `debian_version` and a list `made`."""
 
     def debs(self, has_wheel):
         """The packages of Debian. Each is a part of the staged files, with its own control files."""

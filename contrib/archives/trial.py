@@ -21,8 +21,8 @@ from messages import canonical, framed, in_two_segments, with_zeros
 
 CAPN = os.environ["CAPN"]
 MEGABYTE = 1 << 20
-# How often the messages after an invalid table are repeated, so that the table can announce 5,000 words and still hide
-# only whole messages.
+# How often the messages after an invalid table are repeated. The table can then announce 5,000 words, and hide nothing
+# but complete messages.
 MANY = 6
 Ran = tuple[bytes, str, int]
 Place = tuple[int, int, str]

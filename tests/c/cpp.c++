@@ -148,7 +148,7 @@ static void answers() {
     }
     want("nothing large is allocated", largest < 1 << 20);
     munmap(pages, huge);
-    /* The bytes of words, whose size isn't the number of words. */
+    /* Words, passed as bytes: their size in bytes isn't the number of words. */
     const std::vector<std::uint64_t> counted = {2ull << 32, 5, 0};
     want("the bytes of words", capn::as_bytes(counted).size() == 24
                                    && capn::check(capn::as_bytes(counted), form::bare).paid == 3);

@@ -1,4 +1,4 @@
-// The fields of fields.capnp, by capn.hpp.
+// Reads the fields of fields.capnp by capn.hpp.
 //
 //     cpp_fields old | new   shows each message of a stream as fields.c++ shows it, read by one of its types
 //     cpp_fields lines       reads each pointer of each message of mixed.py as anything, with a line as fields.c has it
@@ -92,7 +92,7 @@ void show_message(capn::bytes message, bool is_new) {
     std::printf("\n");
 }
 
-// What is read of a pointer, as one number: FNV-1a, with numbers of 64 bits in place of bytes.
+// What is read from a pointer, as one number: FNV-1a, with numbers of 64 bits in place of bytes.
 class sum {
 public:
     void add(std::uint64_t number) { sum_ = (sum_ ^ number) * 0x100000001b3; }
@@ -159,7 +159,7 @@ void show_lines(capn::value at) {
     show_part(at.try_struct(), [](sum &all, capn::record from) { all.add(from); });
     show_part(at.try_text("none"), [](sum &all, std::string_view text) { all.add(capn::bytes(text)); });
     show_part(at.try_data(), [](sum &all, capn::bytes data) { all.add(data); });
-    // A list without size is one of structs, and of nothing else.
+    // A list of elements without size can be read as a list of structs, and as nothing else.
     const bool is_void = at.is_null() || at.kind() == capn::kind::voids || at.kind() == capn::kind::rows;
     if (is_void) show_part(at.try_structs(), [](sum &all, capn::rows list) { all.add(list.size()); });
     else std::printf(" -");

@@ -154,7 +154,7 @@ static uint64_t read_record(const capn_record *record) {
 
 static volatile uint64_t kept; /* so that what is read is used */
 
-/* How many things an entry is taken for: the struct, the text, the data, and each kind of list. */
+/* How many of these an entry can be read as: the struct, the text, the data, and each kind of list. */
 static int read_any(const capn_entry *entry) {
     capn_record record;
     capn_items items;
@@ -345,7 +345,7 @@ static int show_stream(const char *as) {
     return failed != 0;
 }
 
-/* `x @0 :UInt64 = 7` in a struct of so many words, of which the first is `stored`. */
+/* `x @0 :UInt64 = 7` in a struct of this many words. Its first word is `stored`. */
 static uint64_t of_words(uint16_t words, uint64_t stored) {
     const capn_entry entry = {0, 0, 1, words, 0, CAPN_KIND_STRUCT};
     capn_record record;
@@ -423,7 +423,7 @@ static void by_hand(void) {
     want("what is stored for 7", (int64_t)of_words(1, 0), 7);
     want("no word", (int64_t)of_words(0, 0), 7);
 
-    /* Each bit and width of two words, beside the same by single bits. */
+    /* Each bit and each width of two words, compared with reading the single bits. */
     uint8_t data[16];
     for (int i = 0; i < 16; i++) data[i] = (uint8_t)(37 * i + 11 * i * i + 201);
     capn_record record = {data, NULL, 128, 0};
@@ -441,7 +441,7 @@ static void by_hand(void) {
         }
     want("far beyond", (int64_t)capn_field(&record, UINT32_MAX, 64, 9), 9);
 
-    /* How many entries an index has, and that no less room is enough. */
+    /* The number of entries of an index, and that no smaller array is enough. */
     static const uint8_t nested[] = {0, 0, 0, 0, 4, 0, 0, 0, 0, 0, 0, 0, 0, 0, 2, 0, 4, 0, 0, 0, 0, 0, 1, 0,
                                      0, 0, 0, 0, 0, 0, 0, 0, 0, 0, 0, 0, 0, 0, 0, 0};
     const capn_limits usual = CAPN_USUAL_LIMITS;
@@ -474,7 +474,7 @@ static void by_hand(void) {
     entry.kind = CAPN_KIND_U16;
     want("other numbers", capn_text(abc, &entry, &text, &length), 0);
 
-    /* Which kinds stand for which: a list of each in place of each, of two elements. */
+    /* Which kind of list can be read as which: each kind in place of each, with two elements. */
     static const char *const taken[] = { /* wanted void bits bytes u16 u32 u64 pointers rows, found the same */
         "1......1", ".1......", "..1....1", "...1...1", "....1..1", ".....1.1", "......11", "1.111111"};
     static const int64_t full[] = {0, 1, 0xff, 0xffff, 0xffffffff, -1}; /* numbers whose bits are all 1, from void on */

@@ -2,8 +2,8 @@
 
     mixed.py COUNT     half of them as tests/reference/generated makes them, and half changed copies of valid ones
 
-The order is that of a shuffled deck. A change is a bit, a word, a number in the segment table, or an end that is cut
-off or made longer, so that every error of a message comes about, and many changed messages are still valid."""
+The messages are shuffled. A change is a bit, a word, a number in the segment table, or an end that is cut off or made
+longer. So every error of a message occurs, and many changed messages are still valid."""
 import random
 import struct
 import sys
@@ -19,7 +19,7 @@ TEXTS = [b"\0", b"abc\0", "grün\0".encode(), b"\xff\xfe\0", b"no zero", b"a\0b\
 
 
 def generated():
-    """The program tests/reference/generated, as a module."""
+    """Returns the program tests/reference/generated, as a module."""
     spec = spec_from_loader("generated", SourceFileLoader("generated", str(REFERENCE / "generated")))
     module = module_from_spec(spec)
     spec.loader.exec_module(module)
@@ -27,7 +27,7 @@ def generated():
 
 
 def number(rng):
-    """A word that is data: any bits, a small number, or zero."""
+    """Returns a word of data: any bits, a small number, or zero."""
     return rng.choice([0, rng.randrange(9), rng.getrandbits(64), rng.getrandbits(64)])
 
 
@@ -82,7 +82,7 @@ def fill(words, rng, places, depth):
 
 
 def valid(rng):
-    """The words of a valid message of one segment, whose root is not always a struct."""
+    """Returns the words of a valid message of one segment, whose root is not always a struct."""
     most = rng.choice([1, 4, 8, 16])
     words = []
     while len(words) < most:
@@ -93,7 +93,7 @@ def valid(rng):
 
 
 def changed(rng, message, pointer):
-    """A message with one to three changes."""
+    """Returns a message with one to three changes."""
     message = bytearray(message)
     for _ in range(rng.choice([1, 1, 1, 2, 3])):
         kind, places = rng.random(), len(message) // 8

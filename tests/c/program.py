@@ -1,7 +1,7 @@
 """Answers each call of standard input in the form of the stored answers, by the program that CAPN names.
 
-The least maximum of the program when it unpacks is 2,050 words: where a call allows fewer, and the text packs more or
-is refused, this answers `?`."""
+The least limit on message words with which the program unpacks is 2,050 words. If a call allows fewer words, and the
+packed bytes unpack to more or are rejected, this script answers `?`."""
 import os
 import subprocess
 import sys

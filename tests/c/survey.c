@@ -42,7 +42,7 @@ static void figures(const char *what, const uint64_t *words, uint32_t count, cap
             want("as check says", capn_check(form, in, size, &lower, &checked), status);
             want("its report", memcmp(&r, &checked, sizeof r) != 0, 0);
         }
-        /* The same, packed. */
+        /* The same message, packed. */
         if (segments) {
             uint8_t text[128];
             capn_figures same = {0, 0, 0, 0, 0, 0, 0, 0};
@@ -52,7 +52,7 @@ static void figures(const char *what, const uint64_t *words, uint32_t count, cap
             want("the same", memcmp(&same, &f, sizeof f) != 0, 0);
             want("its report", r.paid != f.paid || r.visits != f.visits || r.length || r.at || r.segment || r.word, 0);
         }
-        /* The same at each address. */
+        /* The same message, at each address. */
         for (size_t off = 1; off < 8; off++) {
             uint8_t *odd = memmove(in - off, in, size);
             capn_figures same = {0, 0, 0, 0, 0, 0, 0, 0};

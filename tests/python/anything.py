@@ -15,7 +15,7 @@ KINDS = ["null", "struct", "void", "bits", "bytes", "u16", "u32", "u64", "pointe
 
 
 def folded(numbers):
-    """The sum of some numbers, in hexadecimal."""
+    """Returns the sum of some numbers, in hexadecimal."""
     total = START
     for number in numbers:
         total = (total ^ number & MASK) * PRIME & MASK
@@ -23,7 +23,7 @@ def folded(numbers):
 
 
 def of_struct(body):
-    """The numbers of a struct."""
+    """Returns the numbers of a struct."""
     for i in range(0, 256, 5):
         yield int(body.bool(i, (i + 1) % 2 != 0))
     for width in 8, 16, 32, 64:
@@ -38,14 +38,14 @@ def of_struct(body):
 
 
 def of_list(items, most, of_each):
-    """The number of elements, and the numbers of the first of them."""
+    """Returns the number of elements, and the numbers of the first of them."""
     yield len(items)
     for i in range(min(len(items), most)):
         yield from of_each(items[i])
 
 
 def text_of(found):
-    """The bytes of a text. It need not be UTF-8 in C."""
+    """Returns the bytes of a text, which may not be UTF-8 in C."""
     if not isinstance(found, (capn.Null, capn.Bytes)):
         raise capn.Mismatch(f"there is no text, but {found!r}")
     try:
@@ -55,7 +55,7 @@ def text_of(found):
 
 
 def data_of(found):
-    """The bytes of a data."""
+    """Returns the bytes of a data."""
     if found.kind not in ("null", "bytes"):
         raise capn.Mismatch(f"there is no data, but {found!r}")
     return b"" if found.kind == "null" else found[:]
@@ -69,7 +69,7 @@ def elements_of(found):
 
 
 def things(found):
-    """What a pointer is read as: for each thing the call, and the numbers of what it returns."""
+    """The things that a pointer is read as: for each the call, and the numbers of what the call returns."""
     yield found.struct, of_struct
     for bytes_of in text_of, data_of:
         yield lambda: bytes_of(found), lambda data: (len(data), *data)
@@ -92,7 +92,7 @@ def parts(found, shown):
 
 
 def pointers(found):
-    """The object of each pointer, in the order of the index."""
+    """Yields the object of each pointer, in the order of the index."""
     left = [found]
     while left:
         found = left.pop()

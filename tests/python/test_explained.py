@@ -156,7 +156,7 @@ class AsExplained(unittest.TestCase):
                     self.assertEqual(stop_of(refusal), stop_of(refused))
                     ways.add(refusal.way)
                     if refused.name == "TooManyWords":
-                        # Of an iterator no more segments are taken than say so.
+                        # From an iterator, no more segments are taken than are needed to exceed the limit.
                         self.assertEqual(of_iterator.name, refused.name)
                         self.assertTrue(limits.message_words < of_iterator.at <= refused.at)
                     else:

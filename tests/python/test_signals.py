@@ -1,4 +1,4 @@
-"""A signal's handler that raises an exception while a stream is read: nothing is lost, and nothing read twice.
+"""A handler of a signal raises an exception while a stream is read. No message may be lost or read twice.
 
 Python runs a handler after a call that it made, or when a function of its own begins. So a first run of a stream is
 made with an exception after the first such call in the package, the next one after the second call, and so on, in steps
@@ -22,12 +22,12 @@ from test_reading import Pieces
 from test_streams import SECONDS, SMALL, Blocking, Peeking
 
 LONG = stream(struct.pack("<IHH", 0, 600, 0) + bytes(range(1, 241)) * 20)
-# Of one segment and of two, of no words, equal ones beside each other, and one that is longer than a look.
+# Messages of one segment and of two, of no words, equal ones beside each other, and one that is longer than a look.
 MESSAGES = [SMALL, SMALL, stream(bytes(8), bytes(16)), stream(b""), SMALL, LONG, SMALL]
 
 
 class Interrupted(Exception):
-    """What the handler raises."""
+    """The exception that the handler raises."""
 
 
 def after(count):
@@ -44,7 +44,8 @@ def after(count):
 
 
 def taken(found):
-    """What a stream answers, which goes on after an exception of the handler, and how many of these came."""
+    """Returns the messages of a stream that goes on after each exception of the handler, and the number of these
+    exceptions."""
     got, raised = [], 0
     try:
         while True:
@@ -59,10 +60,10 @@ def taken(found):
 
 
 class EachCall(unittest.TestCase):
-    """An exception after each call that is made."""
+    """Raises an exception after each call that is made."""
 
     def files(self, data, folder):
-        """What makes files of these bytes."""
+        """Returns functions that make files of these bytes."""
         path = os.path.join(folder, "file")
         with open(path, "wb") as file:
             file.write(data)
@@ -165,7 +166,7 @@ class EachCall(unittest.TestCase):
 
 
 class Loops(unittest.TestCase):
-    """A loop that a handler's exception ends, and that goes on: it loses no message, and has none twice."""
+    """An exception of a handler ends a loop that goes on afterwards. It loses no message, and returns none twice."""
 
     def test_loops_go_on(self):
         is_in_loop, raised = False, 0
@@ -176,7 +177,8 @@ class Loops(unittest.TestCase):
                 is_in_loop = False
                 raise Interrupted
 
-        # By the time of the process, so that each call has some between two signals, whatever else runs.
+        # The signals come by the processor time of the process, so each call has some time between two signals,
+        # whatever else runs.
         before = signal.signal(signal.SIGVTALRM, handler)
         messages = [stream((2 << 32).to_bytes(8, "little") + number.to_bytes(16, "little")) for number in range(20000)]
         try:
@@ -206,7 +208,7 @@ class Loops(unittest.TestCase):
 
 
 class Signals(unittest.TestCase):
-    """Signals right after what comes through a pipe or a socket in pieces: the handler raises while `next` runs."""
+    """Signals that come right after the chunks of a pipe or a socket. The handler raises while `next` runs."""
 
     def setUp(self):
         self.is_in_next = False
@@ -221,7 +223,7 @@ class Signals(unittest.TestCase):
         signal.signal(signal.SIGUSR1, self.before)
 
     def read(self, found):
-        """The messages; one that was counted when an exception came is the last one."""
+        """Returns the messages. A message that was counted when an exception came is the last one."""
         got, raised, number = [], 0, 0
         while True:
             try:
@@ -251,7 +253,7 @@ class Signals(unittest.TestCase):
             for pair, buffering in (os.pipe, -1), (os.pipe, 0), (of_sockets, -1), (of_sockets, 0):
                 for ahead in False, True:
                     if pair is of_sockets and packed and not ahead and not buffering:
-                        # It would be read group by group.
+                        # A packed stream would be read group by group.
                         continue
                     with self.subTest(packed=packed, pair=pair, buffering=buffering, ahead=ahead):
                         read, write = pair()

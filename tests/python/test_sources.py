@@ -51,7 +51,7 @@ class Sources(unittest.TestCase):
                                  check=False, env={**os.environ, "PYTHONPATH": site})
             self.assertEqual((ran.stderr, ran.stdout.split()),
                              ("", [DIGEST, os.path.join(site, "capn", "__init__.py")]))
-            # And into another source distribution.
+            # The unpacked source distribution makes another source distribution.
             ran = setup(alone, "sdist", "--dist-dir", os.path.join(folder, "again"))
             self.assertEqual(ran.returncode, 0, ran.stderr)
             [again] = glob.glob(os.path.join(folder, "again", "*.tar.gz"))

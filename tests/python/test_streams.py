@@ -185,8 +185,8 @@ class NoByteAfterIt(unittest.TestCase):
         self.assertGreater(seen, 500)
 
     def test_bytes_that_come_one_by_one_are_unpacked_once(self):
-        # 60,000 bytes that don't pack well, through a buffer of one byte. It would take seconds if each byte had the
-        # others unpacked again.
+        # 60,000 bytes that don't pack well, through a buffer of one byte. If each byte unpacked all bytes before it
+        # again, this would take seconds.
         message = stream(random.Random(70).randbytes(60_000))
         sent, start = capn.pack(message), time.process_time()
         found = capn.messages(io.BufferedReader(io.BytesIO(sent), 1), packed=True)

@@ -1,7 +1,8 @@
-// Pairs of messages by the builders of the reference implementation: `pairs SEED COUNT` writes them as a stream, and is
-// the same in every run. The messages of an even pair have one value, in two layouts; those of an odd pair have values
-// that differ in one place. Layouts are the sizes of structs and rows, as an older or a newer schema has them; the
-// order of objects; the sizes of segments, and so far pointers; gaps that objects leave which were moved or dropped.
+// Writes pairs of messages by builders of the reference implementation: `pairs SEED COUNT` writes them as a stream,
+// which is the same in every run. The messages of an even pair have one value, in two layouts. Those of an odd pair
+// have values that differ in one place. A layout has the sizes of structs and of structs in lists, as an older or a
+// newer schema has them; the order of objects; the sizes of segments, and so far pointers; and gaps where an object was
+// moved or dropped.
 #include <capnp/any.h>
 #include <capnp/message.h>
 #include <capnp/orphan.h>
@@ -178,7 +179,7 @@ static void write(const Value& value) {
     capnp::writeMessageToFd(STDOUT_FILENO, message);
     return;
   }
-  // It is copied from a reader, so the copy has no gaps.
+  // The object is copied from a reader, so the copy has no gaps.
   capnp::MallocMessageBuilder copy(1 + below(40), strategy);
   copy.setRoot(message.getRoot<capnp::AnyPointer>().asReader());
   capnp::writeMessageToFd(STDOUT_FILENO, copy);

@@ -1,6 +1,6 @@
-// What the reference implementation's library reads of the message on standard input as by a schema of before a list
-// was upgraded to structs: the first pointer of the root as `List(UInt16)`, its numbers on one line. Ends with 1 where
-// the library rejects it, and prints why.
+// Reads the message on standard input by the reference implementation's library, with a schema from before a list was
+// upgraded to structs. It prints the first pointer of the root as a `List(UInt16)`, with its numbers on one line. If
+// the library rejects the message, it prints the reason and ends with 1.
 #include <capnp/any.h>
 #include <capnp/serialize.h>
 #include <stdio.h>
