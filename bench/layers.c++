@@ -1,4 +1,4 @@
-// layers MILLISECONDS < MESSAGE: times calls of capn.hpp on a message, each for as long, in batches of two milliseconds
+// layers MILLISECONDS < MESSAGE: times calls of capn.hpp on a message, each for as long, in batches of 0.2 milliseconds
 // or more. Writes a line for each: its name and the nanoseconds of a call in the shortest batch. bench/layers runs it.
 #include "capn.hpp"
 #include <chrono>
@@ -18,7 +18,7 @@ template <class Call> static double batch(Call call, long calls) {
 
 template <class Call> static void time(const char *name, double milliseconds, Call call) {
     long calls = 1;
-    while (batch(call, calls) < 2e6) calls *= 2;
+    while (batch(call, calls) < 2e5) calls *= 2;
     double least = 1e18;
     for (double spent = 0; spent < 1e6 * milliseconds;) {
         const double took = batch(call, calls);

@@ -15,9 +15,10 @@ import zlib
 TOP = os.path.abspath(os.path.join(os.path.dirname(os.path.abspath(__file__)), ".."))
 with open(os.path.join(TOP, "VERSION"), encoding="utf-8") as _file:
     VERSION = _file.read().strip()
-# The same as packages for Python write it, by PEP 440, and as packages for Debian do: 1.1.0-dev comes before 1.1.0.
+# The version as packages for Python write it, by PEP 440, and as packages for Debian do: there 1.1.0-dev comes before
+# 1.1.0.
 VERSION_OF_PYTHON, VERSION_OF_DEBIAN = VERSION.replace("-dev", ".dev0"), VERSION.replace("-dev", "~dev")
-# What is built and packed, by the names that PROVED has.
+# The built files that are packed, by the names that they have in PROVED.
 BUILT = {
     "program": os.path.join(TOP, "crates", "capn", "out", "capn"),
     "libcapn.a": os.path.join(TOP, "build", "libcapn.a"),
@@ -27,11 +28,11 @@ PROVED = os.path.join(TOP, "build", "PROVED")
 
 
 class Stop(Exception):
-    """Why a release can't be made, or a file isn't what it says."""
+    """The reason for which a release can't be made, or a file isn't what it claims to be."""
 
 
 def said(*words, cwd=TOP, env=None, text=True):
-    """Returns what a command writes; if it fails, its own lines say why."""
+    """Returns the output of a command. If it fails, its own lines say why."""
     try:
         ran = subprocess.run(words, cwd=cwd, env=env, stdout=subprocess.PIPE, stderr=subprocess.PIPE, check=False)
     except FileNotFoundError:
@@ -66,7 +67,7 @@ def commit_of(top=TOP):
 
 
 def proof(commit, tree, is_clean):
-    """Returns what the whole run wrote of this tree and these files; fails where there is nothing."""
+    """Returns what the whole run wrote on this tree and these files. Fails if there is nothing."""
     if not os.path.exists(PROVED):
         raise Stop("the whole run has not passed here: make test-all")
     with open(PROVED, encoding="utf-8") as file:
@@ -83,18 +84,18 @@ def proof(commit, tree, is_clean):
 
 
 def installed(folder, prefix, libraries, *words):
-    """Returns a folder into which the two targets of installing put what they install, by make with these words
-    beside."""
+    """Returns a folder into which `make install` and `make install-library` have put their files. make gets these
+    words, too."""
     words = [f"DESTDIR={folder}", f"PREFIX={prefix}", f"LIBDIR={libraries}", *words]
-    # what a make above passes on, as a prefix of its own, is not for this one
+    # the options of a make that runs this script, such as a prefix, are not meant for this make
     env = {key: value for key, value in os.environ.items() if not key.startswith("MAKE") and key != "MFLAGS"}
     said("make", "--no-print-directory", "install", "install-library", *words, env=env)
     return folder
 
 
 def sources(folder):
-    """Copies what the archive has of the repository beside its pages: the crate, the module for Go, and examples in C.
-    Left out are tests that need a clone."""
+    """Copies the files of the repository that the archive has besides its pages: the crate, the module for Go, and
+    examples in C. Tests that need a clone are left out."""
     left_out = shutil.ignore_patterns(".gitignore", "target", "reference", "test", "*_test.go", "__pycache__")
     for name in ("rust", "go", "c/examples"):
         shutil.copytree(os.path.join(TOP, name), os.path.join(folder, name), ignore=left_out)
@@ -130,7 +131,7 @@ def paths_of(folder):
 
 
 def write_tar(folder, path, seconds):
-    """Packs a settled folder, in the order of its names, as files of root."""
+    """Packs a folder whose files have their modes and times, in the order of their names, as files of root."""
     whole = io.BytesIO()
     with tarfile.open(fileobj=whole, mode="w", format=tarfile.GNU_FORMAT) as tar:
         for name in paths_of(folder):
@@ -148,7 +149,7 @@ def write_tar(folder, path, seconds):
 
 
 def write_zip(folder, names, path, seconds):
-    """Packs files of a folder in this order, each with one time and one mode."""
+    """Packs files of a folder in this order, all with the same time and mode."""
     stamp = time.gmtime(max(seconds, 315532800))[:6]
     with zipfile.ZipFile(path, "w", zipfile.ZIP_DEFLATED, compresslevel=9) as whole:
         for name in names:
@@ -161,7 +162,7 @@ def write_zip(folder, names, path, seconds):
 
 
 def proved_in(path):
-    """Returns the text of PROVED that a released file has within, or None."""
+    """Returns the text of the PROVED in a released file, or None."""
     try:
         if path.endswith(".tar.gz"):
             with tarfile.open(path) as tar:
@@ -181,12 +182,12 @@ def proved_in(path):
 
 
 def claims_of(text):
-    """Returns what a PROVED says, by the first word of each line of its head and of its sums."""
+    """Returns the lines of the head and the sums of a PROVED, by the first word of each."""
     return dict(re.findall(r"^(commit|tree|toolchain|sha256 \S+) (.+)$", text, re.M))
 
 
 def components():
-    """Yields each component that NOTICE names, as its fields."""
+    """Yields the fields of each component that NOTICE names."""
     with open(os.path.join(TOP, "NOTICE"), encoding="utf-8") as file:
         text = file.read()
     for block in re.findall(r"^Component: .*(?:\n(?!\n).*)*", text, re.M):

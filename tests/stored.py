@@ -18,7 +18,7 @@ Case = collections.namedtuple("Case", "crate path name call answer")
 
 
 def word_of(call):
-    """Returns the word that says what is called."""
+    """Returns the word that names the call."""
     words = call.split(" ")
     return words[1] if words[0] == "plain" and len(words) > 1 else words[0]
 
@@ -29,8 +29,8 @@ def key_of(name):
 
 
 def cases_at(crate, path):
-    """Yields the cases of a file. Raises ValueError if one hasn't three lines, stands in the wrong file, or not in
-    order."""
+    """Yields the cases of a file. Raises ValueError if a case doesn't have three lines, is in the wrong file, or is out
+    of order."""
     with open(os.path.join(TOP, path), encoding="utf-8") as file:
         text = file.read()
     last = ""
@@ -57,7 +57,7 @@ def cases_of(crate):
 
 
 def all_cases():
-    """Returns the cases of both crates. Raises ValueError if two have one name."""
+    """Returns the cases of both crates. Raises ValueError if two cases have the same name."""
     found = [case for crate in CRATES for case in cases_of(crate)]
     for name, count in collections.Counter(case.name for case in found).items():
         if count > 1:

@@ -1,4 +1,4 @@
-"""Runs tests and stored runs with no proof, by `rt try`, several crates at once: for tests/of and tests/quick."""
+"""Runs tests and stored runs without a proof, by `rt try`, several crates at once, for tests/of and tests/quick."""
 
 import collections
 import concurrent.futures
@@ -16,16 +16,17 @@ sys.path.insert(0, os.path.join(TOP, ".ci"))
 import proving
 
 LOG = "build/tries.log"
-# What one run of `rt try` takes at most, in GiB: its compiler, and the check of names beside it.
+# The most GiB that one run of `rt try` takes: its compiler, and beside it the check of names.
 MEMORY = 2
-# Cases that the program is run on at once: few, so that those after one that ends it are tried.
+# The number of cases in one run of the program. It is small, so that the cases after one that ends the program are
+# tried.
 AT_ONCE = 40
-# How long they may take, on a busy machine too.
+# The seconds that such a run may take, also on a busy machine.
 SECONDS = 1200
-# The most lines that are printed of what is wrong with a crate: ten cases.
+# The most lines that are printed of the errors of a crate: ten cases.
 MOST_LINES = 40
 
-# What is tried of a crate: a word for it, and a call that returns what is wrong, or nothing, and what was said.
+# A job of a crate: a word for it, and a function that returns the errors, if there are any, and what was printed.
 Job = collections.namedtuple("Job", "crate what run")
 
 
@@ -44,8 +45,8 @@ def tests_of(crate):
 
 
 def crates_of_calls(crate):
-    """Yields the libraries that the answer to each call names, of one of the crates with cases: those of the module
-    that answers it, and of those that this one uses."""
+    """Yields the libraries on which the answer to each call depends, for one of the crates with cases: those that the
+    module of the call names, and those of the modules that this one uses."""
     folder = os.path.join(TOP, "crates", crate, "src")
     modules = {name[:-3]: text_of("crates", crate, "src", name) for name in os.listdir(folder)}
 
@@ -62,14 +63,14 @@ def crates_of_calls(crate):
 
 
 def try_crate(crate, words, given=b""):
-    """Runs `rt try`: its status, what came out, and what it said."""
+    """Runs `rt try`. Returns its status, its output, and its standard error."""
     folder = os.path.join(TOP, "crates", crate)
     done = subprocess.run(["rt", "try", *words], cwd=folder, input=given, capture_output=True)
     return done.returncode, done.stdout, done.stderr.decode(errors="replace")
 
 
 def tests_job(crate):
-    """Returns all tests of a crate."""
+    """Runs all tests of a crate, and returns the errors."""
 
     def run():
         status, out, said = try_crate(crate, ["--test", "--seconds", str(SECONDS)])
@@ -81,7 +82,7 @@ def tests_job(crate):
 
 
 def bytes_beside(crate, name):
-    """Returns the bytes of a file beside the src/ of a program, none if there is no file."""
+    """Returns the bytes of a file beside the src/ of a program, or no bytes if there is no file."""
     path = os.path.join(TOP, "crates", crate, name)
     if not os.path.exists(path):
         return b""
@@ -90,7 +91,7 @@ def bytes_beside(crate, name):
 
 
 def stored_job(crate):
-    """Returns the stored run of a program, beside its src/."""
+    """Tries the stored run of a program, which lies beside its src/."""
 
     def run():
         args, given, wanted = (bytes_beside(crate, name) for name in ("args", "stdin", "stdout"))
@@ -103,14 +104,14 @@ def stored_job(crate):
 
 
 def shown(text, at=0):
-    """Returns a text, of a long one what is around a place."""
+    """Returns a text, or the part around a place if it is long."""
     begin = max(0, at - 100)
     end = begin + 400
     return f"{'..' * (begin > 0)}{text[begin:end]}{'..' * (end < len(text))}"
 
 
 def differences(cases, out):
-    """Yields what is wrong with the answers of a run over these cases."""
+    """Yields the errors in the answers of a run over these cases."""
     lines = out.split("\n")
     for at, case in enumerate(cases):
         name, got = (lines[2 * at:2 * at + 2] + ["", ""])[:2]
@@ -126,16 +127,17 @@ def differences(cases, out):
 
 
 def cases_job(crate, cases):
-    """Returns some cases of a crate, each compared with its answer."""
+    """Tries some cases of a crate, and compares each with its stored answer."""
 
     def run():
         parts = [cases[at:at + AT_ONCE] for at in range(0, len(cases), AT_ONCE)]
         with tempfile.TemporaryDirectory() as folder:
             for number, part in enumerate(parts):
                 with open(os.path.join(folder, f"{number:04}"), "w", encoding="utf-8") as file:
-                    # Of each call only some growths are refused: the gate, which runs what is built, refuses each.
+                    # For each call, only some allocations fail here. In the gate, which runs the compiled code, each of
+                    # them fails in turn.
                     file.write(stored.asked(part, "few "))
-            # The interpreter can't run what takes memory from the system.
+            # The interpreter can't run code that takes memory from the system.
             status, out, said = try_crate(crate, ["--steps", "1", "--seconds", str(SECONDS), "--cases", folder])
         outs = dict(zip(*[iter(re.split(r"^== (\d{4})\n", out.decode(errors="replace"), flags=re.M)[1:])] * 2))
         late = {int(it) for it in re.findall(r"^case=(\d{4}) run=no-answer", said, re.M)}
@@ -154,15 +156,15 @@ def cases_job(crate, cases):
 
 
 def workers():
-    """Returns how many crates are tried at once: one a processor, as memory allows."""
+    """Returns how many crates are tried at once: one for each processor, if memory allows."""
     with open("/proc/meminfo", encoding="ascii") as file:
         free = int(re.search(r"^MemAvailable: +(\d+)", file.read(), re.M)[1]) // (MEMORY << 20)
     return max(1, min(len(os.sched_getaffinity(0)), free))
 
 
 def run_all(jobs):
-    """Runs the jobs, the first first. Prints a line for each that is done, and in the end what is wrong; the rest goes
-    into a log. Returns the exit status."""
+    """Runs the jobs in their order. Prints a line for each that is done, and the errors at the end. The rest goes into
+    a log. Returns the exit status."""
     begun, faults = time.time(), []
     os.makedirs(os.path.join(TOP, "build"), exist_ok=True)
     with open(os.path.join(TOP, LOG), "w", encoding="utf-8") as log, \
@@ -187,7 +189,8 @@ def run_all(jobs):
 
 
 def nearest(crate, names, tried):
-    """Returns those of these crates that reach a crate by the fewest steps, where those that name it take one."""
+    """Returns those of these crates that reach a crate by the fewest steps. A crate that names it reaches it in one
+    step."""
     above = {crate}
     while above:
         found = [it for it in tried if it in above and it != crate]
@@ -198,8 +201,8 @@ def nearest(crate, names, tried):
 
 
 def calls_reaching(crate, names):
-    """Returns the calls of cases that reach a crate, and the program that answers them: of the first program that has
-    some, those whose answer names the crate, or where none does, those that reach it."""
+    """Returns the calls of cases that reach a crate, and the program that answers them. Takes the first program with
+    such calls: those whose answer names the crate, or, if there are none, those that reach it."""
     for one in stored.CRATES:
         found = dict(crates_of_calls(one))
         if crate == one or crate in names[one] and crate not in set().union(*found.values()):
@@ -212,6 +215,7 @@ def calls_reaching(crate, names):
 
 
 def reaching(crate):
-    """Returns the nearest crates with tests that reach a crate, a program with cases that does, and their calls."""
+    """Returns the nearest crates with tests that reach a crate, a program with cases that reaches it, and the calls of
+    these cases."""
     names = proving.crates()
     return nearest(crate, names, [it for it in names if tests_of(it)]), *calls_reaching(crate, names)

@@ -1,11 +1,11 @@
 #!/usr/bin/env python3
 """Runs a command of `capn` over an archive on several processors: parallel.py ARCHIVE COMMAND [OPTION..]
 
-COMMAND is `hash`, `check`, `list` or `canonical --framed`. By the offsets that `capn list` writes the archive is cut
-into parts between its messages. Each part is read by a process of its own, and what they write is put together in
-order, with the numbers and offsets of the whole archive. Output, standard error and status are those of one process
-that reads the archive, but that `hash` and `check` take more than 2^32 bytes. What can't be cut is left to one process:
-other commands, a packed stream, a bare message, a mistake on the command line, `--help`.
+COMMAND is `hash`, `check`, `list` or `canonical --framed`. The archive is split between its messages, at offsets that
+`capn list` writes. Each part is read by a process of its own. The results are put together in order, with the numbers
+and offsets of the whole archive. Output, standard error and status are those of one process that reads the archive,
+except that `hash` and `check` take more than 2^32 bytes. One process runs what can't be split: other commands, a packed
+stream, a bare message, a mistake on the command line, `--help`.
 """
 
 from __future__ import annotations
@@ -32,8 +32,8 @@ PASSED_OVER = re.compile(rb"capn: (\d+) of (\d+) messages refused, the first is 
 
 
 class Part(NamedTuple):
-    """Whole messages of an archive: how many are before them, where they begin, how many they are and where they end.
-    The last part has no end: it is the rest of the archive, whatever that is."""
+    """A part of an archive, of complete messages: how many messages are before it, where it begins, how many it has,
+    and where it ends. The last part has no end: it is the rest of the archive, whatever that contains."""
 
     before: int
     begin: int
@@ -41,12 +41,12 @@ class Part(NamedTuple):
     end: int | None
 
     def moved(self, found: re.Match[bytes]) -> bytes:
-        """Returns a message's number and offset in this part, as those in the archive."""
+        """Returns the number and offset in the archive of a message, from those in this part."""
         return b"%d at %d" % (int(found[1]) + self.before, int(found[2]) + self.begin)
 
 
 class Answer(NamedTuple):
-    """What a process wrote of a part, and its status."""
+    """The output of a process for a part, and its status."""
 
     part: Part
     output: bytes
@@ -55,7 +55,7 @@ class Answer(NamedTuple):
 
 
 def parts_of(path: str, limits: list[str], most: int) -> Iterator[Part]:
-    """Yields the parts of an archive, each of this many bytes and somewhat more, as soon as they are known."""
+    """Yields the parts of an archive, each of at least this many bytes, as soon as they are known."""
     before = begin = last = 0
     command = [CAPN, "list", "--keep-going", *limits]
     with open(path, "rb") as archive, subprocess.Popen(
@@ -79,7 +79,7 @@ def parts_of(path: str, limits: list[str], most: int) -> Iterator[Part]:
 
 
 def answer(path: str, part: Part, command: list[str]) -> Answer:
-    """Returns what a process writes of a part, with the numbers and offsets of the archive in each line."""
+    """Returns the output of a process for a part, with the numbers and offsets of the archive in each line."""
     with open(path, "rb") as archive:
         archive.seek(part.begin)
         given = {"stdin": archive} if part.end is None else {"input": archive.read(part.end - part.begin)}
@@ -89,8 +89,8 @@ def answer(path: str, part: Part, command: list[str]) -> Answer:
 
 
 def answers(path: str, parts: Iterator[Part], command: list[str], processes: int) -> Iterator[Answer]:
-    """Yields what processes write of the parts, in order; some parts more than there are processes are begun at a
-    time."""
+    """Yields the outputs of the processes for the parts, in order. Some more parts than there are processes are started
+    at a time."""
     waiting: deque[Future[Answer]] = deque()
     with ProcessPoolExecutor(processes) as pool:
         try:
@@ -105,7 +105,7 @@ def answers(path: str, parts: Iterator[Part], command: list[str], processes: int
 
 
 def put_together(found: Iterator[Answer]) -> tuple[bytes, int]:
-    """Writes what there is of each part, to the first fault. Returns the lines for standard error, and the status."""
+    """Writes the output for each part, up to the first error. Returns the lines for standard error, and the status."""
     refused, messages, first = 0, 0, b""
     for it in found:
         sys.stdout.buffer.write(it.output)
@@ -125,7 +125,7 @@ def put_together(found: Iterator[Answer]) -> tuple[bytes, int]:
 
 
 def limits_of(options: list[str]) -> list[str]:
-    """Returns the limits among these options, by which the archive is cut, too."""
+    """Returns the limits among these options, which apply when the archive is split, too."""
     found: list[str] = []
     for at, option in enumerate(options):
         if option in LIMITS:
@@ -136,7 +136,8 @@ def limits_of(options: list[str]) -> list[str]:
 
 
 def is_for_parts(command: list[str]) -> bool:
-    """Returns whether an archive may be cut for this command: of no input it writes nothing, and finds no mistake."""
+    """Returns whether an archive may be split for this command. The command has to accept an empty input, and write
+    nothing for it."""
     if command[0] not in COMMANDS or OTHER_FORMS & set(command):
         return False
     ran = subprocess.run([CAPN, *command], stdin=subprocess.DEVNULL, capture_output=True, check=False)

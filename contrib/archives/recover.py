@@ -2,9 +2,10 @@
 """Writes the good messages of a damaged archive: recover.py --good GOOD ARCHIVE > KEPT
 
 GOOD is an archive of the same kind without damage, such as the first messages of ARCHIVE. A message is suspect if it
-has more words than `capn limits` gives for GOOD, or leaves more of its words unused than any message there. From a
-message that is refused or suspect, the script looks for the byte at which good ones go on. Standard error says which
-bytes were passed over, and why. The status is 0 if none were, 1 if some were, 3 if reading, writing or `capn` failed.
+has more words than `capn limits` gives for GOOD, or if it leaves more of its words unused than any message of GOOD.
+After a message that is rejected or suspect, the script looks for the byte at which good messages go on. Standard error
+says which bytes were skipped, and why. The status is 0 if no bytes were skipped, 1 if some were, and 3 if reading,
+writing or `capn` failed.
 """
 
 from __future__ import annotations
@@ -22,19 +23,22 @@ from contextlib import closing
 from itertools import islice
 from typing import NamedTuple
 
-# The plain tariff counts words alone: a message that uses all of its words costs one less, its root's pointer.
+# The counting rule `plain` counts only words. A message that uses all of its words costs one word less than it has,
+# which is the pointer of its root.
 LIST = [os.environ.get("CAPN", "capn"), "list", "--keep-going", "--tariff", "plain"]
 LIMITS = [LIST[0], "limits"]
 LINE = re.compile(rb"\d+ at (\d+) bytes (\d+) segments \d+ words (\d+) (?:paid (\d+) |refused (.*))")
 FAULT = re.compile(rb"capn: message \d+ at (\d+): (.*)")
-# Where a table of at most 4,096 segments may begin whose first segment isn't empty: any byte, since some may be lost.
+# A table of at most 4,096 segments, whose first segment isn't empty, may begin at any byte, since some bytes may be
+# lost.
 TABLE = re.compile(rb"(?=.[\0-\x0f]\0\0(?!\0{4}))", re.DOTALL)
-# One process checks at most this many rows of frames, or about this many bytes.
+# One process checks at most this many rows of messages, or about this many bytes.
 MOST_ROWS, MOST_BYTES = 1 << 12, 1 << 24
 
 
 class Message(NamedTuple):
-    """A message by its frame, with what reading it costs or why it is refused; one without a frame ends at once."""
+    """A message with its bytes, and with its cost or the error for which it is rejected. A message whose segment table
+    is invalid has no end."""
 
     begin: int
     end: int
@@ -48,7 +52,7 @@ class Message(NamedTuple):
 
 
 class Span(NamedTuple):
-    """Bytes of an archive: whole messages that are kept, or, with their fault, some that are passed over."""
+    """Bytes of an archive: complete messages that are kept, or bytes that are skipped, with the error."""
 
     begin: int
     end: int
@@ -57,7 +61,7 @@ class Span(NamedTuple):
 
 
 def message_of(line: bytes, offset: int) -> Message:
-    """Returns the message of a line of `capn list`, which began to read at this offset."""
+    """Returns the message of a line of `capn list` that began to read at this offset."""
     found = LINE.match(line)
     if not found:
         raise RuntimeError(f"not a line of capn list: {line!r}")
@@ -67,7 +71,8 @@ def message_of(line: bytes, offset: int) -> Message:
 
 
 def listed(path: str, offset: int) -> Iterator[Message]:
-    """Yields the messages of a file from an offset on, and at last the fault of a frame that ended the list."""
+    """Yields the messages of a file from an offset on, and at last the error of the segment table that ended the
+    list."""
     with open(path, "rb", buffering=0) as archive, tempfile.TemporaryFile() as errors:
         archive.seek(offset)
         with subprocess.Popen(LIST, stdin=archive, stdout=subprocess.PIPE, stderr=errors) as listing:
@@ -88,7 +93,7 @@ def listed(path: str, offset: int) -> Iterator[Message]:
 
 
 class Sample:
-    """An archive without damage, which says what a good message is like."""
+    """An archive without damage, which shows what good messages are like."""
 
     def __init__(self, path: str) -> None:
         with open(path, "rb") as file:
@@ -104,8 +109,8 @@ class Sample:
             self.has_null = self.has_null or cost == 0
 
     def takes(self, message: Message) -> bool:
-        """Returns whether a message is accepted, and not null where none of the sample is: two words of garbage can be
-        so."""
+        """Returns whether a message is accepted. A null message counts only if the sample has one, since two words of
+        garbage can be null."""
         return message.cost is not None and (message.cost > 0 or self.has_null)
 
     def is_like(self, message: Message) -> bool:
@@ -123,7 +128,7 @@ class Archive:
             self.data = mmap.mmap(file.fileno(), 0, access=mmap.ACCESS_READ) if self.size else b""
 
     def spans(self) -> Iterator[Span]:
-        """Yields the bytes of the archive, in order, kept or passed over."""
+        """Yields the bytes of the archive in order, as bytes that are kept or skipped."""
         at = 0
         while at < self.size:
             begin, messages, bad = at, 0, None
@@ -140,8 +145,8 @@ class Archive:
                 yield from self.between(bad, at)
 
     def next_good(self, bad: Message) -> int:
-        """Returns the first byte after the beginning of a bad message where a row of good ones begins, or the archive's
-        end."""
+        """Returns the first byte after the beginning of a bad message at which a row of good messages begins, or the
+        end of the archive."""
         rows: list[tuple[int, list[int]]] = []
         most, size = 1, 0
         if self.nested and bad.end > bad.begin and self.first_good([(bad.end, self.ends(bad.end))]):
@@ -157,8 +162,8 @@ class Archive:
         return self.first_good(rows) or self.size
 
     def ends(self, at: int) -> list[int]:
-        """Returns the ends of a row of frames that begins here, by their tables; of fewer frames only if the archive
-        ends."""
+        """Returns the ends of the messages in a row that begins here, by their segment tables. There are fewer than
+        wanted only if the archive ends."""
         ends: list[int] = []
         while len(ends) < self.row and at < self.size:
             at = self.end(at)
@@ -170,8 +175,8 @@ class Archive:
         return ends
 
     def end(self, at: int) -> int:
-        """Returns where the frame that begins here ends by its table, or 0 if it has more words than the sample
-        allows."""
+        """Returns the end of the message that begins here, by its segment table, or 0 if it has more words than the
+        sample allows."""
         if at + 8 > self.size:
             return self.size + 1
         last, first = struct.unpack_from("<II", self.data, at)
@@ -184,7 +189,7 @@ class Archive:
         return at + table + 8 * words if words <= self.sample.words else 0
 
     def first_good(self, rows: list[tuple[int, list[int]]]) -> int:
-        """Returns where the first of these rows begins whose messages are all good, or 0. One process checks them
+        """Returns the beginning of the first of these rows whose messages are all good, or 0. One process checks them
         all."""
         frames = b"".join(self.data[begin:ends[-1]] for begin, ends in rows if ends)
         lines = subprocess.run(LIST, input=frames, capture_output=True, check=False).stdout.splitlines()
@@ -196,8 +201,9 @@ class Archive:
         return 0
 
     def between(self, bad: Message, good: int) -> Iterator[Span]:
-        """Yields the bytes from a bad message to a good one. If the frames between lead to the good one, each was where
-        it should be, so what is accepted is kept: also what was suspect."""
+        """Yields the bytes from a bad message to a good one. If the messages between, by their segment tables, lead to
+        the good one, each was where it should be. The accepted ones among them are then kept, also those that are
+        suspect."""
         end = bad.begin
         with closing(listed(self.path, bad.begin)) as found:
             for message in found:

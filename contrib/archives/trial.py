@@ -1,8 +1,8 @@
-"""Tries the scripts of this folder on small archives, in the current folder, by the program that CAPN names.
+"""Tests the scripts of this folder on small archives, in the current folder, with the program that CAPN names.
 
-Of a damaged archive each message whose bytes are whole has to be kept, and no other. Of an archive in parts each
-command has to write what one process writes. A search has to find the messages with a text and no others, and what is
-printed as different has to be what differs.
+recover.py has to keep each message of a damaged archive whose bytes are complete, and no other bytes. parallel.py has
+to write what one process writes. search.sh has to find the messages with a text, and no others. differences.sh has to
+print the messages that differ.
 """
 
 from __future__ import annotations
@@ -21,7 +21,8 @@ from messages import canonical, framed, in_two_segments, with_zeros
 
 CAPN = os.environ["CAPN"]
 MEGABYTE = 1 << 20
-# How often the messages after a wrong table come, so that it can hide 5,000 words of them.
+# How often the messages after an invalid table are repeated, so that the table can announce 5,000 words and still hide
+# only whole messages.
 MANY = 6
 Ran = tuple[bytes, str, int]
 Place = tuple[int, int, str]
@@ -39,7 +40,7 @@ def see(is_so: bool, what: str) -> None:
 
 
 def seconds() -> float:
-    """Returns what processes of this one took so far, of a processor."""
+    """Returns the processor time that the child processes took so far."""
     used = resource.getrusage(resource.RUSAGE_CHILDREN)
     return used.ru_utime + used.ru_stime
 
@@ -54,7 +55,7 @@ def script(name: str, *words: str) -> Ran:
 
 
 def fault_of(archive: bytes) -> str:
-    """Returns what is wrong with the first message, as recover.py has it."""
+    """Returns the error of the first message, as recover.py prints it."""
     out, errors, _ = ran(CAPN, "list", "--keep-going", "--tariff", "plain", given=archive)
     if not out:
         return errors.strip().split(": ", 2)[2]
@@ -63,8 +64,8 @@ def fault_of(archive: bytes) -> str:
 
 
 def recovered(what: str, damaged: bytes, kept: list[bytes], *places: Place, options: tuple[str, ...] = ()) -> None:
-    """Sees that these messages are kept of a damaged archive, and no other bytes, and that it says the rest: of each
-    place its offset, its length and its fault."""
+    """Checks that recover.py keeps these messages of a damaged archive, and no other bytes, and that it reports the
+    rest: the offset, the length and the error of each place."""
     Path("damaged").write_bytes(damaged)
     whole = b"".join(kept)
     out, errors, status = script("recover.py", "--good", "good", *options, "damaged")
@@ -82,12 +83,12 @@ def nested(inner: bytes) -> bytes:
 
 
 def sized(message: bytes, words: int) -> bytes:
-    """Returns a message of one segment whose table says that it has this many words."""
+    """Returns a message of one segment whose table announces this many words."""
     return message[:4] + struct.pack("<I", words) + message[8:]
 
 
 def recover(source: random.Random, messages: list[bytes]) -> None:
-    """Damages an archive in the middle: each kind of damage, with the line that names it."""
+    """Damages an archive in the middle, by each kind of damage, and checks the line that names the damage."""
     Path("good").write_bytes(b"".join(messages[:100]))
     before, after = messages[:150], messages[150:]
     head, tail = b"".join(before), b"".join(after)
@@ -100,17 +101,18 @@ def recover(source: random.Random, messages: list[bytes]) -> None:
         began = seconds()
         recovered(f"{size} bytes of garbage", head + garbage + tail, messages, (at, size, fault))
         see(seconds() - began < 2, f"{size} bytes of garbage took {seconds() - began} seconds of a processor")
-    # Tables: one word too few and too many, as many as with the next message, and more than there are.
+    # Segment tables that announce one word too few, one too many, as many as with the next message, and more than the
+    # archive has.
     words = first // 8 - 1
     for said in (words - 1, words + 1, words + len(after[1]) // 8, 5000, 1 << 24):
         table = sized(after[0], said)
         recovered(f"a table of {said} words", head + table + rest * MANY, before + after[1:] * MANY,
                   (at, first, fault_of(table + rest * MANY)))
-    # Zeros over the end of a message, the next one, and the beginning of a third.
+    # Zeros overwrite the end of a message, the next one, and the beginning of a third.
     zeros = tail[:16] + bytes(first + len(after[1]) - 8) + tail[first + len(after[1]) + 8:]
     recovered("zeros", head + zeros, before + after[3:], (at, sum(map(len, after[:3])), fault_of(zeros)))
     recovered("13 bytes lost", head + rest[13:], before + after[2:], (at, len(after[1]) - 13, fault_of(rest[13:])))
-    # Refused messages with a good one between; long ones, and one with a gap, of which nothing is lost.
+    # Rejected messages with a good one between them; long messages; and a message with a gap, of which nothing is lost.
     refused = REFUSED + after[0] + REFUSED
     recovered("two refused", head + refused + rest, messages, (at, len(REFUSED), fault_of(REFUSED)),
               (at + len(refused) - len(REFUSED), len(REFUSED), fault_of(REFUSED)))
@@ -120,7 +122,8 @@ def recover(source: random.Random, messages: list[bytes]) -> None:
     recovered("a message with a gap", head + gap + tail, before + [gap] + after)
     last = len(messages[-1])
     recovered("a cut", (head + tail)[:-8], messages[:-1], (len(head + tail) - last, last - 8, "frame: Cut"))
-    # A message within a refused one is taken for one of the archive, unless it is said that there are such.
+    # A message inside a rejected one is taken for a message of the archive, unless the sample shows that there are
+    # such.
     holder = nested(after[0])
     holder = holder[:23] + b"\x7f" + holder[24:]
     fault = fault_of(holder)
@@ -132,7 +135,8 @@ def recover(source: random.Random, messages: list[bytes]) -> None:
 
 
 def parallel(messages: list[bytes]) -> None:
-    """Compares what processes write of parts with what one writes, of archives that are whole, refused and cut."""
+    """Compares the output of the processes for parts with that of one process, on archives that are valid, rejected and
+    truncated."""
     some = [it if n % 70 else REFUSED for n, it in enumerate(messages)]
     capability = framed([1 << 48, 3])
     archives = {
@@ -168,7 +172,8 @@ def texted(text: str) -> bytes:
 
 
 def search() -> None:
-    """Looks for texts: in some messages, in none, in more than one list of numbers holds, and in what is rejected."""
+    """Searches for texts that are in some messages, in none, in more than one list of numbers holds, and in archives
+    that are rejected."""
     ada, grace, without = texted("Ada"), texted('Grace "Hopper"'), canonical(5)
     Path("archive").write_bytes(ada + without + grace + ada)
     see(shell("search.sh", "archive", "0", "Ada") == (ada + ada, "", 0), "messages with Ada")
@@ -185,7 +190,8 @@ def search() -> None:
 
 
 def differences() -> None:
-    """Compares archives: of the same values, of others, with messages that only one has, and with what is rejected."""
+    """Compares archives with the same values, with other values, with messages that only one has, and with rejected
+    messages."""
     five, same = framed([2 << 32, 5, 0]), framed([1 << 32, 5])
     others = {n: framed([1 << 32, n]) for n in (6, 7, 8, 9)}
 

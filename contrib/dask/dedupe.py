@@ -1,8 +1,8 @@
-"""Frees archives of duplicates over the workers of a Dask cluster, each of which runs `capn`.
+"""Removes duplicates from archives, over the workers of a Dask cluster, each of which runs `capn`.
 
-The files are read as one archive, in the order in which they are given. Of the messages that have the same value the
-first one is kept, as it stands or in canonical form. What is written is what one process of `capn uniq --keep-going`
-writes of the same input, or `capn canonical --framed` of that.
+The files are read as one archive, in the order in which they are given. The first of the messages with the same value
+is kept, as it is or in canonical form. The output is that of one process of `capn uniq --keep-going` for the same
+input, or of `capn canonical --framed` for that output.
 """
 
 from __future__ import annotations
@@ -22,7 +22,7 @@ PASSED_OVER = b" messages refused, the first is "
 
 @dataclass(frozen=True)
 class Part:
-    """Whole messages of a file, one after the other: the file, and the bytes that they take of it."""
+    """Complete messages of a file, one after the other: the file, and the range of their bytes."""
 
     path: str
     offset: int
@@ -36,7 +36,7 @@ class Part:
 
 @dataclass(frozen=True)
 class Message:
-    """A message: where it begins and ends, and its digest, or why it has none."""
+    """A message: where it begins and ends, and its digest, or the error for which it has none."""
 
     begin: int
     end: int
@@ -46,8 +46,8 @@ class Message:
 
 @dataclass
 class Report:
-    """What was found: the number of messages and of those kept, and of each refused one its number, its offset and the
-    reason."""
+    """The result: the number of messages and of those kept, and for each rejected one its number, its offset and the
+    error."""
 
     messages: int = 0
     kept: int = 0
@@ -55,7 +55,8 @@ class Report:
 
 
 def capn(*words: str, **given: Any) -> bytes:
-    """Returns what `capn` writes. That it passed over refused messages is no failure, anything else is one."""
+    """Returns the output of `capn`. Its status may say that rejected messages were skipped. Any other failure
+    raises."""
     ran = subprocess.run([os.environ.get("CAPN", "capn"), *words], capture_output=True, check=False, **given)
     if ran.returncode and not (ran.stderr.count(b"\n") == 1 and PASSED_OVER in ran.stderr):
         raise RuntimeError(f"capn {' '.join(words)}: status {ran.returncode}: {ran.stderr.decode().strip()}")
@@ -78,7 +79,7 @@ def messages_of(listing: bytes) -> list[Message]:
 
 
 def cut(path: str, most: int) -> list[Part]:
-    """Returns the parts of a file: whole messages, at most this many bytes of them, or a single longer one."""
+    """Returns the parts of a file. A part has complete messages of at most this many bytes, or a single longer one."""
     with open(path, "rb") as file:
         try:
             messages = messages_of(capn("list", "--keep-going", stdin=file))
@@ -99,14 +100,14 @@ def digests(part: Part) -> list[Message]:
 
 
 def frames(part: Part, kept: list[Message], is_canonical: bool) -> bytes:
-    """Returns the frames of messages of a part, as they stand or in canonical form."""
+    """Returns messages of a part with their segment tables, as they are or in canonical form."""
     data = part.read()
     found = b"".join(data[message.begin:message.end] for message in kept)
     return capn("canonical", "--framed", input=found) if is_canonical else found
 
 
 class Choice:
-    """Chooses the first message of each value, part by part, and counts."""
+    """Chooses the first message of each value, part by part, and counts the messages."""
 
     def __init__(self) -> None:
         self.seen: set[str] = set()
@@ -129,13 +130,13 @@ class Choice:
 
 
 def tasks(client: Client, *call: Any, **options: Any) -> list[Future]:
-    """Returns a task for each argument of a call. Its key is new, since Dask's keys by content can't tell two parts
-    apart."""
+    """Returns a task for each argument of a call. Each key is new, because Dask's keys by content can't tell two equal
+    parts apart."""
     return client.map(*call, **options, pure=False)
 
 
 def dedupe(client: Client, paths: list[str], out: BinaryIO, most: int, is_canonical: bool) -> Report:
-    """Writes the first message of each value of these files, in their order."""
+    """Writes the first message of each value of these files, in the order of the files."""
     parts = [part for found in tasks(client, cut, paths, most=most) for part in found.result()]
     choice = Choice()
     kept = [choice.of(part, found.result()) for part, found in zip(parts, tasks(client, digests, parts))]
@@ -145,7 +146,7 @@ def dedupe(client: Client, paths: list[str], out: BinaryIO, most: int, is_canoni
 
 
 def told(report: Report) -> str:
-    """Returns the lines of a report, of which the last one is that of `capn`."""
+    """Returns the lines of a report. The last line is that of `capn`."""
     lines = [f"{report.kept} of {report.messages - len(report.refused)}"]
     lines += [f"message {number} at {offset}: {refusal}" for number, offset, refusal in report.refused]
     if report.refused:
@@ -155,7 +156,8 @@ def told(report: Report) -> str:
 
 
 def write(client: Client, paths: list[str], options: argparse.Namespace) -> Report:
-    """Writes the result beside its place, and puts it there once it is whole. Until then what was there stays."""
+    """Writes the result into a file beside its place, and moves it there once it is complete. Until then the old file
+    stays."""
     folder, name = os.path.split(os.path.abspath(options.out))
     with tempfile.NamedTemporaryFile(dir=folder, prefix=f".{name}.", delete=False) as out:
         try:

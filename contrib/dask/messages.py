@@ -1,7 +1,7 @@
-"""Writes archives to try the example on: messages.py FOLDER MESSAGES FILES.
+"""Writes archives on which to try the example: messages.py FOLDER MESSAGES FILES.
 
-A message is a number and its text, in one of three layouts: canonical, with a word of zeros more, or in two segments.
-Most values come several times. Of each 5,000 messages one is refused, and one has a capability.
+A message is a number and its text, in one of three layouts: canonical, with another word of zeros, or in two segments.
+Most values come several times. One of each 5,000 messages is rejected, and one has a capability.
 """
 
 from __future__ import annotations
@@ -42,7 +42,7 @@ def in_two_segments(number: int) -> bytes:
 
 
 def message(source: random.Random, at: int, values: int) -> bytes:
-    """Returns the message of this place in the archive."""
+    """Returns the message at this place of the archive."""
     if at % 5000 == 1000:
         return framed([1 << 32 | 9 << 2])
     if at % 5000 == 3000:

@@ -1,6 +1,6 @@
-"""Tries the example on a local cluster of two workers, one of which is ended in the middle: trial.py FOLDER.
+"""Tests the example on a local cluster of two workers, one of which is ended in the middle: trial.py FOLDER.
 
-Fails if what is written or counted of the archives of the folder isn't what one process of `capn` writes and counts.
+Fails if the output or the counts for the archives of the folder differ from those of one process of `capn`.
 """
 
 from __future__ import annotations
@@ -21,7 +21,7 @@ MOST, BEFORE = 1 << 17, 5
 
 
 class Ending(io.BytesIO):
-    """An output that ends a worker when some parts have been written: the one that has the most answers."""
+    """An output that ends a worker once some parts have been written: the worker that has the most results."""
 
     def __init__(self, client: Client) -> None:
         super().__init__()
@@ -40,26 +40,27 @@ class Ending(io.BytesIO):
 
 
 def by_one_process(data: bytes, *words: str) -> tuple[bytes, str]:
-    """Returns what one process of `capn` writes, and its line on standard error."""
+    """Returns the output of one process of `capn`, and its line on standard error."""
     ran = subprocess.run([os.environ["CAPN"], *words], input=data, capture_output=True, check=False)
     return ran.stdout, ran.stderr.decode().removeprefix("capn: ").strip()
 
 
 def run_command(paths: list[str]) -> subprocess.CompletedProcess[bytes]:
-    """Runs the example's own command, without other workers, with the result in the file framed."""
+    """Runs the command of the example, without other workers, with the result in the file framed."""
     script = Path(__file__).with_name("dedupe.py")
     words = [sys.executable, "-B", str(script), "--canonical", "--most", str(MOST), "framed", *paths]
     return subprocess.run(words, capture_output=True, check=False)
 
 
 def by_command(paths: list[str]) -> tuple[bytes, str]:
-    """Returns what the example's own command writes in canonical form, and its last line."""
+    """Returns the output of the example's command in canonical form, and its last line."""
     ran = run_command(paths)
     return Path("framed").read_bytes(), ran.stdout.decode().strip().split("\n")[-1]
 
 
 def is_named(paths: list[str]) -> bool:
-    """Returns whether a file that is cut is named, and the result of an earlier run stays, with nothing beside it."""
+    """Returns whether a truncated file is named, the result of an earlier run stays, and no other file lies beside
+    it."""
     before = Path("framed").read_bytes()
     cut = Path("cut.messages")
     cut.write_bytes(Path(paths[0]).read_bytes()[:-8])
@@ -71,7 +72,7 @@ def is_named(paths: list[str]) -> bool:
 
 
 def is_counted(report: Report, data: bytes) -> bool:
-    """Returns whether a report has the counts of one process, and its line."""
+    """Returns whether a report has the counts and the line of one process."""
     counted, line = by_one_process(data, "uniq", "--count", "--keep-going")
     lines = told(report).split("\n")
     return lines[0] == counted.decode().strip() and lines[-1] == line

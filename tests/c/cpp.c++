@@ -1,6 +1,6 @@
-// Calls of capn.hpp by hand.
+// Tests the calls of capn.hpp on messages that are written by hand.
 //
-// Answers, refusals, streams in pieces, fields with defaults, and what may be passed as bytes.
+// It tests results, errors, streams in chunks, fields with defaults, and the types that can be passed as bytes.
 #include "capn.hpp"
 #include <array>
 #include <cstdio>
@@ -30,7 +30,7 @@ static void want(const char *what, bool is) {
     failed++;
     std::printf("cpp: %s\n", what);
 }
-/* The text of what a call throws. */
+/* The text of the exception that a call throws. */
 template <class Thrown, class Call> static std::string thrown(Call call) {
     try {
         call();
@@ -82,7 +82,7 @@ static void answers() {
     want("show as text", shown(capn::style::text) == "bytes 3 \"hi\\0\"\nend\n");
     want("show as JSON", shown(capn::style::json) == "{\"bytes\":\"686900\"}\n");
     want("show as JSON with texts", shown(capn::style::json_text) == "{\"text\":\"hi\"}\n");
-    /* Longer than the room that is tried first. */
+    /* Longer than the buffer that is tried first. */
     const std::string bits = words({1 | 1ull << 32 | 64000ull << 35}) + std::string(8000, '\xff');
     want("a longer text", capn::show(bits, capn::form::bare).size() == 64018);
     want("pack", digits(capn::pack(one)) == "1003100201050000");
@@ -90,8 +90,8 @@ static void answers() {
     want("unpack", capn::bytes(capn::unpack(packed)).chars() == one);
     want("packed", capn::canonical(packed, capn::form::packed) == capn::canonical(one));
     want("canonical words", capn::is_canonical_words(capn::canonical(one)) && !capn::is_canonical_words(one.substr(8)));
-    /* A message of one segment whose last word isn't zero: its table and its words pass as words; the message doesn't,
-     * for its struct has a zero word before a pointer. */
+    /* A message of one segment whose last word isn't zero. Its table and its words together are canonical as a bare
+     * message. The message itself isn't canonical, since its struct has a zero word before a pointer. */
     using capn::form;
     const capn::limits few(99, 2, 9);
     const std::string loose = framed(words({2ull << 32 | 1ull << 48, 5, 0, 1 | 0x22ull << 32, 0x636261}));
@@ -108,7 +108,7 @@ static void answers() {
     want("limits of words", capn::is_canonical_words(loose, {}) && thrown<capn::refusal>([&] {
                                 (void)capn::is_canonical_words(loose, few);
                             }) == "OverBudget at 0:0, paid 0, visits 1");
-    /* The call without a form stays, and means words. */
+    /* The call without a form stays. It reads a single segment without a table. */
 #if defined(__GNUC__)
 #pragma GCC diagnostic push
 #pragma GCC diagnostic ignored "-Wdeprecated-declarations"
@@ -125,10 +125,10 @@ static void answers() {
         const std::string message = written == form::bare ? capability.substr(8) : capability;
         want("a capability", thrown<capn::refusal>([&] { capn::is_canonical(message, written); }) == "capability 7");
     }
-    /* An object that three pointers lead to is written three times: the answer is longer than the message. */
+    /* An object with three pointers to it is written three times, so the result is longer than the message. */
     const std::string shared = framed(words({3ull << 48, 8 | 1ull << 32, 4 | 1ull << 32, 1ull << 32, 7}));
     want("a longer answer", capn::canonical(shared).size() == 56 && shared.size() == 48);
-    /* Canonical bytes are a vector as any other, and give back what they didn't need. */
+    /* Canonical bytes are a plain vector, whose capacity is its length. */
     static_assert(std::is_same_v<decltype(capn::canonical(one)), std::vector<std::byte>>);
     const std::string null_root = std::string("\0\0\0\0\0\0\2\0", 8) + std::string(1 << 20, '\0');
     const std::vector<std::byte> small = capn::canonical(null_root);
@@ -190,13 +190,14 @@ static void pieces() {
     };
     want("the first one", which(loop, none) == "TooDeep0");
     want("the second one", which(two, loop) == "TooDeep1");
-    /* Segments that say that they are too long are not copied. */
+    /* Segments that are too long by their lengths are not copied. */
     const capn_segment long_one[] = {{rest.data(), std::size_t{1} << 60}, {rest.data(), std::size_t{1} << 60}};
     want("too long", thrown<capn::refusal>([&] { capn::show(long_one); }).rfind("frame: TooManyWords", 0) == 0);
     want("too long for bytes", capn::segments(long_one).bytes_in_all() > 8ull << 28);
 }
 
-/* Canonical bytes into a buffer, with scratch that is lent: few segments, a packed text, and many segments. */
+/* Canonical bytes in a buffer, with scratch that the caller passes: for few segments, for packed bytes, and for many
+ * segments. */
 static void lent() {
     using capn::form;
     const std::string message = framed(words({1ull << 32, 5})), wanted(capn::bytes(capn::canonical(message)).chars());
@@ -222,7 +223,7 @@ static void lent() {
                        == CAPN_BAD_LIMITS);
 }
 
-/* Two messages: the same in other layouts, not the same, and one that is refused. */
+/* Two messages: with the same value in other layouts, with different values, and one that is rejected. */
 static void comparisons() {
     using capn::form;
     const std::string tight = framed(words({1ull << 32, 5})), other = framed(words({1ull << 32, 6}));
@@ -251,10 +252,11 @@ static void comparisons() {
                        == "a limit is out of its range");
 }
 
-/* The way to what is refused, and where an accepted message leaves its canonical bytes. */
+/* The path to an error, and the first difference from the canonical form for a message that is accepted. */
 static void ways() {
     using capn::form;
-    /* A struct whose slot 1 leads to two rows, of which the second has a slot that names more bytes than there are. */
+    /* A struct whose pointer 1 refers to a list of two structs. The second struct has a pointer to more bytes than the
+     * message has. */
     const std::uint64_t too_long = 1 | 2ull << 32 | 99ull << 35;
     const std::string wrong = framed(words({2ull << 48, 0, 1 | 7ull << 32 | 2ull << 35, 8 | 1ull << 48, 0, too_long}));
     const auto way = capn::refusal_way(wrong);
@@ -342,7 +344,7 @@ static void streams() {
                           == "message 2 at 32: frame: Cut");
     want("the first of them", count == 1);
 
-    /* From memory, in pieces of each size; every third time it throws. */
+    /* Reads from memory in chunks of each size. Every third call throws. */
     for (std::size_t most = 1; most < 40; most++) {
         const std::string all = one + framed(words({0})) + one;
         std::size_t at = 0, calls = 0, got = 0;
@@ -375,9 +377,11 @@ static void streams() {
     want("the cut one", thrown<capn::refusal>([&] { reader.next(); }) == "message 2 at 32: frame: Cut");
 }
 
-/* What a reader's function does wrong is no refusal, and no byte that it didn't write is read. */
+/* A mistake of the reader's function isn't an error of the message, and no byte that the function didn't write is read.
+   */
 static void readers() {
-    /* The table has come, the rest not yet; then the function answers what its system call answers for an error. */
+    /* The function has returned the table, and not yet the rest. Then it returns what its system call returns for an
+     * error. */
     const std::string all = one + one;
     for (const std::size_t wrong : {static_cast<std::size_t>(-1), std::size_t{25}, std::size_t{1} << 20}) {
         std::size_t at = 0, calls = 0;
@@ -393,7 +397,7 @@ static void readers() {
         const auto message = reader.next();
         want("nothing is lost", message && message->chars() == one && reader.next()->chars() == one && !reader.next());
     }
-    /* The same over a pipe without bytes, as whoever calls read(2) and forgets its errors would write it. */
+    /* The same over a pipe without bytes, with a function that calls read(2) and doesn't test for errors. */
     int ends[2];
     want("a pipe", pipe(ends) == 0 && fcntl(ends[0], F_SETFL, O_NONBLOCK) == 0 && write(ends[1], one.data(), 8) == 8);
     capn::reader forgetful([&](std::byte *to, std::size_t most) {
@@ -401,7 +405,7 @@ static void readers() {
     });
     want("an error that was forgotten", thrown<capn::read_error>([&] { (void)forgetful.next(); })
                                             != "nothing");
-    /* And as it should be, by an exception, an optional and an expected. */
+    /* The right way to report the error: by an exception, an optional and an expected. */
     capn::reader careful([&](std::byte *to, std::size_t most) -> std::optional<std::size_t> {
         const ssize_t came = ::read(ends[0], to, most);
         return came < 0 ? std::nullopt : std::optional<std::size_t>(came);
@@ -476,7 +480,7 @@ static void readers() {
                           });
                       }) == "message 5 at 96: frame: Cut");
     want("all in memory", told == "1 0 good, 2 32 bad, 3 48 good, 4 80 bad, ");
-    /* A table that is wrong ends the stream: each call says so again. */
+    /* An invalid table ends the stream. Each later call reports it again. */
     const std::string damaged = one + std::string(8, '\xff') + one;
     std::size_t at = 0;
     capn::reader ended([&](std::byte *to, std::size_t most) {
@@ -490,7 +494,7 @@ static void readers() {
         want("a wrong table", thrown<capn::refusal>([&] { (void)ended.next(); })
                                   == "message 2 at 32: frame: TooManySegments(4294967296)");
 
-    /* A reader can be moved within a stream, and not be copied. */
+    /* A reader can be moved in the middle of a stream, and can't be copied. */
     static_assert(!std::is_copy_constructible_v<decltype(ended)> && !std::is_copy_assignable_v<decltype(ended)>);
     capn::reader first(from(5));
     const auto message = first.next();
@@ -500,7 +504,8 @@ static void readers() {
     want("nothing of it is left", first.number() == 0 && first.offset() == 0);
 }
 
-/* Streams of packed messages: the messages one by one, and as one text, whose groups go from one into the next. */
+/* Streams of packed messages: each message packed alone, and all of them packed as one, so that groups cross from one
+   message to the next. */
 static void packed_streams() {
     const auto text = [](const std::string &message) { return std::string(capn::bytes(capn::pack(message)).chars()); };
     std::string lengthy = framed(words({1 | 1ull << 32 | 2400ull << 35}));
@@ -541,7 +546,7 @@ static void packed_streams() {
             }
             want("all packed messages", got == messages.size() && at == stream.size());
         }
-    /* Cut anywhere. */
+    /* The stream is truncated at each byte. */
     for (std::size_t size = 0; size < apart.size(); size += 1 + size / 40) {
         std::size_t at = 0, got = 0;
         const std::size_t whole = static_cast<std::size_t>(std::upper_bound(ends.begin(), ends.end(), size)
@@ -563,7 +568,7 @@ static void packed_streams() {
                 want("where", error.report().at < size && (whole == 0 || error.report().at >= ends[whole - 1]));
         }
     }
-    /* Few bytes that stand for many words: no more is unpacked than the message that was announced. */
+    /* A few packed bytes that unpack to many words: no more is unpacked than the message that was announced. */
     std::string bomb = text(framed(words({0})));
     for (int i = 0; i < 4000; i++) bomb += std::string("\0\xff", 2);
     std::size_t at = 0, asked = 0;
@@ -596,8 +601,8 @@ static void packed_streams() {
                                                == "message 1 at 0: frame: TooManyWords(4)");
 }
 
-/* Over a socket, whose peer waits for an answer to each message: none is waited for once it is there, and no byte after
- * the messages is taken. */
+/* Over a socket whose peer waits for a reply to each message. The reader doesn't wait once a message is complete, and
+ * takes no byte after the messages. */
 static void sockets() {
     int ends[2];
     want("a socket", socketpair(AF_UNIX, SOCK_STREAM, 0, ends) == 0);
@@ -624,7 +629,7 @@ static void sockets() {
     close(ends[1]);
 }
 
-/* What goes before it is used is refused by the compiler. */
+/* The compiler rejects programs whose bytes are gone before they are used. */
 template <class T, class = void> constexpr bool has_root = false;
 template <class T> constexpr bool has_root<T, std::void_t<decltype(std::declval<T>().root())>> = true;
 template <class T, class = void> constexpr bool is_indexed = false;
@@ -640,7 +645,8 @@ static_assert(is_indexed<std::span<const std::byte>>);
 #endif
 
 static void fields() {
-    /* A struct of a word and two slots: `x @0 :UInt64 = 7`, a text, and rows of a newer writer in place of numbers. */
+    /* A struct of a word and two pointers: `x @0 :UInt64 = 7`, a text, and structs of a newer writer in place of
+       numbers. */
     const std::string message = framed(words({1ull << 32 | 2ull << 48, 5 ^ 7, 5 | 0x22ull << 32, 5 | 0x17ull << 32,
                                               0x636261, 8 | 1ull << 32, 3, 4}));
     const capn::index index = capn::index::of(message);
@@ -661,7 +667,7 @@ static void fields() {
     want("a packed one", thrown<std::invalid_argument>([&] { capn::index::of(one, capn::form::packed); })
                              == "the call doesn't take this form");
     want("a refused one", thrown<capn::refusal>([] { capn::index::of(cut); }) == "frame: Cut");
-    /* More slots than are tried at first. */
+    /* More pointers than the entries that are tried first. */
     std::string many = words({200ull << 48});
     for (int i = 0; i < 200; i++) many += words({0});
     std::string wide(8, '\0');
@@ -670,8 +676,8 @@ static void fields() {
     want("many slots", capn::index::of(whole).size() == 201);
 }
 
-/* Canonical bytes leave out a section that is zero in each struct of a list. Whoever reads the list as numbers, or as
- * pointers, reads zeros and nulls from it, as from the list before. */
+/* Canonical bytes leave out a section that is zero in each struct of a list. A reader that reads the list as numbers or
+   as pointers gets zeros and nulls, as from the original list. */
 static void canonical_lists() {
     const auto all = [](const capn::numbers<std::uint16_t> &numbers) {
         return std::vector<std::uint16_t>(numbers.begin(), numbers.end());
@@ -691,7 +697,8 @@ static void canonical_lists() {
         for (const capn::record one : list.pointers()) count += one.slot(0).is_null();
         want("nulls", count == 2);
     }
-    /* Structs with pointers alone are zeros as numbers, and these pointers as pointers; and the other way round. */
+    /* Structs that have only pointers are read as zeros or as these pointers, and structs that have only words as these
+     * numbers or as nulls. */
     const std::string pointed = framed(words({1ull << 48, 0x1700000001, 8 | 1ull << 48, 0, 3 | 9ull << 32}));
     const capn::index index = capn::index::of(pointed);
     const capn::rows rows = index.root().as_struct().slot(0).pointers();
@@ -702,7 +709,7 @@ static void canonical_lists() {
     want("the capability", last == 9);
     want("zeros beside pointers", all(index.root().as_struct().slot(0).list<std::uint16_t>())
                                       == std::vector<std::uint16_t>{0, 0});
-    /* Lists of other numbers are no such lists. */
+    /* Lists of other numbers aren't read so. */
     const std::string bytes_of_it = framed(words({1ull << 48, 1 | 0x12ull << 32, 0x0201}));
     const capn::index other = capn::index::of(bytes_of_it);
     const capn::value data = other.root().as_struct().slot(0);
@@ -764,7 +771,7 @@ static void ranges() {
 #endif
 }
 
-/* What was moved from is empty. */
+/* An object is empty after it was moved from. */
 static void moves() {
     capn::index from = capn::index::of(one);
     const capn::index to = std::move(from);

@@ -1,8 +1,8 @@
-// What doesn't compile over capn.hpp, and right programs beside it that do.
+// Programs that must not compile with capn.hpp, and right programs that must.
 //
-// Each number of CASE adds a program that would read bytes that are gone, or take a number for another one. A compiler
-// has to reject it, for the reason before the colon: that word stands in what it says. Only clang sees those that
-// dangle, and it warns. Without CASE the right programs stand alone. `tests/c/languages` compiles each.
+// Each number of CASE adds a program that would read bytes that are gone, or mistake one number for another. A compiler
+// has to reject it, and its message has to have the word before the colon. Only clang sees the cases of `dangling`, and
+// it warns. Without CASE only the right programs are left. `tests/c/languages` compiles each.
 #include "capn.hpp"
 #ifdef WITH_KJ
 #include "capn_kj.hpp"
@@ -16,7 +16,7 @@
 
 std::vector<std::byte> make_vector();
 std::string make_string();
-/* Bytes of its own, which are copied as they lie. */
+/* A type with bytes of its own, which are copied as they are. */
 struct packet {
     std::byte held[64];
     std::size_t length;

@@ -1,4 +1,4 @@
-// The time of each call of capn.hpp, beside C's.
+// Compares the time of each call of capn.hpp with that of C's.
 //
 // cpp_time [MOST] fails if a call takes more than MOST times as long as the calls of capn.h that it makes: the shortest
 // of many rounds, in which both take turns.
@@ -11,7 +11,7 @@ namespace {
 
 double most = 1e9;
 bool failed = false;
-std::uint64_t sum = 0; /* so that no call is left out */
+std::uint64_t sum = 0; /* so that the compiler doesn't remove a call */
 
 template <class Call> double once(unsigned times, Call call) {
     const auto from = std::chrono::steady_clock::now();
@@ -20,7 +20,8 @@ template <class Call> double once(unsigned times, Call call) {
     return took.count() / times;
 }
 template <class C, class Plus> void beside(const char *name, std::size_t size, C c, Plus plus) {
-    /* Short rounds, so that many are not interrupted, and more of them as long as they say too much. */
+    /* The rounds are short, so that many are not interrupted. There are more of them as long as the times are too long.
+     * */
     const unsigned times = static_cast<unsigned>(1 + 200 / (1 + once(3, c) / 1000));
     double least = 1e18, least_plus = 1e18;
     for (int attempt = 0; attempt < 20 && (attempt == 0 || least_plus > most * least); attempt++)
@@ -32,7 +33,8 @@ template <class C, class Plus> void beside(const char *name, std::size_t size, C
     failed |= least_plus > most * least;
 }
 
-/* A message of a list of so many rows, each of a word and a pointer to a text of 8 bytes; or of a list of bytes. */
+/* A message of a list of this many structs, each of a word and a pointer to a text of 8 bytes, or of a list of bytes.
+ * */
 std::vector<std::uint64_t> message_of(std::size_t rows, std::size_t bytes) {
     std::vector<std::uint64_t> words = {0};
     if (bytes) {

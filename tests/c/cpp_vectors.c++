@@ -1,7 +1,7 @@
-// Answers of capn.hpp to the calls of standard input.
+// Makes the calls of standard input by capn.hpp, and writes the results.
 //
-// They are written as the stored answers are, and as vectors.c writes them. What it answers of a stream it answers of
-// its segments too.
+// They are written in the form of the stored answers, as vectors.c writes them. Each call on a stream is made on its
+// segments, too.
 #include "capn.hpp"
 #include <cstdio>
 #include <iostream>
@@ -32,7 +32,7 @@ capn::form form_of(const std::string &word) {
     return word == "packed" ? capn::form::packed : word == "bare" ? capn::form::bare : capn::form::stream;
 }
 
-/* The text of a refusal, without what for_each says of its place; the calls of packing say nothing of a form. */
+/* The text of an error, without the place that for_each adds. Calls that pack or unpack name no form. */
 std::string refused(const capn::refusal &why, bool of_packing) {
     std::string text = capn::refusal(why.status(), why.report()).what();
     for (const std::string form : {"bare: ", "packed: "})
@@ -43,7 +43,7 @@ std::string refused(const capn::refusal &why, bool of_packing) {
     return text;
 }
 
-/* The segments of a stream whose table is right. */
+/* The segments of a stream whose table is valid. */
 std::vector<std::vector<std::byte>> segments_of(capn::bytes stream) {
     const auto number = [&](std::size_t at) {
         std::size_t out = 0;
@@ -83,7 +83,8 @@ std::string checked(const capn::checked &it, const capn_figures &figures) {
     return "paid " + std::to_string(it.paid) + ", visits " + std::to_string(it.visits);
 }
 
-/* An answer of the bytes; if they are a stream whose table is right, it has to be that of the segments too. */
+/* The result for the bytes. If they are a stream whose table is valid, the call on the segments has to return the same.
+ * */
 template <class Call> std::string both(capn::bytes message, capn::form form, const capn::limits &limits, Call call) {
     const std::string told = answered([&] { return call(message, form); });
     if (form != capn::form::stream) return told;

@@ -1,6 +1,6 @@
-// Ways and departures by capn.hpp.
+// Paths to errors, and first differences from the canonical form, by capn.hpp.
 //
-// Answers each call of standard input that has limits as `ways answers` does.
+// It answers each call of standard input that has limits in the form of `ways answers`.
 #include "capn.hpp"
 #include <cinttypes>
 #include <cstdio>

@@ -1,6 +1,6 @@
-// Messages of fields.capnp by generated code.
+// Writes and reads messages of fields.capnp by generated code.
 //
-// The reference implementation's code writes a stream of them, or shows each message of a stream, on a line.
+// The code of the reference implementation writes a stream of messages, or shows each message of a stream on a line.
 //
 //     fields write SEED COUNT   by both types in turn, in segments of several sizes
 //     fields old | new          read by one type, whichever wrote it

@@ -1,5 +1,5 @@
-"""Writes calls, as tests/c/vectors answers them, for a thousand messages as `tests/reference/generated` makes them,
-from a fixed seed, most of them hostile or changed, and for the hostile inputs of `tests/reference/hostile`."""
+"""Writes calls for tests/c/vectors. Their inputs are a thousand messages that `tests/reference/generated` makes from a
+fixed seed, most of them hostile or changed, and the hostile inputs of `tests/reference/hostile`."""
 import random
 from importlib.machinery import SourceFileLoader
 from importlib.util import module_from_spec, spec_from_loader

@@ -1,4 +1,4 @@
-"""Answers each call of standard input as the stored answers are written, by the program that CAPN names.
+"""Answers each call of standard input in the form of the stored answers, by the program that CAPN names.
 
 The least maximum of the program when it unpacks is 2,050 words: where a call allows fewer, and the text packs more or
 is refused, this answers `?`."""
@@ -8,7 +8,7 @@ import sys
 
 
 def run(words, data):
-    """Returns the status, what was written, and the refusal."""
+    """Returns the status, the output, and the error."""
     ran = subprocess.run([os.environ["CAPN"], *words], input=data, capture_output=True)
     return ran.returncode, ran.stdout, ran.stderr.decode().removeprefix("capn: ").removesuffix("\n")
 
@@ -18,7 +18,7 @@ def digits(data):
 
 
 def priced(words, data):
-    """Returns what the one message costs, as `check` writes it, and whether a bare one is canonical."""
+    """Returns the cost of the one message as `check` prints it, and whether a bare message is canonical."""
     status, wrote, refusal = run(["check", *words], data)
     if status:
         return None, None, refusal

@@ -121,8 +121,8 @@ int main(int count, char **words) {
             static const uint32_t counts[] = {1, 2, MOST_SEGMENTS};
             depth = depths[d];
             segments = counts[kind / 8];
-            /* The first of one or two slots, or of rows of one slot, leads down, in the last shape by a far pointer; a
-             * second has an empty struct. */
+            /* The first of one or two pointers, or of the pointers of structs in a list, leads down to the next object.
+             * In the last shape it is a far pointer. A second pointer has an empty struct. */
             int is_wide = kind % 8 > 3, shape = kind % 4;
             uint32_t many = is_wide ? 2 : 1, down = 0;
             size_t at = 0;

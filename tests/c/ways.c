@@ -107,7 +107,7 @@ static uint64_t word_at(const uint8_t *bytes, size_t word) {
     return number;
 }
 
-/* The expected kind, by the figures, and for a message of one segment the first word that differs. */
+/* The expected kind, from the summary of the message, and for a message of one segment the first word that differs. */
 static void compare(const struct input *in, const capn_departed *d) {
     capn_figures f;
     capn_report r;

@@ -1,5 +1,5 @@
-"""Answers each call of standard input that has limits as `ways answers` does, by what `explain` of the program that
-CAPN names says of the way to a refusal, and of where a message leaves its canonical bytes."""
+"""Answers each call of standard input that has limits in the form of `ways answers`. It takes the path to an error, and
+the first difference from the canonical form, from the output of `explain` of the program that CAPN names."""
 import os
 import re
 import subprocess
@@ -12,7 +12,7 @@ DIFFERS = re.compile(
 
 
 def departure(value):
-    """Returns what the line `canonical` says, in the words of `ways answers`."""
+    """Returns the content of the line `canonical`, in the words of `ways answers`."""
     if value == "yes":
         return value
     differs = DIFFERS.fullmatch(value)
@@ -23,7 +23,7 @@ def departure(value):
 
 
 def told(lines):
-    """Returns what `explain` tells in these lines; `?` of bytes that are not read."""
+    """Returns what these lines of `explain` say, and `?` for bytes that can't be read."""
     values = dict(line.split(": ", 1) for line in lines if ": " in line)
     if "way" in values:
         return f"way {values['way']}"

@@ -20,7 +20,7 @@ BLOCK = re.compile(r"^```(sh|bash|text)\n(.*?)^```$", re.M | re.S)
 
 
 def pairs(page):
-    """Yields each block that is run, with its language and the output that the page shows, or None."""
+    """Yields each block, with its language and the output that the page shows, or None."""
     found = BLOCK.findall(page)
     for at, (language, block) in enumerate(found):
         if language != "text":
@@ -29,7 +29,7 @@ def pairs(page):
 
 
 def tried(shell, capn):
-    """Returns how many blocks ran, and how many printed something else than the page shows."""
+    """Returns how many blocks ran, and how many printed other output than the page shows."""
     ran = wrong = 0
     with tempfile.TemporaryDirectory() as folder:
         here = Path(folder)

@@ -1,12 +1,12 @@
 #!/usr/bin/env python3
-"""What the program has to answer to a line of words, by `model` and `explained`: a command is the function
-`run_COMMAND` of one of them, with the command's options as parameters. Which options there are, and which of them take
-a number, is by help.
+"""The results that the program has to have for a command line, by `model` and `explained`. A command is the function
+`run_COMMAND` of one of them, with the options of the command as parameters. The texts of help say which options there
+are, and which of them take a number.
 
     tests/program/answered.py COMMAND [OPTION..] < INPUT
 
-writes that to standard output and standard error, and ends with its status. Of `make` there is no model: `texts`
-compares it with `show`.
+writes the output to standard output and standard error, and ends with the status. `make` has no model: `texts` compares
+it with `show`.
 """
 
 import re
@@ -17,7 +17,7 @@ import help_texts
 import model
 
 HELP = help_texts.helps()
-# What help says in place of a value that is a number.
+# The words that help has in place of a value that is a number.
 NUMBERS = ("N", "K")
 
 
@@ -33,7 +33,7 @@ def call_of(command):
 
 
 def answer(line, data):
-    """Returns what is written of an input, the line on standard error, and the exit status."""
+    """Returns the output for an input, the line on standard error, and the exit status."""
     command, *rest = line
     takes, options = {option.name: option.takes for option in options_of(command)}, {}
     while rest:
@@ -46,17 +46,17 @@ def answer(line, data):
 
 
 def values_of(option):
-    """Returns values of an option: its words, two small numbers, or the example of help; of one that takes none, no
-    word."""
+    """Returns values of an option: its words, two small numbers, or the example of help. An option without a value gets
+    no word."""
     if not option.takes:
         return [[]]
-    words = ["1", "2"] if option.takes in NUMBERS else option.words or re.findall(r", as `([^`]+)`", option.said)
+    words = ["1", "2"] if option.takes in NUMBERS else option.words or re.findall(r", such as `([^`]+)`", option.said)
     assert words, f"help has no example of a value of {option.name}"
     return [[word] for word in words]
 
 
 def lines():
-    """Yields the line of each command without options, and with each one of its options."""
+    """Yields the command line of each command without options, and with each one of its options."""
     for command in HELP:
         if command not in ("", "make"):
             yield [command]

@@ -1,4 +1,4 @@
-"""What `explain` writes, in Python: a second reading of docs/DIAGNOSTICS.md, beside that of `model`."""
+"""The output of `explain`, in Python: a second reading of docs/DIAGNOSTICS.md, to go with that of `model`."""
 
 import model
 
@@ -6,7 +6,7 @@ KINDS = ["voids", "bits", "bytes", "u16", "u32", "u64", "pointers"]
 
 
 def decoded(word):
-    """Returns what a word says as a pointer."""
+    """Returns the description of a word as a pointer."""
     if word == 0:
         return "null"
     kind, offset = word & 3, (word & 0xFFFFFFFF) >> 2
@@ -24,7 +24,7 @@ def decoded(word):
 
 
 def tag_of(word):
-    """Returns what a word says as the tag of a list of structs."""
+    """Returns the description of a word as the tag of a list of structs."""
     if word & 3:
         return decoded(word)
     return f"tag of {(word & 0xFFFFFFFF) >> 2} structs of {word >> 32 & 0xFFFF} words and {word >> 48} slots"
@@ -35,14 +35,14 @@ def dotted(way):
 
 
 class Explanation(model.Walk):
-    """A walk that knows the way to the slot that it visits, and which object holds that."""
+    """A traversal that knows the path to the pointer that it visits, and the object that holds the pointer."""
 
     def __init__(self, segments, limits, begin, table):
         self.begin, self.table, self.limits = begin, table, limits
         self.way, self.holder, self.refused, self.asked = [], None, None, None
         self.capability_way = None
-        # What the next slots are in: the way to it, its first slot, and what it is; of structs and rows what they are
-        # in.
+        # The object that holds the next pointers: its path, its first pointer, and its kind. For a struct in a list,
+        # the list, too.
         self.within = self.shape = None
         try:
             super().__init__(segments, **limits)
@@ -50,7 +50,7 @@ class Explanation(model.Walk):
             self.refused = str(refused)
 
     def byte(self, segment, at):
-        """Returns the byte of a word of a segment."""
+        """Returns the byte at which a word of a segment begins."""
         return self.begin + 8 * (self.table + sum(map(self.words, range(segment))) + at)
 
     def slot(self, segment, at, depth, is_root=False):
@@ -97,7 +97,7 @@ class Explanation(model.Walk):
         return f"content: words {begin} to {end} of segment {segment}, which has {self.words(segment)}\n"
 
     def slot_lines(self):
-        """Returns the lines about the slot at which the walk was refused."""
+        """Returns the lines about the pointer at which the traversal stopped with an error."""
         fault = self.refused.split(" ")[0]
         segment, at = self.visited
         word = self.word(segment, at)
@@ -148,13 +148,13 @@ def segments_line(segments):
 
 
 def sizes_line(sizes):
-    """Returns the line about segments of these sizes, which has those of the first eight where there are several."""
+    """Returns the line about segments of these sizes. If there are several, it has the sizes of the first eight."""
     first = ", ".join(map(str, sizes[:8])) + (", .." if len(sizes) > 8 else "")
     return f"segments: {len(sizes)} of {sum(sizes)} words{': ' + first if len(sizes) > 1 else ''}\n"
 
 
 class Owner(Explanation):
-    """A walk of canonical bytes that finds whose a word is, by the way to its slot."""
+    """A traversal of canonical bytes that finds what a word is part of, by the path to that pointer."""
 
     def __init__(self, segment, word, walk):
         self.sought, self.owner = word, None
@@ -179,7 +179,7 @@ class Owner(Explanation):
 
 
 def difference(walk, segment, canonical):
-    """Returns which word of a segment is not that of its canonical bytes, and whose that is."""
+    """Returns the first word of a segment that differs from the canonical bytes, and what it is part of."""
     at = next(i for i in range(0, len(segment), 8) if segment[i:i + 8] != canonical[i:i + 8])
     word, other = segment[at:at + 8], canonical[at:at + 8]
     line = f"at byte {walk.byte(0, at // 8)}: {word.hex()}"
@@ -194,7 +194,7 @@ def difference(walk, segment, canonical):
 
 
 def accepted_lines(walk, segments):
-    """Returns the lines of a message that is accepted, after those about its place."""
+    """Returns the lines for a message that is accepted, but for those about its place."""
     out = [f"accepted: paid {walk.paid} visits {walk.visits} depth {walk.height}\n"]
     canonical = model.canonical(walk.value) if walk.capability is None else None
     if len(segments) == 1 and canonical == segments[0]:
@@ -212,7 +212,8 @@ def accepted_lines(walk, segments):
 
 
 def came(data, form, offset):
-    """Returns what came of the message at an offset, which is refused before its walk, and of the group that is cut."""
+    """Returns the part of the message at an offset that was read. The message is rejected before its traversal. Returns
+    the part of a truncated group, too."""
     if form != "packed":
         return data[offset:], b""
     words, group = model.unpacked(data)
@@ -220,7 +221,7 @@ def came(data, form, offset):
 
 
 def table_lines(rest):
-    """Returns the line about the segments, if all sizes of a table came that has not too many."""
+    """Returns the line about the segments, if the table was read completely and doesn't have too many."""
     count = model.number(rest, 0, 4) + 1
     if count > model.MOST_SEGMENTS or len(rest) < 4 + 4 * count:
         return []
@@ -228,15 +229,15 @@ def table_lines(rest):
 
 
 def least(rest):
-    """Returns the bytes of a frame, if those of its table that are missing are zeros."""
+    """Returns the bytes that a message has by its segment table, as if the missing bytes of the table were zeros."""
     count = model.number(rest, 0, 4) + 1
     sizes = [model.number(rest[:4 + 4 * count], at, 4) for at in range(4, len(rest), 4)]
     return 8 * (1 + count // 2) + 8 * sum(sizes)
 
 
 def needed(group):
-    """Returns the bytes that a group has at least: its tag, those that it names, and of two tags a count and as many
-    words."""
+    """Returns the least number of bytes of a group: its tag, the bytes that the tag announces, and after two of the
+    tags a count and as many words."""
     size = 1 + bin(group[0]).count("1")
     if group[0] not in (0, 255):
         return size
@@ -244,7 +245,7 @@ def needed(group):
 
 
 def fault_lines(fault, message_words, rest, group):
-    """Returns the lines of a message that is refused before its walk, of which so much came."""
+    """Returns the lines for a message that is rejected before its traversal, of which this part was read."""
     text, index, offset = fault
     out = [f"message: {index} at {offset}\n"]
     if not text.startswith("bare: "):
@@ -266,7 +267,7 @@ def fault_lines(fault, message_words, rest, group):
 
 
 def walked(message, form, limits):
-    """Returns the walk of a message, and the lines that explain why that is refused, if it is; but for its place."""
+    """Returns the traversal of a message, and the lines that explain the error, if there is one, but for its place."""
     offset, _frame, segments = message
     walk = Explanation(segments, limits, offset, 0 if form == "bare" else len(segments) // 2 + 1)
     lines = [segments_line(segments)]
@@ -277,8 +278,8 @@ def walked(message, form, limits):
 
 
 def explain(data, form="stream", message_words=8388608, wanted=None, **limits):
-    """Returns what `explain` writes, with the number that it has or None, the line on standard error, and its exit
-    status. The limits are those of the walk."""
+    """Returns the output of `explain` for the message of a number, or for the first rejected one if that is None, the
+    line on standard error, and the exit status. The limits are those of the traversal."""
     found, fault = model.messages(data, form, message_words)
     for index, message in enumerate(found, 1):
         if wanted not in (None, index):
@@ -297,7 +298,7 @@ def explain(data, form="stream", message_words=8388608, wanted=None, **limits):
 
 
 def explain_refused(data, form="stream", message_words=8388608, **limits):
-    """Returns the same of every message that is refused, with an empty line after each."""
+    """Returns the same for every message that is rejected, with an empty line after each."""
     found, fault = model.messages(data, form, message_words)
     out, passed = [], []
     for index, message in enumerate(found, 1):

@@ -1,7 +1,7 @@
-"""Reads the texts of help that are in the file `help` beside this: commands, options, exit statuses.
+"""Reads the texts of help in the file `help` beside this one: commands, options, exit statuses.
 
-`statuses` compares that file with what the program writes. What is said of each command elsewhere, in manual pages,
-completions and tables, is made from it.
+`statuses` compares that file with the output of the program. The descriptions of commands in manual pages, completions
+and tables are made from it.
 """
 
 import os
@@ -12,7 +12,7 @@ HERE = os.path.dirname(os.path.abspath(__file__))
 
 
 def helps():
-    """Returns the texts of help, by the command that each is of; that of the program by the empty name."""
+    """Returns the texts of help by their command. The text of the program has the empty name."""
     with open(os.path.join(HERE, "help"), encoding="utf-8") as file:
         parts = re.split(r"^\$ capn ?(.*)$", file.read(), flags=re.M)[1:]
     asked = zip(parts[::2], parts[1::2])
@@ -26,7 +26,7 @@ def part_of(text, title):
 
 
 class Option(typing.NamedTuple):
-    """An option that a text of help lists: its name, its short form, what stands for its value, and what is said."""
+    """An option of a text of help: its name, its short form, the word for its value, and its description."""
 
     name: str
     short: str
@@ -35,22 +35,22 @@ class Option(typing.NamedTuple):
 
     @property
     def what(self):
-        """Returns what it is, in short."""
+        """Returns the first sentence of the description."""
         return re.split(r"[;:.] | \[default", self.said)[0]
 
     @property
     def words(self):
-        """Returns the words of which it takes one."""
+        """Returns the words that the option allows as its value."""
         return re.findall(r"`([a-z]+)`(?=[ ,;.])", self.said) if self.takes else []
 
     @property
     def needs(self):
-        """Returns the options without which it doesn't go."""
+        """Returns the options that this option needs."""
         return re.findall(r"^With `(--[\w-]+)`:", self.said)
 
     @property
     def excludes(self):
-        """Returns the options with which it doesn't go."""
+        """Returns the options that can't be combined with this one."""
         return re.findall(r"`(--[\w-]+)`", self.said.partition("goes without")[2])
 
 
@@ -62,11 +62,11 @@ def options_of(text):
 
 
 def commands_of(text):
-    """Returns the commands, each with what it does."""
+    """Returns the commands, each with its description."""
     return re.findall(r"^  (\w+) +(.*)", part_of(text, "Commands"), re.M)
 
 
 def exit_statuses_of(text):
-    """Returns the exit statuses that a text of help lists, each with what it says."""
+    """Returns the exit statuses of a text of help, each with its description."""
     found = re.findall(r"^  (\d)  (.*(?:\n     .*)*)", part_of(text, "Exit status"), re.M)
     return {status: " ".join(said.split()) for status, said in found}

@@ -1,8 +1,9 @@
 """A second reading of docs/FORMAT.md and docs/LIMITS.md, in Python, to compare the program with.
 
-It shares nothing with the program: values are tuples, a walk is recursion, canonical bytes are one list. It is
-slow, and it is not proved. `run_COMMAND` is what a command does, with its options as parameters: `answered` calls it
-for the words of a line, and `archives` and `statuses` compare that with the program.
+It shares nothing with the program: values are tuples, a traversal is a recursion, and canonical bytes are one list. It
+is slow, and it is not proved. `run_COMMAND` does what a command does, with the options of the command as parameters.
+`answered` calls it for the words of a command line, and `archives` and `statuses` compare the result with that of the
+program.
 """
 
 import hashlib
@@ -17,18 +18,18 @@ WIDTH_BITS = [0, 1, 8, 16, 32, 64]
 
 
 class Refused(Exception):
-    """A refusal, with its text."""
+    """An error, with its text."""
 
 
 def number(data, at, size):
     return int.from_bytes(data[at:at + size], "little")
 
 
-# Frames.
+# Segment tables and packing.
 
 
 def first_frame(data, at, most):
-    """Returns the segments of the frame at an offset and the offset after it, or None if the stream ends there."""
+    """Returns the segments of the message at an offset and the offset after it, or None if the stream ends there."""
     if at == len(data):
         return None
     if len(data) - at < 4:
@@ -53,8 +54,8 @@ def first_frame(data, at, most):
 
 
 def unpacked(data, most=None):
-    """Returns the words that a packed text holds in its whole groups, and the offset of a group that is cut, or None. A
-    group that passes a maximum of words is refused."""
+    """Returns the words in the complete groups of packed bytes, and the offset of a truncated group, or None. A group
+    that exceeds a maximum of words is an error."""
     out, at = bytearray(), 0
     while at < len(data):
         tag, begun = data[at], at
@@ -86,7 +87,7 @@ def unpacked(data, most=None):
 
 
 def packed(data):
-    """Returns the packed text of whole words, of which no run ends before it has to."""
+    """Returns the packed bytes of whole words. No run in them ends before it has to."""
     words, text, at = [data[begin:begin + 8] for begin in range(0, len(data), 8)], bytearray(), 0
     while at < len(words):
         word = words[at]
@@ -104,15 +105,15 @@ def packed(data):
     return bytes(text)
 
 
-# Walks.
+# Traversals.
 
 
-# The limits that are numbers: how often a run by chance has one, from which least to which greatest.
+# The limits that are numbers, each with how often a random run has one, and the least and greatest value.
 LOW_LIMITS = {"budget": (0.3, 0, 30), "depth": (0.2, 1, 5), "message_words": (0.2, 1, 12)}
 
 
 class Walk:
-    """One walk of a message: its value, what it paid, its visits and its height."""
+    """One traversal of a message: its value, its cost, the number of pointers followed, and its height."""
 
     def __init__(self, segments, budget=8388608, depth=64, tariff="strict"):
         self.segments, self.budget, self.most_depth = segments, budget, depth
@@ -294,11 +295,11 @@ def canonical(value):
     return b"".join(word.to_bytes(8, "little") for word in out)
 
 
-# Texts.
+# Dumps.
 
 
 def quoted(items):
-    """Returns what is written between quotes for a list of bytes that is a text, or None for any other."""
+    """Returns the text that is written between quotes for a list of bytes, or None if the list isn't a text."""
     if not items or not all(0x20 <= byte <= 0x7E for byte in items[:-1]):
         return None
     if items[-1] and not 0x20 <= items[-1] <= 0x7E:
@@ -308,7 +309,7 @@ def quoted(items):
 
 
 def shown(value, level=0, with_texts=False):
-    """Returns the text of a value, as `show` writes it, or with texts as `show --text` does."""
+    """Returns the dump of a value, as `show` writes it, or with texts as `show --text` does."""
     kind, pad = value[0], "  " * level
     if kind == "null":
         return f"{pad}null\n"
@@ -334,8 +335,8 @@ def shown(value, level=0, with_texts=False):
 
 
 class Marked:
-    """The lines of an accepted message with what stands before them: offsets, ways or both. The words of its first
-    segment begin at a byte. It reads the message anew, pointer by pointer."""
+    """The lines of an accepted message with their marks: offsets, paths or both. The words of its first segment begin
+    at the given byte. It reads the message again, pointer by pointer."""
 
     def __init__(self, segments, begin, offsets, ways, with_texts=False):
         self.walk = Walk(segments, 1 << 60, 1 << 30, "plain")
@@ -348,7 +349,7 @@ class Marked:
         return offset + (f"{name}\t" if self.ways else "") + "  " * level + text + "\n"
 
     def leads(self, segment, at):
-        """Returns where what the word's pointer names begins, and the word that describes it."""
+        """Returns the place at which the object of a pointer begins, and the word that describes the object."""
         word = self.walk.word(segment, at)
         if word & 3 != 2:
             return segment, start(word, at), word
@@ -398,7 +399,7 @@ class Marked:
         return text
 
     def below(self, there, step):
-        """Returns what is one step below a slot, or below a row: that of a number, or None."""
+        """Returns the part with this number below an object or a struct in a list, or None."""
         segment, at, row = there
         if row is None:
             word = self.walk.word(segment, at)
@@ -415,7 +416,7 @@ class Marked:
         return (segment, at + row[0] + step, None) if step < row[1] else None
 
     def part(self, way):
-        """Returns the lines of what is at a way from the root, or the line `none`."""
+        """Returns the lines of the part at a path from the root, or the line `none`."""
         there = (0, 0, None)
         for step in way:
             there = there and self.below(there, step)
@@ -435,8 +436,8 @@ class Marked:
 
 
 def text_of(items):
-    """Returns the text that a list of bytes is in JSON, or None: UTF-8 without control characters, and a zero after
-    it."""
+    """Returns the text of a list of bytes in JSON, or None. A text is UTF-8 without control characters, with a zero
+    after it."""
     if not items or items[-1] != 0:
         return None
     try:
@@ -447,7 +448,8 @@ def text_of(items):
 
 
 def plain_of(value, with_texts):
-    """Returns a value as what `json` writes, and with texts a list of bytes that is one as a text."""
+    """Returns a value in the form that the module `json` writes. With texts, a list of bytes that is a text becomes
+    one."""
     kind = value[0]
     if kind == "null":
         return None
@@ -467,7 +469,7 @@ def plain_of(value, with_texts):
 
 
 def stands(value, way):
-    """Returns what is at a way of numbers from a value, or None."""
+    """Returns the part at a path of numbers from a value, or None."""
     for step in way:
         if value[0] not in ("struct", "pointers", "rows"):
             return None
@@ -479,7 +481,7 @@ def stands(value, way):
 
 
 def styled(value, style):
-    """Returns the text of what is somewhere, if anything is, in a style: plain, text, json or both. What ends it
+    """Returns the text of a part, if there is one, in a style: plain, text, json or both. The line that ends it
     follows."""
     if style in ("json", "both"):
         if value is None:
@@ -488,13 +490,13 @@ def styled(value, style):
     return ("none\n" if value is None else shown(value, 0, style == "text")) + "end\n"
 
 
-# Commands that answer each message of a stream.
+# Commands that write a result for each message of a stream.
 
 
 def each(data, text_of, form="stream", message_words=8388608, one=False, **limits):
-    """Returns the texts of messages, by their walk, their segments, their offset and their frame, up to the first one
-    that is refused, or of exactly one; the line on standard error, and the exit status. The limits are those of the
-    walk."""
+    """Returns the output for messages, up to the first rejected one, or for exactly one; the line on standard error;
+    and the exit status. The output for a message is made from its traversal, its segments, its offset and its frame.
+    The limits are those of the traversal."""
     if one:
         try:
             segments = only_message(data, form, message_words)
@@ -539,23 +541,23 @@ def run_hash(data, **options):
 
 
 def without_capability(walk):
-    """Returns a walk, of a message that is refused where it has a capability."""
+    """Returns the traversal of a message, which is rejected if it has a capability."""
     if walk.capability is not None:
         raise Refused(f"capability {walk.capability}")
     return walk
 
 
 def is_own(walk, segments):
-    """Returns whether a message that is accepted is one segment, its canonical bytes."""
+    """Returns whether an accepted message is a single segment that has its canonical bytes."""
     return walk.capability is None and len(segments) == 1 and canonical(walk.value) == segments[0]
 
 
-# Commands over archives.
+# Commands that take a stream of any length.
 
 
 def messages(data, form, most):
-    """Returns each message with its offset, its bytes and the words of the frame's end; then the refusal that ends the
-    stream, with its number and offset, or None."""
+    """Returns each message with its offset, its bytes and the words up to the end of its frame. Then returns the error
+    that ends the stream, with its number and offset, or None."""
     if form == "bare":
         if len(data) % 8:
             return [], (f"bare: NotWhole({len(data)})", 1, 0)
@@ -582,14 +584,14 @@ def messages(data, form, most):
 
 
 def line_of(fault):
-    """Returns the line on standard error of a refusal, from its text, the number of its message and its offset."""
+    """Returns the line on standard error for an error, from its text, the number of the message and its offset."""
     text, index, offset = fault
     return f"capn: message {index} at {offset}: {text}\n"
 
 
 def passed_line(passed, count):
-    """Returns the line on standard error of messages that were passed over, by their numbers and offsets, of this many
-    in all; none if there are none."""
+    """Returns the line on standard error for skipped messages, from their numbers and offsets and the number of all
+    messages. Without skipped messages, returns no text."""
     if not passed:
         return ""
     index, offset = passed[0]
@@ -601,7 +603,7 @@ def digest(value):
 
 
 def listed(head, walk, segments, with_digest):
-    """Returns the line of `list` for a message that is accepted, after what it begins with."""
+    """Returns the line of `list` for an accepted message, after its first columns."""
     is_free = walk.capability is None
     end = f" sha256 {digest(walk.value) if is_free else '-'}" if with_digest else ""
     own = "yes" if is_own(walk, segments) else "no"
@@ -610,7 +612,7 @@ def listed(head, walk, segments, with_digest):
 
 
 def needed(greatest, found, tariff):
-    """Returns the lines of `limits`: the number of messages, and the greatest figures, each with the number of its
+    """Returns the lines of `limits`: the number of messages, and the greatest of each number, with the number of its
     message."""
     most = 2**28
     words, paid, deep = (greatest[name][0] for name in greatest)
@@ -624,9 +626,9 @@ def needed(greatest, found, tariff):
 
 def run(task, data, form="stream", message_words=8388608, keep_going=False, with_digest=False, count=False,
         only_canonical=False, **limits):
-    """Returns what a command over an archive writes, what is on standard error, and its exit status. The task is list,
-    limits, canonical, uniq or filter; `with_digest` is for list, `count` for uniq, and `only_canonical` for filter. The
-    limits are those of the walk."""
+    """Returns the output of a command that takes a stream of any length, what it writes to standard error, and its exit
+    status. The task is list, limits, canonical, uniq or filter. `with_digest` is for list, `count` for uniq, and
+    `only_canonical` for filter. The limits are those of the traversal."""
     found, fault = messages(data, form, message_words)
     out, passed, greatest = [], [], {"message-words": (0, 0), "budget": (0, 0), "depth": (0, 0)}
     kept = set()
@@ -687,7 +689,7 @@ def run_filter(data, canonical=False, **options):
 
 
 def apart(first, other):
-    """Returns the first lines in which the texts of two canonical bytes differ, with the way before each line."""
+    """Returns the first lines in which the dumps of two canonical messages differ, each after its path."""
     texts = [Marked([it], 0, False, True).part(()).splitlines() + ["\tend"] for it in (first, other)]
     return next(both for both in zip(*texts) if both[0] != both[1])
 
@@ -718,7 +720,7 @@ def run_canonical(data, framed=False, keep_going=False, **options):
 
 
 def pick(data, form="stream", message_words=8388608, first=1, last=2**64 - 1):
-    """Returns what `pick` writes, from one number of a message to another, the line on standard error, and its exit
+    """Returns the output of `pick` from one number of a message to another, the line on standard error, and its exit
     status."""
     if last < first:
         return b"", "", 0
@@ -746,11 +748,11 @@ def run_pick(data, to=2**64 - 1, only=None, **options):
     return pick_only(data, [(int(low), int(high or low)) for low, _, high in ranges], **options)
 
 
-# What takes its input whole.
+# Commands that read their whole input first.
 
 
 def only_message(data, form, message_words):
-    """Returns the segments of the one message that an input is."""
+    """Returns the segments of the one message of an input."""
     if form == "bare":
         if len(data) % 8:
             raise Refused(f"bare: NotWhole({len(data)})")
@@ -769,8 +771,8 @@ def only_message(data, form, message_words):
 
 
 def canonical_of_one(data, form="stream", message_words=8388608, **limits):
-    """Returns what `canonical` writes of one message, the line on standard error, and its exit status. The limits are
-    those of the walk."""
+    """Returns the output of `canonical` for one message, the line on standard error, and its exit status. The limits
+    are those of the traversal."""
     try:
         walk = Walk(only_message(data, form, message_words), **limits)
         return canonical(without_capability(walk).value), "", 0
@@ -793,16 +795,16 @@ def run_unpack(data, message_words=8388608, streaming=False):
     return (words, "", 0) if cut_at is None else (b"", f"capn: packed: Cut at {cut_at}\n", 1)
 
 
-# Packing and unpacking in pieces.
+# Packing and unpacking in chunks.
 
 
 def pack_streaming(data):
-    """Returns what `pack --streaming` writes, the line on standard error, and its exit status."""
+    """Returns the output of `pack --streaming`, the line on standard error, and its exit status."""
     text = packed(data[:len(data) // 8 * 8])
     return (text, f"capn: NotWhole({len(data)})\n", 1) if len(data) % 8 else (text, "", 0)
 
 
 def unpack_streaming(data):
-    """Returns what `unpack --streaming` writes, the line on standard error, and its exit status."""
+    """Returns the output of `unpack --streaming`, the line on standard error, and its exit status."""
     words, cut_at = unpacked(data)
     return (words, "", 0) if cut_at is None else (words, f"capn: packed: Cut at {cut_at}\n", 1)

@@ -1,8 +1,8 @@
-"""Values, and the ways in which a message may hold one."""
+"""Values, and the layouts in which a message may hold a value."""
 from tried import some
 
 # A value is None; ("struct", words, slots); ("list", code, count, bytes), of numbers; ("pointers", values); or ("rows",
-# words, slots, [(words, slots)]), where all rows have as many words and slots as the list says.
+# words, slots, [(words, slots)]), in which each row has as many words and slots as the list says.
 NUMBERS = some.sampled_from([0, 0, 1, 1 << 63]) | some.integers(0, (1 << 64) - 1)
 BITS = {0: 0, 1: 1, 2: 8, 3: 16, 4: 32, 5: 64}
 
@@ -29,13 +29,13 @@ def rows(draw, values):
 
 
 def values():
-    """What a slot may hold."""
+    """Returns a random value that a pointer may refer to."""
     pointers = some.builds(lambda values: ("pointers", values), some.lists(some.deferred(values), max_size=3))
     return some.recursive(some.none() | lists(), lambda below: structs(below) | rows(below) | pointers, max_leaves=12)
 
 
 def short(words, least=0):
-    """Without zero words, or null slots, at the end."""
+    """Returns the list without zero words, or null pointers, at its end."""
     end = len(words)
     while end > least and not words[end - 1]:
         end -= 1
@@ -43,7 +43,7 @@ def short(words, least=0):
 
 
 def trimmed(value):
-    """The same value, with no word or slot that means nothing."""
+    """Returns the same value, without the words and pointers that mean nothing."""
     if value is None or value[0] == "list":
         return value
     if value[0] == "pointers":
@@ -57,11 +57,12 @@ def trimmed(value):
 
 
 def bare(value, backwards=False):
-    """The words of a segment that holds a value: objects in preorder, or with the last slot of each object first."""
+    """Returns the words of a segment that holds a value. The objects are in preorder, or the last pointer of each
+    object is written first."""
     segment = [0]
 
     def put(at, value):
-        """Writes the slot at a word, and what it leads to after all there is."""
+        """Writes the pointer at a word, and its object after all words that exist."""
         if value is None:
             return
         start, inner = len(segment), []
@@ -95,20 +96,20 @@ def bare(value, backwards=False):
 
 
 def stream(*segments):
-    """Segments after their table."""
+    """Returns segments after their table."""
     sizes = [len(segments) - 1, *(len(one) // 8 for one in segments)]
     table = b"".join(size.to_bytes(4, "little") for size in sizes)
     return table + bytes(len(table) % 8) + b"".join(segments)
 
 
 def far(segment):
-    """A message whose root is a far pointer to the root of a segment."""
+    """Returns a message whose root is a far pointer to the root of a segment."""
     return stream((2 | 1 << 32).to_bytes(8, "little"), segment)
 
 
 @some.composite
 def hostile(draw):
-    """Bytes that may be no message: any, or a message of which some bytes are others, or cut off."""
+    """Returns bytes that may not be a message: random ones, or a message of which some bytes are changed or cut off."""
     if draw(some.booleans()):
         return draw(some.binary(max_size=200))
     written = bare(draw(values()), draw(some.booleans()))

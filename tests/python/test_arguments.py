@@ -1,4 +1,4 @@
-"""What is wrong in itself is refused before any call; what a refusal and limits hold."""
+"""Wrong arguments are rejected before any call of the library; what a refusal and limits hold."""
 import array
 import copy
 import mmap
@@ -84,7 +84,7 @@ class Arguments(unittest.TestCase):
                 self.assertEqual(capn.digest(data), capn.digest(MESSAGE))
         grown = bytearray(MESSAGE)
         capn.check(grown)
-        grown.append(0)  # No call holds the buffer after it.
+        grown.append(0)  # No call holds the buffer after it has returned.
 
     def test_defaults_are_those_of_the_program(self):
         self.assertEqual(capn.Limits(), capn.Limits(8388608, 8388608, 64, "strict"))

@@ -1,5 +1,5 @@
-"""What a call holds of the caller's, and what it asks for: buffers after an exception, the memory of a call, and the
-order of what is looked at."""
+"""What a call holds and allocates: the caller's buffers after an exception, the memory of a call, and the order in
+which arguments are examined."""
 import ctypes
 import gc
 import mmap
@@ -28,7 +28,7 @@ class AfterAnException(unittest.TestCase):
     """No exception holds the caller's buffer, nor does its traceback."""
 
     def calls(self, data):
-        """Calls on bytes in place that raise something."""
+        """Returns calls that read bytes in place and raise an exception."""
         tight = capn.Limits(budget=1)
         yield lambda: capn.pack(data[:-1] if type(data) is memoryview else data, in_place=True)
         yield lambda: capn.unpack(data, 1, in_place=True)
@@ -58,7 +58,7 @@ class AfterAnException(unittest.TestCase):
             yield lambda call=call: call([data], 5, in_place=True)
 
     def test_a_bytearray_can_be_changed(self):
-        # One that nothing accepts within a budget of a word, and that isn't whole words.
+        # A message that no call accepts within a budget of one word, and that isn't whole words.
         for bytes_of in SMALL, SMALL + b"x", stream(bytes.fromhex("0000000001000000")):
             data = bytearray(bytes_of)
             raised = 0
@@ -97,7 +97,7 @@ class AfterAnException(unittest.TestCase):
 
 class Pipes(unittest.TestCase):
     def test_an_exception_before_a_pipe_is_begun_closes_nothing(self):
-        # The memory of a pipe may have any numbers, those of other files among them.
+        # The memory of a pipe may have any device and inode numbers, also those of other files.
         class Interrupted(Exception):
             pass
 
@@ -169,7 +169,7 @@ def long():
 
 
 def shown(data, form, limits):
-    """The text of a message, which no call takes in place: of bytes, as far as they are looked at."""
+    """The bytes of a text that no call reads in place, since its length isn't known yet."""
     with unittest.mock.patch.object(capn._show, "_taken", lambda data, form, limits, _: capn._calls._taken(
             data, form, limits, True)):
         return capn.show(data, form, limits)
@@ -184,7 +184,7 @@ def refused(call, *arguments, **options):
 
 
 class Shapes(unittest.TestCase):
-    """Buffers with gaps, in another order, or with nothing in them."""
+    """Buffers with gaps, in another order, or without bytes."""
 
     def test_no_bytes_in_place(self):
         for empty in (ctypes.c_uint32 * 0)(), bytearray(), memoryview(b""), mmapped():
@@ -214,7 +214,7 @@ class Shapes(unittest.TestCase):
 
 
 def mmapped():
-    """A view of no bytes of a mapped file."""
+    """Returns a view of no bytes of a mapped file."""
     return memoryview(mmap.mmap(-1, 8))[:0]
 
 

@@ -1,5 +1,5 @@
-"""Where a walk stopped and where a message leaves its canonical bytes: as a second reading of the pages says it, as it
-is stored that the program says it, and as the program says it if it is built."""
+"""The place of an error, and the first difference from the canonical form: as a second reading of the pages gives them,
+as the stored answers of the program give them, and as the program gives them, if it is built."""
 import dataclasses
 import random
 import re
@@ -24,29 +24,30 @@ NUMBERS = re.compile(r"[0-9]+")
 
 
 def numbers(way):
-    """The numbers of a way that is written with dots."""
+    """Returns the numbers of a path that is written with dots."""
     return () if way == "root" else tuple(map(int, way.split(".")))
 
 
 def said(out):
-    """What an explanation says, by its keys."""
+    """Returns the lines of an explanation, by their keys."""
     return dict(line.split(": ", 1) for line in out.decode().splitlines() if ": " in line)
 
 
 def explain(data, form="stream", limits=capn.Limits()):
-    """The same, of the second reading."""
+    """Returns the same for the second reading."""
     return said(explained.explain(data, form, **dataclasses.asdict(limits))[0])
 
 
 def stop(told, before=0):
-    """The way and the byte that an explanation tells of a refusal, of a message that comes after so many bytes."""
+    """Returns the path and the byte that an explanation gives for an error, in a message that follows this many
+    bytes."""
     if "way" in told:
         return numbers(told["way"]), int(NUMBERS.search(told["slot"])[0]) - before
     return (), None
 
 
 def refusal_of(call, *arguments, **options):
-    """The refusal of a call, or None."""
+    """Returns the error of a call, or None."""
     try:
         call(*arguments, **options)
     except capn.Refusal as refusal:
@@ -59,19 +60,20 @@ def stop_of(refusal):
 
 
 def segments_of(source):
-    """The words of some message: any, or one that is accepted but for one word, or one list of bytes."""
+    """Returns the words of a message: random words, a message that is accepted but for one word, or one list of
+    bytes."""
     kind = source.random()
     if kind < 0.3:
         return archives.segments_of(source)
     if kind < 0.5:
         return generated.message(source)
     if kind < 0.6:
-        # Where there are bits after the last byte.
+        # A list with bits after its last byte.
         count = source.randint(1, 7)
         return [[1 | 2 << 32 | count << 35, source.getrandbits(8 * count + source.choice([0, 0, 8]))]]
     segments = archives.good(source)
     segment = source.choice([one for one in segments if one])
-    # Rather one of the words that come late, as those deep in it do.
+    # One of the last words in most cases, since those are deep in the message.
     at = max(source.randrange(len(segment)) for _ in range(3))
     wrong = [3 | source.randrange(4) << 32, generated.pointer(source, len(segment), len(segments))]
     segment[at] = source.choice([*wrong, segment[at] ^ 1 << source.randrange(64)])
@@ -79,7 +81,7 @@ def segments_of(source):
 
 
 def input_of(source):
-    """A message, mostly whole, in some form, and its segments."""
+    """Returns a message, complete in most cases, in a random form, and its segments."""
     segments = segments_of(source)
     form, data = source.choice(["stream", "stream", "packed", "bare"]), archives.framed(segments)
     if form == "bare":
@@ -91,7 +93,7 @@ def input_of(source):
 
 class AsExplained(unittest.TestCase):
     def compare(self, data, form, limits, told, found):
-        """One message by all calls. `found` counts what came."""
+        """Makes all calls on one message. `found` counts the results."""
         if told.get("accepted"):
             departure = capn.departure(data, form, limits)
             self.assertEqual(told["canonical"], "yes" if departure is None else f"no: {departure}")
@@ -163,7 +165,8 @@ class AsExplained(unittest.TestCase):
         self.assertGreater(len(ways), 10)
 
     def test_long_tables(self):
-        # The root is in the first segment, the struct with a slot of no pointer in the last one, after its pad.
+        # The root is in the first segment. The last segment has a landing pad and a struct whose only word in the
+        # pointer section is not a pointer.
         for count in 2, 3, 64, 65, 66, 4095, 4096:
             first = (2 | (count - 1) << 32).to_bytes(8, "little")
             last = struct.pack("<3Q", 1 << 48, 7 << 2 | 3, 0)
@@ -176,7 +179,7 @@ class AsExplained(unittest.TestCase):
             self.assertEqual(stop_of(refusal_of(capn.check_segments, [first, *between, last])), stop_of(refusal))
 
     def test_the_longest_way(self):
-        # 256 lists of structs, one in the other, and a struct in the last one.
+        # 256 lists of structs, one inside the other, and a struct in the last one.
         words = []
         for _ in range(256):
             words += [1 | 7 << 32 | 1 << 35, 1 << 2 | 1 << 48]
@@ -193,7 +196,7 @@ class AsExplained(unittest.TestCase):
         tried = 0
         for case, answer in stored():
             words = case.split()
-            # With --keep-going each refused message is explained as without it, and the messages are several.
+            # With --keep-going each rejected message is explained as without it, and several messages are explained.
             if words[0] != "archive" or words[2] != "explain" or "--keep-going" in words:
                 continue
             form, bounds, options, data = "stream", {}, words[3:-1], bytes.fromhex(words[-1].replace("-", ""))
@@ -204,8 +207,7 @@ class AsExplained(unittest.TestCase):
                     name, bound = limit_of(option, value)
                     bounds[name] = bound
             told = said(bytes.fromhex(answer.split(", ")[1].replace("-", "")))
-            # What is said of a frame, of packing and of a length, and of how many messages there are, is the
-            # program's alone.
+            # Only the program explains errors of a segment table, of packing and of a length, and counts the messages.
             if "accepted" not in told and "way" not in told:
                 continue
             with self.subTest(case=case):

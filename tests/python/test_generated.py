@@ -1,4 +1,4 @@
-"""Ten thousand generated messages, most of them hostile, are answered by each call as the library answers them in C.
+"""Ten thousand generated messages, most of them hostile: each call returns what the library returns in C.
 
 Needs a C compiler; without one, all of this is skipped."""
 import os
@@ -20,7 +20,7 @@ TRIED = 10_000
 
 
 def calls():
-    """Lines as tests/c/vectors.c answers them: each message by one call or more, in a form, within some limits."""
+    """Lines for tests/c/vectors.c: for each message one or more calls, with a form and limits."""
     source = random.Random(65)
     for _ in range(TRIED):
         words = generated.message(source) if source.random() < 0.7 else archives.good(source)
@@ -58,7 +58,7 @@ class Generated(unittest.TestCase):
             try:
                 got = answer(line.split())
             except capn.Refusal as refusal:
-                # Of a packed text alone, the program in C writes no form.
+                # For packed bytes alone, the program in C writes no form.
                 got = str(refusal).removeprefix("packed: ") if line.startswith("unpack") else str(refusal)
             accepted += wanted.startswith("paid")
             with self.subTest(line=line):

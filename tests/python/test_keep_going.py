@@ -1,4 +1,4 @@
-"""Streams of which messages are refused: those after them come, each with its number and the offset at which it
+"""Streams with rejected messages: those after them are returned, each with its number and the offset at which it
 begins."""
 import asyncio
 import io
@@ -19,21 +19,21 @@ TIGHT = capn.Limits(budget=2)
 
 
 def told(found):
-    """What a message or digest is, or the text of a refusal, its number and its offset."""
+    """Returns the bytes of a message or the digest, or the text of a refusal, its number and its offset."""
     if isinstance(found, capn.Refusal):
         return str(found), found.name, found.number, found.offset
     return found
 
 
 def ways(data, packed):
-    """The ways to read a stream of these bytes with `keep_going`."""
+    """Yields the readers of a stream of these bytes with `keep_going`."""
     for ahead in False, True:
         for file in data, io.BytesIO(data), io.BufferedReader(io.BytesIO(data), 16), Pieces(data, 7):
             yield lambda f=file, a=ahead: capn.messages(f, packed, read_ahead=a, keep_going=True)
 
 
 def awaited(data, packed, **options):
-    """The same of a reader that is awaited: all that it answers, and what it raises at the end."""
+    """Returns the same for an asynchronous reader: all results, and the exception at the end."""
     async def run():
         reader, got = asyncio.StreamReader(), []
         reader.feed_data(data)
@@ -78,7 +78,7 @@ class KeepGoing(unittest.TestCase):
                      if isinstance(one, capn.Refusal)]
         self.assertEqual((refusal.number, refusal.offset, refusal.way, refusal.byte), (2, 32, (), 8))
         self.assertEqual((refusal.text, refusal.place), ("Range at 0:0, paid 0, visits 1", (0, 0)))
-        # It holds nothing of what read the stream.
+        # The refusal holds no part of the reader.
         self.assertIsNone(refusal.__traceback__)
 
     def test_digests(self):
@@ -101,7 +101,7 @@ class KeepGoing(unittest.TestCase):
     def test_all_limits_count(self):
         self.assertEqual([told(one)[1] for one in capn.messages(SMALL * 2, limits=TIGHT, keep_going=True)],
                          ["OverBudget"] * 2)
-        # Without it no message is checked.
+        # Without `keep_going` no message is checked.
         self.assertEqual(list(capn.messages(WRONG + SMALL, limits=TIGHT)), [WRONG, SMALL])
 
     def test_a_damaged_table_ends_the_stream(self):
@@ -162,7 +162,7 @@ class KeepGoing(unittest.TestCase):
 
 
 class OneSignature(unittest.TestCase):
-    """Both kinds of reader take the same arguments; those that either took before do what they did."""
+    """Both kinds of readers take the same arguments. Arguments that they took before `keep_going` mean the same."""
 
     def awaited(self, data, *arguments, **options):
         async def run():

@@ -1,4 +1,4 @@
-"""Other threads run during a call; memory that runs out is a MemoryError."""
+"""Other threads run during a call. A failed allocation is a MemoryError."""
 import re
 import subprocess
 import sys
@@ -19,13 +19,13 @@ START = """
 import capn, resource
 PACKED = b"\\0\\xff" * (1 << 14)
 """
-# From here on 8 MiB more, and no more.
+# From here on the process may allocate 8 MiB more.
 LITTLE = """
 with open("/proc/self/statm") as file:
     used = int(file.read().split()[0]) * resource.getpagesize()
 resource.setrlimit(resource.RLIMIT_AS, (used + (8 << 20), resource.RLIM_INFINITY))
 """
-# A message of as many words, of which the root is refused.
+# A message of this many words, whose root is rejected.
 REFUSED = """
 import struct
 try:
@@ -33,7 +33,7 @@ try:
 except capn.Refusal as refused:
     refusal = refused
 """
-# Without memory, and with it again.
+# First without memory, and then with memory again.
 WAY = """
 try:
     refusal.way
@@ -43,14 +43,14 @@ resource.setrlimit(resource.RLIMIT_AS, (resource.RLIM_INFINITY, resource.RLIM_IN
 print(refusal.way, refusal.byte)
 """
 
-# What docs/DIAGNOSTICS.md has for it.
+# The text that docs/DIAGNOSTICS.md has for it.
 PAGE = Path(__file__).resolve().parents[2] / "docs" / "DIAGNOSTICS.md"
 TEXT = re.search(r"^\| `([^`]+)` \| (?:memory was refused|(?:an|the) allocation failed|out of memory)\b",
                  PAGE.read_text(encoding="utf-8"), re.M)[1]
 
 
 def child(*code):
-    """What another process prints."""
+    """Returns the output of another process."""
     ran = subprocess.run([sys.executable, "-B", "-c", "".join(code)], capture_output=True, check=False, text=True)
     return ran.stdout + ran.stderr.splitlines()[-1] if ran.stderr else ran.stdout
 
@@ -60,7 +60,7 @@ class Threads(unittest.TestCase):
         self.addCleanup(sys.setswitchinterval, sys.getswitchinterval())
 
     def test_another_thread_runs_during_each_call(self):
-        # No thread is made to leave the lock, so that another one runs only where a call gives it up.
+        # No thread is forced to release the lock, so another thread runs only if a call releases it.
         sys.setswitchinterval(1000)
         message = stream(SEGMENT)
         packed, look = capn.pack(message), self.looks(message[:-8] + b"\7" + bytes(7))
@@ -72,13 +72,13 @@ class Threads(unittest.TestCase):
                 self.assertTrue(any(self.runs_beside(call) for _ in range(50)))
 
     def looks(self, message):
-        """What looks for the way to the slot at which a message is refused."""
+        """Returns a function that finds the path to the pointer at which a message is rejected."""
         with self.assertRaises(capn.Refusal) as caught:
             capn.check(message)
         return caught.exception._look
 
     def runs_beside(self, call):
-        """Whether this thread runs before the call of another one ends."""
+        """Returns whether this thread runs before the call of another one ends."""
         started, ended = threading.Event(), []
 
         def run():
@@ -132,7 +132,7 @@ class Memory(unittest.TestCase):
         self.assertRegex(child(START, LITTLE, "capn.departure(PACKED, 'packed')"), "^MemoryError")
 
     def test_there_is_none_for_a_way(self):
-        # It is looked for again when there is memory.
+        # The path is searched for again once there is memory.
         self.assertEqual(child(START, REFUSED, LITTLE, WAY), f"MemoryError: capn: {TEXT}\n() 8\n")
 
     def test_there_is_enough(self):

@@ -1,4 +1,5 @@
-"""The calls answer and refuse as the program does, and read messages of the reference implementation as it does.
+"""The calls return the results and the errors of the program, and read messages of the reference implementation as it
+does.
 
 The program is the one that CAPN names, or the one that `make program` builds; without it, all of this is skipped."""
 import os
@@ -24,7 +25,7 @@ settings.register_profile("program", deadline=None, max_examples=200, derandomiz
 
 
 def script(name):
-    """A program of tests/reference, as a module."""
+    """Returns a program of tests/reference, as a module."""
     spec = spec_from_loader(name, SourceFileLoader(name, str(REFERENCE / name)))
     module = module_from_spec(spec)
     spec.loader.exec_module(module)
@@ -32,13 +33,13 @@ def script(name):
 
 
 def program(*words, data):
-    """What the program writes, or the text of what it refuses."""
+    """Returns the output of the program, or the text of its error."""
     ran = subprocess.run([PROGRAM, *words], input=data, capture_output=True, check=False)
     return ran.stdout if ran.returncode == 0 else ran.stderr.decode()
 
 
 def called(call, *arguments):
-    """The same of a call."""
+    """Returns the same for a call."""
     try:
         return call(*arguments)
     except capn.Refusal as refusal:
@@ -78,7 +79,7 @@ class Program(unittest.TestCase):
 
 @unittest.skipUnless(PROGRAM, "there is no program")
 class OfTheComparisons(unittest.TestCase):
-    """What the program is compared on with the reference implementation."""
+    """The messages on which the program is compared with the reference implementation."""
 
     def test_a_thousand_messages(self):
         generated, source = script("generated"), random.Random(46)

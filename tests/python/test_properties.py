@@ -1,4 +1,4 @@
-"""What holds of every value and of any bytes, tried on some."""
+"""Properties of every value and of any bytes, tested on random ones."""
 import hashlib
 import unittest
 
@@ -19,7 +19,7 @@ class OfValues(unittest.TestCase):
         for segment in bare(value), bare(value, backwards=True):
             self.assertEqual(capn.is_canonical_words(segment), segment == canonical)
             self.assertEqual(capn.canonical(segment, "bare"), canonical)
-            # A far pointer leads to no null.
+            # A far pointer doesn't lead to a null pointer.
             for message in [stream(segment), far(segment)] if value else [stream(segment)]:
                 self.assertEqual(capn.canonical(message), canonical)
                 self.assertEqual(capn.canonical(capn.pack(message), form="packed"), canonical)

@@ -1,4 +1,5 @@
-"""Messages read in place, streams read in pieces, and figures, as the model of tests/program has them."""
+"""Messages that are read in place, streams that are read in chunks, and summaries, compared with the model of
+tests/program."""
 import io
 import random
 import struct
@@ -19,7 +20,7 @@ model, generated = archives.model, archives.GENERATED
 
 
 def tree(found):
-    """What is in a slot, as the model has it."""
+    """Returns the object of a pointer, in the form of the model."""
     kind = found.kind
     if kind == "null":
         return ("null",)
@@ -39,7 +40,7 @@ def tree(found):
 
 
 def walked(segments, **limits):
-    """The walk of a message by the model, or the text of its refusal."""
+    """Returns the traversal of a message by the model, or the text of its error."""
     try:
         return model.Walk(segments, **limits)
     except model.Refused as refused:
@@ -47,7 +48,7 @@ def walked(segments, **limits):
 
 
 class Pieces(io.RawIOBase):
-    """A file that gives at most `most` bytes at once."""
+    """A file that returns at most `most` bytes at once."""
 
     def __init__(self, data, most):
         super().__init__()

@@ -1,4 +1,4 @@
-"""Every entry of an index, beside what the reference implementation's dynamic reader finds in the same message.
+"""Compares every entry of an index with what the reference implementation's dynamic reader finds in the same message.
 
 Needs its library and a C++ compiler; without them, all of this is skipped."""
 import collections
@@ -20,7 +20,8 @@ TRIED = 10_000
 
 
 def lines_of(found):
-    """What is in a slot and below it, a line for each slot, as `tests/reference/places.c++` writes it."""
+    """Yields the object of a pointer and all below it, with a line for each pointer, as `tests/reference/places.c++`
+    writes it."""
     kind, entry = found.kind, found._entry
     offset, first, second, below = -1, 0, 0, []
     if kind == "struct":
@@ -49,7 +50,7 @@ def ours(message):
 
 
 def places(folder):
-    """The program over the reference implementation's reader, or None where that is not installed."""
+    """Returns the program over the reference implementation's reader, or None if that is not installed."""
     program = os.path.join(folder, "places")
     made = [COMPILER, "-std=c++17", "-O1", "-o", program, str(REFERENCE / "places.c++"), "-lcapnp", "-lkj"]
     return program if COMPILER and subprocess.run(made, capture_output=True, check=False).returncode == 0 else None
@@ -75,7 +76,8 @@ class Entries(unittest.TestCase):
             if who == "both":
                 with self.subTest(message=message.hex()):
                     self.assertEqual(mine, their)
-        # One alone takes what docs/DIFFERENCES.md names; the script `generated` looks at these one by one.
+        # Messages that only one of them accepts are those of docs/DIFFERENCES.md. The script `generated` checks these
+        # one by one.
         self.assertGreater(seen["both"], TRIED // 2)
         self.assertGreater(seen["neither"], TRIED // 20)
         print(f"entries: {dict(seen)} of {TRIED} messages")

@@ -1,4 +1,5 @@
-"""The comparison of two messages: the same in other layouts, not the same, and one of them refused."""
+"""The comparison of two messages: with the same value in other layouts, with different values, and with one message
+that is rejected."""
 import copy
 import mmap
 import pickle

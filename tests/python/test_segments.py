@@ -1,4 +1,4 @@
-"""A message in segments is answered as its frame is, by each call."""
+"""For a message in segments, each call returns what it returns for the stream of these segments."""
 import array
 import random
 import unittest
@@ -19,7 +19,7 @@ SECOND = bytes.fromhex("0000000001000000" "0500000000000000")
 
 
 def told(call, *arguments):
-    """What a call answers, or what its refusal says."""
+    """Returns the result of a call, or the text of its error."""
     try:
         return call(*arguments)
     except capn.Refusal as refusal:
@@ -57,11 +57,11 @@ class Segments(unittest.TestCase):
             self.assertEqual(capn.digest_segments(segments), digest)
         for segments in [bytearray(FIRST), bytearray(SECOND)], [bytearray(FIRST), memoryview(bytearray(SECOND))]:
             self.assertEqual(capn.digest_segments(segments, in_place=True), digest)
-            # No call holds a buffer after it.
+            # No call holds a buffer after it has returned.
             segments[0].append(0)
         self.assertEqual(capn.canonical_segments([FIRST, SECOND]), SECOND)
         self.assertEqual(capn.check_segments([FIRST, SECOND]), capn.Checked(paid=3, visits=1))
-        # They may overlap, and be the same.
+        # Segments may overlap, and may be the same buffer.
         self.assertEqual(told(capn.check_segments, [FIRST, FIRST]), told(capn.check, stream(FIRST, FIRST)))
 
     def test_what_is_refused(self):

@@ -1,4 +1,5 @@
-"""What `capn.show` writes is what the program writes: the stored cases, the model, and the program if it is built."""
+"""The output of `capn.show` is that of the program: of its stored cases, of the model, and of the program, if it is
+built."""
 import random
 import re
 import subprocess
@@ -13,12 +14,12 @@ RUN = re.compile(r"(?:run|archive) [0-9]+ show (.*)")
 
 
 def limit_of(option, value):
-    """The name and the value of the limit that an option of the program sets."""
+    """Returns the name and the value of the limit that an option of the program sets."""
     return option[2:].replace("-", "_"), value if option == "--tariff" else int(value)
 
 
 def ran(words, data):
-    """What a run of `show` writes, the line on standard error, and its exit status."""
+    """Returns the output of a run of `show`, the line on standard error, and its exit status."""
     form, options, bounds, words, is_one = "stream", {}, {}, list(words), False
     while words:
         word = words.pop(0)
@@ -51,7 +52,7 @@ class Shown(unittest.TestCase):
         for case, answer in stored():
             found = RUN.fullmatch(case)
             words = found[1].split() if found else []
-            # One has a message as its last word, and is a stored run of it. Offsets and ways are the program's alone.
+            # A stored run of `show` has its message as its last word. Only the program has offsets and paths.
             if not found or not answer.startswith("status ") or answer.startswith("status 2"):
                 continue
             if {"--offsets", "--ways"} & set(words):
@@ -82,7 +83,8 @@ class Shown(unittest.TestCase):
                 self.assertEqual(ran(line[1:], data), (wrote.stdout, wrote.stderr.decode(), wrote.returncode))
 
     def test_a_part_is_shown_as_the_whole_is(self):
-        # The one by the package, the other by the library; and a message that was read as its bytes are.
+        # One of them is called by the package, and the other by the library. A message that was read gives the same as
+        # its bytes.
         source, shown = random.Random(9), 0
         for _ in range(1000):
             data = archives.framed(archives.segments_of(source))
@@ -104,7 +106,7 @@ class Shown(unittest.TestCase):
         self.assertGreater(shown, 2000)
 
     def test_texts_in_json(self):
-        # Of whole messages by the library, of parts by the package, and by the model.
+        # Whole messages are shown by the library, and parts by the package, and both are compared with the model.
         source, texts = random.Random(10), 0
         some = ["", "a", "ä", "€", "😀", '"', "\\", "\t", "\n", "\r", "\0", "\x07", "\x7f", "\x80", "\x9f", "\xa0"]
         for _ in range(2000):
@@ -125,7 +127,7 @@ class Shown(unittest.TestCase):
         self.assertRaises(ValueError, capn.show, message)
 
     def test_deep(self):
-        # 256 lists of structs, one in the other.
+        # 256 lists of structs, one inside the other.
         words = []
         for level in range(256):
             words += [1 | 7 << 32 | 1 << 35, 1 << 2 | 1 << 48]

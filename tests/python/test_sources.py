@@ -9,7 +9,7 @@ import tempfile
 import unittest
 import zipfile
 
-# A copy of the repository's folder, which tests/python/run makes and names.
+# A copy of the folder of the repository, which tests/python/run makes and names.
 SOURCE = os.environ.get("CAPN_SOURCE", "")
 PRINTS = ("import capn; print(capn.digest(bytes.fromhex('00000000030000000000000002000000050000000000000000000000"
           "00000000')).hex(), capn.__file__)")

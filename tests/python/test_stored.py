@@ -1,4 +1,4 @@
-"""Each call answers the stored cases as it is stored that the library and the program answer them."""
+"""For the stored cases, each call returns what the stored answers of the library and the program say."""
 import re
 import unittest
 from pathlib import Path
@@ -8,13 +8,13 @@ import capn
 CRATES = Path(__file__).resolve().parents[2] / "crates"
 CALLS = re.compile(
     r"(plain )?(canonicalise|is_canonical|survey|pack|unpack) .*|run \d+ hash --form (bare|stream) (?!--).*"
-    # Of packed streams those of one message, whose digest is a line of 65 bytes.
+    # Of the packed streams, only those of one message, whose digest is a line of 65 bytes.
     r"|run \d+ hash --form packed (?!--)[^|]*\|status 0, [0-9a-f]{130}"
 )
 
 
 def stored():
-    """Each case with its answer: the second and the third of its lines."""
+    """Yields each case with its answer, which are the second and the third of its lines."""
     for file in sorted(CRATES.glob("conformance_*/cases/*")):
         for one in file.read_text().removesuffix("\n").split("\n\n"):
             _, case, answer = one.splitlines()
@@ -22,7 +22,8 @@ def stored():
 
 
 def cases():
-    """The cases that a call answers, with their answers. The others are of the program, or of crates, alone."""
+    """Returns the cases that a call can answer, with their answers. The others are for the program or for crates
+    only."""
     return [both for both in stored() if CALLS.fullmatch("|".join(both))]
 
 
@@ -31,7 +32,8 @@ def digits(data):
 
 
 def hashed(data, form):
-    """What `capn hash` ends with and writes: a line for each message, until one is refused."""
+    """Returns the exit status and the output of `capn hash`: a line for each message, up to the first that is
+    rejected."""
     lines = ""
     try:
         for message in (parted(data) if form == "stream" else [data]):
@@ -42,7 +44,7 @@ def hashed(data, form):
 
 
 def parted(data):
-    """Each message of a stream, the last one as it is."""
+    """Yields each message of a stream. The last one is returned as it is."""
     while data:
         end = len(data)
         try:
@@ -55,7 +57,7 @@ def parted(data):
 
 
 def answer(words):
-    """What a call answers, written as the stored answers are."""
+    """Returns the result of a call, in the form of the stored answers."""
     tariff = "strict"
     if words[0] == "plain":
         tariff, words = "plain", words[1:]
@@ -81,7 +83,7 @@ class Stored(unittest.TestCase):
         answered = cases()
         self.assertGreater(len(answered), 500)
         for case, wanted in answered:
-            # The check of the library says nothing of capabilities, and what it unpacks is of no form.
+            # The check of the library reports no capability, and its errors of unpacking name no form.
             wanted = re.sub(r", (no capability|capability \d+)$", "", wanted)
             wanted = re.sub(r"^(Cut|TooLong) at", r"packed: \g<0>", wanted)
             with self.subTest(case=case):

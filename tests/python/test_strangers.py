@@ -1,5 +1,5 @@
-"""What a stranger chooses: a message of another schema, an older or newer one, a frame that passes for bare words. All
-that is raised of it is a `ValueError`."""
+"""Untrusted input: a message of another schema, of an older or a newer one, and a message with its table that passes
+for one without. Each exception that it causes is a `ValueError`."""
 import unittest
 import warnings
 
@@ -16,11 +16,11 @@ SMALL = bytes.fromhex("0000000003000000" "0000000002000000" "0500000000000000" "
 
 
 class Canonical(unittest.TestCase):
-    """`is_canonical` reads bare words, and with a form what that says."""
+    """`is_canonical` reads bare words, or, with a form, that form."""
 
     def test_a_frame(self):
-        # One segment, whose last word isn't zero: with its table, read bare, it is a struct of data. Its own struct has
-        # a zero word before a slot.
+        # One segment, whose last word isn't zero. Read bare, the table and the segment are a struct of data words. The
+        # message's own struct has a zero word before a pointer.
         loose = stream(bare(("struct", [5, 0], [text("abc")])))
         with self.assertWarnsRegex(DeprecationWarning, "^is_canonical without a form reads the words") as caught:
             self.assertTrue(capn.is_canonical(loose))
@@ -70,7 +70,7 @@ class Schemas(unittest.TestCase):
         self.assertEqual((root.word(0), root.word(1), root.slot(0).text()), (5, 0, "abc"))
         self.assertEqual((root.slot(1).kind, root.slot(1).struct().text(0, "none"), [*root.slot(1).list()]),
                          ("null", "none", []))
-        # The words are those that are stored, as a memoryview has them: what pads is `word`.
+        # The words are the stored ones, as a memoryview has them. `word` adds zeros.
         self.assertIsInstance(root.words, memoryview)
         for wrong in (lambda: root.words[1], lambda: root.slots[1], lambda: root.slot(0)[4],
                       lambda: root.slot(0).view[4]):
@@ -120,8 +120,8 @@ class Schemas(unittest.TestCase):
         self.assertGreater(min(answered, raised), 50)
 
     def test_lists_of_other_schemas(self):
-        # What each kind is read as: rows by their first number and the kind of their first slot, numbers of 16 bits,
-        # and the kinds of pointers. None where nothing is.
+        # What each kind is read as: structs by their first number and the kind of their first pointer, numbers of 16
+        # bits, and the kinds of pointers. None where it can't be read so.
         two = (0x10003).to_bytes(8, "little")
         for value, rows, numbers, pointers in (
             (None, [], [], []),
@@ -178,7 +178,7 @@ class Schemas(unittest.TestCase):
         self.assertEqual((len(rows), rows[-1].uint(16, 0), rows[0].uint(16, 1, 9), rows[0].text(0, "none")),
                          (2, 1, 9, "none"))
         self.assertEqual([row.word(0) for row in rows[1:]], [1])
-        # An element that isn't there is a `ValueError` too: the sender chooses how many there are.
+        # A missing element is a `ValueError` too, since the sender chooses how many elements there are.
         null, numbers = of(None), of(("rows", 1, 1, [([5], [None])]))
         for wrong in (lambda: rows[2], lambda: null.list()[0], lambda: null.rows()[0], lambda: null.numbers(16)[0],
                       lambda: null.pointers()[0], lambda: numbers.numbers(16)[1], lambda: numbers.pointers()[1]):
@@ -187,7 +187,8 @@ class Schemas(unittest.TestCase):
         self.assertEqual((of(None).list().kind, len(of(None).list())), ("null", 0))
 
     def test_a_field_that_is_wider_than_the_number_of_an_older_list(self):
-        # Each list of numbers, read as structs: a field within the number is there, any other has its default.
+        # Each list of numbers, read as structs: a field within the number has its bits, and any other field has its
+        # default.
         stored = (0x8877665544332281).to_bytes(8, "little")
         for width, code in (8, 2), (16, 3), (32, 4), (64, 5):
             [row] = of(("list", code, 1, stored)).rows()
@@ -205,12 +206,12 @@ class Schemas(unittest.TestCase):
             for bit in range(70):
                 is_set = bit < width and bool(stored[bit // 8] >> bit % 8 & 1)
                 self.assertEqual((row.bool(bit), row.bool(bit, True)), (is_set, not is_set))
-        # The byte 5, by a schema of a number of 16 bits with the default 7.
+        # The byte 5, read by a schema that has a number of 16 bits with the default 7.
         message = b"".join(word.to_bytes(8, "little") for word in (1 << 48, 1 | (2 | 1 << 3) << 32, 5))
         self.assertEqual(capn.read(message, "bare").root.struct().slot(0).rows()[0].uint(16, 0, default=7), 7)
 
     def test_structs_without_words_are_zeros_and_without_pointers_nulls(self):
-        # Two structs of a zero word, and their canonical bytes, where they have none.
+        # Two structs of a zero word, and their canonical bytes, in which the structs have no words.
         long = [0x1000000000000, 0x1700000001, 0x100000008, 0, 0]
         short = [0x1000000000000, 0x700000001, 0x8]
         messages = [b"".join(word.to_bytes(8, "little") for word in words) for words in (long, short)]
@@ -226,7 +227,7 @@ class Schemas(unittest.TestCase):
                 self.assertRaises(capn.Mismatch, wrong)
 
     def test_texts_and_data(self):
-        # What the sender chooses is a `Mismatch`, whatever else it is.
+        # An error that the sender causes is a `Mismatch`, whatever else it is.
         values = [None, ("struct", [1], [None]), ("list", 0, 3, b""), ("list", 1, 3, bytes(8)), text("abc"),
                   ("list", 3, 1, bytes(8)), ("pointers", [None]), ("rows", 1, 1, [([5], [None])]),
                   ("list", 2, 3, b"abc" + bytes(5)), ("list", 2, 0, b""), ("list", 2, 3, b"\xff\xfe\0" + bytes(5))]

@@ -1,4 +1,5 @@
-"""Streams that come in pieces: what is handed out when, what is left unread, and what an exception leaves."""
+"""Streams that come in chunks: which messages are returned when, what is left unread, and the state after an
+exception."""
 import asyncio
 import bz2
 import contextlib
@@ -23,7 +24,7 @@ from messages import stream
 from test_reading import Pieces, archives, generated, model
 
 SMALL = bytes.fromhex("0000000003000000" "0000000002000000" "0500000000000000" "0000000000000000")
-# Messages of one segment and of two, of no words, and one that is longer than a piece.
+# Messages of one segment and of two, of no words, and one that is longer than a chunk.
 SHAPES = [
     SMALL,
     stream(bytes(8), bytes(16)),
@@ -34,7 +35,7 @@ SECONDS = 20
 
 
 def in_time(call, *arguments):
-    """What a call answers, which another thread makes, if it answers in time."""
+    """Returns the result of a call that another thread makes, if it comes in time."""
     answers = []
     thread = threading.Thread(target=lambda: answers.append(call(*arguments)), daemon=True)
     thread.start()
@@ -43,7 +44,7 @@ def in_time(call, *arguments):
 
 
 class Blocking:
-    """A file that gives pieces, and None where there are no bytes now. It raises what is an exception."""
+    """A file that returns chunks, and None if it has no bytes now. It raises the chunks that are exceptions."""
 
     def __init__(self, pieces):
         self.pieces, self.read_at_all = list(pieces), 0
@@ -63,7 +64,7 @@ class Blocking:
 
 
 class Peeking(Blocking):
-    """The same, which can be looked into, as far as one piece goes."""
+    """The same file, with `peek`, which reaches as far as one chunk goes."""
 
     def peek(self, size=0):
         while self.pieces and self.pieces[0] == b"":
@@ -76,7 +77,7 @@ class Peeking(Blocking):
 
 
 class AsSoonAsItIsThere(unittest.TestCase):
-    """A peer that waits for an answer before it sends more."""
+    """A peer that waits for a reply before it sends more."""
 
     def test_a_socket(self):
         for buffering in -1, 0:
@@ -114,7 +115,7 @@ class AsSoonAsItIsThere(unittest.TestCase):
 
 class NoByteAfterIt(unittest.TestCase):
     def files(self, data, folder):
-        """The ways in which a file has these bytes, with what says how many are left."""
+        """Yields the files that have these bytes, each with a function that returns how many are left."""
         path = os.path.join(folder, "file")
         with open(path, "wb") as file:
             file.write(data)
@@ -142,7 +143,7 @@ class NoByteAfterIt(unittest.TestCase):
                         with self.subTest(packed=packed, shape=shape, file=type(file)):
                             found = capn.messages(file, packed=packed)
                             self.assertEqual(next(found), message)
-                            # Another reader may go on between two of them.
+                            # Another reader may go on between two of these calls.
                             self.assertEqual(next(capn.messages(file, packed=packed)), message)
                             rest = b""
                             while piece := file.read(100):
@@ -184,7 +185,8 @@ class NoByteAfterIt(unittest.TestCase):
         self.assertGreater(seen, 500)
 
     def test_bytes_that_come_one_by_one_are_unpacked_once(self):
-        # 60,000 bytes that no group packs well, through a buffer of one byte: seconds if each had them unpacked anew.
+        # 60,000 bytes that don't pack well, through a buffer of one byte. It would take seconds if each byte had the
+        # others unpacked again.
         message = stream(random.Random(70).randbytes(60_000))
         sent, start = capn.pack(message), time.process_time()
         found = capn.messages(io.BufferedReader(io.BytesIO(sent), 1), packed=True)
@@ -233,7 +235,7 @@ class NoByteAfterIt(unittest.TestCase):
 
 
 class Wound(unittest.TestCase):
-    """Files that can be wound: what was looked at of them is handed out only where they stand."""
+    """Files with `seek`: messages that a look has found are returned only while the file is where they are."""
 
     def files(self, data, folder):
         path = os.path.join(folder, "file")
@@ -247,7 +249,7 @@ class Wound(unittest.TestCase):
         yield Failing(data)
 
     def each(self, parts, run):
-        """Runs on each kind of file of these parts, packed and not, with what packs them."""
+        """Runs the test on each kind of file of these parts, packed and not, with the function that packs them."""
         with tempfile.TemporaryDirectory() as folder:
             for packed in False, True:
                 sent = [capn.pack(part) if packed else part for part in parts]
@@ -271,7 +273,7 @@ class Wound(unittest.TestCase):
         self.each(parts, run)
 
     def test_it_is_wound(self):
-        # Long ones come last, of which a look sees the beginning.
+        # The long messages come last: a look sees only the beginning of them.
         parts = [SMALL, SHAPES[1], SMALL, SMALL] + [stream(random.Random(73).randbytes(40_000))] * 2
 
         def run(file, found, sent):
@@ -310,7 +312,7 @@ class Wound(unittest.TestCase):
                     at = source.randrange(len(parts))
                     file.seek(places[at])
                 elif source.random() < 0.1:
-                    # Another one reads a message.
+                    # Another reader reads a message.
                     self.assertEqual(file.read(len(sent[at])), sent[at])
                     at += 1
                     continue
@@ -408,7 +410,7 @@ class Wound(unittest.TestCase):
 
 
 class Failing(io.BytesIO):
-    """A file that can be looked into, of which one call fails, before it does anything."""
+    """A file with `peek`, one call of which fails before it does anything."""
 
     fails = 0
 
@@ -475,7 +477,7 @@ class AfterAnException(unittest.TestCase):
                     self.assertRaises(StopIteration, next, found)
 
     def pipes(self):
-        """Pipes, buffered and not, with what packs the messages for them."""
+        """Pipes, buffered and not, with the function that packs the messages for them."""
         for buffering in 0, -1:
             for packed in False, True:
                 read, write = os.pipe()
@@ -490,7 +492,7 @@ class AfterAnException(unittest.TestCase):
         try:
             for file, other, packed, sent in self.pipes():
                 if isinstance(file, io.BufferedReader):
-                    # It forgets what it read before the exception.
+                    # The reader forgets what it read before the exception.
                     continue
                 found = capn.messages(file, packed=packed)
                 for message in SHAPES[:3] * 2:
@@ -674,7 +676,8 @@ class AfterAnException(unittest.TestCase):
 
 
 class Ahead(unittest.TestCase):
-    """With `read_ahead` the answers are the same, as soon as they are there; what follows may be taken."""
+    """With `read_ahead` the results are the same, and come as soon as their bytes do. The reader may take bytes that
+    follow."""
 
     def test_the_same_answers(self):
         source = random.Random(67)
@@ -785,7 +788,7 @@ class Splitters(unittest.TestCase):
         refusals = []
 
         def once(call):
-            """The same call, which says once that there is no memory, in place of its answer."""
+            """Makes the same call, which returns once that there is no memory, in place of its result."""
             def little(*words):
                 status = call(*words)
                 if status == 0 and not refusals:
@@ -798,7 +801,7 @@ class Splitters(unittest.TestCase):
             return little
 
         def once_of_one(call):
-            """The same of the look at one message, which answers how many bytes it has."""
+            """Does the same for the look at one message, which returns the number of its bytes."""
             def little(text, size, one):
                 taken = call(text, size, one)
                 if taken and not refusals:

@@ -1,4 +1,4 @@
-"""One stream that two calls use at once: of two threads, of a signal's handler, of two tasks. The second call is a
+"""One stream that two calls use at once: of two threads, of a signal's handler, of two tasks. The second call raises
 `ValueError`, and no message is lost, read twice or changed."""
 import asyncio
 import collections
@@ -20,7 +20,7 @@ SECONDS = float(os.environ.get("CAPN_SECONDS", "0.7"))
 
 
 def numbered(count):
-    """So many messages, of which no two are equal: a struct of words each."""
+    """Returns this many messages, no two of which are equal. Each is a struct of words."""
     source, made = random.Random(3), []
     for number in range(1, count + 1):
         words = source.choice([2, 4, 39, 199])
@@ -30,7 +30,7 @@ def numbered(count):
 
 
 def each_kind(sent, folder):
-    """The ways to read a stream of these messages, by name, each with what makes it."""
+    """Yields the kinds of streams of these messages, by name, each with a function that makes it."""
     packed = list(map(capn.pack, sent))
 
     def on_disk(parts, buffering):
@@ -63,13 +63,13 @@ def each_kind(sent, folder):
 
 
 def close(file):
-    """Closes a file; bytes need none of it."""
+    """Closes a file. Bytes aren't closed."""
     if not isinstance(file, bytes):
         file.close()
 
 
 class Workers:
-    """Threads that take messages of one stream, until it ends."""
+    """Threads that take messages from one stream, until it ends."""
 
     def __init__(self, take):
         self.take, self.got, self.busy, self.wrong = take, [], 0, []
@@ -97,7 +97,8 @@ class Workers:
 
 
 def stress(until):
-    """Two threads on each kind of stream, again and again: prints what is wrong, and how often a call was refused."""
+    """Runs two threads on each kind of stream, again and again. Prints the errors, and how often a call was
+    rejected."""
     sys.setswitchinterval(1e-6)
     sent, busy = numbered(1500), 0
     wanted = collections.Counter(sent)
@@ -139,7 +140,7 @@ def stress(until):
 
 class TwoThreads(unittest.TestCase):
     def test_workers_that_share_a_stream(self):
-        # In a process of its own, which a fault of memory ends.
+        # This runs in a process of its own, which a memory error would end.
         ran = subprocess.run([sys.executable, "-B", __file__, "stress"], capture_output=True, text=True, timeout=500)
         self.assertEqual((ran.returncode, ran.stderr), (0, ""), ran.stdout)
         self.assertRegex(ran.stdout, r"^busy [1-9]\d*\n$")
@@ -169,10 +170,10 @@ class TwoThreads(unittest.TestCase):
 
 
 class Handlers(unittest.TestCase):
-    """A signal's handler calls the stream that was being read when it came."""
+    """The handler of a signal calls the stream that was being read when the signal came."""
 
     def reads_in_between(self, found, call, wanted):
-        """What a stream answers, of which the first call of C in the package is interrupted by another call."""
+        """Returns the results of a stream whose first call of C in the package is interrupted by another call."""
         wrong, got = [], []
 
         def watch(frame, event, _):
@@ -254,7 +255,7 @@ class TwoTasks(unittest.TestCase):
             reader.feed_data(capn.pack(first + second) if packed else first + second)
             reader.feed_eof()
             self.assertEqual([await waits, await anext(found)], [first, second])
-            # One that is cancelled leaves it free.
+            # A task that is cancelled leaves the stream free.
             with self.assertRaises(StopAsyncIteration):
                 await anext(found)
 

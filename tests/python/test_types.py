@@ -1,4 +1,4 @@
-"""The types that are declared: at run time, and for mypy, which reads the programs of the page too."""
+"""The declared types, at run time and for mypy, which also reads the programs of the page."""
 import inspect
 import os
 import shutil
@@ -109,7 +109,7 @@ def classes():
 
 
 def functions():
-    """What is called of the package, and of its classes."""
+    """Yields the public functions of the package, and those of its classes."""
     for name in capn.__all__:
         one = getattr(capn, name)
         if inspect.isfunction(one):
@@ -117,7 +117,7 @@ def functions():
     for one in classes():
         for inner in vars(one).values():
             inner = inner.fget if isinstance(inner, property) else inner
-            # Those that Python makes for a dataclass or a tuple have no hints.
+            # Methods that Python makes for a dataclass or a tuple have no hints.
             if inspect.isfunction(inner) and Path(inner.__code__.co_filename).parent == SITE / "capn":
                 yield inner
 

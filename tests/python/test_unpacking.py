@@ -1,4 +1,4 @@
-"""Packed bytes of which few are many: what is unpacked of them, and when."""
+"""Packed bytes that unpack to very many: how much of them is unpacked, and when."""
 import io
 import random
 import tracemalloc
@@ -10,13 +10,13 @@ from messages import stream
 from test_reading import archives, generated, model
 
 EMPTY = stream(b"")
-# Packed, 256 words of zeros: so many messages without words.
+# The packed bytes of 256 words of zeros, which are as many messages without words.
 MANY = b"\x00\xff"
 MIB = 1 << 20
 
 
 def peak(call):
-    """What a call answers or raises, and how much memory it took at most."""
+    """Returns the result or the exception of a call, and the most memory that it took."""
     tracemalloc.start()
     try:
         try:
@@ -29,7 +29,7 @@ def peak(call):
 
 
 def all_of(splitter, data):
-    """All messages that some bytes complete."""
+    """Returns all messages that are complete after some bytes."""
     got, found = [], splitter.feed(data)
     while found:
         got += found
@@ -41,7 +41,7 @@ class Splitters(unittest.TestCase):
     LIMITS = capn.Limits(message_words=1 << 10, budget=1 << 10)
 
     def test_few_bytes_are_many_messages(self):
-        # A MiB is 134,217,728 messages.
+        # One MiB unpacks to 134,217,728 messages.
         splitter = capn.Splitter("packed", self.LIMITS)
         found, took = peak(lambda: splitter.feed(MANY * (1 << 19)))
         self.assertLess(took, 64 * MIB)
@@ -73,7 +73,7 @@ class Splitters(unittest.TestCase):
         splitter.end()
 
     def test_a_table_is_looked_at_before_its_message_is_unpacked(self):
-        # It announces 2,048 words, and 128 MiB of zeros follow.
+        # The message announces 2,048 words, and 128 MiB of zeros follow.
         splitter = capn.Splitter("packed", self.LIMITS)
         data = capn.pack((1 << 11 << 32).to_bytes(8, "little")) + MANY * (1 << 16)
         wrong, took = peak(lambda: splitter.feed(data))
@@ -90,7 +90,7 @@ class Splitters(unittest.TestCase):
         self.assertLess(took, 16 * MIB)
 
     def test_as_many_as_were_fed_come_at_once(self):
-        # What packs as messages do comes by one call, as long as it may be.
+        # Bytes that pack like ordinary messages come in one call, however long they are.
         source = random.Random(5)
         parts = [stream(source.randbytes(8 * source.randint(0, 40))) for _ in range(60_000)]
         splitter = capn.Splitter("packed")
@@ -143,7 +143,7 @@ class Streams(unittest.TestCase):
 
     def test_every_other_way(self):
         class Plain:
-            """A file that can't be looked into, and gives all that it has."""
+            """A file without `peek`, which returns all that it has."""
 
             def __init__(self, data):
                 self.data = [data]

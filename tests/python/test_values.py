@@ -1,4 +1,4 @@
-"""Objects of a message: values, texts, fields with their defaults, ways, and a message that is closed."""
+"""Objects of a message: values, texts, fields with their defaults, paths, and a message that is closed."""
 import array
 import copy
 import itertools
@@ -24,17 +24,17 @@ settings.load_profile("here")
 
 
 def of(value):
-    """The root of a value of `messages`."""
+    """Returns the root of a value of `messages`."""
     return capn.read(bare(value), "bare").root
 
 
 def text(written):
-    """A text, as a value of `messages`."""
+    """Returns a text, as a value of `messages`."""
     return "list", 2, len(written) + 1, written.encode() + bytes(8 - len(written) % 8)
 
 
 def capability(number):
-    """A capability, in the slot of a struct."""
+    """Returns a message with a capability in a pointer of a struct."""
     return capn.read(struct.pack("<2Q", 1 << 48, 3 | number << 32), "bare").root.slots[0]
 
 
@@ -212,14 +212,15 @@ class Objects(unittest.TestCase):
             (lambda i: rows_of[i].words[0], lambda i: root.slots[0][i].words[0]),
             (lambda i: items[i][0], lambda i: root.slots[1][i][0]),
         ]:
-            # Each access made the list of 3,000 places again: over 100 times as long as one of a list that is held.
+            # If each access made the list of 3,000 places again, this would take over 100 times as long as with a list
+            # that is held.
             self.assertLess(seconds(again), 20 * seconds(held) + 0.05)
         self.assertEqual([root.slots[0][i].words[0] for i in range(3000)], list(range(3000)))
         self.assertEqual(rows_of[2999].slots[0].text(), "a")
 
 
 class Fields(unittest.TestCase):
-    """What is read by a schema, of what the reference implementation's program wrote by it."""
+    """Values that are read by a schema, in messages that the program of the reference implementation wrote by it."""
 
     def encoded(self, kind, written):
         if not shutil.which("capnp"):
@@ -247,7 +248,7 @@ class Fields(unittest.TestCase):
     def test_defaults(self):
         for kind in "Old", "New":
             self.assertEqual(self.fields(self.encoded(kind, "()")), self.USUAL)
-        # A struct that is shorter than its type, or null words in it.
+        # A struct that is shorter than its type, or that has null pointers.
         for words in range(7):
             root = capn.read(bare(("struct", [0] * words, [])), "bare").root
             self.assertEqual(self.fields(root), self.USUAL)
@@ -263,7 +264,7 @@ class Fields(unittest.TestCase):
         new = self.encoded("New", written.format("[(number = 1), (number = 2, name = \"x\")]"))
         self.assertEqual((self.fields(old), self.fields(new)), (wanted, wanted))
         self.assertEqual((old.slots[1].kind, new.slots[1].kind), ("u16", "rows"))
-        # By the newer type, also of the older message.
+        # Read by the newer type, also in the older message.
         self.assertEqual((old.uint(64, 6, 9), new.uint(64, 6, 9), old.text(2), new.text(2, "x")), (9, 9, "", "x"))
 
     def test_the_number_of_the_review(self):
@@ -396,7 +397,8 @@ class HowMany(unittest.TestCase):
         self.assertRaises(TypeError, capn.read, data, most_slots=1.0)
 
     def test_few_bytes_have_many_slots(self):
-        # Three lists of 193 pointers, all of the first two to the next: each is visited for each pointer to it.
+        # Three lists of 193 pointers. Each pointer of the first two leads to the next list, so each list is visited
+        # once for each pointer to it.
         count, words = 193, [1 | 6 << 32 | 193 << 35]
         for _ in range(2):
             words += [count - 1 - i << 2 | 1 | 6 << 32 | count << 35 for i in range(count)]

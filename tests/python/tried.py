@@ -1,5 +1,5 @@
-"""Hypothesis, or where that is not installed, what leaves out the tests that need it, and no other test; and whether
-the module runs under sanitizers, which take more address space than a test may leave."""
+"""Hypothesis, or, if it is not installed, a stand-in that skips the tests that need it. Also says whether the module
+runs under sanitizers, which take more address space than a test may leave."""
 import os
 import unittest
 
@@ -9,7 +9,7 @@ try:
 except ImportError:
 
     class Absent:
-        """Stands for strategies: what is made of it is no test's input, since no such test is run."""
+        """Stands for strategies. The values that it makes are never used, since no such test runs."""
 
         def __getattr__(self, name):
             return self
@@ -21,7 +21,7 @@ except ImportError:
             return self
 
     class Settings(Absent):
-        """Stands for settings, which leave a test as it is."""
+        """Stands for settings, and leaves a test unchanged."""
 
         def __call__(self, *words, **options):
             return lambda test: test

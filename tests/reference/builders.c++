@@ -1,5 +1,6 @@
-// Bytes that a builder of the reference implementation leaves, which are not canonical: `twice` after a text was set
-// again, `upgraded` after a list of numbers was asked for as one of structs, `empty` after a null root was.
+// Writes bytes of builders of the reference implementation that are not canonical: `twice` after a text was set a
+// second time, `upgraded` after a list of numbers was requested as a list of structs, `empty` after a null root was
+// requested.
 
 #include <capnp/message.h>
 #include <kj/io.h>

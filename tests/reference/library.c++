@@ -1,8 +1,8 @@
-// What the reference implementation's library says of the message on standard input, whatever its root is; its command
-// line tool takes structs alone. The words: `canonical` (of a stream's first message), `canonical-packed` (of a packed
-// one's), `is-canonical` (of the words of one segment) or `pack` (the packed text of one message); then the traversal
-// limit in words and the nesting limit, if they are not the library's usual ones. Ends with 1 where the library
-// refuses, and prints why.
+// Writes what the reference implementation's library returns for the message on standard input, whatever its root is.
+// The implementation's command line tool takes only structs. The words are: `canonical` (for the first message of a
+// stream), `canonical-packed` (for a packed one), `is-canonical` (for the words of one segment) or `pack` (the packed
+// bytes of one message); then the traversal limit in words and the nesting limit, if they are not the library's
+// defaults. If the library rejects the message, it prints the reason and ends with 1.
 #include <capnp/any.h>
 #include <capnp/message.h>
 #include <capnp/serialize-packed.h>
@@ -30,7 +30,7 @@ static void canonicalOfPacked(capnp::ReaderOptions options) {
   canonical(in);
 }
 
-// The segments as they stand in the input, whose table is right, packed as the library packs a message.
+// The segments as they are in the input, whose table is valid, packed as the library packs a message.
 static void pack() {
   auto bytes = kj::FdInputStream(STDIN_FILENO).readAllBytes();
   auto words = kj::heapArray<capnp::word>(bytes.size() / sizeof(capnp::word));

@@ -14,8 +14,8 @@
 
 enum Kind { NOTHING, STRUCT, VOIDS, BITS, BYTES, TWOS, FOURS, EIGHTS, POINTERS, ROWS };
 
-// What a pointer leads to. A struct has its data words as numbers, and its pointers as parts; a list of numbers has
-// numbers; the other lists have parts, and those of a list of rows are structs.
+// The object that a pointer refers to. A struct has its data words as numbers, and its pointers as parts. A list of
+// numbers has numbers. The other lists have parts, and the parts of a list of structs are structs.
 struct Value {
   Kind kind = NOTHING;
   std::vector<uint64_t> numbers;
@@ -26,7 +26,7 @@ static std::mt19937_64 source;
 
 static unsigned below(unsigned most) { return unsigned(source() % most); }
 
-// A number as a list of this kind holds it.
+// A number, cut to the width that a list of this kind has.
 static uint64_t cut(Kind kind, uint64_t number) {
   switch (kind) {
     case VOIDS: return 0;
@@ -38,7 +38,7 @@ static uint64_t cut(Kind kind, uint64_t number) {
   }
 }
 
-// A value of this kind, with zeros and nothings more often than not.
+// A value of this kind. More than half of its words are zeros, and more than half of its pointers null.
 static Value valueOf(Kind kind, unsigned depth) {
   Value made;
   made.kind = kind;
@@ -54,13 +54,13 @@ static Value valueOf(Kind kind, unsigned depth) {
   return made;
 }
 
-// All values within a value, itself too, and whether each is a row.
+// All values within a value, including itself, and whether each is a struct in a list.
 static void collect(Value& value, bool isRow, std::vector<std::pair<Value*, bool>>& all) {
   all.push_back({&value, isRow});
   for (auto& part : value.parts) collect(part, value.kind == ROWS, all);
 }
 
-// Another value, that differs in one place.
+// A value that differs from this one in one place.
 static void change(Value& value, bool isRow) {
   Value more;
   if (value.kind == NOTHING) {
@@ -93,7 +93,7 @@ static void change(Value& value, bool isRow) {
 // Builds values in a message, each time in another layout.
 class Layout {
 public:
-  // How many sizes and gaps differ from those that the values need: 0 for none.
+  // How many sizes and gaps differ from those that the values need. 0 stands for none.
   explicit Layout(unsigned spare) : spare(spare) {}
 
   void put(const Value& value, capnp::AnyPointer::Builder to) {
@@ -115,7 +115,7 @@ public:
       case ROWS: putRows(value, to); break;
     }
     if (spare > 0 && below(6) == 0) {
-      // The object is taken out, and put back when another one was made behind it.
+      // The object is taken out, and put back after another one was made behind it.
       auto moved = to.disown();
       waste(to);
       to.adopt(kj::mv(moved));
@@ -178,7 +178,7 @@ static void write(const Value& value) {
     capnp::writeMessageToFd(STDOUT_FILENO, message);
     return;
   }
-  // As a reader's copy, which has no gaps.
+  // It is copied from a reader, so the copy has no gaps.
   capnp::MallocMessageBuilder copy(1 + below(40), strategy);
   copy.setRoot(message.getRoot<capnp::AnyPointer>().asReader());
   capnp::writeMessageToFd(STDOUT_FILENO, copy);

@@ -1,5 +1,6 @@
-// Writes what the reference implementation finds in each message of a stream, slot by slot in preorder, with the offset
-// of each content in the message, from its table on. A message that it refuses is one line. Standard input to output.
+// Writes what the reference implementation finds in each message of a stream, pointer by pointer in preorder, with the
+// offset of each object from the beginning of the message's segment table. A message that it rejects is one line. It
+// reads standard input.
 
 #include <capnp/any.h>
 #include <capnp/serialize.h>

@@ -1,4 +1,4 @@
-//! The calls of the module that `capnp compile -orust` makes of the page's schema, by hand.
+//! The calls of the module that `capnp compile -orust` makes from the page's schema, written by hand.
 //!
 //! Debian has the crate `capnp`, and not its generator. Like the generated module, this one is over
 //! `capnp::private::layout`, with the offsets that `capnp compile -ocapnp` prints.

@@ -1,4 +1,4 @@
-// What a reader in C++ needs to read an invoice.
+// Prints what a reader in C++ needs in order to read an invoice.
 //
 //     beside least MESSAGE   the least limits with which each field is read once: words, levels
 //     beside long MESSAGE    which readers take a message of more words than the traversal limit
@@ -18,7 +18,7 @@ static kj::Array<capnp::word> words_of_file(const char *name) {
     return words;
 }
 
-/* Whether each field is read, once, within these limits. */
+/* Returns whether each field can be read once within these limits. */
 static bool is_read(kj::ArrayPtr<const capnp::word> message, std::uint64_t words, int levels) try {
     capnp::FlatArrayMessageReader reader(message, {words, levels});
     const Invoice::Reader invoice = reader.getRoot<Invoice>();

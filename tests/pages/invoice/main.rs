@@ -1,4 +1,4 @@
-//! What a reader of the crate `capnp` needs to read an invoice, as `main.c++`.
+//! Prints what a reader of the crate `capnp` needs in order to read an invoice, as `main.c++` does.
 mod invoice_capnp;
 
 use capnp::message::ReaderOptions;
@@ -10,7 +10,7 @@ fn options(words: usize, levels: i32) -> ReaderOptions {
     options
 }
 
-/// Reads each field, once, within these limits.
+/// Reads each field once, within these limits.
 fn read(message: &[u8], words: usize, levels: i32) -> capnp::Result<usize> {
     let reader = capnp::serialize::read_message(message, options(words, levels))?;
     let invoice = reader.get_root::<invoice::Reader>()?;
