@@ -86,7 +86,7 @@ const char *capn_status_name(capn_status status) {
     }
 }
 
-/* A text that is written as far as the buffer has room, with its full length. */
+/* A buffer that gets as much of a text as fits, and the full length of the text. */
 struct text {
     char *out;
     size_t room, length;

@@ -143,7 +143,7 @@ static const struct {
 };
 enum { NUMBERS = sizeof numbers / sizeof *numbers };
 
-/* The same limits, but for one, which is this number. */
+/* Returns the limits with the field at the offset `at` set to a number. */
 static capn_limits with(capn_limits limits, size_t at, uint32_t number) {
     memcpy((uint8_t *)&limits + at, &number, sizeof number);
     return limits;

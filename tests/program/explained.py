@@ -1,4 +1,4 @@
-"""The output of `explain`, in Python: a second reading of docs/DIAGNOSTICS.md, to go with that of `model`."""
+"""The output of `explain`, written a second time, in Python, from docs/DIAGNOSTICS.md. It belongs to `model`."""
 
 import model
 
@@ -212,8 +212,8 @@ def accepted_lines(walk, segments):
 
 
 def came(data, form, offset):
-    """Returns the part of the message at an offset that was read. The message is rejected before its traversal. Returns
-    the part of a truncated group, too."""
+    """Returns what was read of a message from its offset on, unpacked, and the bytes of a truncated group. The message
+    was rejected before its traversal."""
     if form != "packed":
         return data[offset:], b""
     words, group = model.unpacked(data)

@@ -108,7 +108,7 @@ def pointers(found):
 
 
 def any_of(stream):
-    """The numbers of messages, of pointers, and of the things that these are read as."""
+    """Returns the numbers of messages and of pointers, and how many ways of reading succeed for all pointers."""
     messages = slots = read = 0
     for frame in capn.messages(stream, read_ahead=True):
         try:

@@ -162,7 +162,8 @@ class KeepGoing(unittest.TestCase):
 
 
 class OneSignature(unittest.TestCase):
-    """Both kinds of readers take the same arguments. Arguments that they took before `keep_going` mean the same."""
+    """Both kinds of readers take the same arguments. Arguments of before `keep_going` was added still mean the
+    same."""
 
     def awaited(self, data, *arguments, **options):
         async def run():

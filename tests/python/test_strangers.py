@@ -19,8 +19,8 @@ class Canonical(unittest.TestCase):
     """`is_canonical` reads bare words, or, with a form, that form."""
 
     def test_a_frame(self):
-        # One segment, whose last word isn't zero. Read bare, the table and the segment are a struct of data words. The
-        # message's own struct has a zero word before a pointer.
+        # Read as bare words, the table is a pointer to a struct whose data is the segment. That is canonical, since its
+        # last word isn't zero. The message itself isn't: the last data word of its struct is zero.
         loose = stream(bare(("struct", [5, 0], [text("abc")])))
         with self.assertWarnsRegex(DeprecationWarning, "^is_canonical without a form reads the words") as caught:
             self.assertTrue(capn.is_canonical(loose))

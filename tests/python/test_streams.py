@@ -801,7 +801,7 @@ class Splitters(unittest.TestCase):
             return little
 
         def once_of_one(call):
-            """Does the same for the look at one message, which returns the number of its bytes."""
+            """Does the same for the call that looks at one message. It returns a number of bytes, so 0 is a failure."""
             def little(text, size, one):
                 taken = call(text, size, one)
                 if taken and not refusals:

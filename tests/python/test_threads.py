@@ -173,7 +173,7 @@ class Handlers(unittest.TestCase):
     """The handler of a signal calls the stream that was being read when the signal came."""
 
     def reads_in_between(self, found, call, wanted):
-        """Returns the results of a stream whose first call of C in the package is interrupted by another call."""
+        """Makes another call from inside the package's first call of C, which has to fail: the stream is in use."""
         wrong, got = [], []
 
         def watch(frame, event, _):
@@ -255,7 +255,7 @@ class TwoTasks(unittest.TestCase):
             reader.feed_data(capn.pack(first + second) if packed else first + second)
             reader.feed_eof()
             self.assertEqual([await waits, await anext(found)], [first, second])
-            # A task that is cancelled leaves the stream free.
+            # The stream ends after its last message.
             with self.assertRaises(StopAsyncIteration):
                 await anext(found)
 

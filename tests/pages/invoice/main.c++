@@ -28,7 +28,7 @@ static bool is_read(kj::ArrayPtr<const capnp::word> message, std::uint64_t words
 } catch (const kj::Exception &) {
     return false;
 }
-/* The least number, up to a greatest one, for which this holds. */
+/* Returns the least number below `most` for which `holds` is true, else `most`. */
 template <class Holds> static int least(int most, Holds holds) {
     int n = 0;
     while (n < most && !holds(n)) n++;
