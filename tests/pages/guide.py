@@ -63,7 +63,8 @@ def tried(shell, capn):
 
 
 def main():
-    capn = os.environ.get("CAPN") or str(TOP / "crates" / "capn" / "out" / "capn")
+    # The scripts of contrib/ take another program from CAPN: here they take the one of the path, as the page has it.
+    capn = os.environ.pop("CAPN", "") or str(TOP / "crates" / "capn" / "out" / "capn")
     failed = 0
     for shell in filter(shutil.which, sys.argv[1:] or ["sh"]):
         ran, wrong = tried(shell, Path(capn).resolve())
