@@ -5,6 +5,7 @@ mod RunLemmas
 mod PutLemmas
 mod SpanLemmas
 mod WordLemmas
+mod DenseLemmas
 mod LaneLemmas
 mod RowLemmas
 mod WholeGroupLemmas

@@ -1,11 +1,10 @@
 -- Lemmas for `long_run`, `raw_run`, `raw_step` and `zero_run`: runs of words, and the bytes that a tag names.
-use Rattle.std.proofs.Common.{◌≡◌, ℕ, zero, suc, ◌+◌, ◌-◌, ◌*◌, ◌/◌, ◌%◌, ◌^◌, ◌<◌, ◌≤◌, true, false, eqb, ltb, List}
+use Rattle.std.proofs.Common.{◌≡◌, ℕ, zero, suc, ◌+◌, ◌-◌, ◌*◌, ◌/◌, ◌%◌, ◌<◌, ◌≤◌, true, false, eqb, ltb, List}
 use Rattle.std.proofs.Common.{[], ◌∷◌, ◌++◌, length, take, drop, slice_range, replicate, filter, refl, sym, ap, ◌∙◌}
 use Rattle.std.proofs.Common.{subst, arith, append_assoc, take-add, take-append-drop, drop-drop, length-take}
 use Rattle.std.proofs.Common.{length-drop, take_all}
 use Rattle.std.proofs.lemmas.Bool.{ne_eqb, lt-ltb}
 use Rattle.std.proofs.lemmas.List.{replicate-append-replicate, take-append-le, drop-append-le, drop_all}
-use Rattle.std.proofs.Math.Nat.{two-pow-succ}
 use Rattle.std.specs.Prelude.{count_ones}
 use Rattle.capn_pack.specs.Packed.{tag_of, named_bytes, IsNamedBy}
 use Rattle.capn_pack.specs.Chosen.{zero_count, IsDense, AllDense}
@@ -62,27 +61,42 @@ named_exact (suc x ∷ xs) =
 
 -- ---- zero words
 
-pub zero_more : (bytes : List ℕ) (start count : ℕ) → IsZeroRun bytes start count → count < 255
-    → start + 8 * count + 8 ≤ length bytes → tag_of (take 8 (drop (start + 8 * count) bytes)) ≡ 0
-    → IsZeroRun bytes start (count + 1)
-zero_more bytes start count z less room h =
-    let p = start + 8 * count in
-    let word = take 8 (drop p bytes) in
-    let long : length word ≡ 8 = simp (length-take, length-drop) (omega arith) in
-    let next : p + 8 ≡ start + 8 * (count + 1) = omega arith in
-    let size : 8 * count + 8 ≡ 8 * (count + 1) = omega arith in
-    let is : word ≡ replicate 8 0 = tag_zero word h ∙ ap (λ n. replicate n 0) long in
-    let split : drop p bytes ≡ replicate 8 0 ++ drop (start + 8 * (count + 1)) bytes =
-    sym (take-append-drop 8 (drop p bytes))
-    ∙ (λ i. is i ++ (drop-drop 8 p bytes ∙ ap (λ n. drop n bytes) next) i) in
+-- the words from offset `at` on are zero if a tag of them all is
+pub zero_at : (bytes : List ℕ) (at n : ℕ) → n ≤ 255 → at + 8 * n ≤ length bytes
+    → tag_of (take (8 * n) (drop at bytes)) ≡ 0 → IsZeroRun bytes at n
+zero_at bytes at n few room h =
+    let words = take (8 * n) (drop at bytes) in
+    let long : length words ≡ 8 * n = simp (length-take, length-drop) (omega arith) in
+    let is : words ≡ replicate (8 * n) 0 = tag_zero words h ∙ ap (λ k. replicate k 0) long in
     record {
-      most = omega arith;
-      inside = omega arith;
+      most = few;
+      inside = room;
+      zeros = sym (take-append-drop (8 * n) (drop at bytes)) ∙ (λ i. is i ++ drop-drop (8 * n) at bytes i);
+    }
+
+-- `IsZeroRun` still holds after another run of zero words
+pub zero_steps : (bytes : List ℕ) (start count step : ℕ) → IsZeroRun bytes start count
+    → IsZeroRun bytes (start + 8 * count) step → count + step ≤ 255 → IsZeroRun bytes start (count + step)
+zero_steps bytes start count step z more few =
+    let p = start + 8 * count in
+    let q = start + 8 * (count + step) in
+    let next : p + 8 * step ≡ q = omega arith in
+    let size : 8 * count + 8 * step ≡ 8 * (count + step) = omega arith in
+    let split : drop p bytes ≡ replicate (8 * step) 0 ++ drop q bytes =
+    more.zeros ∙ ap (λ n. replicate (8 * step) 0 ++ drop n bytes) next in
+    record {
+      most = few;
+      inside = omega (arith, more.inside);
       zeros = z.zeros ∙ ap (λ l. replicate (8 * count) 0 ++ l) split
-          ∙ sym (append_assoc (replicate (8 * count) 0) (replicate 8 0) (drop (start + 8 * (count + 1)) bytes))
-          ∙ ap (λ l. l ++ drop (start + 8 * (count + 1)) bytes) (replicate-append-replicate (8 * count) 8 0
+          ∙ sym (append_assoc (replicate (8 * count) 0) (replicate (8 * step) 0) (drop q bytes))
+          ∙ ap (λ l. l ++ drop q bytes) (replicate-append-replicate (8 * count) (8 * step) 0
           ∙ ap (λ n. replicate n 0) size);
     }
+
+-- no word at offset `at` is zero if the tag of the word isn't
+pub no_zero_at : (bytes : List ℕ) (at : ℕ) → (tag_of (take 8 (drop at bytes)) ≡ 0 → ⊥)
+    → take 8 (drop at bytes) ≡ replicate 8 0 → ⊥
+no_zero_at bytes at not e = not (ap tag_of e)
 
 -- ---- dense words
 
@@ -147,31 +161,11 @@ zeros_split (suc n) [] = omega arith
 zeros_split (suc n) (x ∷ xs) = omega (arith, zeros_split n xs)
 
 -- if every bit of the tag of `xs` is set, no byte of `xs` is zero
-full_tag : (n : ℕ) (xs : List ℕ) → length xs ≡ n → 1 + tag_of xs ≡ 2 ^ n → zero_count xs ≡ 0
-full_tag n [] long h = refl
-full_tag zero (x ∷ xs) long h = absurd (omega arith)
-full_tag (suc n) (zero ∷ xs) long h = absurd (omega (arith, h, two-pow-succ n))
-full_tag (suc n) (suc x ∷ xs) long h =
-    let rest = full_tag n xs (omega arith) (omega (arith, h, two-pow-succ n, tag_some x xs)) in
-    rw (nonzero x).0 (omega (arith, rest))
-
-full_dense : (n : ℕ) (xs : List ℕ) → length xs ≡ 8 * n → zero_count xs ≡ 0 → AllDense n xs
-full_dense zero [] long none = refl
-full_dense zero (x ∷ xs) long none = absurd (omega arith)
-full_dense (suc n) xs long none =
-    let split = zeros_split 8 xs in
-    let first : length (take 8 xs) ≡ 8 = simp length-take (omega arith) in
-    let rest : length (drop 8 xs) ≡ 8 * n = length-drop 8 xs ∙ omega arith in
-    ((first, omega (arith, split)), full_dense n (drop 8 xs) rest (omega (arith, split)))
-
-pub four_dense : (bytes : List ℕ) (at : ℕ) → at + 32 ≤ length bytes → tag_of (take 32 (drop at bytes)) ≡ 4294967295
-    → AllDense 4 (slice_range bytes at (at + 8 * 4))
-four_dense bytes at room h =
-    let xs = take 32 (drop at bytes) in
-    let long : length xs ≡ 32 = simp (length-take, length-drop) (omega arith) in
-    let size : at + 8 * 4 - at ≡ 32 = omega arith in
-    let none : zero_count xs ≡ 0 = full_tag 32 xs long (omega (arith, h)) in
-    subst (AllDense 4) (sym (ap (λ n. take n (drop at bytes)) size)) (full_dense 4 xs long none)
+pub eight_dense_at : (bytes : List ℕ) (at : ℕ) → AllDense 8 (take 64 (drop at bytes))
+    → AllDense 8 (slice_range bytes at (at + 8 * 8))
+eight_dense_at bytes at dense =
+    let size : at + 8 * 8 - at ≡ 64 = omega arith in
+    subst (AllDense 8) (sym (ap (λ n. take n (drop at bytes)) size)) dense
 
 pub none_at : (bytes : List ℕ) (at n : ℕ) → n ≡ 0 → IsDense (take 8 (drop at bytes))
     → IsDense (take 8 (drop (at + 8 * n) bytes))

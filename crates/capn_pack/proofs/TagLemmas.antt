@@ -1,4 +1,4 @@
--- Lemmas for `tag` and `four_tags` in `signs.rt`: the tag of a word is the mask of its lanes.
+-- Lemmas for `tag` and `eight_tags` in `signs.rt`: the tag of a word is the mask of its lanes.
 use Rattle.std.proofs.Common.{◌≡◌, ℕ, ◌+◌, ◌*◌, ◌%◌, ◌^◌, ◌<◌, Bool, true, false, not, cond, eqb, List, [], ◌∷◌, map}
 use Rattle.std.proofs.Common.{length, refl, ◌∙◌, arith, w8, replicate}
 use Rattle.std.proofs.lemmas.Simd.{bitmask_splat, mask_l-lt}
@@ -22,17 +22,12 @@ pub mask_tag : (xs : List ℕ) → length xs ≡ 8
     → mask_l (map (top 7) (zip2 (λ a b. cond (differs a b) 255 0) xs (replicate 8 0))) % 2 ^ 64 ≡ tag_of xs
 mask_tag xs long = bitmask_splat w8 differs xs 8 0 long (omega arith) ∙ mask_is xs
 
--- the mask of the nonzero lanes of four words `xs` is the tag of their 32 bytes
-pub mask_four : (xs : List ℕ) → length xs ≡ 32
-    → mask_l (map (top 7) (zip2 (λ a b. cond (differs a b) 255 0) xs (replicate 32 0))) % 2 ^ 64 ≡ tag_of xs
-mask_four xs long = bitmask_splat w8 differs xs 32 0 long (omega arith) ∙ mask_is xs
+-- the mask of the nonzero lanes of eight words `xs` is the tag of their 64 bytes
+pub mask_eight : (xs : List ℕ) → length xs ≡ 64
+    → mask_l (map (top 7) (zip2 (λ a b. cond (differs a b) 255 0) xs (replicate 64 0))) % 2 ^ 64 ≡ tag_of xs
+mask_eight xs long = bitmask_splat w8 differs xs 64 0 long (omega arith) ∙ mask_is xs
 
 pub tag_lt : (xs : List ℕ) → length xs ≡ 8 → tag_of xs < 256
 tag_lt xs long =
     rw (← mask_is xs) (let n : length (map (λ x. differs x 0) xs) ≡ 8 = length-map xs (λ x. differs x 0) ∙ long in
-    rw n at (mask_l-lt (map (λ x. differs x 0) xs)))
-
-pub four_lt : (xs : List ℕ) → length xs ≡ 32 → tag_of xs < 2 ^ 32
-four_lt xs long =
-    rw (← mask_is xs) (let n : length (map (λ x. differs x 0) xs) ≡ 32 = length-map xs (λ x. differs x 0) ∙ long in
     rw n at (mask_l-lt (map (λ x. differs x 0) xs)))

@@ -1,12 +1,12 @@
-use Rattle.std.proofs.Common.{arith, ap, sym, ◌∙◌, length}
-use Rattle.capn_pack.proofs.RunLemmas.{zero_more, no_word}
-use Rattle.capn_pack.specs.Packed.{tag_of}
+use Rattle.std.proofs.Common.{arith, ap, length}
+use Rattle.capn_pack.proofs.RunLemmas.{zero_steps, no_word}
 use Rattle.capn_pack.proofs.runs.zero_run.Goals as goal
 
 pub loop-count-preserved : goal.loop-count-preserved
-loop-count-preserved c =
-    zero_more _ _ _ c.loop-count.invariant (omega arith) (omega arith) (sym (ap tag_of c.word_at.ensures)
-    ∙ sym c.tag.ensures ∙ c.if-tag-ne0.false)
+loop-count-preserved c = zero_steps _ _ _ _ c.loop-count.invariant c.zero_step-step.ensures.run (omega (arith, c.zero_step-step.ensures.most))
+
+pub returns-then-step-eq0-clause-last : goal.returns-then-step-eq0-clause-last
+returns-then-step-eq0-clause-last c less e = c.zero_step-step.ensures.last c.if-step-eq0.true e
 
 pub returns-else-start-count-clause-last : goal.returns-else-start-count-clause-last
 returns-else-start-count-clause-last c less e =
